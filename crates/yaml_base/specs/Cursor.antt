@@ -41,7 +41,7 @@ abbrev pub text_laid : Text → Cursor → Laid
 text_laid text cursor =
     record { text = text; cursor = record cursor { column = column_after text cursor.column } }
 
--- the same text, with these flags after it
+-- a rendered text with other flags after it
 abbrev pub with_flags : Bool → Bool → Laid → Laid
 with_flags whitespace indention laid =
     record { text = laid.text; cursor = record { column = laid.cursor.column; whitespace = whitespace; indention = indention } }

@@ -1,5 +1,5 @@
--- The same pieces, event by event, for contracts of code that writes them so: an event's piece needs the places that
--- are open and, at a collection's start, whether its end follows at once. A law says that these are the layout's pieces.
+-- The pieces of a stream, event by event, for contracts of code that writes them so: an event's piece needs the places
+-- that are open and, at a collection's start, whether its end follows at once. A law says that they are the layout's pieces.
 use Rattle.std.specs.Prelude.{ℕ, Bool, true, false, Option, List, [], ◌∷◌, ◌++◌, ◌&&◌, not, nat_lt, length, take}
 use Rattle.std.specs.Option.{option_or}
 use Rattle.yaml_base.specs.Settings.{Effective}

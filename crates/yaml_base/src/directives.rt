@@ -16,6 +16,6 @@ pub struct yaml_version_directive_t {
 pub struct yaml_tag_directive_t<A: Allocator> {
     /// `!`, or `!`, letters and digits, `!`.
     pub handle: String<A>,
-    /// The beginning of the tags that the handle shortens.
+    /// The prefix of the tags that the handle shortens.
     pub prefix: String<A>,
 }

@@ -40,7 +40,7 @@ pub struct yaml_document_t<A: Allocator> {
     ghost whole: { IsTrue (is_none (first_outside (length nodes.items) (all_numbers nodes.items))) },
 }
 
-/// Whether a number names one of so many nodes.
+/// Whether `number` names one of `count` nodes.
 fn names_node(count: usize, number: i32) -> bool
     ensures { result ≡ is_named count number }
 {
@@ -72,7 +72,7 @@ fn outside_pairs(count: usize, pairs: &[yaml_node_pair_t]) -> Option<i32>
     None
 }
 
-/// The first number that a node holds and that names none of so many nodes.
+/// The first number in `contents` that names none of `count` nodes.
 fn outside_node<A: Allocator>(count: usize, contents: &yaml_node_data_t<A>) -> Option<i32>
     ensures { result ≡ first_outside count (numbers_of contents.now) }
 {
@@ -99,7 +99,7 @@ impl<A: Allocator> yaml_document_t<A> {
     ghost use Rattle.yaml_base.specs.graphs.Documents.{graph_of};
 
     /// A document of these nodes, or the first number that names none of them, in the order of
-    /// nodes, items, and keys before values. What was handed in is then dropped.
+    /// nodes, items, and keys before values. The arguments are then dropped.
     pub fn from_nodes(
         version: Option<yaml_version_directive_t>,
         tags: Vec<yaml_tag_directive_t<A>, A>,
@@ -126,7 +126,7 @@ impl<A: Allocator> yaml_document_t<A> {
         }
     }
 
-    /// The same nodes in a document without version and directives, whose start and end are implicit.
+    /// Drops the version and the directives, and makes the start and the end implicit. The nodes stay.
     pub fn bare(self) -> yaml_document_t<A>
         ensures { graph_of result ≡ isomorphic.bare (graph_of self) }
     {
@@ -189,14 +189,14 @@ impl<A: Allocator> yaml_document_t<A> {
         self.nodes.len() as i32
     }
 
-    /// The version that was handed in.
+    /// The version, if one was given.
     pub fn version_directive(&self) -> Option<yaml_version_directive_t>
         ensures { option_map seen_version result ≡ (graph_of self.now).start.version }
     {
         self.version_directive
     }
 
-    /// The directives that were handed in.
+    /// The directives that were given.
     pub fn tag_directives(&self) -> &[yaml_tag_directive_t<A>]
         ensures { map seen_directive result.now ≡ (graph_of self.now).start.directives }
     {

@@ -23,8 +23,7 @@ pub fn layout_has_one_piece_each()
     ensures { OnePieceEach }
 {}
 
-/// The pieces of a beginning are those of every accepted list that goes on from it, but for one that at once closes a
-/// collection which the beginning starts last.
+/// Written pieces are final: every accepted continuation begins with them, unless it closes a collection just opened.
 pub fn pieces_stand()
     ensures { PiecesStand }
 {}

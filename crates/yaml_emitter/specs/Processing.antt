@@ -32,7 +32,7 @@ closes_at_once event rest = false
 abbrev pub event_stepped : MachineState → Event → (empty : Bool) → Stepped
 event_stepped before event empty = step before.settings before.stage event empty (standing_of before)
 
--- the same piece by the cursor before it
+-- an event's piece, by the cursor before it
 abbrev pub event_laid : MachineState → Event → (empty : Bool) → Cursor → Laid
 event_laid before event empty =
     piece_at (λ standing. (step before.settings before.stage event empty standing).laid) before.mark

@@ -14,7 +14,7 @@ scalar_text_laid style s in_flow simple indent value cursor =
     then_laid (separation_laid style in_flow value cursor)
     (body_laid style s (if simple then None else s.width) indent value)
 
--- the same by the scalar's place, where further lines begin one indent further in
+-- a scalar's text at its place: further lines begin one indent further in
 abbrev pub text_at : ScalarStyle → Effective → Place → (simple : Bool) → Text → Cursor → Laid
 text_at style s place simple value = scalar_text_laid style s place.in_flow simple (deeper s.indent place.column) value
 

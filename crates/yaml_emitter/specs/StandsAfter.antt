@@ -130,12 +130,12 @@ StandsFailed given all WriteError machine = StandsStopped given all WriteError m
 StandsFailed given all Memory machine = StandsStopped given all Memory machine
 StandsFailed given all error machine = StandsRefused given all error machine
 
--- a machine without an error stands well; after an error nothing is held
+-- a machine without an error holds what isn't ready; after an error nothing is held
 abbrev pub StandsBy : Settings → List Event → Option yaml_error_t → (held : List Event) → MachineState → Type 0
 StandsBy given all None held machine = StandsWell given all held machine
 StandsBy given all (Some error) held machine = (held ≡ []) × StandsFailed given all error machine
 
--- by its error, or without one
+-- an emitter stands after these events, by its error or without one
 abbrev pub StandsSo : Settings → List Event → State → Type 0
 StandsSo given all state = StandsBy given all state.error state.held (machine_of state)
 
@@ -154,13 +154,13 @@ pub record Reached (given : Settings) (all front rest : List Event) (machine : M
 abbrev pub failed_by : yaml_error_t → MachineState → MachineState
 failed_by error machine = record machine { error = Some error }
 
--- wherever the machine had come, it has come on from there
+-- every list that `before` has reached, `after` reaches with more written
 abbrev pub ReachedOn : (waiting : List Event) → MachineState → (left : List Event) → MachineState → Type 0
 ReachedOn waiting before left after =
     (given : Settings) (all front : List Event) → Reached given all front waiting before
     → (next : List Event) × Reached given all next left after
 
--- the first events that waited are written, so many, and the next isn't ready
+-- the first `count` events that waited are written, and the next isn't ready
 pub record WroteFront (waiting : List Event) (count : ℕ) (before after : MachineState) : Type 0 where
   pub within : count ≤ length waiting
   pub reached : ReachedOn waiting before (drop count waiting) after

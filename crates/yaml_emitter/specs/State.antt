@@ -84,7 +84,7 @@ abbrev pub FitsPage : Stage → Page → Type 0
 FitsPage at_stream page = IsUntouched page × (page.mark_due ≡ false) × (page.output ≡ [])
 FitsPage _ page = IsReady page
 
--- the same emitter, of whose output all is taken
+-- an emitter whose output is all taken
 abbrev pub with_all_taken : State → State
 with_all_taken state = record state { page = all_taken state.page }
 

@@ -14,7 +14,7 @@ use Rattle.yaml_emitter.specs.declared.writing.marks.OpenMark.TheVariants.{Close
 abbrev pub laid_of : PieceLaid → Laid
 laid_of laid = record { text = piece_text laid.piece; cursor = laid.standing.cursor }
 
--- the same by the cursor before it, where the open mark is known
+-- a piece's whole text by the cursor before it, where the open mark is known
 abbrev pub piece_at : (Standing → PieceLaid) → (mark : ℕ) → Cursor → Laid
 piece_at piece mark cursor = laid_of (piece (record { cursor = cursor; mark = mark }))
 

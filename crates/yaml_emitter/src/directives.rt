@@ -97,7 +97,8 @@ pub(crate) fn directives_for<A: Allocator + Copy>(
     Ok(directives)
 }
 
-/// The same, after a document with the directives before: they are kept where both are the defaults alone.
+/// The directives in force in the next document. Those of the document before are kept where both have the defaults
+/// alone. `Memory` may come at any of its own.
 pub(crate) fn next_directives<A: Allocator + Copy>(
     alloc: A,
     before: Directives<A>,
@@ -116,7 +117,7 @@ pub(crate) fn next_directives<A: Allocator + Copy>(
     Ok(before)
 }
 
-/// The two defaults and no others.
+/// Whether these are the two defaults and no others.
 fn are_defaults<A: Allocator>(directives: &Directives<A>) -> bool
     ensures { result ≡ true → directives.now ≡ default_directives }
 {
@@ -126,7 +127,7 @@ fn are_defaults<A: Allocator>(directives: &Directives<A>) -> bool
     gives(directives.get(0), LOCAL, LOCAL) && gives(directives.get(1), TYPES, TYPES_PREFIX)
 }
 
-/// This prefix for this handle.
+/// Whether a directive gives this prefix to this handle.
 fn gives<A: Allocator>(
     directive: Option<&yaml_tag_directive_t<A>>,
     handle: &str,

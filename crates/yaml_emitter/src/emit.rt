@@ -19,11 +19,11 @@ use crate::queue::{closes_at_once, drop_front, first_and_rest, is_next_ready, is
 use std::alloc::Allocator;
 use yaml_base::{yaml_error_t, yaml_event_t};
 
-/// Takes an event, and writes what can be written now: an event that starts a document or a collection waits
-/// until those are given that decide how it is written (at most three follow it).
+/// Takes an event, and writes what can be written now. An event that starts a document or a collection waits
+/// for the events that decide how it is written; at most three follow it.
 ///
-/// Answers the first error that there was, in this call or before; the event is taken in each case, and after an
-/// error nothing waits and nothing more is written.
+/// Returns the first error, of this call or an earlier one. The event is taken in each case. After an error nothing
+/// waits, and nothing more is written.
 #[inline(never)]
 pub fn yaml_emitter_emit<A: Allocator + Copy>(
     emitter: &mut yaml_emitter_t<A>,
@@ -61,11 +61,11 @@ pub fn yaml_emitter_emit<A: Allocator + Copy>(
     }
 }
 
-/// Hands out all that is written; what waits goes on waiting.
+/// Flushes all that is written. Events that wait go on waiting.
 ///
-/// Answers the first error that there was, in this call or before: `WriteError` where the text's bytes pass the
-/// output's limit, `Memory` where the output found no room, which is then as it was; after an error nothing waits.
-/// Where all is handed out, nothing changes and no memory is needed.
+/// Returns the first error, of this call or an earlier one: `WriteError` if the text's bytes pass the output's limit,
+/// `Memory` if the output can't grow; it then stays as it was. After an error nothing waits. If all is flushed already,
+/// nothing changes and no memory is needed.
 pub fn yaml_emitter_flush<A: Allocator + Copy>(
     emitter: &mut yaml_emitter_t<A>,
 ) -> Result<(), yaml_error_t>
@@ -94,9 +94,9 @@ pub fn yaml_emitter_flush<A: Allocator + Copy>(
     }
 }
 
-/// Gives the bytes that were handed out and not taken before, so that a stream of any length can be sent onwards
-/// while it is written: all that these calls gave, one after another, and what `output` returns then, are together
-/// the output. The output's limit counts what was taken, too.
+/// Returns the flushed bytes not yet taken, so that a stream of any length can be sent on while it is written. What
+/// these calls return, one after another, and what `output` returns then are together the output. The output's limit
+/// counts what was taken, too.
 ///
 /// It may be called at any time, also after an error, and takes no memory.
 pub fn yaml_emitter_take_output<A: Allocator + Copy>(emitter: &mut yaml_emitter_t<A>) -> Vec<u8, A>
@@ -132,7 +132,7 @@ impl<A: Allocator + Copy> Machine<A> {
     }
 }
 
-/// Writes the events of a queue that are ready, in order up to the first error, and answers how many they are.
+/// Writes the events of a queue that are ready, in order up to the first error, and returns how many they are.
 fn write_front<A: Allocator + Copy>(
     machine: &mut Machine<A>,
     waiting: &[yaml_event_t<A>],

@@ -38,7 +38,7 @@ impl<A: Allocator> Model for yaml_emitter_t<A> {
 
 /// A new emitter: nothing is set, no output, no event.
 ///
-/// Answers `Memory` where its buffer finds no room.
+/// Returns `Memory` if its buffer can't be allocated.
 pub fn yaml_emitter_initialize<A: Allocator + Copy>(
     alloc: A,
 ) -> Result<yaml_emitter_t<A>, yaml_error_t>

@@ -16,7 +16,7 @@ use std::alloc::Allocator;
 use std::marker::Model;
 use yaml_base::yaml_error_t;
 
-/// So many collections may be open at once.
+/// The maximum nesting depth.
 const MOST_OPEN: usize = 1_000_000;
 
 #[derive(Drop)]
@@ -48,14 +48,14 @@ impl<A: Allocator> Frames<A> {
         }
     }
 
-    /// Some collection is open.
+    /// Whether a collection is open.
     pub(crate) fn is_open(&self) -> bool
         ensures { result ≡ nat_lt 0 (length self.now) }
     {
         self.innermost.is_some()
     }
 
-    /// As many collections are open as may be.
+    /// Whether the maximum nesting depth is reached.
     pub(crate) fn is_full(&self) -> bool
         ensures { result ≡ not (nat_lt (length self.now) most_open) }
     {
@@ -73,7 +73,7 @@ impl<A: Allocator> Frames<A> {
         }
     }
 
-    /// The end of a mapping, or of a sequence, may come next.
+    /// Whether the end of a mapping, or of a sequence, may come next.
     pub(crate) fn may_end(&self, kind: CollectionKind) -> bool
         ensures { result ≡ steps.node_allowed self.now (end_event (is_mapping kind)) }
     {
@@ -81,7 +81,7 @@ impl<A: Allocator> Frames<A> {
             .is_some_and(|frame| frame.place.role.may_end(kind))
     }
 
-    /// After a node of the innermost collection, which may have been a simple key; answers what comes next.
+    /// Goes on after a node of the innermost collection, which may have been a simple key. Returns what comes next.
     #[inline(always)]
     pub(crate) fn advance(&mut self, simple: bool) -> Stage
         ensures frames { self.new ≡ advanced simple self.old }
@@ -96,7 +96,7 @@ impl<A: Allocator> Frames<A> {
         }
     }
 
-    /// Room for one more collection, where one more may be opened.
+    /// Reserves memory for one more collection, if one more may be opened.
     pub(crate) fn make_room(&mut self) -> Result<(), yaml_error_t>
         ensures frames { self.new ≡ self.old }
         ensures memory { IfErr result (λ e. e ≡ yaml_error_t.Memory) }

@@ -88,7 +88,7 @@ impl<A: Allocator> Machine<A> {
         }
     }
 
-    /// The bytes that were handed out and not taken; none where nothing is written.
+    /// The flushed bytes not yet taken; none where nothing is written.
     pub(crate) fn output(&self) -> &[u8]
         ensures value { result.now ≡ output_left self.now.page }
         ensures untaken { self.now.page.taken ≡ 0 → result.now ≡ self.now.page.output }
@@ -97,7 +97,7 @@ impl<A: Allocator> Machine<A> {
         self.pen.output()
     }
 
-    /// Gives the bytes that were handed out and not taken before.
+    /// Returns the flushed bytes not yet taken.
     pub(crate) fn take_output(&mut self) -> Vec<u8, A>
     where
         A: Copy,
@@ -108,7 +108,7 @@ impl<A: Allocator> Machine<A> {
         self.pen.take_output()
     }
 
-    /// Hands out all that is written.
+    /// Flushes all that is written.
     pub(crate) fn flush(&mut self) -> Result<(), yaml_error_t>
         requires no_error { self.old.error ≡ None }
         ensures flushed { Flushed self.old.page self.new.page result }
@@ -124,7 +124,7 @@ impl<A: Allocator> Machine<A> {
         }
     }
 
-    /// Sets how many bytes the output may have.
+    /// Sets the maximum output size in bytes.
     pub(crate) fn set_limit(&mut self, limit: usize)
         requires { IsUntouched self.old.page }
         ensures { self.new

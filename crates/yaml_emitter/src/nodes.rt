@@ -242,7 +242,7 @@ impl<A: Allocator + Copy> Machine<A> {
     }
 }
 
-/// A scalar whose tag isn't written needs a flag, and has none.
+/// Whether a scalar whose tag isn't written has no flag, although it needs one.
 #[inline(always)]
 fn lacks_flag(content: &ScalarContent, canonical: bool) -> bool
     ensures { result ≡ style.lacks_tag_and_flags

@@ -65,7 +65,7 @@ impl Role {
         matches!(self, Role::Key { .. } | Role::Value { .. })
     }
 
-    /// A mapping ends in place of a key, a sequence in place of an item.
+    /// Whether a collection may end here: a mapping ends in place of a key, a sequence in place of an item.
     pub(crate) fn may_end(self, kind: CollectionKind) -> bool
         ensures { result ≡ (if is_mapping kind then is_key (seen_role self) else is_item (seen_role self)) }
     {
@@ -76,7 +76,7 @@ impl Role {
         }
     }
 
-    /// No entry of the collection is written yet.
+    /// Whether no entry of the collection is written yet.
     pub(crate) fn is_first(self) -> bool
         ensures { result ≡ is_first (seen_role self) }
     {
@@ -123,7 +123,7 @@ impl Place {
         self.column.unwrap_or(0)
     }
 
-    /// The same place by its line's column, without what lies between the fields.
+    /// This place with `column` filled in: 0 at the root.
     #[inline(always)]
     pub(crate) fn at_line(&self) -> Place
         ensures role { result.role ≡ self.now.role }

@@ -210,7 +210,7 @@ impl<A: Allocator + Copy> Machine<A> {
     }
 }
 
-/// A scalar without anchor and tag, which needs no tag in any style.
+/// Whether an event is a scalar without anchor and tag that needs no tag in any style.
 fn is_usual_scalar<A: Allocator>(event: &yaml_event_t<A>) -> bool
     ensures { result ≡ node_events.is_usual_scalar (seen_event event.now) }
 {

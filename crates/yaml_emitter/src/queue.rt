@@ -143,7 +143,7 @@ pub(crate) fn first_and_rest<A: Allocator>(
     (&waiting[0], &waiting[1..])
 }
 
-/// Drops the first events of a queue, so many; its room stays.
+/// Drops the first `count` events of a queue. Its capacity stays.
 pub(crate) fn drop_front<A: Allocator>(queue: &mut WaitingEvents<A>, count: usize)
     requires { count ≤ vec_len queue.old }
     ensures rest { seen_events queue.new.items ≡ drop count (seen_events queue.old.items) }

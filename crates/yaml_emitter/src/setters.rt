@@ -18,7 +18,7 @@ pub fn yaml_emitter_delete<A: Allocator>(emitter: yaml_emitter_t<A>) {
     drop(emitter);
 }
 
-/// Sets an output of at most so many bytes.
+/// Sets an output of at most `size` bytes.
 pub fn yaml_emitter_set_output_string<A: Allocator>(emitter: &mut yaml_emitter_t<A>, size: usize)
     requires { emitter.old.has_output ≡ false }
     ensures set { emitter.new
@@ -177,7 +177,7 @@ impl<A: Allocator> yaml_emitter_t<A> {
         self.closed = true;
     }
 
-    /// The bytes that were handed out and not taken; empty where no output is set.
+    /// The flushed bytes not yet taken; none if no output is set.
     pub fn output(&self) -> &[u8]
         ensures value { result.now ≡ output_left self.now.page }
         ensures untaken { self.now.page.taken ≡ 0 → result.now ≡ self.now.page.output }

@@ -285,7 +285,7 @@ abbrev pub AwaitsFirst : ℕ → List Token → List CollectionKind → List Tok
 AwaitsFirst depth taken levels [] = Awaits depth taken levels []
 AwaitsFirst depth taken levels (token ∷ after) = (more : List Token) → Awaits depth taken levels (token ∷ more)
 
--- the same, however much deeper values may nest; and a value begins with what was taken
+-- a value is next within these collections, however much deeper values may nest; and a value begins with what was taken
 pub record Awaiting (depth : ℕ) (taken : List Token) (levels : List CollectionKind) (ahead : List Token) : Type 0 where
   pub begins : Closes depth taken
   pub few : length levels ≤ depth

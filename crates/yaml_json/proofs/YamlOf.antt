@@ -50,7 +50,7 @@ all_have_numbers : (depth : ℕ) (parts : List (List ℕ × Json)) → AreJson d
 all_have_numbers depth [] each = tt
 all_have_numbers depth (part ∷ parts) each = (text_has_numbers depth part.0 part.1 each.0, all_have_numbers depth parts each.1)
 
--- the same of the events of texts, of which there is one at least
+-- the events of texts, of which there is one at least, read as these texts
 pub yaml_of_texts : (depth : ℕ) (in_flow : Bool) (text : List ℕ) (was now : WriterState) (part : List ℕ × Json) (rest : List (List ℕ × Json))
     → flat_map (λ part. part.0) (part ∷ rest) ≡ text → AreJson depth (part ∷ rest) → Wrote was (parts_events was.canonical in_flow (part ∷ rest)) now
     → ReadsTexts depth in_flow text was now

@@ -62,7 +62,7 @@ abbrev pub FailedInValue : (depth : ℕ) → (in_flow : Bool) → List Token →
 FailedInValue depth in_flow ahead was error now =
     (error ≡ Memory) ⊎ ((taken : List Token) × (FailedAfter in_flow taken ahead was error now × BeginsValue depth taken))
 
--- the same of a text
+-- an allocation failed, or the emitter at an event of the text's first tokens, with which some value begins
 abbrev pub FailedInText : (depth : ℕ) → (in_flow : Bool) → (text : List ℕ) → WriterState → yaml_error_t → WriterState → Type 0
 FailedInText depth in_flow text was error now = FailedInValue depth in_flow (tokens text) was error now
 

@@ -97,7 +97,7 @@ SaysWhy depth unique text (errors.Emitter error) = Unit {0}
 abbrev pub HasNamesOnce : (unique : Bool) → (text : List ℕ) → Type 0
 HasNamesOnce unique text = unique ≡ true → (depth : ℕ) → (json : Json) → value depth (tokens text) ≡ Some (json, []) → HasUniqueKeys json
 
--- the same of each of some texts
+-- where names are to come once, no object of any of these texts has one twice
 abbrev pub HaveNamesOnce : (unique : Bool) → List (List ℕ) → Type 0
 HaveNamesOnce unique [] = Unit {0}
 HaveNamesOnce unique (text ∷ texts) = HasNamesOnce unique text × HaveNamesOnce unique texts

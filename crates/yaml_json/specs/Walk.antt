@@ -37,7 +37,7 @@ unwind depth (kind ∷ inner) found = option_and_then (skip_rest kind (depth - 1
 abbrev pub StandsAt : ℕ → List Token → List CollectionKind → Type 0
 StandsAt depth taken levels = (length levels ≤ depth) × ((more : List Token) → skip_value depth (taken ++ more) ≡ unwind depth levels (Some more))
 
--- the same, however much deeper values may nest
+-- after these tokens of a value these collections are open, however much deeper values may nest
 abbrev pub Stands : ℕ → List Token → List CollectionKind → Type 0
 Stands depth taken levels = (deep : ℕ) → depth ≤ deep → StandsAt deep taken levels
 
@@ -112,7 +112,7 @@ FitsNames unique levels held = (held.are_kept ≡ unique) × (held.are_kept ≡ 
 abbrev pub Keeps : {A : Type 0} → Names A → List Token → Names A → Type 0
 Keeps held taken later = (so : List Token) → Kept so held → Kept (so ++ taken) later
 
--- the same after some of the tokens that were ahead
+-- names are kept after some of the tokens that were ahead
 pub record KeepsTo {A : Type 0} (held : Names A) (ahead after : List Token) (later : Names A) : Type 0 where
   pub taken : List Token
   pub parts : ahead ≡ taken ++ after

@@ -10,7 +10,7 @@ use Rattle.yaml_mark.specs.declared.tags.tag_t.{tag_t}
 abbrev pub fits : List ℕ → TagDirective → Bool
 fits tag directive = is_some (behind directive.prefix (chars tag))
 
--- the same by the prefix's bytes
+-- a prefix of these bytes is shorter than a tag and begins it
 abbrev pub begins_and_is_shorter : List ℕ → List ℕ → Bool
 begins_and_is_shorter prefix tag = nat_lt (length prefix) (length tag) && bytes_eq prefix (take (length prefix) tag)
 

@@ -34,7 +34,7 @@ encoded page = encode page.encoding page.text
 abbrev pub output_left : Page → List ℕ
 output_left page = drop page.taken page.output
 
--- the same page, of whose output all is taken
+-- a page whose output is all taken
 abbrev pub all_taken : Page → Page
 all_taken page = record page { taken = length page.output }
 

@@ -19,7 +19,7 @@ pub(crate) fn next_column(character: char, column: u32) -> u32
     }
 }
 
-/// The byte is the first one of a character.
+/// Whether a byte is the first of a character.
 #[inline]
 fn begins_character(byte: u8) -> bool
     ensures { result ≡ is_char_start byte }

@@ -56,7 +56,7 @@ impl<A: Allocator> Outlet<A> {
         })
     }
 
-    /// Sets the most bytes that may be handed out.
+    /// Sets the maximum output size in bytes.
     pub(crate) fn set_limit(&mut self, limit: usize)
         requires bytes { self.old.all ≡ [] }
         requires error { self.old.error ≡ None }
@@ -117,7 +117,7 @@ impl<A: Allocator> Outlet<A> {
         self.output.as_slice()
     }
 
-    /// Hands what isn't taken to the caller.
+    /// Returns what the caller hasn't taken, which is then taken.
     #[tactic(auto, unfolding(crate::specs::Outlet::whole_output))]
     pub(crate) fn take_output(&mut self) -> Vec<u8, A>
     where
@@ -198,7 +198,7 @@ fn hand_on<A: Allocator>(
     hand_out(buffer, output, limit - taken_count)
 }
 
-// The limit cuts at any byte. All room is asked for before a byte is appended.
+// The limit cuts at any byte. All memory is reserved before a byte is appended.
 fn hand_out<A: Allocator>(
     buffer: &[u8],
     output: &mut Vec<u8, A>,

@@ -1,4 +1,4 @@
-//! A pen writes text: it keeps the cursor, encodes, and hands its bytes out within a limit.
+//! A pen writes text: it keeps the cursor, encodes, and flushes its bytes within a limit.
 ghost use Rattle.std.specs.Prelude.{◌≡◌, pos, false, true, min, IsOk, IsSome, IfOk, IfErr, None, unwrap_or};
 ghost use Rattle.yaml_base.specs.Settings.{line_feed_break, largest_i32};
 ghost use Rattle.yaml_base.specs.Seen.{seen_encoding, seen_break};
@@ -18,8 +18,8 @@ mod new_lines;
 pub use indicators::Indicator;
 
 /// Writes characters in an encoding through a buffer of 16,384 bytes to an output that it owns, and
-/// keeps the cursor. A call that writes, or a flush, answers `WriteError` where the encoded text passes
-/// the limit, `Memory` where a growth is refused, and the first of these from then on.
+/// keeps the cursor. A call that writes, or a flush, returns `WriteError` if the encoded text passes
+/// the limit, `Memory` if a growth is refused, and the first of these from then on.
 #[derive(Drop)]
 pub struct Pen<A: Allocator> {
     outlet: Outlet<A>,
@@ -43,8 +43,8 @@ impl<A: Allocator> Model for Pen<A> {
 }
 
 impl<A: Allocator> Pen<A> {
-    /// A pen at the start of a text; no limit below `usize::MAX`. Answers `Memory` where its buffer
-    /// finds no room.
+    /// A pen at the start of a text, with no limit below `usize::MAX`. Returns `Memory` if its buffer
+    /// can't be allocated.
     #[tactic(auto, unfolding(yaml_base::specs::Decode::decode))]
     pub fn new(alloc: A) -> Result<Pen<A>, yaml_error_t>
     where
@@ -64,7 +64,7 @@ impl<A: Allocator> Pen<A> {
         })
     }
 
-    /// Sets how many bytes the output may have; before anything is written.
+    /// Sets the maximum output size in bytes, before anything is written.
     pub fn set_limit(&mut self, size: usize)
         requires { IsUntouched self.old }
         ensures { self.new ≡ record self.old { limit = size } }
@@ -96,7 +96,7 @@ impl<A: Allocator> Pen<A> {
     }
 
     /// Writes the byte order mark, which UTF-16 begins with (RFC 2781, section 3.2); right after `begin`,
-    /// and in UTF-16 alone. Always answers `Ok`.
+    /// and in UTF-16 alone. Always returns `Ok`.
     pub fn write_bom(&mut self) -> Result<(), yaml_error_t>
         requires { self.old.mark_due ≡ true }
         ensures ok { IsOk result }
@@ -108,8 +108,8 @@ impl<A: Allocator> Pen<A> {
         Ok(())
     }
 
-    /// Hands out all that is written. Where it passes the limit, the output is filled up to the limit; where
-    /// memory is refused, the output is as before. Takes no memory where all is handed out.
+    /// Flushes all that is written. If it passes the limit, the output is filled up to the limit; if memory
+    /// is refused, the output stays as it was. Needs no memory if all is flushed.
     pub fn flush(&mut self) -> Result<(), yaml_error_t>
         requires { self.old.mark_due ≡ false }
         ensures flushed { Flushed self.old self.new result }
@@ -118,7 +118,7 @@ impl<A: Allocator> Pen<A> {
         self.outlet.flush()
     }
 
-    /// The bytes that are handed out, without those that the caller has taken.
+    /// The flushed bytes not yet taken.
     pub fn output(&self) -> &[u8]
         ensures value { result.now ≡ output_left self.now }
         ensures untaken { self.now.taken ≡ 0 → result.now ≡ self.now.output }
@@ -127,8 +127,8 @@ impl<A: Allocator> Pen<A> {
         self.outlet.output()
     }
 
-    /// Gives the bytes that are handed out, without those that were taken before. What was taken and what is
-    /// left are together the output. Takes no memory, and may be called at any time, also after an error.
+    /// Returns the flushed bytes not yet taken. These and all bytes taken before are together the output.
+    /// Needs no memory, and may be called at any time, also after an error.
     pub fn take_output(&mut self) -> Vec<u8, A>
     where
         A: Copy,
@@ -147,14 +147,14 @@ impl<A: Allocator> Pen<A> {
         self.outlet.error()
     }
 
-    /// Says whether white space stands before the cursor.
+    /// Sets whether white space stands before the cursor.
     pub fn set_whitespace(&mut self, whitespace: bool)
         ensures { self.new ≡ record self.old { cursor = record self.old.cursor { whitespace = whitespace } } }
     {
         self.whitespace = whitespace;
     }
 
-    /// Says whether nothing but indentation, and indicators that may stand in it, stands before the cursor.
+    /// Sets whether nothing but indentation, and indicators that may stand in it, stands before the cursor.
     pub fn set_indention(&mut self, indention: bool)
         ensures { self.new ≡ record self.old { cursor = record self.old.cursor { indention = indention } } }
     {

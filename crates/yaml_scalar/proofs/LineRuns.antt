@@ -83,7 +83,7 @@ joined_text written w folds other indent spaces others c d rest run e = sym (w.j
 joined_text written w folds other indent breaks others c d rest run e = sym (w.joined (c ∷ []) (d ∷ run))
 joined_text written w folds other indent others others c d rest run e = sym (w.joined (c ∷ []) (d ∷ run))
 
--- the same for a kind that is equal
+-- a character joins the run after it where their kinds are equal
 joined_kinds :
     (written : Text → Text) → WritesEach written →
     (folds other : Bool) (indent : ℕ) (before kind next : Kind) (c d : ℕ) (rest run : Text) →

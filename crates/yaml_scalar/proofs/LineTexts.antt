@@ -59,7 +59,7 @@ any_step test folds indent before breaks c rest feed blank own =
     (any_one test c _ own (any_cond test _ [] (indentation indent) refl (any_indentation test indent blank)))
 any_step test folds indent before others c rest feed blank own = any_one test c [] own refl
 
--- the same of all lines
+-- no character of all lines passes a test that none of the value's does
 pub any_bare :
     (test : ℕ → Bool) → test line_feed ≡ false → test space ≡ false →
     (written : Text → Text) (limit : Option ℕ) (indent : ℕ) (before : Kind) (value : Text) (cursor : Cursor) →

@@ -11,7 +11,7 @@ use Rattle.yaml_pen.specs.Page.{Page}
 use Rattle.yaml_pen.specs.Wrote.{Wrote}
 use Rattle.yaml_scalar.specs.WholeRuns.{last_from}
 
--- so many bytes are gathered at most
+-- the most bytes of a batch
 abbrev pub most_bytes : ℕ
 most_bytes = 256
 
@@ -28,8 +28,8 @@ abbrev pub characters_text : (unicode : Bool) → Text → Text
 characters_text unicode [] = []
 characters_text unicode (c ∷ rest) = character_text unicode c ++ characters_text unicode rest
 
--- bytes are the texts of a text's first characters, all of which are gathered; the last of them, from the one
--- before the text on; and what follows
+-- bytes are the texts of a text's first characters, which all belong to a batch; the last of them, or the character
+-- before the text; and the rest
 pub record AreGathered (unicode : Bool) (before : ℕ) (text : Text) (bytes : List ℕ) (last : ℕ) (rest : Text) : Type 0 where
   pub front : Text
   pub parts : text ≡ front ++ rest
@@ -42,7 +42,7 @@ abbrev pub without_next : Result (ℕ × Bor (List ℕ)) yaml_error_t → Result
 without_next (Ok next) = Ok tt
 without_next (Err error) = Err error
 
--- a text's first characters, as many as are gathered, are written at once; Ok holds the last of them, and what follows
+-- a text's first characters are written as one batch; Ok holds the last of them and the rest
 pub record WroteGathered (unicode : Bool) (before : ℕ) (text : Text) (old new : Page) (answer : Result (ℕ × Bor (List ℕ)) yaml_error_t) : Type 0 where
   pub bytes : List ℕ
   pub last : ℕ

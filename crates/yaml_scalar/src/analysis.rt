@@ -93,21 +93,21 @@ fn data_of(value: &str, barred: BarredStyles) -> scalar_data_t
     }
 }
 
-/// A blank, a break or NUL.
+/// Whether a character is a blank, a break or NUL.
 fn is_gap(c: char) -> bool
     ensures { result ≡ spec.is_gap c }
 {
     is_blank(c) || is_break(c) || c == '\0'
 }
 
-/// A gap or the end stands here.
+/// Whether a gap or the end comes next.
 fn ends_word(rest: &str) -> bool
     ensures { result ≡ spec.ends_word (chars rest.now) }
 {
     rest.chars().next().is_none_or(is_gap)
 }
 
-/// A break stands here.
+/// Whether a break comes next.
 fn begins_with_break(rest: &str) -> bool
     ensures { result ≡ spec.begins_with class.is_break (chars rest.now) }
 {
@@ -117,7 +117,7 @@ fn begins_with_break(rest: &str) -> bool
     }
 }
 
-/// Cannot stand as itself: only double quotes can write it.
+/// Whether a character can't stand as itself, so that only double quotes can write it.
 fn is_special(c: char, charset: CharacterSet) -> bool
     ensures { result ≡ spec.is_special (seen_charset charset) c }
 {
@@ -126,14 +126,14 @@ fn is_special(c: char, charset: CharacterSet) -> bool
         || (charset.breaks12 && matches!(c, '\u{2028}' | '\u{2029}'))
 }
 
-/// No character is left.
+/// Whether no character is left.
 pub(crate) fn is_at_end(rest: &str) -> bool
     ensures { result ≡ spec.is_empty (chars rest.now) }
 {
     rest.chars().next().is_none()
 }
 
-/// A first character that means something else to a reader of plain text.
+/// Whether a first character means something else than plain text.
 fn is_indicator(c: char) -> bool
     ensures { result ≡ spec.is_indicator c }
 {
@@ -157,14 +157,14 @@ fn is_indicator(c: char) -> bool
     )
 }
 
-/// Three `-` or three `.`.
+/// Whether three characters are `---` or `...`.
 fn is_mark(a: char, b: char, c: char) -> bool
     ensures { result ≡ (a == 45 || a == 46) && b == a && c == a }
 {
     (a == '-' || a == '.') && b == a && c == a
 }
 
-/// `---` or `...`.
+/// Whether a text begins with `---` or `...`.
 fn begins_like_mark(value: &str) -> bool
     ensures { result ≡ spec.begins_like_mark (chars value.now) }
 {
@@ -175,14 +175,14 @@ fn begins_like_mark(value: &str) -> bool
     }
 }
 
-/// `?`, `:` or `-` before a gap or the end.
+/// Whether `?`, `:` or `-` stands before a gap or the end.
 fn stands_alone(c: char, rest: &str) -> bool
     ensures { result ≡ class.is_among (codes "?:-") c && spec.ends_word (chars rest.now) }
 {
     matches!(c, '?' | ':' | '-') && ends_word(rest)
 }
 
-/// The value, which begins with `c` before `rest`, begins as no plain text may.
+/// Whether a value, which begins with `c` before `rest`, begins as no plain text may.
 fn first_bars_plain(value: &str, c: char, rest: &str) -> bool
     ensures { result ≡ (class.is_space c || spec.begins_like_mark (chars value.now) || spec.is_indicator c
         || (class.is_among (codes "?:-") c && spec.ends_word (chars rest.now))) }
@@ -190,7 +190,7 @@ fn first_bars_plain(value: &str, c: char, rest: &str) -> bool
     is_space(c) || begins_like_mark(value) || is_indicator(c) || stands_alone(c, rest)
 }
 
-/// The value begins as no plain text may.
+/// Whether a value begins as no plain text may.
 fn begins_unlike_plain(value: &str) -> bool
     ensures { result ≡ spec.begins_unlike_plain (chars value.now) }
 {
@@ -202,14 +202,14 @@ fn begins_unlike_plain(value: &str) -> bool
     }
 }
 
-/// `:` before a gap or the end, or a gap before `#`.
+/// Whether `:` stands before a gap or the end, or a gap before `#`.
 fn is_key_or_comment(c: char, rest: &str) -> bool
     ensures { result ≡ spec.is_key_or_comment c (chars rest.now) }
 {
     (c == ':' && ends_word(rest)) || (is_gap(c) && begins_with_hash(rest))
 }
 
-/// `#` stands here.
+/// Whether `#` comes next.
 fn begins_with_hash(rest: &str) -> bool
     ensures { result ≡ spec.begins_with (λ d. d == 35) (chars rest.now) }
 {
@@ -219,7 +219,7 @@ fn begins_with_hash(rest: &str) -> bool
     }
 }
 
-/// A space stands here.
+/// Whether a space comes next.
 pub(crate) fn begins_with_space(rest: &str) -> bool
     ensures { result ≡ spec.begins_with class.is_space (chars rest.now) }
 {
@@ -229,7 +229,7 @@ pub(crate) fn begins_with_space(rest: &str) -> bool
     }
 }
 
-/// A character that no plain text holds, seen with what follows it.
+/// Whether no plain text holds this character before what follows it.
 fn bars_plain(c: char, rest: &str, charset: CharacterSet, context: Context) -> bool
     ensures { result ≡ spec.bars_plain (seen_charset charset) (is_flow context) c (chars rest.now) }
 {
@@ -241,28 +241,28 @@ fn bars_plain(c: char, rest: &str, charset: CharacterSet, context: Context) -> b
             && matches!(c, ',' | '?' | ':' | '[' | ']' | '{' | '}'))
 }
 
-/// A space before a break.
+/// Whether a space stands before a break.
 fn is_trailing_space(c: char, rest: &str) -> bool
     ensures { result ≡ spec.is_trailing_space c (chars rest.now) }
 {
     is_space(c) && begins_with_break(rest)
 }
 
-/// A character that no single-quoted text holds, seen with what follows it.
+/// Whether no single-quoted text holds this character before what follows it.
 fn bars_single_quoted(c: char, rest: &str, charset: CharacterSet) -> bool
     ensures { result ≡ spec.bars_single_quoted (seen_charset charset) c (chars rest.now) }
 {
     is_special(c, charset) || is_trailing_space(c, rest) || (is_break(c) && begins_with_space(rest))
 }
 
-/// A character that no block text holds, seen with what follows it.
+/// Whether no block text holds this character before what follows it.
 fn bars_block(c: char, rest: &str, charset: CharacterSet) -> bool
     ensures { result ≡ spec.bars_block (seen_charset charset) c (chars rest.now) }
 {
     is_special(c, charset) || is_trailing_space(c, rest) || (is_space(c) && is_at_end(rest))
 }
 
-/// A letter or a digit, which every text may hold.
+/// Whether a character is a letter or a digit, which every text may hold.
 fn is_ordinary(c: char) -> bool
     ensures { result ≡ is_ordinary c }
 {
@@ -325,7 +325,7 @@ fn past_quiet(barred: BarredStyles, text: &str, charset: CharacterSet) -> (Barre
     )
 }
 
-/// Only double quotes can write what was read.
+/// Whether only double quotes can write what was read.
 fn bars_all(barred: BarredStyles) -> bool
     ensures { result ≡ all_styles (seen_barred barred) }
 {

@@ -148,7 +148,7 @@ fn write_hint<A: Allocator>(pen: &mut Pen<A>, hint: u8) -> Result<(), yaml_error
     Ok(())
 }
 
-/// The first line would not show the indentation.
+/// Whether the first line would not show the indentation.
 fn begins_blank(value: &str) -> bool
     ensures { result ≡ layout.begins_blank (chars value.now) }
 {

@@ -31,8 +31,8 @@ pub(crate) enum Place {
     Fixed,
 }
 
-/// How the lines of a block scalar are laid: each after so many spaces; where they are folded, past the width, except
-/// a line that begins with a space.
+/// How the lines of a block scalar are written: each after `indent` spaces; a folded one is cut past `width`, unless it
+/// begins with a space.
 #[derive(Clone, Copy)]
 pub(crate) struct BlockLines {
     pub(crate) style: BlockStyle,
@@ -206,14 +206,14 @@ fn run_after(character: char, rest: &str, place: Place, lines: BlockLines) -> Ru
     }
 }
 
-/// The last space of a run, past the width.
+/// Whether a character is the last space of a run, past the width.
 fn folds<A: Allocator>(pen: &Pen<A>, width: i32, character: char, rest: &str) -> bool
     ensures { result ≡ layout.folds (limit_of width) pen.now.cursor.column character (chars rest.now) }
 {
     is_space(character) && !begins_with_space(rest) && is_past_width(pen, width)
 }
 
-/// The next line, past the breaks that come first, doesn't begin with a space.
+/// Whether the next line, past the breaks that come first, begins without a space.
 fn next_even(rest: &str) -> bool
     ensures { result ≡ layout.next_even (parts (chars rest.now)) }
 {
@@ -226,7 +226,7 @@ fn next_even(rest: &str) -> bool
     false
 }
 
-/// A LF that would be folded.
+/// Whether a LF would be folded, so that it is written twice.
 fn is_doubled(place: Place, character: char, rest: &str) -> bool
     ensures { result ≡ step.is_doubled place character (chars rest.now) }
 {

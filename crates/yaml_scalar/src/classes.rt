@@ -41,7 +41,7 @@ static CLASSES: [u8; 256] = [
     16, 16, 16, 16, 16, 16, 16, 16, 16, 16, 16, 16, 16, 16, 16, 16,
 ];
 
-/// A byte is of none of these classes.
+/// Whether a byte is of none of these classes.
 #[inline(always)]
 pub(crate) fn is_free(byte: u8, classes: u8) -> bool
     ensures { result ≡ is_free classes byte }
@@ -49,7 +49,7 @@ pub(crate) fn is_free(byte: u8, classes: u8) -> bool
     CLASSES[byte as usize] & classes == 0
 }
 
-/// The four bytes from a place on are of none of these classes.
+/// Whether the four bytes from a place on are of none of these classes.
 #[inline(always)]
 fn are_free(bytes: &[u8], place: usize, classes: u8) -> bool
     requires { place + 4 ≤ length bytes.now }
@@ -61,7 +61,7 @@ fn are_free(bytes: &[u8], place: usize, classes: u8) -> bool
         && is_free(bytes[place + 3], classes)
 }
 
-/// The same, of bytes that follow others of none of these classes.
+/// Whether the four bytes from a place on are of none of these classes, where none before them is.
 #[inline(always)]
 fn are_free_too(bytes: &[u8], place: usize, classes: u8) -> bool
     requires { place + 4 ≤ length bytes.now }

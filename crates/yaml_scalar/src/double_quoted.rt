@@ -134,7 +134,7 @@ fn may_fold(before: Option<char>, rest: &str) -> bool
     rest.chars().next().is_some() && is_other(before)
 }
 
-/// A character that is no space.
+/// Whether a character is no space.
 fn is_other(before: Option<char>) -> bool
     ensures { result ≡ spec.is_other before }
 {
@@ -144,7 +144,7 @@ fn is_other(before: Option<char>) -> bool
     }
 }
 
-/// A character is to become a fold.
+/// Whether a character becomes a fold.
 fn folds<A: Allocator>(
     pen: &Pen<A>,
     before: Option<char>,
@@ -231,21 +231,21 @@ fn ascii_ending_classes(folds: bool) -> u8
     }
 }
 
-/// A front of a text whose characters are written as themselves and never become folds.
+/// The run of a text up to the first character that isn't written as itself or may become a fold.
 fn run_where(before: char, text: &str, unicode: bool, folds: bool) -> Run
     ensures { IsRun (stays_where unicode folds) before text.now result.length result.last }
 {
     run_up_to(before, text, ending_classes(unicode, folds))
 }
 
-/// A space may become a fold, since there is a width.
+/// Whether a space may become a fold, since there is a width.
 fn has_folds(quoting: Quoting) -> bool
     ensures { result ≡ has_limit (limit_where quoting.allow_breaks quoting.width) }
 {
     has_limit_where(quoting.allow_breaks, quoting.width)
 }
 
-/// The same, where a space may become a fold if there is a width.
+/// The run of a text up to the first character that isn't written as itself. A space ends it where folds are allowed.
 fn run_after(before: char, text: &str, quoting: Quoting) -> Run
     ensures { IsRun (stays quoting.unicode (limit_where quoting.allow_breaks quoting.width)) before text.now result.length result.last }
 {
@@ -263,7 +263,7 @@ fn write_gathered<A: Allocator>(pen: &mut Pen<A>, bytes: &GatheredBytes) -> Resu
     pen.write_ascii(bytes.as_slice())
 }
 
-/// A value is short and stands as it is, wherever its line ends.
+/// Whether a value is short and stands as it is, wherever its line ends.
 #[inline(always)]
 fn is_short(value: &str, quoting: Quoting) -> bool
     ensures { result ≡ true → IsShortRun (stays quoting.unicode (limit_where quoting.allow_breaks quoting.width)) value.now }
@@ -290,7 +290,7 @@ fn write_value<A: Allocator>(
     }
 }
 
-/// An escape stands here.
+/// Whether an escape comes next.
 fn begins_with_escape(text: &str, unicode: bool) -> bool
     ensures { result ≡ begins_with (spec.needs_escape unicode) (chars text.now) }
 {
@@ -300,7 +300,7 @@ fn begins_with_escape(text: &str, unicode: bool) -> bool
     }
 }
 
-/// Writes at once the characters that follow one, as many as are gathered; the last of these, and what follows it.
+/// Writes the next characters in one call. Returns the last one and the rest.
 #[inline(never)]
 fn write_escapes<'a, A: Allocator>(
     pen: &mut Pen<A>,
@@ -319,7 +319,7 @@ fn write_escapes<'a, A: Allocator>(
     Ok(next)
 }
 
-/// The same where an escape comes next; else no character.
+/// Writes the next characters in one call if the first needs an escape, else none. Returns the last one and the rest.
 #[inline(always)]
 fn write_next_escapes<'a, A: Allocator>(
     pen: &mut Pen<A>,
@@ -340,7 +340,7 @@ fn write_next_escapes<'a, A: Allocator>(
     }
 }
 
-/// The same: a character, the run that follows it, and escapes with the signs between them, in turn.
+/// Writes what stands between the quotes: in turn a character, the run after it, and escapes with what is between them.
 #[inline(never)]
 fn write_inside<A: Allocator>(
     pen: &mut Pen<A>,

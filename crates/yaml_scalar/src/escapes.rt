@@ -20,7 +20,7 @@ pub(crate) enum Escape {
     Eight([u8; 10]),
 }
 
-/// Unprintable, past ASCII where that isn't kept, a break, the quote or the backslash.
+/// Whether a character is unprintable, past ASCII where that isn't kept, a break, the quote or the backslash.
 #[inline(always)]
 pub(crate) fn needs_escape(c: char, unicode: bool) -> bool
     ensures { result ≡ spec.needs_escape unicode c }
@@ -32,7 +32,7 @@ pub(crate) fn needs_escape(c: char, unicode: bool) -> bool
     }
 }
 
-/// Of ASCII, and unprintable, a break, the quote or the backslash.
+/// Whether a byte of ASCII is unprintable, a break, the quote or the backslash.
 #[inline(always)]
 fn is_escaped_byte(byte: u8) -> bool
     requires { byte < 128 }

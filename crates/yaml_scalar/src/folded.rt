@@ -20,7 +20,7 @@ use yaml_pen::Pen;
 /// Writes a folded scalar (YAML 1.1, section 9.3.2), a space before it where one is needed: the header, then
 /// each nonempty line after `indent` spaces. A line that doesn't begin with a space is cut past `width`, a
 /// column counted in characters, in place of the last space of a run; `i32::MAX` is no width. `best_indent`
-/// is what the header's digit says. Answers the open mark: 2 where the header keeps all final breaks, else 0.
+/// is what the header's digit says. Returns the open mark: 2 where the header keeps all final breaks, else 0.
 ///
 /// # Errors
 /// `WriteError` where the output passes its limit, `Memory` where a growth was refused, else the pen's first

@@ -8,7 +8,7 @@ use crate::escapes::{Escape, escape_of, needs_escape};
 use arrayvec::ArrayVec;
 use yaml_base::{is_ascii, is_space};
 
-/// So many bytes are gathered at most.
+/// The most bytes of a batch.
 const MOST_BYTES: usize = 256;
 /// The bytes of the longest escape.
 const LONGEST_ESCAPE: usize = 10;
@@ -16,7 +16,7 @@ const LONGEST_ESCAPE: usize = 10;
 /// The texts of characters, one after another.
 pub(crate) type GatheredBytes = ArrayVec<u8, MOST_BYTES>;
 
-/// A character whose text is of ASCII, and which is no space.
+/// Whether a character is no space, and its text is ASCII.
 #[inline(always)]
 fn is_gathered(c: char, unicode: bool) -> bool
     ensures { result ≡ is_gathered unicode c }
@@ -61,7 +61,7 @@ fn append_character(bytes: &mut GatheredBytes, c: char, unicode: bool)
     }
 }
 
-/// The next character that is gathered where there is room for it, and what follows it.
+/// The next character, if it belongs to the batch and there is room for it, and what follows it.
 #[inline(always)]
 fn next_gathered(text: &str, room: usize, unicode: bool) -> Option<(char, &str)>
     ensures fits { IfSome result (λ next. longest_escape ≤ room) }
@@ -80,7 +80,7 @@ fn next_gathered(text: &str, room: usize, unicode: bool) -> Option<(char, &str)>
     }
 }
 
-/// Gathers the texts of the characters that follow one, as many as fit; the last of these, and what follows it.
+/// Fills a batch with the texts of the next characters, as many as fit. Returns the last one and the rest.
 #[inline(always)]
 pub(crate) fn gather<'a>(
     bytes: &mut GatheredBytes,

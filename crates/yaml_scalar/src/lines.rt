@@ -177,14 +177,14 @@ fn write_other<A: Allocator>(
     pen.write_char(character)
 }
 
-// LF that begins a run.
+// Whether a character is LF that begins a run, so that it is written twice.
 fn is_doubled_break(character: char, before: CharacterKind) -> bool
     ensures { result ≡ character == class.line_feed && not (layout.is_same_kind (steps.seen_kind before) layout.breaks) }
 {
     character == '\n' && !is_same_kind(before, CharacterKind::Break)
 }
 
-// A run that is one space, neither first nor last, past the width.
+// Whether a run is one space, neither first nor last, past the width.
 fn is_fold<A: Allocator>(pen: &Pen<A>, lines: Lines, before: CharacterKind, rest: &str) -> bool
     ensures { result ≡ cursor.is_past_width (limit_where lines.allow_breaks lines.width) pen.now.cursor
         && not (layout.is_same_kind (steps.seen_kind before) layout.spaces
@@ -236,7 +236,7 @@ fn run_after<A: Allocator>(pen: &Pen<A>, character: char, rest: &str, lines: Lin
     line_run_within(character, rest, lines.quoted, room)
 }
 
-/// A value is short and one line, which stands as it is.
+/// Whether a value is short and one line, which stands as it is.
 #[inline(always)]
 fn is_short_line<A: Allocator>(pen: &Pen<A>, value: &str, lines: Lines) -> bool
     ensures { result ≡ true → IsShortLine (limit_where lines.allow_breaks lines.width) lines.quoted pen.now.cursor value.now }
@@ -266,7 +266,7 @@ pub(crate) fn write_lines<A: Allocator>(
     }
 }
 
-/// The same, run by run.
+/// Writes the lines of a value run by run, the flags of the cursor left as they are.
 #[inline(never)]
 pub(crate) fn write_runs<A: Allocator>(
     pen: &mut Pen<A>,

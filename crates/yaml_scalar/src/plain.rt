@@ -65,7 +65,7 @@ fn write_laid<A: Allocator>(
     write_body(pen, value, lines)
 }
 
-// The empty value needs none in a block collection or as a root.
+// Whether a space comes first. The empty value needs none in a block collection or as a root.
 fn needs_space(flow: bool, value: &str) -> bool
     ensures { result ≡ flow || not (is_empty (chars value.now)) }
 {

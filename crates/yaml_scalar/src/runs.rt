@@ -58,14 +58,14 @@ pub(crate) fn run_up_to(before: char, text: &str, classes: u8) -> Run
     }
 }
 
-/// A front of a text that nothing ends.
+/// The run of a text up to what ends it.
 pub(crate) fn line_run_after(before: char, text: &str, ends: RunEnds) -> Run
     ensures { IsRun (stays_in_line ends.space ends.quote) before text.now result.length result.last }
 {
     run_up_to(before, text, ending_classes(ends))
 }
 
-/// The same within so many bytes.
+/// The run up to the first byte of some classes, at most `room` bytes long.
 fn run_within(before: char, text: &str, classes: u8, room: usize) -> Run
     ensures run { (test : ℕ → Bool) → Tells classes test → IsRun test before text.now result.length result.last }
     ensures within { result.length ≤ room }
@@ -74,7 +74,7 @@ fn run_within(before: char, text: &str, classes: u8, room: usize) -> Run
     run_up_to(before, near, classes)
 }
 
-/// The run of a line that a space ends, or one of at most so many bytes, if any, that may hold spaces.
+/// The next run of a line: to the next space if `room` is 0, else at most `room` bytes.
 pub(crate) fn line_run_within(before: char, text: &str, quote: bool, room: usize) -> Run
     ensures { (limit : Option ℕ) (cursor : Cursor) → (0 < room → HasRoom limit cursor.column room)
         → IsLineRun limit quote cursor before text.now result.length result.last }

@@ -8,21 +8,21 @@ use crate::width;
 use std::alloc::Allocator;
 use yaml_pen::Pen;
 
-/// The column is past the width, and folds are allowed.
+/// Whether the column is past the width, and folds are allowed.
 pub(crate) fn may_fold_here<A: Allocator>(pen: &Pen<A>, allow_breaks: bool, width: i32) -> bool
     ensures { result ≡ is_past_width (limit_where allow_breaks width) pen.now.cursor }
 {
     allow_breaks && width::is_past_width(pen, width)
 }
 
-/// Some column is past the width.
+/// Whether some column is past the width.
 pub(crate) fn has_limit(width: i32) -> bool
     ensures { result ≡ has_limit (limit_of width) }
 {
     width != i32::MAX
 }
 
-/// Some column is past the width, and folds are allowed.
+/// Whether some column is past the width, and folds are allowed.
 pub(crate) fn has_limit_where(allow_breaks: bool, width: i32) -> bool
     ensures { result ≡ has_limit (limit_where allow_breaks width) }
 {

@@ -13,10 +13,10 @@ use std::alloc::Allocator;
 use yaml_base::yaml_error_t;
 use yaml_pen::Pen;
 
-/// So many bytes are short.
+/// The most bytes of a short text.
 const MOST_BYTES: usize = 512;
 
-/// A text is short and holds no byte of some classes, which tell what is not of ASCII.
+/// Whether a text is short and holds no byte of these classes, which are those of what isn't ASCII and more.
 #[inline(always)]
 pub(crate) fn is_short_run(text: &str, classes: u8) -> bool
     ensures value { result ≡ (nat_le (length text.now) most_short && list_all (is_free classes) text.now) }

@@ -125,7 +125,7 @@ fn style_fitting(
     }
 }
 
-/// The bare tag tells a quoted scalar apart that has no tag and no flag.
+/// Whether a quoted scalar has no tag and no flag, so that it gets the bare tag `!`.
 fn is_bare(tag_written: bool, quoted_implicit: bool, style: yaml_scalar_style_t) -> bool
     ensures { result ≡ (not tag_written && not quoted_implicit && not (spec.is_plain (seen_scalar_style style))) }
 {

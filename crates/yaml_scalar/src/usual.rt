@@ -29,7 +29,7 @@ pub fn is_usual(text: &str) -> bool
     has_usual_ends(text.as_bytes()) && is_short_run(text, UNUSUAL)
 }
 
-/// A letter or a digit first, and no space last.
+/// Whether a text begins with a letter or a digit and ends with no space.
 #[inline(always)]
 fn has_usual_ends(bytes: &[u8]) -> bool
     ensures { result ≡ has_usual_ends bytes.now }
@@ -40,7 +40,7 @@ fn has_usual_ends(bytes: &[u8]) -> bool
     }
 }
 
-/// A letter or a digit.
+/// Whether a byte is a letter or a digit.
 #[inline(always)]
 fn is_ordinary_byte(byte: u8) -> bool
     ensures { result ≡ is_ordinary byte }

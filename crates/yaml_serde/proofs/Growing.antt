@@ -13,7 +13,7 @@ use Rattle.yaml_writer.specs.Writing.{WriterState, Gave, Failed, EndsInnermost, 
 abbrev GrowsOn : (before after : WriterState) → Type 0
 GrowsOn before after = Grows before.emitter.page after.emitter.page
 
--- the same state is as good
+-- a writer's text and output grow to themselves
 grown_same : (before after : WriterState) → after ≡ before → GrowsOn before after
 grown_same before after is = subst (λ (writer : WriterState). GrowsOn before writer) (sym is) (grows_itself before.emitter.page)
 
@@ -24,7 +24,7 @@ grown_given (Ok done) before after event gave failed = gave.grows
 grown_given (Err error) before after event gave (inl failed) = failed.grows
 grown_given (Err error) before after event gave (inr none) = grown_same before after none.1
 
--- the same of the start of a collection, for which one more is open
+-- the start of a collection was given, or there was no memory for it
 pub grown_begun : (answer : Result (Unit {0}) yaml_error_t) (before inside after : WriterState) (event : Event) → inside.emitter ≡ before.emitter
     → OnOk answer (Gave inside event None after)
     → IfErr answer (λ error. Gave inside event (Some error) after ⊎ ((error ≡ Memory) × (after ≡ before)))

@@ -35,7 +35,7 @@ module _ (given : Settings) where
           let one = All-cons IsCall event [] call (All-nil IsCall) in
           (begun.0 ++ event ∷ [], All-append IsCall begun.0 (event ∷ []) begun.1 one, adds given (opening ++ begun.0) [] begun.2)
 
-  -- the same state is as good
+  -- a writer that is within a document stays so where nothing changes
   within_same : (before after : WriterState) → after ≡ before → IsWithin given before.emitter → IsWithin given after.emitter
   within_same before after is = subst (λ (writer : WriterState). IsWithin given writer.emitter) (sym is)
 
@@ -47,7 +47,7 @@ module _ (given : Settings) where
   within_given (Err error) before after {event} call gave (inl failed) = within_more before.emitter after.emitter event call failed.adds
   within_given (Err error) before after {event} call gave (inr none) = within_same before after none.1
 
-  -- the same of the start of a collection, for which one more is open
+  -- the start of a collection was given, or there was no memory for it
   pub within_begun : (answer : Result (Unit {0}) yaml_error_t) (before inside after : WriterState) {event : Event} → IsCall event
       → inside.emitter ≡ before.emitter → OnOk answer (Gave inside event None after)
       → IfErr answer (λ error. Gave inside event (Some error) after ⊎ ((error ≡ Memory) × (after ≡ before)))

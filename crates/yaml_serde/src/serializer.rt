@@ -24,7 +24,7 @@ enum Next {
     Data,
     /// The key of a map of one entry, whose start isn't written: the name of a variant makes it that variant.
     Entry,
-    /// The same, where the map is the data of a variant.
+    /// The key of a map of one entry that is the data of a variant; the map's start isn't written.
     EntryOfData,
     /// A map whose members go into the one that is open.
     Members,

@@ -46,7 +46,7 @@ pub fn to_vec<T: Serialize>(alloc: Global, value: &T) -> Result<Vec<u8>, Error>
     to_vec_with(alloc, Settings::default(), value)
 }
 
-/// The same as a text.
+/// A value as a stream of one document, by the writer's default settings, as a text.
 ///
 /// # Errors
 /// Those of `to_vec_with`.

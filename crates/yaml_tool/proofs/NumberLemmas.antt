@@ -54,7 +54,7 @@ no_digit radix most number c rest is_not =
     let whole = digits_value_after radix (number * radix + digit_value c) rest in
     refused (is_digit c radix) (list_all (λ digit. is_digit digit radix) rest) (nat_le whole most) (Some whole) (lt_false (digit_value c) radix is_not)
 
--- the same of a text that begins with it
+-- a digit that begins a text counts
 pub digit_first : (radix most number base d c : ℕ) (text rest : List ℕ) → base ≡ radix → text ≡ c ∷ rest → d ≡ digit_value c → d < radix
     → number_after radix most number text ≡ number_after radix most (number * base + d) rest
 digit_first radix most number base d c text rest is_base begins is small =

@@ -17,7 +17,7 @@ pub fn is_word(word: &str, name: &'static str) -> bool
     is_same(word.as_bytes(), name.as_bytes())
 }
 
-/// Compares byte by byte: the name is short, and known when this is compiled.
+/// Whether two texts are equal. Compares byte by byte, since the name is short and known when this is compiled.
 #[inline(always)]
 fn is_same(word: &[u8], name: &[u8]) -> bool
     ensures { result ≡ bytes_eq word.now name.now }

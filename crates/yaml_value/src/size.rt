@@ -45,7 +45,7 @@ fn count_pairs<A: Allocator>(pairs: &Vec<(Value<A>, Value<A>), A>) -> u64
     count
 }
 
-/// Whether at most so many lists and maps of a value lie within one another.
+/// Whether the lists and maps of a value nest at most `most` deep.
 #[cycle(lies_within)]
 pub(crate) fn lies_within<A: Allocator>(value: &Value<A>, most: u32) -> bool
     ensures { result ≡ nat_le (nesting (seen_value value.now)) most }

@@ -17,7 +17,7 @@ use yaml_emitter::{
     yaml_emitter_set_unicode, yaml_emitter_set_width, yaml_emitter_t,
 };
 
-/// So many lists and maps may lie within one another.
+/// The maximum nesting depth of lists and maps.
 const MOST_NESTED: u32 = 1_000;
 
 /// The canonical YAML of a value: one document in UTF-8, each node with its tag. The canonical reader of the definitions

@@ -134,7 +134,7 @@ abbrev pub AddsAll : State → List Event → State → Type 0
 AddsAll before events after =
     (given : Settings) (all : List Event) (sent : List ℕ) → StandsTaken given all sent before → StandsTaken given (all ++ events) sent after
 
--- the same of one event
+-- wherever the emitter stood, it stands after this event more; what was taken stays taken
 abbrev pub Adds : State → Event → State → Type 0
 Adds before event after = AddsAll before (event ∷ []) after
 

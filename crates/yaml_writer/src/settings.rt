@@ -32,7 +32,7 @@ pub struct Settings {
     pub line_breaks_1_2: bool,
     /// The encoding; ANY is UTF-8.
     pub encoding: yaml_encoding_t,
-    /// The output has at most so many bytes.
+    /// The maximum output size in bytes.
     pub limit: usize,
 }
 

@@ -2,42 +2,42 @@
 ghost use Rattle.std.specs.Prelude.{◌≡◌};
 ghost use Rattle.yaml_writer.specs.Words as words;
 
-/// `~`, `null`, `Null` or `NULL`.
+/// Whether a word is `~`, `null`, `Null` or `NULL`.
 fn is_null_word(text: &str) -> bool
     ensures { result ≡ words.is_of words.null_words text.now }
 {
     matches!(text, "~" | "null" | "Null" | "NULL")
 }
 
-/// `true`, `True` or `TRUE`.
+/// Whether a word is `true`, `True` or `TRUE`.
 fn is_true_word(text: &str) -> bool
     ensures { result ≡ words.is_of words.true_words text.now }
 {
     matches!(text, "true" | "True" | "TRUE")
 }
 
-/// `false`, `False` or `FALSE`.
+/// Whether a word is `false`, `False` or `FALSE`.
 fn is_false_word(text: &str) -> bool
     ensures { result ≡ words.is_of words.false_words text.now }
 {
     matches!(text, "false" | "False" | "FALSE")
 }
 
-/// A word that is true in YAML 1.1 alone.
+/// Whether a word is true in YAML 1.1 alone.
 fn is_yes_word(text: &str) -> bool
     ensures { result ≡ words.is_of words.yes_words text.now }
 {
     matches!(text, "y" | "Y" | "yes" | "Yes" | "YES" | "on" | "On" | "ON")
 }
 
-/// A word that is false in YAML 1.1 alone.
+/// Whether a word is false in YAML 1.1 alone.
 fn is_no_word(text: &str) -> bool
     ensures { result ≡ words.is_of words.no_words text.now }
 {
     matches!(text, "n" | "N" | "no" | "No" | "NO" | "off" | "Off" | "OFF")
 }
 
-/// `<<` or `=`, the merge key and the default value of YAML 1.1.
+/// Whether a word is `<<` or `=`, the merge key and the default value of YAML 1.1.
 fn is_key_word(text: &str) -> bool
     ensures { result ≡ words.is_of words.key_words text.now }
 {

@@ -40,7 +40,7 @@ passes_then rules from through to a b one two = record {
       ap (λ t. steps rules from (flow_tokens rules.breaks12 free t)) (append_assoc a b rest) ∙ one.passes (b ++ rest) ∙ two.takes rest h;
 }
 
--- the same text
+-- equal texts take the reader to equal places
 pub passes_text : (rules : Rules) (from to : FlowReading) (a b : Text) → a ≡ b → Passes rules from b to → Passes rules from a to
 passes_text rules from to a b e one = record {
   passes = λ rest. ap (λ t. steps rules from (flow_tokens rules.breaks12 free (t ++ rest))) e ∙ one.passes rest;

@@ -31,7 +31,7 @@ takes_tokens rules from text tokens says = record {
   takes = λ rest h. ap (steps rules from) (says.says rest h) ∙ steps_both rules from tokens (flow_tokens rules.breaks12 free rest);
 }
 
--- the same, to a reading that is named
+-- a text that is these tokens takes the reader to a reading that equals theirs
 pub takes_to : (rules : Rules) (from to : FlowReading) (text : Text) (tokens : List FlowToken) → Says rules.breaks12 text tokens
     → steps rules from tokens ≡ to → Takes rules from text to
 takes_to rules from to text tokens says e = record {

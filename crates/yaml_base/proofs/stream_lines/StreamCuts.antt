@@ -40,7 +40,7 @@ from_extends breaks12 r (c ∷ t) place =
     step_extends r (quote_step breaks12 place c) (λ p. quoted_from breaks12 p t) (λ p. quoted_from breaks12 p (t ++ r)) t
     (λ p. from_extends breaks12 r t p)
 
--- the same for a value
+-- a text that goes on only adds to what its quoted value leaves
 abbrev FrontExtends : Text → Option QuotedReading → Option QuotedReading → Type 0
 FrontExtends r None longer = Unit {0}
 FrontExtends r (Some reading) longer = longer ≡ Some (record { value = reading.value; rest = reading.rest ++ r })

@@ -92,7 +92,7 @@ collection_joined a b e f x y z h k l =
     ap (λ t. (t ++ y) ++ z) (h ∙ append-nil (a ++ b)) ∙ ap (λ t. ((a ++ b) ++ t) ++ z) k ∙ ap (λ t. ((a ++ b) ++ e) ++ t) (l ∙ append-nil f)
     ∙ ap (λ t. t ++ f) (append_assoc a b e) ∙ append_assoc a (b ++ e) f
 
--- the same, with the cursors
+-- a collection's pieces and the cursor after them, from those of its entries
 collection_parts : (signs begun : Laid) (entries : PiecesLaid) (own : Laid) (ending : Cursor → Laid) → Joined entries own
     → (text_of ((record { lead = signs.text ++ begun.text; body = None } ∷ [] ++ entries.pieces)
     ++ record { lead = (ending entries.standing.cursor).text; body = None } ∷ [])

@@ -83,13 +83,13 @@ abbrev mutual
       tree_pairs_agree canonical pairs trees && tree_agrees canonical key key_tree && tree_agrees canonical value value_tree
   tree_pairs_agree canonical _ _ = false
 
--- the same version, if there is one
+-- two versions are equal, or there is none
 abbrev pub is_same_version : Option Version → Option Version → Bool
 is_same_version None None = true
 is_same_version (Some a) (Some b) = int_eq a.major b.major && int_eq a.minor b.minor
 is_same_version _ _ = false
 
--- the same directives in the same order
+-- two lists have equal directives in one order
 abbrev pub are_same_directives : List TagDirective → List TagDirective → Bool
 are_same_directives [] [] = true
 are_same_directives (a ∷ rest) (b ∷ others) = bytes_eq a.handle b.handle && bytes_eq a.prefix b.prefix && are_same_directives rest others

@@ -106,7 +106,7 @@ signed negative number = if negative then neg_ℤ (pos number) else pos number
 abbrev pub are_digits : ℕ → Text → Bool
 are_digits base text = not (length text == 0) && list_all (λ c. is_digit c base) text
 
--- decimal digits, so many at least and so many at most
+-- between `least` and `most` decimal digits
 abbrev pub counted_digits : ℕ → ℕ → Text → Bool
 counted_digits least most text = is_between least most (length text) && list_all is_decimal text
 

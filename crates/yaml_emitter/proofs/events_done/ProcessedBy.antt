@@ -113,7 +113,7 @@ pub processed_unwritten : (event : Event) (empty : Bool) (before after : Machine
 processed_unwritten event empty before after kept settings page =
     record { kept = kept; settings = settings; page = unwritten refl page }
 
--- The same where the stage is known by an equation.
+-- What was written is the event's, where the stage is known by an equation.
 laid_at : (before after : MachineState) (event : Event) (empty : Bool) (stage : Stage) (answer : Result (Unit {0}) yaml_error_t) → before.stage ≡ stage
     → Wrote (piece_at (λ standing. (step before.settings stage event empty standing).laid) before.mark) before.page after.page answer
     → Wrote (event_laid before event empty) before.page after.page answer

@@ -11,14 +11,14 @@ use Rattle.yaml_emitter.specs.State.{MachineState}
 use Rattle.yaml_emitter.specs.Processing.{WritesPage, CutPage, unwritten, partly_written, Processed}
 use Rattle.yaml_emitter.specs.StandsAfter.{TookFirst}
 
--- the same text and output
+-- a page grows by nothing where text and output are equal
 pub grows_same : (before after : Page) → after.text ≡ before.text → after.output ≡ before.output → Grows before after
 grows_same before after text output = record {
   text = prefix_same before.text after.text (sym text);
   output = prefix_same before.output after.output (sym output);
 }
 
--- the same page
+-- a page grows to itself
 pub grows_page : (before after : Page) → after ≡ before → Grows before after
 grows_page before after same = grows_same before after (ap (λ (p : Page). p.text) same) (ap (λ (p : Page). p.output) same)
 

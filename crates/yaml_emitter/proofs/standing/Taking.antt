@@ -26,7 +26,7 @@ holds_taken : (error : Option yaml_error_t) (s : Effective) (events : List Event
 holds_taken error s [] pieces page h = ap all_taken h
 holds_taken error s (event ∷ events) pieces page h = (page_taken s page h.0, h.1, h.2)
 
--- the same machine, of whose output all is taken
+-- a machine whose output is all taken
 abbrev taken_from : MachineState → MachineState
 taken_from machine = record machine { page = all_taken machine.page }
 

@@ -28,7 +28,7 @@ pub(crate) struct CollectionContent<'a> {
     pub implicit: bool,
 }
 
-/// A scalar's tag is written in canonical mode, and where no flag lets it be left out.
+/// Whether a scalar's tag is written: in canonical mode, and where no flag lets it be left out.
 pub(crate) fn writes_scalar_tag(
     canonical: bool,
     plain_implicit: bool,
@@ -39,7 +39,7 @@ pub(crate) fn writes_scalar_tag(
     canonical || (!plain_implicit && !quoted_implicit)
 }
 
-/// A collection's tag is written in canonical mode, and where its flag doesn't let it be left out.
+/// Whether a collection's tag is written: in canonical mode, and where its flag doesn't let it be left out.
 pub(crate) fn writes_collection_tag(canonical: bool, implicit: bool) -> bool
     ensures { result ≡ (canonical || not implicit) }
 {

@@ -74,7 +74,7 @@ fn is_explicit(settings: &EffectiveSettings, first: bool, implicit: bool, direct
     !implicit || !first || settings.canonical || settings.portable || directed
 }
 
-/// Directives are kept apart by `...` from a document that is still open.
+/// Whether `...` comes first. It keeps directives apart from a document that is still open.
 fn closes_before(directed: bool, mark: OpenMark) -> bool
     ensures { result ≡ (directed && not (seen_mark mark == 0)) }
 {

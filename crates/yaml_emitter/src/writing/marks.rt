@@ -22,7 +22,7 @@ impl OpenMark {
         !matches!(self, OpenMark::Closed)
     }
 
-    /// After a block scalar that keeps its final breaks.
+    /// Whether a block scalar that keeps its final breaks is the last that was written.
     pub(crate) fn keeps_breaks(self) -> bool
         ensures { result ≡ (seen_mark self == 2) }
     {

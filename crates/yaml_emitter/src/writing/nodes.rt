@@ -99,7 +99,7 @@ pub(crate) fn write_collection_start<A: Allocator>(
     write_lead(pen, site, content.anchor, tag, NO_BARE_TAG)
 }
 
-/// A collection is written in flow where it stands in flow, in canonical mode, by its style, or where it is empty.
+/// Whether a collection is written in flow: within flow, in canonical mode, by its style, or where it is empty.
 pub(crate) fn is_written_in_flow(site: &Site, flow_asked: bool, empty: bool) -> bool
     ensures { (start : Collection)
         → asks_flow start.style ≡ flow_asked

@@ -87,7 +87,7 @@ fn write_entry<A: Allocator>(
     write_flow_line(pen, settings, place)
 }
 
-/// The same before a simple key, whose sign is left out.
+/// Writes what precedes a simple key in flow: a bracket or a comma, and a new line where one is due. It has no `?`.
 fn write_simple_key<A: Allocator>(
     pen: &mut Pen<A>,
     settings: &EffectiveSettings,
@@ -102,7 +102,7 @@ fn write_simple_key<A: Allocator>(
     write_entry(pen, settings, place, sign)
 }
 
-/// The same before another key, and its sign.
+/// Writes what precedes any other key in flow: a bracket or a comma, a new line where one is due, and `?`.
 #[inline(always)]
 fn write_long_key<A: Allocator>(
     pen: &mut Pen<A>,

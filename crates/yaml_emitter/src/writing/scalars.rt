@@ -97,14 +97,14 @@ fn choose(
     )
 }
 
-/// Double quotes are written, whatever the value holds.
+/// Whether double quotes are written, whatever the value holds.
 fn is_surely_double(canonical: bool, style: yaml_scalar_style_t) -> bool
     ensures { result ≡ true → style_asked canonical (seen_scalar_style style) ≡ double_quoted }
 {
     canonical || matches!(style, YAML_DOUBLE_QUOTED_SCALAR_STYLE)
 }
 
-/// The bare tag tells a scalar in quotes apart that has no tag and no flag.
+/// Whether a quoted scalar, which has no tag and no flag, gets the bare tag `!`.
 fn needs_bare_tag(tag_written: bool, quoted_implicit: bool) -> bool
     ensures { result ≡ (not tag_written && not quoted_implicit) }
 {

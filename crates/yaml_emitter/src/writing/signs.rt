@@ -31,7 +31,7 @@ pub(crate) enum Sign<'a> {
     Mark(Indicator),
     /// A new line at the place's column.
     Line,
-    /// The same where the line is past the width, and always in canonical mode.
+    /// A new line at the place's column where the line is past the width, and always in canonical mode.
     FlowLine,
     Space,
     /// Of an anchor or an alias.
@@ -46,7 +46,7 @@ pub(crate) enum Sign<'a> {
     Prefix(&'a str),
 }
 
-/// So many signs are written together, the first often `Nothing`.
+/// Three signs that are written together; the first is often `Nothing`.
 pub(crate) type Signs<'a> = (Sign<'a>, Sign<'a>, Sign<'a>);
 
 /// Writes three signs in order.
@@ -95,7 +95,7 @@ pub(crate) fn write_new_line<A: Allocator>(
     pen.write_indent(place.line_column() as i32)
 }
 
-/// The same by a call, where new lines are rare.
+/// Begins a new line at the place's column. It isn't inlined, since new lines are rare where it is called.
 #[inline(never)]
 fn write_line_apart<A: Allocator>(pen: &mut Pen<A>, place: &Place) -> Result<(), yaml_error_t>
     requires { IsReady pen.old }
@@ -125,7 +125,7 @@ fn needs_flow_line<A: Allocator>(pen: &Pen<A>, settings: &EffectiveSettings) -> 
     settings.canonical || is_line_full(pen, settings.width)
 }
 
-/// The column is past the width, which isn't negative; `i32::MAX` is never passed.
+/// Whether the column is past the width, which isn't negative; `i32::MAX` is never passed.
 fn is_line_full<A: Allocator>(pen: &Pen<A>, width: i32) -> bool
     requires { pos 0 ≤ℤ width }
     ensures { result ≡ layout.is_past_width (seen_width width) pen.now.cursor }

@@ -19,7 +19,7 @@ use crate::writing::contents::{CollectionContent, ScalarContent};
 use crate::writing::spelling::SpelledTag;
 use yaml_scalar::holds_break;
 
-/// A simple key has at most so many bytes.
+/// The maximum size of a simple key in bytes.
 const MOST_BYTES: usize = 128;
 
 /// Whether an alias at a place is a simple key.
@@ -131,14 +131,14 @@ fn spelling_count(spelled: SpelledTag) -> usize
     }
 }
 
-/// A value of so many bytes, an anchor and a tag are short together.
+/// Whether a value of `value` bytes, an anchor and a tag are short together.
 fn is_short(value: usize, anchor: Option<&str>, tag: Option<SpelledTag>) -> bool
     ensures { result ≡ layout.is_short (value + layout.name_count (seen_name anchor.entry) + spelled_count (seen_tag tag.entry)) }
 {
     is_short_count(value, name_count(anchor), tag_count(tag))
 }
 
-/// The counts of a value, a name and a tag together; the last may be cut off at `usize::MAX`.
+/// Whether a value, a name and a tag of these sizes are short together; `tag` may be cut off at `usize::MAX`.
 fn is_short_count(value: usize, name: usize, tag: usize) -> bool
     ensures { (whole : ℕ) → tag ≡ min whole usize.MAX → result ≡ layout.is_short (value + name + whole) }
 {

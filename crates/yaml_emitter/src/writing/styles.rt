@@ -29,7 +29,7 @@ use yaml_scalar::{
     write_single_quoted_scalar,
 };
 
-/// Writes a scalar's text in a style, and answers the open mark that it leaves.
+/// Writes a scalar's text in a style, and returns the open mark that it leaves.
 #[inline(always)]
 pub(crate) fn write_text<A: Allocator>(
     pen: &mut Pen<A>,

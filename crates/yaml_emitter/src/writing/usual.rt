@@ -26,7 +26,7 @@ use yaml_base::{
 use yaml_pen::Pen;
 use yaml_scalar::{is_usual, write_usual_scalar};
 
-/// A scalar is known to stand plain as it is: it has no anchor, its tag is left out, and its value is usual.
+/// Whether a scalar is known to stand plain as it is: it has no anchor, its tag is left out, and its value is usual.
 #[inline(always)]
 pub(crate) fn stands_plain(settings: &EffectiveSettings, content: &ScalarContent) -> bool
     ensures { result ≡ true → StandsPlain settings.now.canonical content.now }
@@ -34,7 +34,7 @@ pub(crate) fn stands_plain(settings: &EffectiveSettings, content: &ScalarContent
     is_asked_plain(settings.canonical, content) && is_usual(content.value)
 }
 
-/// Nothing but its value is against plain.
+/// Whether nothing but its value may keep a scalar from being plain.
 #[inline(always)]
 fn is_asked_plain(canonical: bool, content: &ScalarContent) -> bool
     ensures { result ≡ is_asked_plain canonical content.now }

@@ -12,9 +12,9 @@ use crate::pen::{Pen, has_mark};
 use std::alloc::Allocator;
 use yaml_base::{yaml_break_t, yaml_error_t};
 
-/// So many spaces are written at once.
+/// The most spaces that are written in one call.
 const MOST_SPACES: u32 = 64;
-/// So many spaces are written at once with the break before them.
+/// The most spaces that are written in one call with the break before them.
 const MOST_BEGUN: u32 = 31;
 /// LF, and as many spaces.
 static LINE_START: [u8; 32] = *b"\n                               ";
@@ -60,7 +60,7 @@ impl<A: Allocator> Pen<A> {
         }
     }
 
-    // A break is needed, and it is one byte as the spaces are.
+    // Whether a break is needed here, and is one byte as the spaces are.
     #[inline(always)]
     fn starts_at_once(&self, at: u32) -> bool
         requires { at < 2147483648 }
@@ -169,7 +169,7 @@ impl<A: Allocator> Pen<A> {
     }
 }
 
-/// A break is written as LF; a setting of ANY is taken for LF.
+/// Whether a break is written as LF; a setting of ANY is taken for LF.
 fn is_line_feed(line_break: yaml_break_t) -> bool
     ensures { result ≡ true → unwrap_or (seen_break line_break) line_feed_break ≡ line_feed_break }
 {

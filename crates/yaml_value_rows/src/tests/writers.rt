@@ -108,7 +108,7 @@ fn canonical() -> Settings {
     }
 }
 
-/// The output has at most so many bytes.
+/// The maximum output size in bytes.
 fn limited(limit: usize) -> Settings {
     Settings {
         limit,

@@ -12,7 +12,7 @@ use yaml_emitter::yaml_emitter_t;
 
 const ENDLESS: Setting = Setting { width: -1, ..UNSET };
 
-/// So many collections may be open at once.
+/// The maximum nesting depth.
 const MOST: usize = 1_000_000;
 
 const STARTED: &[Given] = &[Stream, Document];

@@ -1,4 +1,4 @@
-//! Runs in which each growth is refused in turn: want of memory is told, and what is written begins the output.
+//! Runs in which each growth is refused in turn: out of memory is reported, and the output is a prefix.
 use crate::tests::{equal, same};
 use std::alloc::Global;
 use std::process::Abort;
