@@ -166,7 +166,7 @@ fn is_exponent(exponent: Option<Exponent<'_>>) -> bool
 }
 
 impl Parts<'_> {
-    /// Whether digits stand wherever they have to.
+    /// Whether every required digit run is non-empty, and the first digit isn't a needless 0.
     fn is_valid(&self) -> bool
         ensures { result ≡ json.is_json_number (seen_parts self.now) }
     {
