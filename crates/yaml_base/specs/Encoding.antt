@@ -41,7 +41,7 @@ abbrev pub encode : Option Encoding → Text → List ℕ
 encode None text = []
 encode (Some encoding) text = text_bytes encoding (mark encoding ++ text)
 
--- the first so many bytes, or all where they are fewer
+-- the first `limit` bytes, or all where they are fewer
 abbrev pub cut : ℕ → List ℕ → List ℕ
 cut limit bytes = take limit bytes
 

@@ -1,4 +1,4 @@
--- What an accepted list comes to under its caller's settings: text and bytes.
+-- The text and the bytes of an accepted list under its caller's settings.
 use Rattle.std.specs.Prelude.{ℕ, Bool, true, false, Option, None, Some, List, [], ◌∷◌}
 use Rattle.yaml_base.specs.Characters.{Text}
 use Rattle.yaml_base.specs.Settings.{Encoding, Settings, Effective, effective}

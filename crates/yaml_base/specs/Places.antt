@@ -75,7 +75,7 @@ abbrev pub tag_count : List TagDirective → Option Text → ℕ
 tag_count directives None = 0
 tag_count directives (Some tag) = spelling_count (spelling directives tag)
 
--- a simple key has at most so many bytes (libyaml's emitter; YAML 1.1, section 10.2 Mapping Styles, allows 1,024 characters)
+-- the maximum size of a simple key in bytes (libyaml's emitter; YAML 1.1, section 10.2 Mapping Styles, allows 1,024 characters)
 abbrev pub most_key_bytes : ℕ
 most_key_bytes = 128
 

@@ -20,7 +20,7 @@ is_end sequence_end = true
 is_end mapping_end = true
 is_end _ = false
 
--- so many events must follow an event before it is ready, where none closes it sooner
+-- how many events must follow an event before it is ready, where none closes it sooner
 abbrev pub awaited : Event → ℕ
 awaited (document_start start) = 1
 awaited (sequence_start start) = 2

@@ -23,7 +23,7 @@ fault_if wrong fault = if wrong then Some fault else None
 abbrev pub properties_fault : Option Text → Option Text → Option yaml_error_t
 properties_fault anchor tag = option_or (option_and_then anchor_fault anchor) (option_and_then tag_fault tag)
 
--- the anchor's or alias's fault, then that of a tag that is written: both are told before the place
+-- the anchor's or alias's fault, then that of a tag that is written: both are looked for before the place
 abbrev pub name_or_tag_fault : Bool → Event → Option yaml_error_t
 name_or_tag_fault canonical (alias name) = alias_fault name
 name_or_tag_fault canonical (scalar content) =
@@ -56,7 +56,7 @@ expected (after_stream stream) = ExpectedNothing
 abbrev pub place_fault : Partial → Event → Option yaml_error_t
 place_fault partial event = fault_if (is_none (push partial event)) (expected partial)
 
--- so many collections may be open at once (this library's own bound)
+-- the maximum nesting depth (this library's own bound)
 abbrev pub most_open : ℕ
 most_open = 1000000
 
@@ -89,7 +89,7 @@ refusal_at canonical partial event =
     (option_or (place_fault partial event)
     (option_or (content_fault canonical event) (depth_fault partial event)))
 
--- the fault of an event after a list; none is told after a list that begins no stream
+-- the fault of an event after a list; none after a list that begins no stream
 abbrev pub refusal : Bool → List Event → Event → Option yaml_error_t
 refusal canonical before event = option_and_then (λ partial. refusal_at canonical partial event) (partial_of before)
 
@@ -101,7 +101,7 @@ is_sound canonical event = is_none (option_or (name_or_tag_fault canonical event
 abbrev pub open_count : List Event → ℕ
 open_count events = count_by begins_collection events - count_by ends_collection events
 
--- a list is accepted where it is the events of a stream, each event is sound, and no more than so many collections
+-- a list is accepted where it is the events of a stream, each event is sound, and no more than `most_open` collections
 -- are open after any front of it
 pub record IsAccepted (canonical : Bool) (events : List Event) : Type 0 where
   pub stream : Stream

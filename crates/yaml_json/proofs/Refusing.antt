@@ -251,7 +251,7 @@ value_names depth unique before after json read once is =
 
 -- ---- what is said
 
--- what breaks off, or nests too deep, is no value nested at most so deep
+-- what breaks off, or nests too deep, is no value nested at most `depth` deep
 broken_is_none : (depth : ℕ) (unique : Bool) (all : List Token) → BreaksOff depth unique all → (json : Json) → value depth all ≡ Some (json, []) → ⊥
 broken_is_none depth unique all broken json read =
     goes_on broken.left (broken.parts ∙ value_spelled depth all [] json read ∙ append-nil (json_tokens json)) broken.breaks where

@@ -10,13 +10,13 @@ use Rattle.yaml_base.specs.Prefix.{IsPrefix}
 abbrev pub BeginsSome : List Token → Type 0
 BeginsSome taken = (json : Json) × IsPrefix taken (json_tokens json)
 
--- some value nested at most so deep begins with these tokens
+-- some value nested at most `depth` deep begins with these tokens
 pub record BeginsValue (depth : ℕ) (taken : List Token) : Type 0 where
   pub json : Json
   pub nested : nesting json ≤ depth
   pub begins : IsPrefix taken (json_tokens json)
 
--- the value nests at most so deep; and, where names are to come once, each object has each name once
+-- the value nests at most `depth` deep; and, where names are to come once, each object has each name once
 pub record IsAllowed (depth : ℕ) (unique : Bool) (json : Json) : Type 0 where
   pub nested : nesting json ≤ depth
   pub names : unique ≡ true → HasUniqueKeys json

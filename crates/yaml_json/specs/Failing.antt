@@ -57,7 +57,7 @@ pub record FailedAfter (in_flow : Bool) (taken ahead : List Token) (was : Writer
   pub gave : FailedWith was (tokens_events was.canonical in_flow taken) error now
 
 -- an allocation failed; or the events of the first of these tokens were given to the emitter, which has this error now, and some
--- value nested at most so deep begins with the tokens of these events
+-- value nested at most `depth` deep begins with the tokens of these events
 abbrev pub FailedInValue : (depth : ℕ) → (in_flow : Bool) → List Token → WriterState → yaml_error_t → WriterState → Type 0
 FailedInValue depth in_flow ahead was error now =
     (error ≡ Memory) ⊎ ((taken : List Token) × (FailedAfter in_flow taken ahead was error now × BeginsValue depth taken))
@@ -74,7 +74,7 @@ between = document_end true ∷ plain_start ∷ []
 abbrev pub started : (canonical in_flow : Bool) → List (List ℕ × Json) → List Event
 started canonical in_flow parts = flat_map (λ part. json_events canonical in_flow part.1 ++ between) parts
 
--- the first of the texts in a text are JSON nested at most so deep, and their events were given to the emitter, with a document
+-- the first of the texts in a text are JSON nested at most `depth` deep, and their events were given to the emitter, with a document
 -- begun after each, and then those of the first tokens of the next text; it has this error now
 pub record FailedAmong (depth : ℕ) (in_flow : Bool) (text : List ℕ) (was : WriterState) (error : yaml_error_t) (now : WriterState) : Type 0 where
   pub parts : List (List ℕ × Json)
@@ -93,14 +93,14 @@ FailedInTexts depth in_flow text was error now = (error ≡ Memory) ⊎ FailedAm
 
 -- ---- why no stream was written
 
--- the bytes of the events of the text's tokens pass the limit; where the text is JSON nested at most so deep, and no more than
+-- the bytes of the events of the text's tokens pass the limit; where the text is JSON nested at most `depth` deep, and no more than
 -- may be open, those of the stream of its value do
 pub record OverLimit (given : Settings) (in_flow : Bool) (depth : ℕ) (text : List ℕ) : Type 0 where
   pub passes : PassesLimit given (opening ++ tokens_events given.canonical in_flow (tokens text) ++ closing)
   pub cut : (json : Json) → value depth (tokens text) ≡ Some (json, []) → nesting json ≤ most_open
       → IsUncut given (opening ++ json_events given.canonical in_flow json ++ closing) → ⊥
 
--- more levels are allowed than may be open, and where the text is JSON nested at most so deep, it has more
+-- more levels are allowed than may be open, and where the text is JSON nested at most `depth` deep, it has more
 pub record NestsTooDeep (depth : ℕ) (text : List ℕ) : Type 0 where
   pub allowed : most_open < depth
   pub deeper : (json : Json) → value depth (tokens text) ≡ Some (json, []) → most_open < nesting json

@@ -33,7 +33,7 @@ IsOfText errors.TooDeep = Unit {0}
 IsOfText (errors.DuplicateName line column) = Unit {0}
 IsOfText (errors.Emitter error) = ⊥
 
--- an error by which the text isn't JSON nested at most so deep
+-- an error by which the text isn't JSON nested at most `depth` deep
 abbrev pub DeniesJson : JsonError → Type 0
 DeniesJson (errors.NotJson line column) = Unit {0}
 DeniesJson errors.TooDeep = Unit {0}
@@ -78,11 +78,11 @@ FaultsDiffer = (depth : ℕ) → (unique : Bool) → (all : List Token) → Brea
 
 -- ---- that the text isn't JSON
 
--- these tokens aren't one value nested at most so deep
+-- these tokens aren't one value nested at most `depth` deep
 abbrev pub IsNoValue : (depth : ℕ) → List Token → Type 0
 IsNoValue depth before = (json : Json) → value depth before ≡ Some (json, []) → ⊥
 
--- the text isn't JSON nested at most so deep
+-- the text isn't JSON nested at most `depth` deep
 abbrev pub IsNotJson : (depth : ℕ) → (text : List ℕ) → Type 0
 IsNotJson depth text = IsNoValue depth (tokens text)
 

@@ -104,7 +104,7 @@ FailsGiving in_flow levels before taken error after =
 abbrev pub Kept : {A : Type 0} → List Token → Names A → Type 0
 Kept so held = held.are_kept ≡ true → NamesOnce [] so × HaveNames held.sets.items (all_names_after [] so)
 
--- so many levels have names
+-- as many levels have names as are open
 abbrev pub FitsNames : {A : Type 0} → (unique : Bool) → List CollectionKind → Names A → Type 0
 FitsNames unique levels held = (held.are_kept ≡ unique) × (held.are_kept ≡ true → length held.sets.items ≡ length levels)
 
@@ -226,7 +226,7 @@ pub record SoFar (depth : ℕ) (in_flow : Bool) (start : List Token) (was : Writ
   pub stood : Stood in_flow was taken levels now
   pub stands : Stands depth taken levels
 
--- ---- what a caller is told
+-- ---- what a caller is returned
 
 -- the error says what the stop does
 abbrev pub SaysWhat : Stop → JsonError → Type 0

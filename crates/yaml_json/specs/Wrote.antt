@@ -41,23 +41,23 @@ Starts in_flow kind before after = Gave (entered before kind) (start_event in_fl
 abbrev pub Ends : WriterState → WriterState → Type 0
 Ends before after = EndsInnermost before (Ok tt) after
 
--- the first of these tokens are a value nested at most so deep; its events were given
+-- the first of these tokens are a value nested at most `depth` deep; its events were given
 pub record WroteValue (depth : ℕ) (in_flow : Bool) (before : List Token) (was : WriterState) (after : List Token) (now : WriterState) : Type 0 where
   pub json : Json
   pub read : value depth before ≡ Some (json, after)
   pub wrote : Wrote was (json_events was.canonical in_flow json) now
 
--- the tokens are a value nested at most so deep, and nothing after it; its events were given
+-- the tokens are a value nested at most `depth` deep, and nothing after it; its events were given
 pub record WroteDocument (depth : ℕ) (in_flow : Bool) (before : List Token) (was : WriterState) (now : WriterState) : Type 0 where
   pub json : Json
   pub read : value depth before ≡ Some (json, [])
   pub wrote : Wrote was (json_events was.canonical in_flow json) now
 
--- the text is JSON nested at most so deep; its events were given
+-- the text is JSON nested at most `depth` deep; its events were given
 abbrev pub WroteText : (depth : ℕ) → (in_flow : Bool) → (text : List ℕ) → WriterState → WriterState → Type 0
 WroteText depth in_flow text was now = WroteDocument depth in_flow (tokens text) was now
 
--- each of some texts is JSON nested at most so deep, with its value
+-- each of some texts is JSON nested at most `depth` deep, with its value
 abbrev pub AreJson : (depth : ℕ) → List (List ℕ × Json) → Type 0
 AreJson depth [] = Unit {0}
 AreJson depth (part ∷ parts) = (value depth (tokens part.0) ≡ Some (part.1, [])) × AreJson depth parts
@@ -93,7 +93,7 @@ ReadsTexts depth in_flow text was now =
     (given : Settings) (sent bytes : List ℕ) → StandsTaken given opening sent was.emitter → was.canonical ≡ given.canonical → Finishes now.emitter bytes
     → IsYamlOfTexts given in_flow depth text (sent ++ bytes)
 
--- the text is JSON nested at most so deep, the bytes are the stream of its one document, and both schemas read them as its value
+-- the text is JSON nested at most `depth` deep, the bytes are the stream of its one document, and both schemas read them as its value
 pub record IsYamlOf (given : Settings) (in_flow : Bool) (depth : ℕ) (text bytes : List ℕ) : Type 0 where
   pub json : Json
   pub read : value depth (tokens text) ≡ Some (json, [])

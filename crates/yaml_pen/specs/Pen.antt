@@ -1,4 +1,4 @@
--- What a pen's fields come to.
+-- What a pen's fields mean.
 use Rattle.std.specs.Prelude.{◌≡◌, ℕ, Bool, true, None, List, unwrap_or, min}
 use Rattle.std.specs.Str.{all_scalars}
 use Rattle.yaml_base.specs.Cursor.{column_after}

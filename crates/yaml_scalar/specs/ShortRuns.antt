@@ -6,7 +6,7 @@ use Rattle.yaml_base.specs.Cursor.{Cursor}
 use Rattle.yaml_scalar.specs.EscapeBytes.{is_plain}
 use Rattle.yaml_scalar.specs.WholeRuns.{HasRoom, stays_in_line}
 
--- so many bytes are short
+-- the most bytes of a short text
 abbrev pub most_short : ℕ
 most_short = 512
 

@@ -1,10 +1,10 @@
--- What digits come to.
+-- The values of digits.
 use Rattle.std.specs.Prelude.{ℕ, ◌&&◌, nat_le, Option, None, Some, List, if◌then◌else◌}
 use Rattle.std.specs.List.{list_all}
 use Rattle.std.specs.Char.{is_digit}
 use Rattle.std.specs.Str.Parse.{digits_value_after}
 
--- what digits of a radix come to when they follow those of a number, where it's at most so much
+-- the value of a number with more digits after it; none above `most`
 abbrev pub number_after : ℕ → ℕ → ℕ → List ℕ → Option ℕ
 number_after radix most number rest =
     let whole = digits_value_after radix number rest in

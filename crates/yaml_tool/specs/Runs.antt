@@ -1,4 +1,4 @@
--- What a run comes to: what its answer says of the script that was read and of what was written.
+-- The result of a run: what it says of the script that was read and of what was written.
 use Rattle.std.specs.Prelude.{◌≡◌, ◌⊎◌, ℕ, ⊤, None, Some, Option, List, [], ◌∷◌, ◌++◌, map}
 use Rattle.std.specs.Io.KnownBytes.{Appends, Keeps, IsAtEnd}
 use Rattle.yaml_base.specs.Settings.{Settings}

@@ -20,7 +20,7 @@ use Rattle.yaml_base.specs.graphs.Meetings.{document_event_list}
 
 -- ---- what trees of events and contents have in common
 
--- a kind, with a style where styles are told
+-- a kind, with a style where styles count
 pub data NodeKind : Type 0 where
   scalar_kind : Text → Option ScalarStyle → NodeKind
   sequence_kind : Option CollectionStyle → NodeKind
@@ -41,7 +41,7 @@ mutual
     no_shapes : Shapes
     shapes_and : Shapes → Shape → Shapes
 
--- the shape of a tree of events, styles told
+-- the shape of a tree of events, with its styles
 abbrev mutual
   pub node_shape_of : Node → Shape
   node_shape_of (alias_node name) = alias_shape name
@@ -106,7 +106,7 @@ abbrev pub numbers_at : PlacedAll → List ℕ
 numbers_at none_placed = []
 numbers_at (placed_and before last) = numbers_at before ++ number_at last ∷ []
 
--- the label of a graph's node, its style told or not
+-- the label of a graph's node, with its style or without
 abbrev pub kind_held : Bool → Held → NodeKind
 kind_held styled (scalar_held value style) = scalar_kind value (if styled then Some style else None)
 kind_held styled (sequence_held items style) = sequence_kind (if styled then Some style else None)
@@ -116,7 +116,7 @@ kind_held styled (mapping_held pairs style) = mapping_kind (if styled then Some 
 abbrev pub label_of : Bool → GraphNode → Label
 label_of styled node = record { tag = Some node.tag; kind = kind_held styled node.held }
 
--- the numbers fit a shape: at each place that isn't an alias the node has the label told there, and its children are
+-- the numbers fit a shape: at each place that isn't an alias the node has that label, and its children are
 -- those of the occurrences below, in order
 abbrev mutual
   pub HasShape : Bool → Graph → Placed → Shape → Type 0

@@ -6,7 +6,7 @@ use Rattle.yaml_base.specs.Cursor.{Cursor, Laid, then_laid, text_laid, space_if}
 use Rattle.yaml_base.specs.scalars.Lines.{Part, line, line_break, parts}
 use Rattle.yaml_base.specs.scalars.BlockHeader.{block_body}
 
--- each line after so many spaces, each break once (YAML 1.1, section 6.1 Indentation Spaces, s-indent(n))
+-- each line after its indentation, each break once (YAML 1.1, section 6.1 Indentation Spaces, s-indent(n))
 abbrev pub indented : ℕ → List Part → Text
 indented indent [] = []
 indented indent (line text ∷ rest) = replicate indent space ++ text ++ indented indent rest

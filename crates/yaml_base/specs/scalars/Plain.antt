@@ -44,7 +44,7 @@ abbrev pub is_lone : Text → Bool
 is_lone (c ∷ []) = true
 is_lone _ = false
 
--- so many spaces (YAML 1.1, section 6.1 Indentation Spaces, s-indent(n))
+-- indentation is spaces (YAML 1.1, section 6.1 Indentation Spaces, s-indent(n))
 abbrev pub indentation : ℕ → Text
 indentation indent = replicate indent space
 

@@ -18,7 +18,7 @@ abbrev pub is_alias : Tree → Bool
 is_alias (alias_tree name) = true
 is_alias _ = false
 
--- a simple key has at most so many characters up to its `:` (YAML 1.1, section 10.2 Mapping Styles)
+-- the maximum length of a simple key up to its `:`, in characters (YAML 1.1, section 10.2 Mapping Styles)
 abbrev pub longest_key : ℕ
 longest_key = 1024
 

@@ -115,7 +115,7 @@ abbrev mutual
   value_pairs_nesting no_value_pairs = 0
   value_pairs_nesting (value_pairs_and pairs key value) = max (value_pairs_nesting pairs) (max (nesting key) (nesting value))
 
--- so many lists and maps may lie within one another
+-- the maximum nesting depth of lists and maps
 abbrev pub most_nested : ℕ
 most_nested = 1000
 
