@@ -1,5 +1,6 @@
 //! Documents dumped, as tests write them.
 mod events;
+mod large;
 mod steps;
 mod streams;
 mod texts;
