@@ -12,7 +12,7 @@ use yaml_base::{yaml_document_t, yaml_error_t};
 use yaml_test_allocator::Refusing;
 
 // A dump of these nodes gives this text.
-fn check_text(rt: &impl Abort, alloc: Global, given: &[Given], text: &str) {
+fn check_text<'a>(rt: &impl Abort, alloc: Global, given: &'a [Given<'a>], text: &'a str) {
     let steps = [Dump(given, Ok(())), Close(Ok(())), Output(text.as_bytes())];
     check_steps(rt, alloc, &UNSET, &steps);
 }
