@@ -6,3 +6,4 @@ pub mod pieces
 pub mod AcceptedLists
 pub mod Digits
 pub mod EndedStreams
+pub mod rows

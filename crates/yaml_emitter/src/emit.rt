@@ -7,7 +7,7 @@ ghost use Rattle.yaml_base.specs.Ready.{written};
 ghost use Rattle.yaml_base.specs.Settings.{Settings};
 ghost use Rattle.yaml_pen.specs.Page.{told, output_left};
 ghost use Rattle.yaml_pen.specs.Wrote.{Grows};
-ghost use Rattle.yaml_emitter.specs.Promises.{HasAllBytes, Promised};
+ghost use Rattle.yaml_emitter.specs.Promises.{FitsLimit, HasAllBytes, Promised};
 ghost use Rattle.yaml_emitter.specs.Queue.{is_head_ready};
 ghost use Rattle.yaml_emitter.specs.State.{KeepsGiven, KeepsSet, with_all_taken};
 ghost use Rattle.yaml_emitter.specs.StandsAfter.{FailedFront, Reached, StandsAfter, StandsBy, TookFirst, WroteFront};
@@ -23,7 +23,8 @@ use yaml_base::{yaml_error_t, yaml_event_t};
 /// for the events that decide how it is written; at most three follow it.
 ///
 /// Returns the first error, of this call or an earlier one. The event is taken in each case. After an error nothing
-/// waits, and nothing more is written.
+/// waits, and nothing more is written. If a well-formed stream begins with the events and fits the limit, the only
+/// error is `Memory`.
 #[inline(never)]
 pub fn yaml_emitter_emit<A: Allocator + Copy>(
     emitter: &mut yaml_emitter_t<A>,
@@ -32,6 +33,8 @@ pub fn yaml_emitter_emit<A: Allocator + Copy>(
     requires { emitter.old.has_output ≡ true }
     ensures stands { (given : Settings) (all : List Event) → StandsAfter given all emitter.old → StandsAfter given (all ++ seen_event event ∷ []) emitter.new }
     ensures promised { (given : Settings) (all : List Event) → StandsAfter given all emitter.old → Promised given (all ++ seen_event event ∷ []) emitter.new }
+    ensures fits { (given : Settings) (all : List Event) → StandsAfter given all emitter.old → FitsLimit given (all ++ seen_event event ∷ [])
+        → IfErr result (λ error. error ≡ yaml_error_t.Memory) }
     ensures grows { Grows emitter.old.page emitter.new.page }
     ensures waits { (given : Settings) (all : List Event) → StandsAfter given all emitter.old → emitter.old.error ≡ None
         → written (all ++ seen_event event ∷ []) ≡ written all → IsOk result }
@@ -64,14 +67,17 @@ pub fn yaml_emitter_emit<A: Allocator + Copy>(
 /// Flushes all that is written. Events that wait go on waiting.
 ///
 /// Returns the first error, of this call or an earlier one: `WriteError` if the text's bytes pass the output's limit,
-/// `Memory` if the output can't grow; it then stays as it was. After an error nothing waits. If all is flushed already,
-/// nothing changes and no memory is needed.
+/// `Memory` if the output can't grow; it then stays as it was. After an error nothing waits. If a well-formed stream
+/// begins with the events and fits the limit, the only error is `Memory`. If all is flushed already, nothing changes
+/// and no memory is needed.
 pub fn yaml_emitter_flush<A: Allocator + Copy>(
     emitter: &mut yaml_emitter_t<A>,
 ) -> Result<(), yaml_error_t>
     requires output { emitter.old.has_output ≡ true }
     ensures stands { (given : Settings) (all : List Event) → StandsAfter given all emitter.old → StandsAfter given all emitter.new }
     ensures promised { (given : Settings) (all : List Event) → StandsAfter given all emitter.old → Promised given all emitter.new }
+    ensures fits { (given : Settings) (all : List Event) → StandsAfter given all emitter.old → FitsLimit given all
+        → IfErr result (λ error. error ≡ yaml_error_t.Memory) }
     ensures grows { Grows emitter.old.page emitter.new.page }
     ensures flushed { OnOk result ((given : Settings) (all : List Event) → StandsAfter given all emitter.old → HasAllBytes given all emitter.new) }
     ensures unflushed { result ≡ Err yaml_error_t.Memory → emitter.new.page.output ≡ emitter.old.page.output }

@@ -1,11 +1,12 @@
 -- Where an accepted list fits the limit, an emitter that stands failed only for want of memory.
 use Rattle.std.proofs.Common.{◌≡◌, refl, sym, ap, ◌∙◌, subst, append_assoc}
-use Rattle.std.specs.Prelude.{Option, None, Some, List, [], ◌∷◌, ◌++◌}
+use Rattle.std.specs.Prelude.{Option, None, Some, Result, IfErr, List, [], ◌∷◌, ◌++◌}
 use Rattle.yaml_base.specs.Event.{Event}
 use Rattle.yaml_base.specs.Refusal.{IsAccepted}
 use Rattle.yaml_base.specs.Settings.{Settings}
 use Rattle.yaml_base.specs.declared.errors.yaml_error_t.{yaml_error_t}
 use Rattle.yaml_base.specs.declared.errors.yaml_error_t.TheVariants.{WriteError, Memory}
+use Rattle.yaml_pen.specs.Page.{told}
 use Rattle.yaml_emitter.specs.State.{State}
 use Rattle.yaml_emitter.specs.StandsAfter.{StandsSo}
 use Rattle.yaml_emitter.specs.Promises.{RefusedAt, FitsLimit, FailsOnlyByMemory}
@@ -39,3 +40,10 @@ by_error (Some error) given all state h is fits = by_memory error given all stat
 
 pub promises_fits : (given : Settings) (all : List Event) (state : State) → StandsSo given all state → FitsLimit given all → FailsOnlyByMemory state.error
 promises_fits given all state h = by_error state.error given all state h refl
+
+-- so a call that tells its error tells that
+pub memory_only : (error : Option yaml_error_t) (given : Settings) (all : List Event) → (FitsLimit given all → FailsOnlyByMemory error)
+    → FitsLimit given all → (answer : Result (Unit {0}) yaml_error_t) → answer ≡ told error → IfErr answer (λ e. e ≡ Memory)
+memory_only None given all only fits answer is = subst (λ (r : Result (Unit {0}) yaml_error_t). IfErr r (λ e. e ≡ Memory)) (sym is) tt
+memory_only (Some error) given all only fits answer is =
+    subst (λ (r : Result (Unit {0}) yaml_error_t). IfErr r (λ e. e ≡ Memory)) (sym is) (only fits)

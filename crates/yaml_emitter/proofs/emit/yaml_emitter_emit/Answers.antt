@@ -1,4 +1,4 @@
-use Rattle.std.proofs.Common.{◌++◌, ◌∷◌, ◌≤◌, [], drop, List, sym, subst, ap, refl, ◌∙◌, ◌≡◌, false, true, Some}
+use Rattle.std.proofs.Common.{Err, ◌++◌, ◌∷◌, ◌≤◌, [], drop, List, sym, subst, ap, refl, ◌∙◌, ◌≡◌, false, true, Some}
 use Rattle.std.proofs.lemmas.Bool.{false≢true}
 use Rattle.yaml_base.specs.Event.{Event}
 use Rattle.yaml_base.specs.Seen.{seen_event, seen_events}
@@ -13,6 +13,7 @@ use Rattle.yaml_emitter.proofs.standing.EmitterKept.{has_output_inside, kept_emi
 use Rattle.yaml_emitter.proofs.standing.Growing.{grows_page}
 use Rattle.yaml_emitter.proofs.standing.KeepsSet.{emitting_keeps}
 use Rattle.yaml_emitter.proofs.standing.Promising.{promised, stands_with}
+use Rattle.yaml_emitter.proofs.standing.PromisingRoom.{memory_only}
 use Rattle.yaml_emitter.proofs.standing.StandingMore.{failed_more}
 use Rattle.yaml_emitter.proofs.emit.yaml_emitter_emit.Goals as goal
 
@@ -46,6 +47,11 @@ pub returns-in-Some-clause-promised : goal.returns-in-Some-clause-promised
 returns-in-Some-clause-promised g c given all stands =
     promised given (all ++ seen_event c.args.event ∷ []) _ (returns-in-Some-clause-stands g c given all stands)
 
+pub returns-in-Some-clause-fits : goal.returns-in-Some-clause-fits
+returns-in-Some-clause-fits g c given all stands fits =
+    memory_only (state_of c.emitter.inside).error given (all ++ seen_event c.args.event ∷ []) (returns-in-Some-clause-promised g c given all stands).fits fits
+    (Err c.in-Some.error) (sym (ap told (sym c.error.ensures ∙ c.in-Some.is)))
+
 pub returns-in-Some-clause-grows : goal.returns-in-Some-clause-grows
 returns-in-Some-clause-grows g c = grows_page c.args.emitter.now.page c.emitter.inside.machine.page (ap (λ (s : State). s.page) c.emitter.view_is)
 
@@ -69,6 +75,11 @@ returns-then-is_ready_alone-clause-stands g c given all stands =
 pub returns-then-is_ready_alone-clause-promised : goal.returns-then-is_ready_alone-clause-promised
 returns-then-is_ready_alone-clause-promised g c given all stands =
     promised given (all ++ seen_event c.args.event ∷ []) _ (returns-then-is_ready_alone-clause-stands g c given all stands)
+
+pub returns-then-is_ready_alone-clause-fits : goal.returns-then-is_ready_alone-clause-fits
+returns-then-is_ready_alone-clause-fits g c given all stands fits =
+    memory_only c.write_alone.new.self.error given (all ++ seen_event c.args.event ∷ [])
+    (returns-then-is_ready_alone-clause-promised g c given all stands).fits fits c.write_alone.result c.write_alone.ensures.answered
 
 pub returns-then-is_ready_alone-clause-grows : goal.returns-then-is_ready_alone-clause-grows
 returns-then-is_ready_alone-clause-grows g c =
@@ -134,6 +145,11 @@ returns-in-Err-clause-stands g c given all stands =
 pub returns-in-Err-clause-promised : goal.returns-in-Err-clause-promised
 returns-in-Err-clause-promised g c given all stands =
     promised given (all ++ seen_event c.args.event ∷ []) _ (returns-in-Err-clause-stands g c given all stands)
+
+pub returns-in-Err-clause-fits : goal.returns-in-Err-clause-fits
+returns-in-Err-clause-fits g c given all stands fits =
+    memory_only c.fail.new.self.error given (all ++ seen_event c.args.event ∷ []) (returns-in-Err-clause-promised g c given all stands).fits fits
+    (Err c.in-Err.error) (ap told (sym (ap (λ (m : MachineState). m.error) c.fail.ensures)))
 
 pub returns-in-Err-clause-waits : goal.returns-in-Err-clause-waits
 returns-in-Err-clause-waits g c given all stands none same =

@@ -1,4 +1,4 @@
-use Rattle.std.proofs.Common.{List, ◌∙◌, ◌≡◌, ◌≤◌, None, Some, ap, sym, subst, refl}
+use Rattle.std.proofs.Common.{Err, List, ◌∙◌, ◌≡◌, ◌≤◌, None, Some, ap, sym, subst, refl}
 use Rattle.yaml_base.specs.Event.{Event}
 use Rattle.yaml_base.specs.Seen.{seen_events}
 use Rattle.yaml_base.specs.declared.errors.yaml_error_t.TheVariants.{Memory}
@@ -13,6 +13,7 @@ use Rattle.yaml_emitter.specs.StandsAfter.{StandsAfter, StandsBy}
 use Rattle.yaml_emitter.proofs.standing.EmitterKept.{has_output_inside, kept_emitting}
 use Rattle.yaml_emitter.proofs.standing.Growing.{flushed_unflushed}
 use Rattle.yaml_emitter.proofs.standing.Promising.{promised, promises_bytes, stands_encoded, stands_unfailed}
+use Rattle.yaml_emitter.proofs.standing.PromisingRoom.{memory_only}
 use Rattle.yaml_emitter.proofs.standing.StandingMore.{flush_failed, flush_stands, some_from_told}
 use Rattle.yaml_emitter.proofs.emit.yaml_emitter_flush.Goals as goal
 
@@ -28,6 +29,11 @@ invariant_of-emitter-in-Err g c =
 
 pub returns-in-Some-clause-promised : goal.returns-in-Some-clause-promised
 returns-in-Some-clause-promised g c given all stands = promised given all c.args.emitter.now stands
+
+pub returns-in-Some-clause-fits : goal.returns-in-Some-clause-fits
+returns-in-Some-clause-fits g c given all stands fits =
+    memory_only c.args.emitter.now.error given all (returns-in-Some-clause-promised g c given all stands).fits fits (Err c.in-Some.error)
+    (sym (ap told (sym (ap (λ (s : State). s.error) c.emitter.view_is) ∙ sym c.error.ensures ∙ c.in-Some.is)))
 
 pub returns-in-Ok-clause-stands : goal.returns-in-Ok-clause-stands
 returns-in-Ok-clause-stands g c given all stands =
@@ -75,6 +81,11 @@ returns-in-Err-clause-stands g c given all stands =
 
 pub returns-in-Err-clause-promised : goal.returns-in-Err-clause-promised
 returns-in-Err-clause-promised g c given all stands = promised given all _ (returns-in-Err-clause-stands g c given all stands)
+
+pub returns-in-Err-clause-fits : goal.returns-in-Err-clause-fits
+returns-in-Err-clause-fits g c given all stands fits =
+    memory_only c.flush.new.self.error given all (returns-in-Err-clause-promised g c given all stands).fits fits (Err c.in-Err.error)
+    (c.in-Err.ensures.flushed.answered ∙ ap told (sym (ap (λ (m : MachineState). m.error) c.flush.ensures.kept)))
 
 pub returns-in-Err-clause-grows : goal.returns-in-Err-clause-grows
 returns-in-Err-clause-grows g c =

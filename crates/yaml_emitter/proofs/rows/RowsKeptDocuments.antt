@@ -1,0 +1,85 @@
+-- Worked rows: two documents, and what follows them. An output that keeps what was flushed begins with all bytes of the two, whatever
+-- comes in the third: an event that is refused, a want of memory, a limit that is passed. So it isn't empty.
+use Rattle.std.proofs.Common.{◌≡◌, refl, subst, arith}
+use Rattle.std.specs.Prelude.{ℕ, ◌≤◌, false, true, Some, None, List, [], ◌∷◌, ◌++◌, codes, length}
+use Rattle.yaml_base.specs.Characters.{Text}
+use Rattle.yaml_base.specs.Event.{DocumentStart, Event, any_style, document_start, mapping_end}
+use Rattle.yaml_base.specs.Grammar.{Document, Documents, documents_and, no_documents, scalar_node}
+use Rattle.yaml_base.specs.Output.{bytes_written, settings_for}
+use Rattle.yaml_base.specs.Pieces.{pieces}
+use Rattle.yaml_base.specs.Prefix.{IsPrefix}
+use Rattle.yaml_base.specs.Refusal.{refusal}
+use Rattle.yaml_base.specs.declared.errors.yaml_error_t.TheVariants.{ExpectedNode}
+use Rattle.yaml_emitter.specs.Given.{nothing_given}
+use Rattle.yaml_emitter.specs.Promises.{BeginsOutput}
+use Rattle.yaml_emitter.specs.State.{State}
+use Rattle.yaml_emitter.specs.StaysFlushed.{KeepsDocuments, StaysFlushed, whole_documents}
+
+-- a start without directives
+abbrev start : DocumentStart
+start = record { version = None; directives = []; implicit = true }
+
+-- a document of one text
+abbrev letter : Text → Document
+letter value =
+    record {
+      start = start;
+      root = scalar_node
+          (record { anchor = None; tag = None; value = value; plain_implicit = true; quoted_implicit = true; style = any_style });
+      end_implicit = true;
+    }
+
+abbrev first : Documents
+first = documents_and no_documents (letter (codes "a"))
+
+-- two documents, and the start of a third
+abbrev pub two : List Event
+two = whole_documents None first (letter (codes "b"))
+
+abbrev pub third : List Event
+third = document_start start ∷ []
+
+abbrev pub begun : List Event
+begun = two ++ third
+
+-- the text of the two
+abbrev pub both : List ℕ
+both = codes "a\n--- b\n"
+
+two_bytes : (later : List Event)
+    → bytes_written (settings_for nothing_given (two ++ later)) (pieces (settings_for nothing_given (two ++ later)) (two ++ later) (length two)) ≡ both
+unfolding lib.Utf8.encode
+two_bytes later = refl
+
+-- the end of a mapping that wasn't begun is refused in the third document, whose start isn't
+third_begins : refusal false two (document_start start) ≡ None
+third_begins = refl
+
+third_refused : refusal false begun mapping_end ≡ Some ExpectedNode
+third_refused = refl
+
+-- the two are in every output that keeps the documents
+pub kept : (events later : List Event) (output : List ℕ) → events ≡ two ++ later → KeepsDocuments nothing_given events output → IsPrefix both output
+kept events later output is keeps =
+    let kept = subst (λ events. KeepsDocuments nothing_given events output) is keeps in
+    subst (λ bytes. IsPrefix bytes output) (two_bytes later) (kept None first (letter (codes "b")) later refl)
+
+-- and in every output that keeps what the first events flushed, where the two are among them
+flushed : (later : List Event) (count : ℕ) (output : List ℕ) → length two ≤ count → StaysFlushed nothing_given (two ++ later) count output
+    → IsPrefix both output
+flushed later count output within stays = subst (λ bytes. IsPrefix bytes output) (two_bytes later) (stays (length two) within refl)
+
+-- so in that of an emitter that stopped before the end of a mapping that wasn't begun, or at it, whatever its error is
+stopped_before : (state : State) → BeginsOutput nothing_given (begun ++ mapping_end ∷ []) begun (length begun) state → IsPrefix both state.page.output
+stopped_before state h = flushed (third ++ mapping_end ∷ []) (length begun) state.page.output (omega arith) h.flushed
+
+stopped_within : (state : State) → BeginsOutput nothing_given (begun ++ mapping_end ∷ []) (begun ++ mapping_end ∷ []) (length begun) state
+    → IsPrefix both state.page.output
+stopped_within state h = flushed (third ++ mapping_end ∷ []) (length begun) state.page.output (omega arith) h.flushed
+
+-- so that none is empty
+pub not_empty : (output : List ℕ) → IsPrefix both output → output ≡ [] → ⊥
+not_empty output begins empty = let is = (subst (IsPrefix both) empty begins).parts in cc
+
+emptied_before : (state : State) → BeginsOutput nothing_given (begun ++ mapping_end ∷ []) begun (length begun) state → state.page.output ≡ [] → ⊥
+emptied_before state h = not_empty state.page.output (stopped_before state h)
