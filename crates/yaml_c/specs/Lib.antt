@@ -1,2 +1,6 @@
 pub mod Answers
+pub mod Arena
+pub mod Emission
+pub mod EventRecords
+pub mod GivenSettings
 pub mod JsonAnswers

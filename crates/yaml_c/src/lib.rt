@@ -1,7 +1,13 @@
 //! YAML for C and Rust: functions over buffers of the caller, in a static library (`include/yaml_c.h`).
 #![tactic(auto)]
 
+mod arena;
 mod buffers;
+mod events;
 mod json_texts;
+mod records;
 mod scripts;
+mod settings;
 mod statuses;
+mod styles;
+mod version;

@@ -15,3 +15,7 @@ pub(crate) const NOT_JSON: i32 = 5;
 pub(crate) const TOO_DEEP: i32 = 6;
 
 pub(crate) const DUPLICATE_NAME: i32 = 7;
+
+pub(crate) const BAD_EVENT: i32 = 8;
+
+pub(crate) const BAD_SETTINGS: i32 = 9;

@@ -1,0 +1,153 @@
+-- The events of an array, given to an emitter one after another.
+use Rattle.std.proofs.Common.{◌≡◌, ℕ, suc, ◌+◌, ◌<◌, ◌≤◌, length, drop, get_or, refl, sym, ap, ◌∙◌, subst, append_assoc, append-nil, inl, inr, arith}
+use Rattle.std.proofs.lemmas.List.{map-append, at_drop_more, at_drop_all, length-append}
+use Rattle.std.specs.Prelude.{◌⊎◌, Option, None, Some, List, [], ◌∷◌, ◌++◌}
+use Rattle.yaml_base.specs.Event.{Event}
+use Rattle.yaml_base.specs.Settings.{Settings}
+use Rattle.yaml_base.specs.scripts.Script.{Numbered}
+use Rattle.yaml_base.specs.declared.errors.yaml_error_t.{yaml_error_t}
+use Rattle.yaml_pen.specs.Wrote.{Grows}
+use Rattle.yaml_emitter.proofs.standing.KeptDocuments.{documents_kept, documents_stay}
+use Rattle.yaml_emitter.specs.State.{State}
+use Rattle.yaml_emitter.specs.StandsAfter.{StandsAfter}
+use Rattle.yaml_emitter.specs.Promises.{Promised}
+use Rattle.yaml_tool.specs.Runs.{EndsAt, FlushFails, LastLine, RefusesAt, events_in}
+use Rattle.yaml_tool.specs.declared.answers.run_answer_t.TheVariants as run
+use Rattle.yaml_tool.proofs.RunLemmas.{flushed_last}
+use Rattle.yaml_c.specs.EventRecords.{before_others, event_of, events_from}
+use Rattle.yaml_c.specs.Emission.{EmitsRecords, FlushesAfter, HasAllRead}
+use Rattle.yaml_c.specs.declared.records.DirectiveRecord.{DirectiveRecord}
+use Rattle.yaml_c.specs.declared.records.EventRecord.{EventRecord}
+use Rattle.yaml_c.specs.declared.events.Emission.{Emission}
+use Rattle.yaml_c.specs.declared.events.Emission.TheVariants.{Done, Refused, BadEvent, NoMemory}
+
+-- an event and its number
+abbrev pub numbered : ℕ → Event → Numbered
+numbered number event = record { line = number; event = event }
+
+-- so many records were read, and their events given; the last of them had this number
+pub record HasGiven (arena : List ℕ) (directives : List DirectiveRecord) (records : List EventRecord) (first : State)
+    (number : ℕ) (last : Option ℕ) (now : State) : Type 0 where
+  pub given : List Numbered
+  pub count : length given ≡ number
+  pub parts : events_from 0 arena directives records ≡ given ++ events_from number arena directives (drop number records)
+  pub stands : (set : Settings) → StandsAfter set [] first → StandsAfter set (events_in given) now
+  pub ends : LastLine given last now
+
+-- ---- the next record
+
+pub read_next : (arena : List ℕ) (directives : List DirectiveRecord) (records : List EventRecord) (i : ℕ) (d : EventRecord) (event : Event)
+    → i < length records → Some event ≡ event_of arena directives (get_or records i d)
+    → events_from i arena directives (drop i records) ≡ numbered i event ∷ events_from (i + 1) arena directives (drop (i + 1) records)
+read_next arena directives records i d event low is =
+    let one : suc i ≡ i + 1 = omega arith in
+    let rest = drop (i + 1) records in
+    at_drop_more (λ (xs : List EventRecord). events_from i arena directives xs) records i d low
+    ∙ ap (λ (o : Option Event). before_others i o (events_from (suc i) arena directives rest)) (sym is)
+    ∙ ap (λ (n : ℕ). numbered i event ∷ events_from n arena directives rest) one
+
+pub read_all : (arena : List ℕ) (directives : List DirectiveRecord) (records : List EventRecord) (i : ℕ) → length records ≤ i
+    → events_from i arena directives (drop i records) ≡ []
+read_all arena directives records i over = at_drop_all (λ (xs : List EventRecord). events_from i arena directives xs) records i over
+
+-- the events that were given and those that follow
+pub with_next : (all given next others : List Numbered) → all ≡ given ++ next → next ≡ others → all ≡ given ++ others
+with_next all given next others parts is = parts ∙ ap (λ (xs : List Numbered). given ++ xs) is
+
+pub with_none : (all given next : List Numbered) → all ≡ given ++ next → next ≡ [] → given ≡ all
+with_none all given next parts is = sym (with_next all given next [] parts is ∙ append-nil given)
+
+-- one more was given
+pub given_more : (arena : List ℕ) (directives : List DirectiveRecord) (records : List EventRecord) (first before after : State) (i number : ℕ)
+    (last : Option ℕ) (d : EventRecord) (event : Event) (has : HasGiven arena directives records first i last before) → number ≡ i → i < length records
+    → Some event ≡ event_of arena directives (get_or records i d)
+    → ((set : Settings) → StandsAfter set (events_in has.given) before → StandsAfter set (events_in has.given ++ event ∷ []) after)
+    → HasGiven arena directives records first (i + 1) (Some number) after
+given_more arena directives records first before after i number last d event has same low is stands =
+    let x : Numbered = numbered i event in
+    let others = events_from (i + 1) arena directives (drop (i + 1) records) in
+    let longer : length (has.given ++ x ∷ []) ≡ length has.given + 1 = length-append has.given (x ∷ []) in
+    subst (λ (n : ℕ). HasGiven arena directives records first (i + 1) (Some n) after) (sym same)
+    (record {
+      given = has.given ++ x ∷ [];
+      count = longer ∙ ap (λ (n : ℕ). n + 1) has.count;
+      parts =
+          with_next (events_from 0 arena directives records) has.given (events_from i arena directives (drop i records)) (x ∷ others) has.parts
+          (read_next arena directives records i d event low is)
+          ∙ sym (append_assoc has.given (x ∷ []) others);
+      stands = λ set stood.
+          subst (λ (events : List Event). StandsAfter set events after) (sym (map-append (λ (n : Numbered). n.event) has.given (x ∷ [])))
+          (stands set (has.stands set stood));
+      ends = record { before = has.given; event = event; parts = refl };
+    })
+
+-- ---- how an emission ends
+
+-- the call that was given the next event failed
+pub refused_next : (arena : List ℕ) (directives : List DirectiveRecord) (records : List EventRecord) (first earlier state : State) (i number : ℕ)
+    (last : Option ℕ) (d : EventRecord) (event : Event) (set : Settings) (error : yaml_error_t) (has : HasGiven arena directives records first i last earlier)
+    → number ≡ i → i < length records → Some event ≡ event_of arena directives (get_or records i d) → earlier.error ≡ None
+    → StandsAfter set (events_in has.given) earlier → Promised set (events_in has.given) earlier → state.error ≡ Some error
+    → StandsAfter set (events_in has.given ++ event ∷ []) state → Promised set (events_in has.given ++ event ∷ []) state
+    → Grows earlier.page state.page → RefusesAt set (events_from 0 arena directives records) number error state
+refused_next arena directives records first earlier state i number last d event set error has same low is none stood promised failed stands kept grew =
+    let later = events_from (i + 1) arena directives (drop (i + 1) records) in
+    let parts = with_next (events_from 0 arena directives records) has.given (events_from i arena directives (drop i records))
+    (numbered i event ∷ later) has.parts (read_next arena directives records i d event low is) in
+    subst (λ (n : ℕ). RefusesAt set (events_from 0 arena directives records) n error state) (sym same)
+    (record {
+      before = has.given;
+      event = event;
+      later = later;
+      parts = sym parts;
+      earlier = earlier;
+      stood = stood;
+      no_error = none;
+      stands = stands;
+      promised = kept;
+      grew = grew;
+      documents =
+          documents_stay set (events_in has.given) earlier.page.output state.page.output
+          (documents_kept set (events_in has.given) earlier promised none) grew.output;
+      failed = failed;
+    })
+
+-- of the two ways to fail, the flush after all records
+only_flush : (set : Settings) (all : List Numbered) (records : List EventRecord) (number : ℕ) (error : yaml_error_t) (state : State)
+    → HasAllRead all records → RefusesAt set all number error state ⊎ FlushFails set all number error state
+    → RefusesAt set all number error state ⊎ (HasAllRead all records × FlushFails set all number error state)
+only_flush set all records number error state whole (inl refused) = inl refused
+only_flush set all records number error state whole (inr fails) = inr (whole, fails)
+
+last_line : (given : List Numbered) (last : Option ℕ) (number : ℕ) (state : State) → last ≡ Some number → LastLine given last state → EndsAt given number
+last_line given None number state is ends = cc
+last_line given (Some other) number state is ends = let same : other ≡ number = cc in subst (EndsAt given) same ends
+
+-- the last flush
+flushed_all : (set : Settings) (all : List Numbered) (records : List EventRecord) (number : ℕ) (emission : Emission) (before after : State)
+    → HasAllRead all records → StandsAfter set (events_in all) before → Promised set (events_in all) before → before.error ≡ None
+    → EndsAt all number → FlushesAfter number before emission after → EmitsRecords set all records emission after
+flushed_all set all records number Done before after whole stood promised none ends h =
+    (whole, flushed_last set all number run.Done before after stood promised none ends h)
+flushed_all set all records number (Refused told error) before after whole stood promised none ends h =
+    only_flush set all records told error after whole
+    (flushed_last set all number (run.Refused told error) before after stood promised none ends h)
+flushed_all set all records number (BadEvent told) before after whole stood promised none ends h = absurd h
+flushed_all set all records number NoMemory before after whole stood promised none ends h = absurd h
+
+-- the end of the array
+pub ended_flushed : (arena : List ℕ) (directives : List DirectiveRecord) (records : List EventRecord) (first before after : State) (i number : ℕ)
+    (last : Option ℕ) (set : Settings) (emission : Emission) (has : HasGiven arena directives records first i last before) → i ≤ length records
+    → length records ≤ i → last ≡ Some number → before.error ≡ None → StandsAfter set (events_in has.given) before
+    → Promised set (events_in has.given) before → FlushesAfter number before emission after
+    → EmitsRecords set (events_from 0 arena directives records) records emission after
+ended_flushed arena directives records first before after i number last set emission has within over is none stood promised h =
+    let all = events_from 0 arena directives records in
+    let same : has.given ≡ all = with_none all has.given (events_from i arena directives (drop i records)) has.parts
+    (read_all arena directives records i over) in
+    let count : i ≡ length records = omega arith in
+    let whole : HasAllRead all records = ap length (sym same) ∙ has.count ∙ count in
+    flushed_all set all records number emission before after whole
+    (subst (λ (xs : List Numbered). StandsAfter set (events_in xs) before) same stood)
+    (subst (λ (xs : List Numbered). Promised set (events_in xs) before) same promised) none
+    (subst (λ (xs : List Numbered). EndsAt xs number) same (last_line has.given last number before is has.ends)) h

@@ -1,0 +1,4 @@
+pub mod Utf8
+pub mod DirectiveLemmas
+pub mod EmissionLemmas
+pub mod rows

@@ -1,0 +1,16 @@
+-- Bytes that are UTF-8, and other bytes, as texts.
+use Rattle.std.proofs.Common.{◌≡◌, ℕ, Bool, true, false, None, Some, List, refl, ap, sym, if◌then◌else◌}
+use Rattle.std.proofs.lemmas.Str.{is_utf8-from_IsUtf8, IsUtf8-from_is_utf8}
+use Rattle.std.specs.Str.{chars, IsUtf8, is_utf8}
+use Rattle.yaml_c.specs.Arena.{text_of_bytes}
+
+pub text_of_utf8 : (bytes : List ℕ) → IsUtf8 bytes → Some (chars bytes) ≡ text_of_bytes bytes
+text_of_utf8 bytes is = sym (ap (λ (b : Bool). if b then Some (chars bytes) else None) (is_utf8-from_IsUtf8 bytes is))
+
+refuted : (bytes : List ℕ) (answer : Bool) → (answer ≡ true → IsUtf8 bytes) → (IsUtf8 bytes → ⊥) → answer ≡ false
+refuted bytes true says is_not = absurd (is_not (says refl))
+refuted bytes false says is_not = refl
+
+pub no_text : (bytes : List ℕ) → (IsUtf8 bytes → ⊥) → None ≡ text_of_bytes bytes
+no_text bytes is_not =
+    sym (ap (λ (b : Bool). if b then Some (chars bytes) else None) (refuted bytes (is_utf8 bytes) (IsUtf8-from_is_utf8 bytes) is_not))

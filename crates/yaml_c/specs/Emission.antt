@@ -1,0 +1,119 @@
+-- What the function over events hands to its caller.
+use Rattle.std.specs.Prelude.{◌≡◌, ◌⊎◌, ⊤, ◌<◌, ℕ, ℤ, pos, Option, None, Some, List, drop, length, nat_le, if◌then◌else◌}
+use Rattle.yaml_base.specs.Settings.{Settings}
+use Rattle.yaml_base.specs.scripts.Script.{Numbered}
+use Rattle.yaml_base.specs.declared.errors.yaml_error_t.{yaml_error_t}
+use Rattle.yaml_base.specs.declared.errors.yaml_error_t.TheVariants as errors
+use Rattle.yaml_emitter.specs.State.{State}
+use Rattle.yaml_emitter.specs.StandsAfter.{StandsAfter}
+use Rattle.yaml_tool.specs.Runs.{EmitsAll, FlushFails, FlushesLast, RefusesAt, events_in}
+use Rattle.yaml_tool.specs.declared.answers.run_answer_t.TheVariants as run
+use Rattle.yaml_c.specs.Answers.{over}
+use Rattle.yaml_c.specs.EventRecords.{events_from}
+use Rattle.yaml_c.specs.GivenSettings.{settings_given}
+use Rattle.yaml_c.specs.declared.records.DirectiveRecord.{DirectiveRecord}
+use Rattle.yaml_c.specs.declared.records.EventRecord.{EventRecord}
+use Rattle.yaml_c.specs.declared.settings.EmitterSettings.{EmitterSettings}
+use Rattle.yaml_c.specs.declared.events.EmitResult.{EmitResult}
+use Rattle.yaml_c.specs.declared.events.Emission.{Emission}
+use Rattle.yaml_c.specs.declared.events.Emission.TheVariants.{Done, Refused, BadEvent, NoMemory}
+
+-- ---- the emitter that an array's events were given, as far as they have a reading
+
+-- each record of the array has a reading
+abbrev pub HasAllRead : List Numbered → List EventRecord → Type 0
+HasAllRead all records = length all ≡ length records
+
+-- the record of this number is the first that has no reading; the events before it were given, and no call returned an error
+pub record StopsAtBad (given : Settings) (all : List Numbered) (records : List EventRecord) (number : ℕ) (state : State) : Type 0 where
+  pub first : number ≡ length all
+  pub within : number < length records
+  pub stands : StandsAfter given (events_in all) state
+  pub no_error : state.error ≡ None
+
+-- what an answer says of the emitter; of the last flush only where all was given
+abbrev pub EmitsRecords : Settings → List Numbered → List EventRecord → Emission → State → Type 0
+EmitsRecords given all records Done state = HasAllRead all records × EmitsAll given all state
+EmitsRecords given all records (Refused number error) state =
+    RefusesAt given all number error state ⊎ (HasAllRead all records × FlushFails given all number error state)
+EmitsRecords given all records (BadEvent number) state = StopsAtBad given all records number state
+EmitsRecords given all records NoMemory state = ⊤
+
+-- what the last flush does, with the number that it is told
+abbrev pub FlushesAfter : ℕ → State → Emission → State → Type 0
+FlushesAfter number before Done after = FlushesLast number before run.Done after
+FlushesAfter number before (Refused told error) after = FlushesLast number before (run.Refused told error) after
+FlushesAfter number before emission after = ⊥
+
+-- ---- what is handed out
+
+-- the numbers of the errors: enum yaml_error of the header
+abbrev pub error_number : yaml_error_t → ℕ
+error_number errors.ExpectedStreamStart = 1
+error_number errors.ExpectedDocumentStart = 2
+error_number errors.ExpectedDocumentEnd = 3
+error_number errors.ExpectedNode = 4
+error_number errors.ExpectedNothing = 5
+error_number errors.IncompatibleVersion = 6
+error_number errors.TagHandleEmpty = 7
+error_number errors.TagHandleStart = 8
+error_number errors.TagHandleEnd = 9
+error_number errors.TagHandleAlphabet = 10
+error_number errors.TagPrefixEmpty = 11
+error_number errors.DuplicateDirective = 12
+error_number errors.AnchorEmpty = 13
+error_number errors.AnchorAlphabet = 14
+error_number errors.AliasEmpty = 15
+error_number errors.AliasAlphabet = 16
+error_number errors.TagEmpty = 17
+error_number errors.NoTagNorImplicit = 18
+error_number errors.TooDeep = 19
+error_number errors.WriteError = 20
+error_number errors.Memory = 21
+
+-- a call's results: the buffer, a status, and what it tells beside it
+pub record EmitResults : Type 0 where
+  pub out : List ℕ
+  pub status : ℤ
+  pub told : EmitResult
+
+-- the YAML's length, and behind the bytes that the caller has those that fit into the buffer, all or none
+abbrev pub emit_done : (yaml : List ℕ) → (skip : ℕ) → (out : List ℕ) → EmitResults
+emit_done yaml skip out =
+    let told : EmitResult = record { length = length yaml; event = 0; error = 0 } in
+    let fresh = drop skip yaml in
+    if nat_le (length fresh) (length out) then record { out = over fresh out; status = pos 0; told = told }
+    else record { out = out; status = pos 4; told = told }
+
+-- a failure, with the number of an event and of an error where there are any; the buffer stays
+abbrev pub emit_failed : (status event error : ℕ) → (out : List ℕ) → EmitResults
+emit_failed status event error out =
+    record { out = out; status = pos status; told = record { length = 0; event = event; error = error } }
+
+-- what is handed out of an emission: 0 where it is done, 4 where its YAML doesn't fit; 1 where an event was refused, 8 where one has
+-- no reading, 3 where memory ran out
+abbrev pub emit_results : Emission → (yaml : List ℕ) → (skip : ℕ) → (out : List ℕ) → EmitResults
+emit_results Done yaml skip out = emit_done yaml skip out
+emit_results (Refused number errors.Memory) yaml skip out = emit_failed 3 0 0 out
+emit_results (Refused number error) yaml skip out = emit_failed 1 number (error_number error) out
+emit_results (BadEvent number) yaml skip out = emit_failed 8 number 0 out
+emit_results NoMemory yaml skip out = emit_failed 3 0 0 out
+
+-- these results are those of an emission that ended so, with this YAML
+abbrev pub HandsOutEvents : Emission → (yaml : List ℕ) → (skip : ℕ) → (old : List ℕ) → (status : ℤ) → (new : List ℕ) → EmitResult → Type 0
+HandsOutEvents emission yaml skip old status new told =
+    record { out = new; status = status; told = told } ≡ emit_results emission yaml skip old
+
+-- these results are those of an emitter with these settings that was given the array's events, 9 where there are no such settings
+abbrev pub IsEmissionBy : Option Settings → (all : List Numbered) → (records : List EventRecord) → (skip : ℕ) → (old : List ℕ) → (status : ℤ)
+    → (new : List ℕ) → EmitResult → Type 0
+IsEmissionBy None all records skip old status new told = record { out = new; status = status; told = told } ≡ emit_failed 9 0 0 old
+IsEmissionBy (Some given) all records skip old status new told =
+    (emission : Emission) × (state : State) × EmitsRecords given all records emission state
+    × HandsOutEvents emission state.page.output skip old status new told
+
+-- these results are those of the array's events, by the settings that are given
+abbrev pub IsEmission : List EventRecord → List DirectiveRecord → (arena : List ℕ) → EmitterSettings → (old : List ℕ) → (status : ℤ)
+    → (new : List ℕ) → EmitResult → Type 0
+IsEmission records directives arena given old status new told =
+    IsEmissionBy (settings_given given) (events_from 0 arena directives records) records given.skip old status new told

@@ -1,0 +1,142 @@
+-- What an array of a C program's events means: a list of events, by libyaml's numbers, with the texts of an arena.
+use Rattle.std.specs.Prelude.{ℕ, suc, Bool, Option, None, Some, List, [], ◌∷◌, ◌==◌, if◌then◌else◌, option_map, option_and_then}
+use Rattle.yaml_base.specs.Characters.{Text}
+use Rattle.yaml_base.specs.Settings.{Encoding, utf8, utf16_little, utf16_big, LineBreak, carriage_return_break, line_feed_break, both_break}
+use Rattle.yaml_base.specs.Event.{ScalarStyle, any_style, plain, single_quoted, double_quoted, literal, folded, CollectionStyle, any_layout, block, flow}
+use Rattle.yaml_base.specs.Event.{Version, TagDirective, Collection, Event, stream_start, stream_end, document_start, document_end, alias, scalar}
+use Rattle.yaml_base.specs.Event.{sequence_start, sequence_end, mapping_start, mapping_end}
+use Rattle.yaml_base.specs.scripts.Script.{Numbered}
+use Rattle.yaml_c.specs.Arena.{is_on, part_of, text_at, optional_text_at}
+use Rattle.yaml_c.specs.declared.arena.Span.{Span}
+use Rattle.yaml_c.specs.declared.records.DirectiveRecord.{DirectiveRecord}
+use Rattle.yaml_c.specs.declared.records.EventRecord.{EventRecord}
+
+-- ---- libyaml's numbers
+
+-- yaml_scalar_style_t
+abbrev pub scalar_style_numbered : ℕ → Option ScalarStyle
+scalar_style_numbered number =
+    if number == 0 then Some any_style
+    else (if number == 1 then Some plain
+    else (if number == 2 then Some single_quoted
+    else (if number == 3 then Some double_quoted
+    else (if number == 4 then Some literal
+    else (if number == 5 then Some folded else None)))))
+
+-- yaml_sequence_style_t and yaml_mapping_style_t
+abbrev pub collection_style_numbered : ℕ → Option CollectionStyle
+collection_style_numbered number =
+    if number == 0 then Some any_layout else (if number == 1 then Some block else (if number == 2 then Some flow else None))
+
+-- yaml_encoding_t; 0 asks for none
+abbrev pub encoding_numbered : ℕ → Option (Option Encoding)
+encoding_numbered number =
+    if number == 0 then Some None
+    else (if number == 1 then Some (Some utf8)
+    else (if number == 2 then Some (Some utf16_little)
+    else (if number == 3 then Some (Some utf16_big) else None)))
+
+-- yaml_break_t; 0 asks for none
+abbrev pub break_numbered : ℕ → Option (Option LineBreak)
+break_numbered number =
+    if number == 0 then Some None
+    else (if number == 1 then Some (Some carriage_return_break)
+    else (if number == 2 then Some (Some line_feed_break)
+    else (if number == 3 then Some (Some both_break) else None)))
+
+-- ---- directives
+
+-- a directive, where both its texts have a reading
+abbrev pub directive_from : Option Text → Option Text → Option TagDirective
+directive_from (Some handle) (Some prefix) = Some (record { handle = handle; prefix = prefix })
+directive_from handle prefix = None
+
+abbrev pub directive_of : List ℕ → DirectiveRecord → Option TagDirective
+directive_of arena directive = directive_from (text_at arena directive.handle) (text_at arena directive.prefix)
+
+-- directives in order, where each has a reading
+abbrev pub directives_of : List ℕ → List DirectiveRecord → Option (List TagDirective)
+directives_of arena [] = Some []
+directives_of arena (first ∷ rest) =
+    option_and_then (λ directive. option_map (λ others. directive ∷ others) (directives_of arena rest)) (directive_of arena first)
+
+-- those of a span of the array
+abbrev pub directives_at : List ℕ → List DirectiveRecord → Span → Option (List TagDirective)
+directives_at arena directives span = option_and_then (directives_of arena) (part_of directives span)
+
+-- the version, where the event has one
+abbrev pub version_of : EventRecord → Option Version
+version_of event = if event.has_version == 0 then None else Some (record { major = event.major; minor = event.minor })
+
+-- ---- one event
+
+-- STREAM-START has the encoding for its style
+abbrev pub stream_start_of : EventRecord → Option Event
+stream_start_of event = option_map stream_start (encoding_numbered event.style)
+
+abbrev pub document_start_of : List ℕ → List DirectiveRecord → EventRecord → Option Event
+document_start_of arena directives event =
+    option_map (λ all. document_start (record { version = version_of event; directives = all; implicit = is_on event.implicit }))
+    (directives_at arena directives event.directives)
+
+-- ALIAS has the name of the node for its anchor
+abbrev pub alias_of : List ℕ → EventRecord → Option Event
+alias_of arena event = option_map alias (text_at arena event.anchor)
+
+-- a scalar, where its style and its texts have a reading
+abbrev pub scalar_from : Option ScalarStyle → (plain_implicit quoted_implicit : Bool) → Option (Option Text) → Option (Option Text) → Option Text → Option Event
+scalar_from (Some style) plain_implicit quoted_implicit (Some anchor) (Some tag) (Some value) =
+    Some
+    (scalar
+    (record {
+      anchor = anchor;
+      tag = tag;
+      value = value;
+      plain_implicit = plain_implicit;
+      quoted_implicit = quoted_implicit;
+      style = style;
+    }))
+scalar_from style plain_implicit quoted_implicit anchor tag value = None
+
+abbrev pub scalar_of : List ℕ → EventRecord → Option Event
+scalar_of arena event =
+    scalar_from (scalar_style_numbered event.style) (is_on event.implicit) (is_on event.quoted_implicit)
+    (optional_text_at arena event.has_anchor event.anchor) (optional_text_at arena event.has_tag event.tag) (text_at arena event.value)
+
+-- the start of a collection, where its style and its texts have a reading
+abbrev pub collection_from : Option CollectionStyle → (implicit : Bool) → Option (Option Text) → Option (Option Text) → Option Collection
+collection_from (Some style) implicit (Some anchor) (Some tag) =
+    Some (record { anchor = anchor; tag = tag; implicit = implicit; style = style })
+collection_from style implicit anchor tag = None
+
+abbrev pub collection_of : List ℕ → EventRecord → Option Collection
+collection_of arena event =
+    collection_from (collection_style_numbered event.style) (is_on event.implicit) (optional_text_at arena event.has_anchor event.anchor)
+    (optional_text_at arena event.has_tag event.tag)
+
+-- the event of a kind of yaml_event_type_t; none for another kind, or where the style or a text has no reading
+abbrev pub event_of : List ℕ → List DirectiveRecord → EventRecord → Option Event
+event_of arena directives event =
+    if event.kind == 1 then stream_start_of event
+    else (if event.kind == 2 then Some stream_end
+    else (if event.kind == 3 then document_start_of arena directives event
+    else (if event.kind == 4 then Some (document_end (is_on event.implicit))
+    else (if event.kind == 5 then alias_of arena event
+    else (if event.kind == 6 then scalar_of arena event
+    else (if event.kind == 7 then option_map sequence_start (collection_of arena event)
+    else (if event.kind == 8 then Some sequence_end
+    else (if event.kind == 9 then option_map mapping_start (collection_of arena event)
+    else (if event.kind == 10 then Some mapping_end else None)))))))))
+
+-- ---- the array
+
+-- an event of the array that has a reading, before the others
+abbrev pub before_others : ℕ → Option Event → List Numbered → List Numbered
+before_others number None others = []
+before_others number (Some event) others = record { line = number; event = event } ∷ others
+
+-- the events up to the first that has no reading, each with its number in the array, from this number on
+abbrev pub events_from : ℕ → List ℕ → List DirectiveRecord → List EventRecord → List Numbered
+events_from number arena directives [] = []
+events_from number arena directives (first ∷ rest) =
+    before_others number (event_of arena directives first) (events_from (suc number) arena directives rest)

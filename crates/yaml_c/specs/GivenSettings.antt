@@ -1,0 +1,30 @@
+-- What the settings of a C program come to for an emitter.
+use Rattle.std.specs.Prelude.{ℕ, Option, None, Some, ◌==◌, if◌then◌else◌}
+use Rattle.yaml_base.specs.Settings.{Settings, Encoding, LineBreak, largest_usize}
+use Rattle.yaml_c.specs.Arena.{is_on}
+use Rattle.yaml_c.specs.EventRecords.{encoding_numbered, break_numbered}
+use Rattle.yaml_c.specs.declared.settings.EmitterSettings.{EmitterSettings}
+
+-- a limit of 0 is none
+abbrev pub limit_given : ℕ → ℕ
+limit_given limit = if limit == 0 then largest_usize else limit
+
+-- the settings, where encoding and line break have a reading
+abbrev pub settings_from : EmitterSettings → Option (Option Encoding) → Option (Option LineBreak) → Option Settings
+settings_from given (Some encoding) (Some line_break) =
+    Some
+    (record {
+      encoding = encoding;
+      canonical = is_on given.canonical;
+      unicode = is_on given.unicode;
+      indent = Some given.indent;
+      width = Some given.width;
+      line_break = line_break;
+      breaks12 = is_on given.line_breaks_1_2;
+      portable = is_on given.portable;
+      limit = limit_given given.limit;
+    })
+settings_from given encoding line_break = None
+
+abbrev pub settings_given : EmitterSettings → Option Settings
+settings_given given = settings_from given (encoding_numbered given.encoding) (break_numbered given.line_break)

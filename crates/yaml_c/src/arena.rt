@@ -1,0 +1,75 @@
+//! The texts of a C program's events, which stand in one array of bytes, the arena.
+ghost use Rattle.std.specs.Prelude.{◌≡◌, IfOk, option_map};
+ghost use Rattle.std.specs.Str.{chars};
+ghost use Rattle.yaml_base.specs.Seen.{seen_text};
+ghost use Rattle.yaml_c.specs.Arena.{part_of, text_of_bytes, text_at, optional_text_at};
+
+use std::alloc::{AllocError, Allocator};
+
+/// Some elements of an array, one after another: the number of the first, counted from 0, and how many they are.
+#[repr(C)]
+#[derive(Clone, Copy)]
+pub struct Span {
+    pub start: usize,
+    pub length: usize,
+}
+
+/// The bytes of a span, where it lies within the arena.
+fn bytes_at<'a>(arena: &'a [u8], span: &Span) -> Option<&'a [u8]>
+    ensures { option_map (λ bytes. bytes.now) result ≡ part_of arena.now span.now }
+{
+    if span.start > arena.len() || span.length > arena.len() - span.start {
+        return None;
+    }
+    Some(&arena[span.start..span.start + span.length])
+}
+
+/// Bytes as a text, where they are UTF-8.
+#[tactic(auto, using(crate::proofs::Utf8::text_of_utf8, crate::proofs::Utf8::no_text))]
+fn text_of(bytes: &[u8]) -> Option<&str>
+    ensures { option_map (λ text. chars text.now) result ≡ text_of_bytes bytes.now }
+{
+    match std::str::from_utf8(bytes) {
+        Ok(text) => Some(text),
+        Err(_) => None,
+    }
+}
+
+/// The text of a span, where it lies within the arena and is UTF-8.
+fn borrowed_text<'a>(arena: &'a [u8], span: &Span) -> Option<&'a str>
+    ensures { option_map (λ text. chars text.now) result ≡ text_at arena.now span.now }
+{
+    text_of(bytes_at(arena, span)?)
+}
+
+/// The same text, copied.
+pub(crate) fn owned_text<A: Allocator>(
+    alloc: A,
+    arena: &[u8],
+    span: &Span,
+) -> Result<Option<String<A>>, AllocError>
+    ensures { IfOk result (λ text. option_map seen_text text ≡ text_at arena.now span.now) }
+{
+    match borrowed_text(arena, span) {
+        Some(text) => Ok(Some(String::from_str(alloc, text)?)),
+        None => Ok(None),
+    }
+}
+
+/// A copied text, or none where `has` is 0; nothing where there is to be one and its span has no text.
+pub(crate) fn optional_text<A: Allocator>(
+    alloc: A,
+    arena: &[u8],
+    has: u32,
+    span: &Span,
+) -> Result<Option<Option<String<A>>>, AllocError>
+    ensures { IfOk result (λ found. option_map (λ text. option_map seen_text text) found ≡ optional_text_at arena.now has span.now) }
+{
+    if has == 0 {
+        return Ok(Some(None));
+    }
+    match owned_text(alloc, arena, span)? {
+        Some(text) => Ok(Some(Some(text))),
+        None => Ok(None),
+    }
+}

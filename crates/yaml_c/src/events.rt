@@ -1,0 +1,169 @@
+//! Events of a C program, emitted from memory to memory.
+ghost use Rattle.std.specs.Prelude.{◌≡◌, [], None, drop, true};
+ghost use Rattle.yaml_base.specs.Settings as given;
+ghost use Rattle.yaml_emitter.specs.StandsAfter.{StandsAfter};
+ghost use Rattle.yaml_c.specs.Emission.{EmitsRecords, FlushesAfter, HandsOutEvents, IsEmission, error_number};
+ghost use Rattle.yaml_c.specs.EventRecords.{events_from};
+
+use crate::buffers::copy_out;
+use crate::records::{DirectiveRecord, EventRecord, event_of};
+use crate::settings::{EmitterSettings, emitter_by, settings_from};
+use crate::statuses::{BAD_EVENT, BAD_SETTINGS, DONE, NO_MEMORY, REFUSED, TOO_SMALL};
+use std::alloc::{Allocator, Global};
+use yaml_base::yaml_error_t;
+use yaml_emitter::{standing_is_promised, yaml_emitter_emit, yaml_emitter_flush, yaml_emitter_t};
+
+/// What a call over events came to, beside its status. See the header.
+#[repr(C)]
+#[derive(Clone, Copy)]
+pub struct EmitResult {
+    pub length: usize,
+    pub event: u64,
+    pub error: u32,
+}
+
+/// How the events of an array were emitted.
+#[derive(Clone, Copy)]
+enum Emission {
+    /// All of them, and the output is flushed.
+    Done,
+    /// The call that was given the event of this number returned an error, or the flush after the last.
+    Refused(u64, yaml_error_t),
+    /// The event of this number has no reading.
+    BadEvent(u64),
+    /// An allocation failed.
+    NoMemory,
+}
+
+/// Emits the events of an array in turn, up to the first that has no reading or is refused; after the last one flushes.
+fn emit_records<A: Allocator + Copy>(
+    alloc: A,
+    emitter: &mut yaml_emitter_t<A>,
+    arena: &[u8],
+    directives: &[DirectiveRecord],
+    events: &[EventRecord],
+) -> Emission
+    requires output { emitter.old.has_output ≡ true }
+    requires no_error { emitter.old.error ≡ None }
+    requires nothing { emitter.old.page.output ≡ [] }
+    ensures emits { (given : given.Settings) → StandsAfter given [] emitter.old
+        → EmitsRecords given (events_from 0 arena.now directives.now events.now) events.now result emitter.new }
+    ensures taken { emitter.new.page.taken ≡ emitter.old.page.taken }
+{
+    standing_is_promised();
+    let mut last = None;
+    let mut number = 0u64;
+    for record in events {
+        let Ok(event) = event_of(alloc, arena, directives, record) else {
+            return Emission::NoMemory;
+        };
+        let Some(event) = event else {
+            return Emission::BadEvent(number);
+        };
+        if let Err(error) = yaml_emitter_emit(emitter, event) {
+            return Emission::Refused(number, error);
+        }
+        last = Some(number);
+        number += 1;
+    }
+    match last {
+        Some(number) => flush_after(emitter, number),
+        None => Emission::Done,
+    }
+}
+
+/// Flushes after the event of this number, which an error reports.
+fn flush_after<A: Allocator + Copy>(emitter: &mut yaml_emitter_t<A>, number: u64) -> Emission
+    requires output { emitter.old.has_output ≡ true }
+    requires no_error { emitter.old.error ≡ None }
+    ensures flushed { FlushesAfter number emitter.old result emitter.new }
+    ensures taken { emitter.new.page.taken ≡ emitter.old.page.taken }
+{
+    match yaml_emitter_flush(emitter) {
+        Ok(()) => Emission::Done,
+        Err(error) => Emission::Refused(number, error),
+    }
+}
+
+fn number_of(error: yaml_error_t) -> u32
+    ensures { result ≡ error_number error }
+{
+    error as u32 + 1
+}
+
+/// The bytes behind the first so many.
+fn bytes_after(bytes: &[u8], skip: usize) -> &[u8]
+    ensures { result.now ≡ drop skip bytes.now }
+{
+    if skip < bytes.len() {
+        &bytes[skip..]
+    } else {
+        &[]
+    }
+}
+
+/// Hands out how an emission ended, and of its output what the caller doesn't have.
+fn hand_out(
+    emission: Emission,
+    yaml: &[u8],
+    skip: usize,
+    out: &mut [u8],
+    told: &mut EmitResult,
+) -> i32
+    ensures { HandsOutEvents emission yaml.now skip out.old result out.new told.new }
+{
+    *told = EmitResult {
+        length: 0,
+        event: 0,
+        error: 0,
+    };
+    match emission {
+        Emission::Done => {
+            told.length = yaml.len();
+            if copy_out(bytes_after(yaml, skip), out) {
+                DONE
+            } else {
+                TOO_SMALL
+            }
+        }
+        Emission::Refused(_, yaml_error_t::Memory) => NO_MEMORY,
+        Emission::Refused(number, error) => {
+            told.event = number;
+            told.error = number_of(error);
+            REFUSED
+        }
+        Emission::BadEvent(number) => {
+            told.event = number;
+            BAD_EVENT
+        }
+        Emission::NoMemory => NO_MEMORY,
+    }
+}
+
+/// Emits the events of an array, and writes their YAML to `out`. See the header.
+#[unsafe(no_mangle)]
+pub extern "C" fn yaml_emit(
+    alloc: Global,
+    events: &[EventRecord],
+    directives: &[DirectiveRecord],
+    texts: &[u8],
+    settings: &EmitterSettings,
+    out: &mut [u8],
+    told: &mut EmitResult,
+) -> i32
+    ensures { IsEmission events.now directives.now texts.now settings.now out.old result out.new told.new }
+{
+    *told = EmitResult {
+        length: 0,
+        event: 0,
+        error: 0,
+    };
+    let Some(given) = settings_from(settings) else {
+        return BAD_SETTINGS;
+    };
+    let Ok(mut emitter) = emitter_by(alloc, &given) else {
+        return NO_MEMORY;
+    };
+    let emission = emit_records(alloc, &mut emitter, texts, directives, events);
+    hand_out(emission, emitter.output(), settings.skip, out, told)
+}
