@@ -9,7 +9,7 @@ Only the differences that docs/DIFFERENCES.md lists are let through, and counted
 import argparse, json, pathlib, random, re, subprocess, sys
 
 SAMPLE = pathlib.Path(__file__).resolve().parent.parent / "scripts" / "sample.jsonl"
-SETTINGS = {"limit", "encoding", "canonical", "unicode", "indent", "width", "break", "breaks12", "portable"}
+SETTINGS = {"limit", "encoding", "canonical", "unicode", "indent", "width", "break", "breaks12", "portable", "sequences"}
 
 # ---- scripts
 

@@ -15,7 +15,7 @@ use Rattle.yaml_base.specs.Event.{scalar_tag, collection_tag}
 use Rattle.yaml_base.specs.scalars.Style.{Choice}
 use Rattle.yaml_base.specs.Grammar.{Stream, stream_events, tree_of}
 use Rattle.yaml_base.specs.reading.ReadPlain.{is_read_white, begins_white, begins_no_plain, begins_with_hash, holds_no_plain, read_plain}
-use Rattle.yaml_base.specs.Layout.{Role, as_root, as_item, as_key, as_value, Place, is_key, is_in_mapping, deeper, is_simple_alias, is_simple_scalar}
+use Rattle.yaml_base.specs.Layout.{Role, as_root, as_item, as_key, as_value, Place, is_key, is_undented, deeper, is_simple_alias, is_simple_scalar}
 use Rattle.yaml_base.specs.Layout.{is_simple_collection, flow_place_laid, block_place_laid, place_laid, Piece, Standing, PieceLaid, lead_alone, properties_laid}
 use Rattle.yaml_base.specs.Layout.{separation_laid, alias_laid, body_laid, mark_after, choice_of, body_at, scalar_piece, is_written_in_flow, Brackets, square}
 use Rattle.yaml_base.specs.Layout.{curly, end_laid, first_standing, layout}
@@ -160,7 +160,7 @@ node_other s e limit directives frames (scalar content) empty standing =
     let simple = is_key (next_place frames).role && (not s.canonical && is_simple_scalar s.canonical directives content) in
     ap (λ (laid : PieceLaid). leaf_step directives frames simple laid) (scalar_other s e limit directives (next_place frames) simple content standing)
 node_other s e limit directives frames (sequence_start start) empty standing =
-    start_other s e limit directives frames (is_in_mapping (next_place frames).role)
+    start_other s e limit directives frames (is_undented s (next_place frames).role)
     (is_key (next_place frames).role && (not s.canonical && is_simple_collection s.canonical directives start empty))
     empty (as_item true) start standing
 node_other s e limit directives frames (mapping_start start) empty standing =

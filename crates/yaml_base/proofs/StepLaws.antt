@@ -7,7 +7,7 @@ use Rattle.yaml_base.specs.Tags.{directives_in_force}
 use Rattle.yaml_base.specs.Grammar.{Node, alias_node, scalar_node, sequence_node, mapping_node, Nodes, no_nodes, nodes_and, Pairs, no_pairs, pairs_and}
 use Rattle.yaml_base.specs.Grammar.{Document, Documents, no_documents, documents_and, Stream, node_events, nodes_events, pairs_events, document_events}
 use Rattle.yaml_base.specs.Grammar.{documents_events, stream_events}
-use Rattle.yaml_base.specs.Layout.{Piece, Standing, PiecesLaid, one_piece, then_pieces, Role, as_item, as_key, as_value, is_in_mapping, entries_column}
+use Rattle.yaml_base.specs.Layout.{Piece, Standing, PiecesLaid, one_piece, then_pieces, Role, as_item, as_key, as_value, is_undented, entries_column}
 use Rattle.yaml_base.specs.Layout.{has_no_nodes, has_no_pairs, is_simple, is_simple_at, start_piece, is_written_in_flow, square, curly, end_piece, entry_place}
 use Rattle.yaml_base.specs.Layout.{root_place, node_laid, nodes_laid, pairs_laid, document_start_piece, document_end_piece, document_laid, has_no_documents}
 use Rattle.yaml_base.specs.Layout.{documents_laid, first_standing, stream_start_piece, stream_end_piece, layout}
@@ -87,7 +87,7 @@ mutual
       let simple = is_simple_at place s.canonical d (sequence_node c items) in
       let in_flow = is_written_in_flow s place c empty in
       let start = start_piece s d place simple c standing in
-      let column = entries_column in_flow (is_in_mapping place.role) s.indent place.column start.standing.cursor in
+      let column = entries_column in_flow (is_undented s place.role) s.indent place.column start.standing.cursor in
       let entries = nodes_laid items s d in_flow column in
       let end : Standing → PiecesLaid = (λ after. one_piece (end_piece s square in_flow empty place.column after)) in
       let next = steps s follows rest (stage_after d frames simple) in

@@ -9,7 +9,7 @@ use Rattle.yaml_base.specs.Refusal.{ends_collection}
 use Rattle.yaml_base.specs.scalars.Analysis.{Allowances}
 use Rattle.yaml_base.specs.scalars.Style.{Choice, chosen}
 use Rattle.yaml_base.specs.Grammar.{Stream, stream_events}
-use Rattle.yaml_base.specs.Layout.{Role, as_item, as_key, Place, is_key, is_in_mapping, deeper, is_simple_scalar, is_simple_collection, Piece, Standing, PieceLaid}
+use Rattle.yaml_base.specs.Layout.{Role, as_item, as_key, Place, is_key, is_undented, deeper, is_simple_scalar, is_simple_collection, Piece, Standing, PieceLaid}
 use Rattle.yaml_base.specs.Layout.{lead_alone, scalar_lead, body_laid, body_at, mark_after, start_piece, document_mark_laid}
 use Rattle.yaml_base.specs.Layout.{closing_mark_laid, laid_if, version_laid, tag_directives_laid, has_directives, is_explicit, first_standing, layout}
 use Rattle.yaml_base.specs.Steps.{Frame, Stage, at_stream, at_document, at_node, next_place, Stepped, frame_opened, start_step, step, ends_next, Steps}
@@ -124,7 +124,7 @@ step_unstyled : (s : Effective) → s.canonical ≡ true → (stage : Stage) (ev
     → step s stage (unstyled event) empty standing ≡ step s stage event empty standing
 step_unstyled s on (at_node directives frames) (scalar content) empty standing = scalar_unstyled s on directives frames content empty standing
 step_unstyled s on (at_node directives frames) (sequence_start start) empty standing =
-    start_unstyled s on directives frames (is_in_mapping (next_place frames).role)
+    start_unstyled s on directives frames (is_undented s (next_place frames).role)
     (is_key (next_place frames).role && (not s.canonical && is_simple_collection s.canonical directives start empty))
     empty (as_item true) start standing
 step_unstyled s on (at_node directives frames) (mapping_start start) empty standing =

@@ -26,6 +26,7 @@ pub mod RowsStreamRefused
 pub mod RowsTidy
 pub mod RowsStreamLaw
 pub mod RowsPortable
+mod RowsIndentedSequences
 mod RowsWrittenTexts
 mod RowsSchema
 mod RowsJsonNumbers

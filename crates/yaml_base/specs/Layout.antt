@@ -8,10 +8,10 @@ use Rattle.yaml_base.specs.Event.{Version, TagDirective, DocumentStart}
 use Rattle.yaml_base.specs.Percent.{prefix_escaped}
 use Rattle.yaml_base.specs.Tags.{directives_in_force}
 use Rattle.yaml_base.specs.Grammar.{Document, Documents, no_documents, documents_and, Stream, stream_events}
-pub use Rattle.yaml_base.specs.Places.{Role, as_root, as_item, as_key, as_value, Place, is_key, is_in_mapping, line_column, deeper, entries_column, byte_count}
-pub use Rattle.yaml_base.specs.Places.{name_count, spelling_count, tag_count, is_short, is_simple_alias, is_simple_scalar, is_simple_collection, has_no_nodes}
-pub use Rattle.yaml_base.specs.Places.{has_no_pairs, is_simple, is_simple_at, flow_break, opening_or_comma, key_sign, flow_place_laid, block_place_laid}
-pub use Rattle.yaml_base.specs.Places.{place_laid}
+pub use Rattle.yaml_base.specs.Places.{Role, as_root, as_item, as_key, as_value, Place, is_key, is_in_mapping, is_undented, line_column, deeper, entries_column}
+pub use Rattle.yaml_base.specs.Places.{byte_count, name_count, spelling_count, tag_count, is_short, is_simple_alias, is_simple_scalar}
+pub use Rattle.yaml_base.specs.Places.{is_simple_collection, has_no_nodes, has_no_pairs, is_simple, is_simple_at, flow_break, opening_or_comma}
+pub use Rattle.yaml_base.specs.Places.{key_sign, flow_place_laid, block_place_laid, place_laid}
 pub use Rattle.yaml_base.specs.NodeLayout.{Body, Piece, body_text, piece_text, text_of, bodies_of, Standing, PieceLaid, PiecesLaid, no_pieces, one_piece}
 pub use Rattle.yaml_base.specs.NodeLayout.{then_pieces, lead_alone, anchor_laid, handle_laid, spelling_laid, tag_laid, properties_laid, alias_laid}
 pub use Rattle.yaml_base.specs.NodeLayout.{separation_laid, body_laid, mark_after, choice_of, scalar_lead, body_at, scalar_piece, alias_piece, start_piece}

@@ -18,7 +18,7 @@ use Rattle.yaml_base.specs.scalars.Literal.{literal_body}
 use Rattle.yaml_base.specs.scalars.Folded.{folded_body}
 use Rattle.yaml_base.specs.Grammar.{Node, alias_node, scalar_node, sequence_node, mapping_node, Nodes, no_nodes, nodes_and, Pairs, no_pairs, pairs_and}
 use Rattle.yaml_base.specs.Event.{scalar_tag, collection_tag}
-use Rattle.yaml_base.specs.Places.{Role, as_item, as_key, as_value, Place, is_in_mapping, line_column, deeper, entries_column, has_no_nodes, has_no_pairs}
+use Rattle.yaml_base.specs.Places.{Role, as_item, as_key, as_value, Place, is_undented, line_column, deeper, entries_column, has_no_nodes, has_no_pairs}
 use Rattle.yaml_base.specs.Places.{is_simple, is_simple_at, place_laid}
 
 -- Pieces. Source: this project.
@@ -264,7 +264,7 @@ abbrev mutual
       (scalar_piece s directives place (is_simple_at place s.canonical directives (scalar_node content)) content standing)
   node_laid (sequence_node start items) s directives place standing =
       let in_flow = is_written_in_flow s place start (has_no_nodes items) in
-      collection_laid s square in_flow (is_in_mapping place.role) (has_no_nodes items) place.column
+      collection_laid s square in_flow (is_undented s place.role) (has_no_nodes items) place.column
       (start_piece s directives place (is_simple_at place s.canonical directives (sequence_node start items))
       start standing)
       (nodes_laid items s directives in_flow)

@@ -38,6 +38,10 @@ is_in_mapping (as_key first) = true
 is_in_mapping (as_value simple) = true
 is_in_mapping _ = false
 
+-- a block sequence that is the key or the value of a pair is undented, unless the settings indent such sequences
+abbrev pub is_undented : Effective → Role → Bool
+is_undented s role = is_in_mapping role && not s.indented_sequences
+
 -- a new line begins at the column in force, or at 0 at the root
 abbrev pub line_column : Option ℕ → ℕ
 line_column column = unwrap_or column 0
@@ -47,7 +51,7 @@ abbrev pub deeper : ℕ → Option ℕ → ℕ
 deeper indent column = line_column column + indent
 
 -- where the entries of a collection stand: a flow collection's one indent further in; a block collection's at 0 at the
--- root, at the column in force for a sequence that begins on the line of its key or value's sign, else further in
+-- root, at the column in force for an undented sequence whose items begin on a new line, else further in
 abbrev pub entries_column : (in_flow undented : Bool) → ℕ → Option ℕ → Cursor → ℕ
 entries_column true undented indent column cursor = deeper indent column
 entries_column false undented indent None cursor = 0

@@ -31,6 +31,7 @@ pub record Settings : Type 0 where
   pub line_break : Option LineBreak
   pub breaks12 : Bool
   pub portable : Bool
+  pub indented_sequences : Bool
   pub limit : ℕ
 
 -- what the layout goes by; a width of none is no limit
@@ -43,6 +44,7 @@ pub record Effective : Type 0 where
   pub line_break : LineBreak
   pub breaks12 : Bool
   pub portable : Bool
+  pub indented_sequences : Bool
   pub limit : ℕ
 
 -- an indent of 2 to 9 is kept, any other becomes 2
@@ -75,5 +77,6 @@ effective given of_stream =
       line_break = unwrap_or given.line_break line_feed_break;
       breaks12 = given.breaks12;
       portable = given.portable;
+      indented_sequences = given.indented_sequences;
       limit = given.limit;
     }

@@ -9,7 +9,7 @@ use Rattle.yaml_base.specs.Event.{sequence_end, mapping_start, mapping_end}
 use Rattle.yaml_base.specs.Tags.{directives_in_force}
 use Rattle.yaml_base.specs.Refusal.{fault_if, name_or_tag_fault, content_fault, most_open, begins_collection, ends_collection}
 use Rattle.yaml_base.specs.Ready.{written}
-use Rattle.yaml_base.specs.Layout.{Piece, Standing, PieceLaid, Role, as_root, as_item, as_key, as_value, Place, is_key, is_in_mapping, entries_column}
+use Rattle.yaml_base.specs.Layout.{Piece, Standing, PieceLaid, Role, as_root, as_item, as_key, as_value, Place, is_key, is_undented, entries_column}
 use Rattle.yaml_base.specs.Layout.{is_simple_alias, is_simple_scalar, is_simple_collection, lead_alone, scalar_piece, alias_piece, start_piece}
 use Rattle.yaml_base.specs.Layout.{is_written_in_flow, Brackets, square, curly, end_piece, entry_place, root_place, document_start_piece, document_end_piece}
 use Rattle.yaml_base.specs.Layout.{first_standing, stream_start_piece, stream_end_piece}
@@ -114,7 +114,7 @@ node_step s directives frames (scalar content) empty standing =
     is_key (next_place frames).role && (not s.canonical && is_simple_scalar s.canonical directives content) in
     leaf_step directives frames simple (scalar_piece s directives (next_place frames) simple content standing)
 node_step s directives frames (sequence_start start) empty standing =
-    start_step s directives frames (is_in_mapping (next_place frames).role)
+    start_step s directives frames (is_undented s (next_place frames).role)
     (is_key (next_place frames).role && (not s.canonical && is_simple_collection s.canonical directives start empty))
     empty (as_item true) start standing
 node_step s directives frames (mapping_start start) empty standing =

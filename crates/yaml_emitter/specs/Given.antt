@@ -17,6 +17,7 @@ seen_given given =
       line_break = seen_break given.line_break;
       breaks12 = given.breaks12;
       portable = given.portable;
+      indented_sequences = given.indented_sequences;
       limit = given.limit;
     }
 
@@ -37,6 +38,7 @@ seen_effective settings =
       line_break = unwrap_or (seen_break settings.line_break) line_feed_break;
       breaks12 = settings.breaks12;
       portable = settings.portable;
+      indented_sequences = settings.indented_sequences;
       limit = settings.limit;
     }
 
@@ -52,5 +54,6 @@ nothing_given =
       line_break = None;
       breaks12 = false;
       portable = false;
+      indented_sequences = false;
       limit = largest_usize;
     }

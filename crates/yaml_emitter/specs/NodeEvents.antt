@@ -1,7 +1,8 @@
 -- Events within a document, and the stage that they stand at.
 use Rattle.std.specs.Prelude.{Bool, true, false, not, is_some, ◌&&◌, ◌||◌}
+use Rattle.yaml_base.specs.Settings.{Effective}
 use Rattle.yaml_base.specs.Event.{Collection, Event, scalar, sequence_start, sequence_end, mapping_start, mapping_end}
-use Rattle.yaml_base.specs.Layout.{Brackets, square, curly, Role, as_item, as_key, is_in_mapping}
+use Rattle.yaml_base.specs.Layout.{Brackets, square, curly, Role, as_item, as_key, is_undented}
 use Rattle.yaml_base.specs.Steps.{Stage, at_node}
 
 -- within a document
@@ -34,6 +35,6 @@ abbrev pub first_entry : (mapping : Bool) → Role
 first_entry true = as_key true
 first_entry false = as_item true
 
--- a sequence begins on the line of the key or value that it is
-abbrev pub is_undented : (mapping : Bool) → Role → Bool
-is_undented mapping role = not mapping && is_in_mapping role
+-- what starts is a sequence that is undented
+abbrev pub starts_undented : Effective → (mapping : Bool) → Role → Bool
+starts_undented s mapping role = not mapping && is_undented s role

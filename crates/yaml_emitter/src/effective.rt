@@ -17,6 +17,7 @@ pub(crate) struct EffectiveSettings {
     pub line_break: yaml_break_t,
     pub breaks12: bool,
     pub portable: bool,
+    pub indented_sequences: bool,
     pub limit: usize,
     ghost indents: { 2 ≤ indent },
     ghost indents_within: { indent ≤ 9 },

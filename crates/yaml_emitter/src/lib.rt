@@ -38,6 +38,7 @@ pub use setters::yaml_emitter_set_break;
 pub use setters::yaml_emitter_set_canonical;
 pub use setters::yaml_emitter_set_encoding;
 pub use setters::yaml_emitter_set_indent;
+pub use setters::yaml_emitter_set_indented_sequences;
 pub use setters::yaml_emitter_set_line_breaks_1_2;
 pub use setters::yaml_emitter_set_output_string;
 pub use setters::yaml_emitter_set_portable;

@@ -206,4 +206,11 @@ impl<A: Allocator> Machine<A> {
     {
         self.given.portable = portable;
     }
+
+    /// Sets whether block sequences in a mapping are indented.
+    pub(crate) fn set_indented_sequences(&mut self, indented: bool)
+        ensures { self.new ≡ record self.old { given = record self.old.given { indented_sequences = indented } } }
+    {
+        self.given.indented_sequences = indented;
+    }
 }

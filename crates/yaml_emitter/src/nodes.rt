@@ -14,7 +14,7 @@ ghost use Rattle.yaml_pen.specs.Wrote.{Wrote};
 ghost use Rattle.yaml_scalar.specs.UsualTexts.{IsUsual};
 ghost use Rattle.yaml_emitter.specs.BorrowedTexts.{seen_collection, seen_scalar};
 ghost use Rattle.yaml_emitter.specs.Given.{seen_effective};
-ghost use Rattle.yaml_emitter.specs.NodeEvents.{brackets_of, end_event, first_entry, is_at_node, is_undented, start_event};
+ghost use Rattle.yaml_emitter.specs.NodeEvents.{brackets_of, end_event, first_entry, is_at_node, start_event, starts_undented};
 ghost use Rattle.yaml_emitter.specs.Places.{is_mapping, seen_frame, seen_place, seen_role};
 ghost use Rattle.yaml_emitter.specs.Processing.{Processed};
 ghost use Rattle.yaml_emitter.specs.Reach.{most_column};
@@ -324,13 +324,14 @@ fn opened_frame<A: Allocator>(
     ensures frame { seen_frame result
         ≡ record {
           place = entry_place in_flow (first_entry (is_mapping kind))
-              (layout.entries_column in_flow (is_undented (is_mapping kind) (seen_role site.now.place.role)) site.now.settings.now.indent site.now.place.column
-              pen.now.cursor);
+              (layout.entries_column in_flow (starts_undented (seen_effective site.now.settings.now) (is_mapping kind) (seen_role site.now.place.role))
+              site.now.settings.now.indent site.now.place.column pen.now.cursor);
           simple = site.now.simple;
         } }
     ensures nested { line_column (seen_frame result).place.column ≤ line_column site.now.place.column + 9 }
 {
-    let undented = !kind.is_mapping() && site.place.role.is_in_mapping();
+    let undents = site.place.role.is_in_mapping() && !site.settings.indented_sequences;
+    let undented = !kind.is_mapping() && undents;
     let column = entries_column(pen, site.settings, &site.place, in_flow, undented);
     Frame {
         place: Place {

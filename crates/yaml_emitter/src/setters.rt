@@ -121,6 +121,18 @@ pub fn yaml_emitter_set_portable<A: Allocator>(emitter: &mut yaml_emitter_t<A>, 
     emitter.machine.set_portable(portable);
 }
 
+/// Sets whether a block sequence that is the key or the value of a pair is indented, as any other block collection is.
+pub fn yaml_emitter_set_indented_sequences<A: Allocator>(
+    emitter: &mut yaml_emitter_t<A>,
+    indented: bool,
+)
+    requires { emitter.old.started ≡ false }
+    ensures set { emitter.new ≡ record emitter.old { given = record emitter.old.given { indented_sequences = indented } } }
+    ensures stands { StandsAfter emitter.old.given [] emitter.old → StandsAfter emitter.new.given [] emitter.new }
+{
+    emitter.machine.set_indented_sequences(indented);
+}
+
 impl<A: Allocator> yaml_emitter_t<A> {
     /// Whether an event was given.
     pub fn is_started(&self) -> bool

@@ -22,6 +22,7 @@ pub(crate) struct GivenSettings {
     pub line_break: yaml_break_t,
     pub breaks12: bool,
     pub portable: bool,
+    pub indented_sequences: bool,
     pub limit: usize,
 }
 
@@ -89,6 +90,7 @@ impl GivenSettings {
             line_break: YAML_ANY_BREAK,
             breaks12: false,
             portable: false,
+            indented_sequences: false,
             limit: usize::MAX,
         }
     }
@@ -109,6 +111,7 @@ impl GivenSettings {
             line_break: break_of(self.line_break),
             breaks12: self.breaks12,
             portable: self.portable,
+            indented_sequences: self.indented_sequences,
             limit: self.limit,
         }
     }

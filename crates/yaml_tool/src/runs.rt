@@ -18,8 +18,9 @@ use std::io::{Read, Write};
 use yaml_emitter::{
     standing_is_promised, yaml_emitter_emit, yaml_emitter_flush, yaml_emitter_initialize,
     yaml_emitter_set_break, yaml_emitter_set_canonical, yaml_emitter_set_encoding,
-    yaml_emitter_set_indent, yaml_emitter_set_line_breaks_1_2, yaml_emitter_set_output_string,
-    yaml_emitter_set_portable, yaml_emitter_set_unicode, yaml_emitter_set_width, yaml_emitter_t,
+    yaml_emitter_set_indent, yaml_emitter_set_indented_sequences, yaml_emitter_set_line_breaks_1_2,
+    yaml_emitter_set_output_string, yaml_emitter_set_portable, yaml_emitter_set_unicode,
+    yaml_emitter_set_width, yaml_emitter_t,
 };
 
 /// Reads a script to its end, emits its events, and writes the output, even if an event was refused.
@@ -69,6 +70,7 @@ fn set_all<A: Allocator>(settings: &Settings, emitter: &mut yaml_emitter_t<A>)
     yaml_emitter_set_break(emitter, settings.line_break);
     yaml_emitter_set_line_breaks_1_2(emitter, settings.breaks12);
     yaml_emitter_set_portable(emitter, settings.portable);
+    yaml_emitter_set_indented_sequences(emitter, settings.indented_sequences);
 }
 
 /// Sets the indent, if the script does.

@@ -6,7 +6,7 @@ ghost use Rattle.yaml_base.specs.scripts.Script as notation;
 ghost use Rattle.yaml_tool.specs.Settings.{seen_setting, seen_settings, sets_same};
 
 use crate::numbers::{number_up_to, signed_number};
-use crate::words::{break_named, encoding_named, is_word, switch_named};
+use crate::words::{break_named, encoding_named, indentation_named, is_word, switch_named};
 use yaml_base::{yaml_break_t, yaml_encoding_t};
 
 /// A setting's line.
@@ -30,6 +30,8 @@ pub enum Setting {
     Breaks12(bool),
     /// `portable`: only what all YAML readers read alike.
     Portable(bool),
+    /// `sequences`: whether those in a mapping are indented.
+    IndentedSequences(bool),
 }
 
 impl Setting {
@@ -47,6 +49,7 @@ impl Setting {
             Setting::LineBreak(_) => "break",
             Setting::Breaks12(_) => "breaks12",
             Setting::Portable(_) => "portable",
+            Setting::IndentedSequences(_) => "sequences",
         }
     }
 }
@@ -85,6 +88,8 @@ pub fn setting_of(name: &str, value: &str) -> Option<Setting>
         switch_named(value).map(Setting::Breaks12)
     } else if is_word(name, "portable") {
         switch_named(value).map(Setting::Portable)
+    } else if is_word(name, "sequences") {
+        indentation_named(value).map(Setting::IndentedSequences)
     } else {
         None
     }
@@ -111,6 +116,8 @@ pub struct Settings {
     pub breaks12: bool,
     /// What readers read differently is written so that all read it alike.
     pub portable: bool,
+    /// Block sequences in a mapping are indented.
+    pub indented_sequences: bool,
 }
 
 /// The settings of a script that sets nothing.
@@ -124,6 +131,7 @@ pub const UNSET: Settings = Settings {
     line_break: yaml_break_t::YAML_ANY_BREAK,
     breaks12: false,
     portable: false,
+    indented_sequences: false,
 };
 
 impl Settings {
@@ -147,6 +155,10 @@ impl Settings {
             Setting::LineBreak(line_break) => Settings { line_break, ..self },
             Setting::Breaks12(breaks12) => Settings { breaks12, ..self },
             Setting::Portable(portable) => Settings { portable, ..self },
+            Setting::IndentedSequences(indented_sequences) => Settings {
+                indented_sequences,
+                ..self
+            },
         }
     }
 }

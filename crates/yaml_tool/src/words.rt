@@ -121,6 +121,19 @@ pub fn switch_named(word: &str) -> Option<bool>
     }
 }
 
+/// `undented` or `indented`.
+pub fn indentation_named(word: &str) -> Option<bool>
+    ensures { result ≡ notation.named notation.indentations (chars word.now) }
+{
+    if is_word(word, "undented") {
+        Some(false)
+    } else if is_word(word, "indented") {
+        Some(true)
+    } else {
+        None
+    }
+}
+
 /// `any`, `utf8`, `utf16le` or `utf16be`.
 pub fn encoding_named(word: &str) -> Option<yaml_encoding_t>
     ensures { option_map seen_encoding result ≡ notation.named notation.encodings (chars word.now) }

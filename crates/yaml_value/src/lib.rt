@@ -128,6 +128,7 @@ pub use yaml_dump::yaml_emitter_set_break;
 pub use yaml_dump::yaml_emitter_set_canonical;
 pub use yaml_dump::yaml_emitter_set_encoding;
 pub use yaml_dump::yaml_emitter_set_indent;
+pub use yaml_dump::yaml_emitter_set_indented_sequences;
 pub use yaml_dump::yaml_emitter_set_line_breaks_1_2;
 pub use yaml_dump::yaml_emitter_set_output_string;
 pub use yaml_dump::yaml_emitter_set_portable;

@@ -17,6 +17,7 @@ seen_settings settings =
       line_break = seen_break settings.line_break;
       breaks12 = settings.line_breaks_1_2;
       portable = settings.portable;
+      indented_sequences = settings.indented_sequences;
       limit = settings.limit;
     }
 
@@ -32,5 +33,6 @@ default_settings =
       line_break = Some line_feed_break;
       breaks12 = false;
       portable = true;
+      indented_sequences = false;
       limit = largest_usize;
     }

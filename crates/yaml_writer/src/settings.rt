@@ -7,9 +7,9 @@ use std::alloc::Allocator;
 use yaml_base::{YAML_ANY_ENCODING, YAML_LN_BREAK, yaml_break_t, yaml_encoding_t, yaml_error_t};
 use yaml_emitter::{
     yaml_emitter_initialize, yaml_emitter_set_break, yaml_emitter_set_canonical,
-    yaml_emitter_set_encoding, yaml_emitter_set_indent, yaml_emitter_set_line_breaks_1_2,
-    yaml_emitter_set_output_string, yaml_emitter_set_portable, yaml_emitter_set_unicode,
-    yaml_emitter_set_width, yaml_emitter_t,
+    yaml_emitter_set_encoding, yaml_emitter_set_indent, yaml_emitter_set_indented_sequences,
+    yaml_emitter_set_line_breaks_1_2, yaml_emitter_set_output_string, yaml_emitter_set_portable,
+    yaml_emitter_set_unicode, yaml_emitter_set_width, yaml_emitter_t,
 };
 
 /// How a writer writes.
@@ -21,6 +21,8 @@ pub struct Settings {
     pub canonical: bool,
     /// Columns a level, 2 to 9; any other number is taken for 2.
     pub indent: i32,
+    /// Block sequences in a mapping are indented, as other block collections are.
+    pub indented_sequences: bool,
     /// Lines are folded past this column, counted in characters; a negative one is no limit. Up to twice the indent it is
     /// taken for 80.
     pub width: i32,
@@ -45,6 +47,7 @@ impl Default for Settings {
             portable: true,
             canonical: false,
             indent: 2,
+            indented_sequences: false,
             width: 80,
             unicode: true,
             line_break: YAML_LN_BREAK,
@@ -75,5 +78,6 @@ pub(crate) fn emitter_of<A: Allocator + Copy>(
     yaml_emitter_set_break(&mut emitter, settings.line_break);
     yaml_emitter_set_line_breaks_1_2(&mut emitter, settings.line_breaks_1_2);
     yaml_emitter_set_portable(&mut emitter, settings.portable);
+    yaml_emitter_set_indented_sequences(&mut emitter, settings.indented_sequences);
     Ok(emitter)
 }

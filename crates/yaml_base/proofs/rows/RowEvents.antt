@@ -19,6 +19,7 @@ plain_settings =
       line_break = None;
       breaks12 = false;
       portable = false;
+      indented_sequences = false;
       limit = 1000000000;
     }
 

@@ -38,6 +38,7 @@ nothing_set : effective plain_settings None
       line_break = line_feed_break;
       breaks12 = false;
       portable = false;
+      indented_sequences = false;
       limit = 1000000000;
     }
 nothing_set = refl

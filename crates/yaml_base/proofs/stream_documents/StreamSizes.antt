@@ -8,7 +8,7 @@ use Rattle.yaml_base.specs.Settings.{Effective}
 use Rattle.yaml_base.specs.Event.{TagDirective, Collection}
 use Rattle.yaml_base.specs.Cursor.{Cursor, Laid, then_laid, new_line, space_if, indicator}
 use Rattle.yaml_base.specs.Grammar.{Node, alias_node, scalar_node, sequence_node, mapping_node, Nodes, no_nodes, nodes_and, Pairs, no_pairs, pairs_and}
-use Rattle.yaml_base.specs.Layout.{Role, as_item, as_key, as_value, Place, is_in_mapping, entries_column, has_no_nodes, has_no_pairs, is_simple, flow_break}
+use Rattle.yaml_base.specs.Layout.{Role, as_item, as_key, as_value, Place, is_undented, entries_column, has_no_nodes, has_no_pairs, is_simple, flow_break}
 use Rattle.yaml_base.specs.Layout.{opening_or_comma, key_sign, is_written_in_flow, entry_place, place_laid, square, curly, end_laid}
 use Rattle.yaml_base.specs.streams.StreamContent.{Tree}
 use Rattle.yaml_base.specs.streams.StreamScalars.{Rules}
@@ -81,7 +81,7 @@ mutual
   flow_node (scalar_node content) s directives role column cursor = omega arith
   flow_node (sequence_node start items) s directives role column cursor =
       let begun = begun_laid s directives start cursor in
-      let e = entries_column true (is_in_mapping role) s.indent (Some column) begun.cursor in
+      let e = entries_column true (is_undented s role) s.indent (Some column) begun.cursor in
       let entries = items_own items s directives true e begun.cursor in
       let within = length_within begun.text entries.text (end_laid s square true (has_no_nodes items) (Some column) entries.cursor).text in
       let each = flow_items items s directives e begun.cursor in
@@ -164,17 +164,17 @@ sequence_within start items rules s directives place cursor leaves each = by (is
 
     by : (x : Bool) → EitherType x (LeafFits rules s directives (sequence_node start items) place cursor)
         (BegunReads rules s directives start cursor
-        × ItemLeaves items rules s directives (entries_column false (is_in_mapping place.role) s.indent place.column begun.cursor))
+        × ItemLeaves items rules s directives (entries_column false (is_undented s place.role) s.indent place.column begun.cursor))
         → suc (items_size items) ≤ suc
-        (length (collection_own s square x (is_in_mapping place.role) (has_no_nodes items) place.column begun (items_own items s directives x)).text)
+        (length (collection_own s square x (is_undented s place.role) (has_no_nodes items) place.column begun (items_own items s directives x)).text)
     by true leaf =
-        let e = entries_column true (is_in_mapping place.role) s.indent place.column begun.cursor in
+        let e = entries_column true (is_undented s place.role) s.indent place.column begun.cursor in
         let entries = items_own items s directives true e begun.cursor in
         let within = length_within begun.text entries.text (end_laid s square true (has_no_nodes items) place.column entries.cursor).text in
         let all = flow_items items s directives e begun.cursor in
         omega arith
     by false leaves =
-        let e = entries_column false (is_in_mapping place.role) s.indent place.column begun.cursor in
+        let e = entries_column false (is_undented s place.role) s.indent place.column begun.cursor in
         let entries = items_own items s directives false e begun.cursor in
         let within = length_within begun.text entries.text [] in
         let all = each e begun.cursor leaves.1 in

@@ -14,7 +14,7 @@ use Rattle.yaml_base.specs.scalars.SingleQuoted.{quotes_doubled, single_quote}
 use Rattle.yaml_base.specs.scalars.DoubleQuoted.{double_inside, quote_laid}
 use Rattle.yaml_base.specs.Grammar.{Node, alias_node, scalar_node, sequence_node, mapping_node, Nodes, no_nodes, nodes_and, Pairs, no_pairs, pairs_and}
 use Rattle.yaml_base.specs.Event.{scalar_tag, collection_tag}
-use Rattle.yaml_base.specs.Layout.{Role, Place, is_in_mapping, entries_column, is_written_in_flow, as_root, as_item, as_key, as_value, is_key, line_column}
+use Rattle.yaml_base.specs.Layout.{Role, Place, is_undented, entries_column, is_written_in_flow, as_root, as_item, as_key, as_value, is_key, line_column}
 use Rattle.yaml_base.specs.Layout.{deeper, has_no_nodes, has_no_pairs, is_simple, is_simple_at, flow_break, opening_or_comma, key_sign, flow_place_laid}
 use Rattle.yaml_base.specs.Layout.{place_laid, properties_laid, alias_laid, separation_laid, body_laid, choice_of, Brackets, square, curly, empty_or_comma}
 use Rattle.yaml_base.specs.Layout.{end_laid, entry_place}
@@ -299,9 +299,9 @@ sequence_deep s own directives count place cursor start items le ends in_flow na
     begun = properties_laid s.portable directives start.anchor (collection_tag s.canonical start) false cursor
 
     by : (x : Bool) → x ≡ true
-        → ItemsHold (BodyStands s) items s directives x (entries_column x (is_in_mapping place.role) s.indent place.column begun.cursor) begun.cursor
+        → ItemsHold (BodyStands s) items s directives x (entries_column x (is_undented s place.role) s.indent place.column begun.cursor) begun.cursor
         → Deep s.breaks12 count
-        (collection_own s square x (is_in_mapping place.role) (has_no_nodes items) place.column begun (items_own items s directives x)).text
+        (collection_own s square x (is_undented s place.role) (has_no_nodes items) place.column begun (items_own items s directives x)).text
     by false h hold = absurd (false≢true h)
     by true h hold =
         collection_deep s own directives count square start.anchor (collection_tag s.canonical start) (has_no_nodes items) place.column cursor

@@ -9,7 +9,7 @@ use Rattle.yaml_base.specs.Event.{TagDirective, Collection}
 use Rattle.yaml_base.specs.Cursor.{Cursor, Laid, space_if, new_line, indicator}
 use Rattle.yaml_base.specs.Grammar.{sequence_node, mapping_node, Nodes, no_nodes, nodes_and, Pairs, no_pairs, pairs_and}
 use Rattle.yaml_base.specs.Event.{collection_tag}
-use Rattle.yaml_base.specs.Layout.{Place, is_in_mapping, line_column, deeper, entries_column, has_no_nodes, has_no_pairs, properties_laid, is_written_in_flow}
+use Rattle.yaml_base.specs.Layout.{Place, is_undented, line_column, deeper, entries_column, has_no_nodes, has_no_pairs, properties_laid, is_written_in_flow}
 use Rattle.yaml_base.specs.Layout.{Brackets, square, curly, end_laid}
 use Rattle.yaml_base.specs.reading.ReadPlain.{is_read_white}
 use Rattle.yaml_base.specs.reading.ReadTags.{TagSaid}
@@ -365,13 +365,13 @@ sequence_reads s own directives fits place cursor start items in_flow names bodi
     begun = properties_laid s.portable directives start.anchor (collection_tag s.canonical start) false cursor
 
     by : (x : Bool) → x ≡ true
-        → ItemsHold (BodyStands s) items s directives x (entries_column x (is_in_mapping place.role) s.indent place.column begun.cursor) begun.cursor
-        → FlowReads s own directives start cursor (collection_own s square x (is_in_mapping place.role) (has_no_nodes items) place.column begun
+        → ItemsHold (BodyStands s) items s directives x (entries_column x (is_undented s place.role) s.indent place.column begun.cursor) begun.cursor
+        → FlowReads s own directives start cursor (collection_own s square x (is_undented s place.role) (has_no_nodes items) place.column begun
         (items_own items s directives x))
         (sequence_tree start.anchor (collection_tag s.canonical start) (nodes_tree items s directives x))
     by false h hold = absurd (false≢true h)
     by true h hold =
-        sequence_content s own directives place.column (is_in_mapping place.role) cursor start items
+        sequence_content s own directives place.column (is_undented s place.role) cursor start items
         (items_flow items s own directives fits (deeper s.indent place.column) begun.cursor names.2 hold)
 
 -- and so is a mapping

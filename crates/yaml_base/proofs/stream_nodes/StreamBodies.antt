@@ -12,7 +12,7 @@ use Rattle.yaml_base.specs.Grammar.{Node, alias_node, scalar_node, sequence_node
 use Rattle.yaml_base.specs.Grammar.{Documents, no_documents, documents_and, Stream, stream_events}
 use Rattle.yaml_base.specs.Refusal.{IsAccepted}
 use Rattle.yaml_base.specs.Event.{collection_tag}
-use Rattle.yaml_base.specs.Layout.{as_item, as_key, as_value, Place, is_in_mapping, entries_column, has_no_nodes, has_no_pairs, is_simple, is_simple_at}
+use Rattle.yaml_base.specs.Layout.{as_item, as_key, as_value, Place, is_undented, entries_column, has_no_nodes, has_no_pairs, is_simple, is_simple_at}
 use Rattle.yaml_base.specs.Layout.{place_laid, Body, Piece, bodies_of, Standing, properties_laid, is_written_in_flow, entry_place, node_laid, nodes_laid}
 use Rattle.yaml_base.specs.Layout.{pairs_laid, document_start_laid, document_start_piece, document_laid, documents_laid, has_no_documents, first_standing}
 use Rattle.yaml_base.specs.Layout.{root_place, layout}
@@ -67,7 +67,7 @@ mutual
       let in_flow = is_written_in_flow s place start (has_no_nodes items) in
       let signs = place_laid s place (is_simple_at place s.canonical directives (sequence_node start items)) standing.cursor in
       let begun = properties_laid s.portable directives start.anchor (collection_tag s.canonical start) false signs.cursor in
-      let column = entries_column in_flow (is_in_mapping place.role) s.indent place.column begun.cursor in
+      let column = entries_column in_flow (is_undented s place.role) s.indent place.column begun.cursor in
       let before : Standing = record { cursor = begun.cursor; mark = standing.mark } in
       items_bodies P items s directives in_flow column before (hold_both P (nodes_laid items s directives in_flow column before).pieces _ all.1).0
   node_bodies P (mapping_node start pairs) s directives place standing all =

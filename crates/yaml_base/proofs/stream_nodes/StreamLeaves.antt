@@ -8,7 +8,7 @@ use Rattle.yaml_base.specs.Settings.{Effective}
 use Rattle.yaml_base.specs.Event.{TagDirective, Scalar, Collection}
 use Rattle.yaml_base.specs.Cursor.{Cursor, Laid}
 use Rattle.yaml_base.specs.Grammar.{Node, alias_node, scalar_node, sequence_node, mapping_node, Nodes, no_nodes, nodes_and, Pairs, no_pairs, pairs_and}
-use Rattle.yaml_base.specs.Layout.{Role, as_item, as_key, as_value, is_key, is_in_mapping, Place, entries_column, has_no_nodes, has_no_pairs, is_simple}
+use Rattle.yaml_base.specs.Layout.{Role, as_item, as_key, as_value, is_key, is_undented, Place, entries_column, has_no_nodes, has_no_pairs, is_simple}
 use Rattle.yaml_base.specs.Layout.{place_laid, asks_flow, is_written_in_flow}
 use Rattle.yaml_base.specs.streams.StreamScalars.{name_read}
 use Rattle.yaml_base.proofs.stream_nodes.StreamAgrees.{node_tree}
@@ -127,14 +127,14 @@ sequence_leaves s own directives flows start items role column cursor may simple
     begun = begun_laid s directives start cursor
 
     by : (x : Bool) → is_written_in_flow s (block_place role column) start (has_no_nodes items) ≡ x
-        → ItemsHold (BodyStands s) items s directives x (entries_column x (is_in_mapping role) s.indent column begun.cursor) begun.cursor
+        → ItemsHold (BodyStands s) items s directives x (entries_column x (is_undented s role) s.indent column begun.cursor) begun.cursor
         → EitherType x (LeafFits (rules_of s own) s directives (sequence_node start items) (block_place role column) cursor)
         (BegunReads (rules_of s own) s directives start cursor
-        × ItemLeaves items (rules_of s own) s directives (entries_column false (is_in_mapping role) s.indent column begun.cursor))
+        × ItemLeaves items (rules_of s own) s directives (entries_column false (is_undented s role) s.indent column begun.cursor))
     by true h hold = flows (sequence_node start items) role column cursor may h simple stands names bodies
     by false h hold = (
       begun_reads s own directives start cursor names.0 names.1,
-      each (no_canonical s start (has_no_nodes items) h) (entries_column false (is_in_mapping role) s.indent column begun.cursor) begun.cursor hold,
+      each (no_canonical s start (has_no_nodes items) h) (entries_column false (is_undented s role) s.indent column begun.cursor) begun.cursor hold,
     )
 
 -- and a mapping's, where those of its pairs are

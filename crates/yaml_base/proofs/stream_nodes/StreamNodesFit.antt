@@ -8,8 +8,8 @@ use Rattle.yaml_base.specs.Event.{TagDirective, Collection}
 use Rattle.yaml_base.specs.Cursor.{Cursor, Laid}
 use Rattle.yaml_base.specs.Grammar.{Node, alias_node, scalar_node, sequence_node, mapping_node, Nodes, no_nodes, nodes_and, Pairs, no_pairs, pairs_and}
 use Rattle.yaml_base.specs.Event.{collection_tag}
-use Rattle.yaml_base.specs.Layout.{Role, Place, is_in_mapping, entries_column, has_no_nodes, has_no_pairs, is_simple, asks_flow, is_written_in_flow}
-use Rattle.yaml_base.specs.Layout.{properties_laid, square, curly}
+use Rattle.yaml_base.specs.Layout.{Role, Place, is_in_mapping, is_undented, entries_column, has_no_nodes, has_no_pairs, is_simple, asks_flow}
+use Rattle.yaml_base.specs.Layout.{is_written_in_flow, properties_laid, square, curly}
 use Rattle.yaml_base.specs.streams.StreamContent.{Tree, sequence_tree, mapping_tree}
 use Rattle.yaml_base.specs.streams.StreamLines.{spaces}
 use Rattle.yaml_base.specs.streams.StreamScalars.{Rules}
@@ -55,7 +55,7 @@ abbrev mutual
       (LeafFits rules s directives (sequence_node start items) place cursor)
       (BegunReads rules s directives start cursor
       × ItemLeaves items rules s directives
-      (entries_column false (is_in_mapping place.role) s.indent place.column (begun_laid s directives start cursor).cursor))
+      (entries_column false (is_undented s place.role) s.indent place.column (begun_laid s directives start cursor).cursor))
   Leaves (mapping_node start pairs) rules s directives place cursor =
       EitherType (is_written_in_flow s place start (has_no_pairs pairs))
       (LeafFits rules s directives (mapping_node start pairs) place cursor)
@@ -144,18 +144,20 @@ compact_begun rules anchor tag column undented indent cursor begun deep stands (
     (compact_at column undented indent cursor deep stands (ap (λ (b : Laid). b.cursor.indention) (sym nothing) ∙ h))
 
 -- the items of a sequence in a block stand within the columns around
-items_within : (q : Bool) (d : ℕ) (role : Role) (column : Option ℕ) (indent : ℕ) (cursor : Cursor) → 2 ≤ indent → WithinColumn q d role column
-    → d + rank q ≤ entries_column false (is_in_mapping role) indent column cursor
-items_within q d role None indent cursor deep within = absurd within
-items_within q d role (Some c) indent cursor deep within = by q (is_in_mapping role) (not cursor.indention) within
+items_within : (s : Effective) (q : Bool) (d : ℕ) (role : Role) (column : Option ℕ) (cursor : Cursor) → 2 ≤ s.indent → WithinColumn q d role column
+    → d + rank q ≤ entries_column false (is_undented s role) s.indent column cursor
+items_within s q d role None cursor deep within = absurd within
+items_within s q d role (Some c) cursor deep within = by s.indent deep q (is_in_mapping role) (not s.indented_sequences) (not cursor.indention) within
   where
-    by : (q m x : Bool) → d + rank (q && m) ≤ c → d + rank q ≤ (if m && x then c else c + indent)
-    by true true true h = h
-    by true true false h = omega arith
-    by true false x h = omega arith
-    by false true true h = h
-    by false true false h = omega arith
-    by false false x h = omega arith
+    by : (indent : ℕ) → 2 ≤ indent → (q m u x : Bool) → d + rank (q && m) ≤ c → d + rank q ≤ (if (m && u) && x then c else c + indent)
+    by indent deep true true true true h = h
+    by indent deep true true true false h = omega arith
+    by indent deep true true false x h = omega arith
+    by indent deep true false u x h = omega arith
+    by indent deep false true true true h = h
+    by indent deep false true true false h = omega arith
+    by indent deep false true false x h = omega arith
+    by indent deep false false u x h = omega arith
 
 -- the pairs of a mapping in a block stand deeper than the columns around
 pairs_within : (q : Bool) (d : ℕ) (role : Role) (column : Option ℕ) (indent : ℕ) (cursor : Cursor) → 2 ≤ indent → WithinColumn q d role column
@@ -197,10 +199,10 @@ sequence_fits start items rules s directives place cursor deep stands leaves eac
     begun = begun_laid s directives start cursor
 
     e : ℕ
-    e = entries_column false (is_in_mapping place.role) s.indent place.column begun.cursor
+    e = entries_column false (is_undented s place.role) s.indent place.column begun.cursor
 
     own : Bool → Laid
-    own x = collection_own s square x (is_in_mapping place.role) (has_no_nodes items) place.column begun (items_own items s directives x)
+    own x = collection_own s square x (is_undented s place.role) (has_no_nodes items) place.column begun (items_own items s directives x)
 
     tree : Bool → Tree
     tree x = sequence_tree start.anchor (collection_tag s.canonical start) (nodes_tree items s directives x)
@@ -222,9 +224,9 @@ sequence_fits start items rules s directives place cursor deep stands leaves eac
           settled = items_settled rules s directives items e begun.cursor fit some;
           ends = items_end rules s directives items e fit;
           lays = items_lay rules s directives items e begun.cursor fit some;
-          inside = λ q d within. items_inside rules s directives items e fit q d (items_within q d place.role place.column s.indent begun.cursor deep within);
+          inside = λ q d within. items_inside rules s directives items e fit q d (items_within s q d place.role place.column begun.cursor deep within);
           compact = compact_begun rules start.anchor (collection_tag s.canonical start) place.column
-              (is_in_mapping place.role) s.indent cursor begun deep stands leaves.0;
+              (is_undented s place.role) s.indent cursor begun deep stands leaves.0;
         })
 
 -- so does a mapping

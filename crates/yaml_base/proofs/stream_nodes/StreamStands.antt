@@ -10,7 +10,7 @@ use Rattle.yaml_base.specs.Tags.{spelling, spelled}
 use Rattle.yaml_base.specs.Grammar.{Node, alias_node, scalar_node, sequence_node, mapping_node, Nodes, no_nodes, nodes_and, Pairs, no_pairs, pairs_and}
 use Rattle.yaml_base.specs.Event.{scalar_tag, collection_tag}
 use Rattle.yaml_base.specs.Meaning.{read_in_style}
-use Rattle.yaml_base.specs.Layout.{as_item, as_key, as_value, Place, is_in_mapping, deeper, entries_column, has_no_nodes, has_no_pairs, is_simple, is_simple_at}
+use Rattle.yaml_base.specs.Layout.{as_item, as_key, as_value, Place, is_undented, deeper, entries_column, has_no_nodes, has_no_pairs, is_simple, is_simple_at}
 use Rattle.yaml_base.specs.Layout.{place_laid, Body, body_at, properties_laid, separation_laid, body_laid, choice_of, is_written_in_flow, entry_place}
 use Rattle.yaml_base.specs.reading.ReadTags.{TagSaid, bare_said, name_said}
 use Rattle.yaml_base.specs.streams.StreamScalars.{name_read}
@@ -83,7 +83,7 @@ abbrev mutual
   BodiesHold P (sequence_node start items) s directives place cursor =
       let in_flow = is_written_in_flow s place start (has_no_nodes items) in
       let begun = properties_laid s.portable directives start.anchor (collection_tag s.canonical start) false cursor in
-      ItemsHold P items s directives in_flow (entries_column in_flow (is_in_mapping place.role) s.indent place.column begun.cursor) begun.cursor
+      ItemsHold P items s directives in_flow (entries_column in_flow (is_undented s place.role) s.indent place.column begun.cursor) begun.cursor
   BodiesHold P (mapping_node start pairs) s directives place cursor =
       let in_flow = is_written_in_flow s place start (has_no_pairs pairs) in
       let begun = properties_laid s.portable directives start.anchor (collection_tag s.canonical start) false cursor in

@@ -8,7 +8,7 @@ use Rattle.yaml_base.specs.Event.{TagDirective, Scalar}
 use Rattle.yaml_base.specs.Cursor.{Cursor, Laid, nothing_laid, then_laid}
 use Rattle.yaml_base.specs.Grammar.{Node, alias_node, scalar_node, sequence_node, mapping_node, Nodes, no_nodes, nodes_and, Pairs, no_pairs, pairs_and}
 use Rattle.yaml_base.specs.Event.{scalar_tag, collection_tag}
-use Rattle.yaml_base.specs.Layout.{as_item, as_key, as_value, Place, is_in_mapping, deeper, entries_column, has_no_nodes, has_no_pairs, is_simple, is_simple_at}
+use Rattle.yaml_base.specs.Layout.{as_item, as_key, as_value, Place, is_undented, deeper, entries_column, has_no_nodes, has_no_pairs, is_simple, is_simple_at}
 use Rattle.yaml_base.specs.Layout.{place_laid, Piece, piece_text, text_of, Standing, PiecesLaid, then_pieces, properties_laid, alias_laid, separation_laid}
 use Rattle.yaml_base.specs.Layout.{body_laid, choice_of, is_written_in_flow, Brackets, square, curly, end_laid, entry_place, node_laid, nodes_laid, pairs_laid}
 
@@ -33,7 +33,7 @@ abbrev mutual
   node_own (scalar_node content) s directives place cursor =
       scalar_own s directives place (is_simple_at place s.canonical directives (scalar_node content)) content cursor
   node_own (sequence_node start items) s directives place cursor =
-      collection_own s square (is_written_in_flow s place start (has_no_nodes items)) (is_in_mapping place.role) (has_no_nodes items) place.column
+      collection_own s square (is_written_in_flow s place start (has_no_nodes items)) (is_undented s place.role) (has_no_nodes items) place.column
       (properties_laid s.portable directives start.anchor (collection_tag s.canonical start) false cursor)
       (items_own items s directives (is_written_in_flow s place start (has_no_nodes items)))
   node_own (mapping_node start pairs) s directives place cursor =
@@ -131,7 +131,7 @@ mutual
       let simple = is_simple_at place s.canonical directives (sequence_node start items) in
       let signs = place_laid s place simple standing.cursor in
       let begun = properties_laid s.portable directives start.anchor (collection_tag s.canonical start) false signs.cursor in
-      let column = entries_column in_flow (is_in_mapping place.role) s.indent place.column begun.cursor in
+      let column = entries_column in_flow (is_undented s place.role) s.indent place.column begun.cursor in
       let before : Standing = record { cursor = begun.cursor; mark = standing.mark } in
       let all = items_joined items s directives in_flow column before in
       collection_parts signs begun (nodes_laid items s directives in_flow column before) (items_own items s directives in_flow column begun.cursor)

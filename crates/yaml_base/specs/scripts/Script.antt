@@ -14,7 +14,7 @@ use Rattle.yaml_base.specs.Words.{is_word, named}
 pub use Rattle.yaml_base.specs.scripts.ScriptWords.{quotation_mark, number_sign, backslash, Within, Turn, numbered_turn, turn, text_from, Field}
 pub use Rattle.yaml_base.specs.Words.{is_word}
 pub use Rattle.yaml_base.specs.scripts.ScriptWords.{FieldState, state_after, separates, cut_before, pieces_from, field_read, field_and, each_field, fields_read}
-pub use Rattle.yaml_base.specs.scripts.ScriptWords.{flags, switches, encodings, line_breaks, scalar_styles, collection_styles, number_up_to}
+pub use Rattle.yaml_base.specs.scripts.ScriptWords.{flags, switches, indentations, encodings, line_breaks, scalar_styles, collection_styles, number_up_to}
 pub use Rattle.yaml_base.specs.Words.{named}
 pub use Rattle.yaml_base.specs.scripts.ScriptWords.{signed_number, at_character, at_escape, at_brace, at_digits, goes_on, stands_for, ends, fails, bare, quoted}
 pub use Rattle.yaml_base.specs.scripts.ScriptWords.{outside, inside, escaped}
@@ -32,6 +32,7 @@ pub data Setting : Type 0 where
   break_set : Option LineBreak → Setting
   breaks12_set : Bool → Setting
   portable_set : Bool → Setting
+  sequences_set : (indented : Bool) → Setting
 
 -- a line says nothing (it is empty or a comment), sets something, or gives an event
 pub data Line : Type 0 where
@@ -62,7 +63,8 @@ setting_of name value =
     else (if is_word name (codes "width") then option_map width_set (signed_number value)
     else (if is_word name (codes "break") then option_map break_set (named line_breaks value)
     else (if is_word name (codes "breaks12") then option_map breaks12_set (named switches value)
-    else (if is_word name (codes "portable") then option_map portable_set (named switches value) else None))))))))
+    else (if is_word name (codes "portable") then option_map portable_set (named switches value)
+    else (if is_word name (codes "sequences") then option_map sequences_set (named indentations value) else None)))))))))
 
 -- the name of a setting
 abbrev pub setting_name : Setting → Text
@@ -75,6 +77,7 @@ setting_name (width_set _) = codes "width"
 setting_name (break_set _) = codes "break"
 setting_name (breaks12_set _) = codes "breaks12"
 setting_name (portable_set _) = codes "portable"
+setting_name (sequences_set _) = codes "sequences"
 
 -- the settings where no line sets anything
 abbrev pub unset : Settings
@@ -87,6 +90,7 @@ unset = record {
   line_break = None;
   breaks12 = false;
   portable = false;
+  indented_sequences = false;
   limit = 1000000000;
 }
 
@@ -101,6 +105,7 @@ with_setting given (width_set width) = record given { width = Some width }
 with_setting given (break_set line_break) = record given { line_break = line_break }
 with_setting given (breaks12_set on) = record given { breaks12 = on }
 with_setting given (portable_set on) = record given { portable = on }
+with_setting given (sequences_set indented) = record given { indented_sequences = indented }
 
 -- what several lines set together
 abbrev pub settings_of : Settings → List Setting → Settings

@@ -133,6 +133,10 @@ flags = (codes "0", false) ∷ (codes "1", true) ∷ []
 abbrev pub switches : List (Text × Bool)
 switches = (codes "off", false) ∷ (codes "on", true) ∷ []
 
+-- the words for sequences in a mapping, and whether they are indented
+abbrev pub indentations : List (Text × Bool)
+indentations = (codes "undented", false) ∷ (codes "indented", true) ∷ []
+
 -- the names of encodings, line breaks and styles; `any` leaves the choice to the emitter
 abbrev pub encodings : List (Text × Option Encoding)
 encodings = (codes "any", None) ∷ (codes "utf8", Some utf8) ∷ (codes "utf16le", Some utf16_little) ∷ (codes "utf16be", Some utf16_big) ∷ []

@@ -194,6 +194,7 @@ typed_settings =
       line_break = Some line_feed_break;
       breaks12 = false;
       portable = false;
+      indented_sequences = false;
       limit = largest_usize;
     }
 

@@ -11,7 +11,7 @@ use Rattle.yaml_base.specs.scalars.DoubleQuoted.{double_quoted_body}
 use Rattle.yaml_base.specs.Event.{TagDirective, Scalar, Collection, Event, alias, scalar, sequence_start, mapping_start}
 use Rattle.yaml_base.specs.Tags.{directives_fault, directives_in_force}
 use Rattle.yaml_base.specs.Grammar.{Node, alias_node, scalar_node, sequence_node, mapping_node, Nodes, no_nodes, nodes_and, Pairs, no_pairs, pairs_and}
-use Rattle.yaml_base.specs.Layout.{as_item, as_key, as_value, Piece, piece_text, text_of, Standing, PiecesLaid, one_piece, is_key, is_in_mapping, line_column}
+use Rattle.yaml_base.specs.Layout.{as_item, as_key, as_value, Piece, piece_text, text_of, Standing, PiecesLaid, one_piece, is_key, is_undented, line_column}
 use Rattle.yaml_base.specs.Layout.{deeper, has_no_nodes, has_no_pairs, is_simple, place_laid, properties_laid, alias_piece, scalar_piece, start_piece}
 use Rattle.yaml_base.specs.Layout.{choice_of, scalar_lead, is_written_in_flow, Brackets, square, curly, end_laid, end_piece, collection_laid, node_laid}
 use Rattle.yaml_base.specs.Layout.{nodes_laid, pairs_laid}
@@ -259,7 +259,7 @@ module _ (breaks12 : Bool) (s : Effective) (wide : 2 ≤ s.indent) (own : List T
     node_after (sequence_node start items) at demand text tokens standing says follows ok =
         let empty = has_no_nodes items in
         let k = tokens ++ (spot_tokens at ++ node_tokens s.portable (sequence_node start items) own) in
-        let undented = is_in_mapping (place_of at).role in
+        let undented = is_undented (in_canonical s) (place_of at).role in
         subst (λ b. After breaks12 text k standing
         (collection_laid (in_canonical s) square (is_written_in_flow (in_canonical s) (place_of at) start empty) undented empty (place_of at).column
         (start_piece (in_canonical s) force (place_of at) b start standing)

@@ -13,7 +13,7 @@ use Rattle.yaml_base.specs.declared.errors.yaml_error_t.{yaml_error_t}
 use Rattle.yaml_pen.specs.Page.{Page}
 use Rattle.yaml_pen.specs.Wrote.{Wrote}
 use Rattle.yaml_emitter.specs.State.{MachineState}
-use Rattle.yaml_emitter.specs.NodeEvents.{start_event, end_event, brackets_of, first_entry, is_undented}
+use Rattle.yaml_emitter.specs.NodeEvents.{start_event, end_event, brackets_of, first_entry, starts_undented}
 use Rattle.yaml_emitter.specs.WrittenPieces.{piece_at}
 use Rattle.yaml_emitter.specs.Processing.{Processed}
 use Rattle.yaml_pen.specs.Page.{encoded, told}
@@ -111,7 +111,7 @@ start_unkept before directives frames mapping start empty simple place after pag
 abbrev pub opened : Effective → (mapping in_flow simple : Bool) → Place → Cursor → Frame
 opened s mapping in_flow simple place cursor =
     record {
-      place = entry_place in_flow (first_entry mapping) (entries_column in_flow (is_undented mapping place.role) s.indent place.column cursor);
+      place = entry_place in_flow (first_entry mapping) (entries_column in_flow (starts_undented s mapping place.role) s.indent place.column cursor);
       simple = simple;
     }
 

@@ -15,6 +15,7 @@ mod portable;
 mod prefixes;
 mod refusals;
 mod scalars;
+mod sequences;
 mod settings;
 
 use crate::tests::{equal, joined, same};

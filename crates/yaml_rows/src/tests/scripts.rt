@@ -115,6 +115,7 @@ const SETTINGS: Settings = Settings {
     line_break: YAML_ANY_BREAK,
     breaks12: false,
     portable: false,
+    indented_sequences: false,
 };
 
 const DOCUMENT_END: yaml_event_t<Global> = YAML_DOCUMENT_END_EVENT { implicit: true };

@@ -1,5 +1,6 @@
 //! Values written, against bytes written by hand.
 mod kinds;
+mod lists;
 mod parts;
 mod refused;
 mod texts;

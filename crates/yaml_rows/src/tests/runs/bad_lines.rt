@@ -37,6 +37,24 @@ const BAD: &[(&str, &str)] = &[
         "yamlemit: line 2: cannot be read\n",
     ),
     ("portable yes", "yamlemit: line 1: cannot be read\n"),
+    ("sequences on", "yamlemit: line 1: cannot be read\n"),
+    ("sequences", "yamlemit: line 1: cannot be read\n"),
+    (
+        "sequences \"indented\"",
+        "yamlemit: line 1: cannot be read\n",
+    ),
+    (
+        "sequences indented undented",
+        "yamlemit: line 1: cannot be read\n",
+    ),
+    (
+        "sequences indented\nsequences undented",
+        "yamlemit: line 2: cannot be read\n",
+    ),
+    (
+        "+STR any\nsequences indented",
+        "yamlemit: line 2: cannot be read\n",
+    ),
     // The events before it would give an output, or be refused.
     (
         "+STR utf16be\n-STR\n+STR",

@@ -9,9 +9,9 @@ use std::process::Abort;
 use yaml_base::yaml_error_t;
 use yaml_emitter::{
     yaml_emitter_initialize, yaml_emitter_set_break, yaml_emitter_set_canonical,
-    yaml_emitter_set_encoding, yaml_emitter_set_indent, yaml_emitter_set_line_breaks_1_2,
-    yaml_emitter_set_output_string, yaml_emitter_set_portable, yaml_emitter_set_unicode,
-    yaml_emitter_set_width, yaml_emitter_t,
+    yaml_emitter_set_encoding, yaml_emitter_set_indent, yaml_emitter_set_indented_sequences,
+    yaml_emitter_set_line_breaks_1_2, yaml_emitter_set_output_string, yaml_emitter_set_portable,
+    yaml_emitter_set_unicode, yaml_emitter_set_width, yaml_emitter_t,
 };
 use yaml_test_allocator::Refusing;
 use yaml_tool::{NumberedEvent, Settings, read_script, run_answer_t};
@@ -29,6 +29,7 @@ fn emitter_with<A: Allocator + Copy>(
     yaml_emitter_set_break(&mut emitter, settings.line_break);
     yaml_emitter_set_line_breaks_1_2(&mut emitter, settings.breaks12);
     yaml_emitter_set_portable(&mut emitter, settings.portable);
+    yaml_emitter_set_indented_sequences(&mut emitter, settings.indented_sequences);
     match (settings.indent, settings.width) {
         (None, None) => {}
         (Some(indent), None) => yaml_emitter_set_indent(&mut emitter, indent),

@@ -5,9 +5,9 @@ use std::process::Abort;
 use yaml_dump::{
     YAML_CRLN_BREAK, YAML_UTF16LE_ENCODING, yaml_emitter_delete, yaml_emitter_initialize,
     yaml_emitter_set_break, yaml_emitter_set_canonical, yaml_emitter_set_encoding,
-    yaml_emitter_set_indent, yaml_emitter_set_line_breaks_1_2, yaml_emitter_set_output_string,
-    yaml_emitter_set_portable, yaml_emitter_set_unicode, yaml_emitter_set_width, yaml_emitter_t,
-    yaml_error_t,
+    yaml_emitter_set_indent, yaml_emitter_set_indented_sequences, yaml_emitter_set_line_breaks_1_2,
+    yaml_emitter_set_output_string, yaml_emitter_set_portable, yaml_emitter_set_unicode,
+    yaml_emitter_set_width, yaml_emitter_t, yaml_error_t,
 };
 
 /// An emitter with every setting set, for a stream of at most `limit` bytes.
@@ -22,6 +22,7 @@ fn emitter_of(alloc: Global, limit: usize) -> Result<yaml_emitter_t<Global>, yam
     yaml_emitter_set_break(&mut emitter, YAML_CRLN_BREAK);
     yaml_emitter_set_line_breaks_1_2(&mut emitter, true);
     yaml_emitter_set_portable(&mut emitter, true);
+    yaml_emitter_set_indented_sequences(&mut emitter, true);
     Ok(emitter)
 }
 

@@ -1,0 +1,17 @@
+use Rattle.std.proofs.Common.{◌∙◌, ap, refl}
+use Rattle.yaml_emitter.specs.Inside.{state_of}
+use Rattle.yaml_emitter.specs.State.{MachineState, State}
+use Rattle.yaml_emitter.proofs.standing.EmitterKept.{kept_given}
+use Rattle.yaml_emitter.proofs.standing.StandingSet.{stands_given}
+use Rattle.yaml_emitter.proofs.setters.yaml_emitter_set_indented_sequences.Goals as goal
+
+pub invariant_of-emitter : goal.invariant_of-emitter
+invariant_of-emitter g c = kept_given c.emitter.inside c.set_indented_sequences.new.self _ _ c.set_indented_sequences.ensures c.emitter.invariant
+
+pub returns-clause-set : goal.returns-clause-set
+returns-clause-set g c =
+    ap (λ (m : MachineState). state_of (record c.emitter.inside { machine = m })) c.set_indented_sequences.ensures
+    ∙ ap (λ (s : State). let made : State = record s { given = record s.given { indented_sequences = c.args.indented } } in made) c.emitter.view_is
+
+pub returns-clause-stands : goal.returns-clause-stands
+returns-clause-stands g c stands = stands_given c.args.emitter.now _ _ _ (returns-clause-set g c) refl stands
