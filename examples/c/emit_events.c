@@ -1,0 +1,50 @@
+/* Emits events: a call that tells how much room they need, then one that writes; and an event that is refused. */
+#include <inttypes.h>
+#include <stdio.h>
+#include <stdlib.h>
+
+#include "yaml_c.h"
+
+enum { STREAM_START = 1, STREAM_END, DOCUMENT_START, DOCUMENT_END, ALIAS, SCALAR, SEQUENCE_START, SEQUENCE_END, MAPPING_START, MAPPING_END };
+
+/* The arena: every text of the events, one after another. */
+static const uint8_t texts[] = "from" "Oslo" "to" "place" "!city";
+
+static const struct yaml_c_event events[] = {
+    {.kind = STREAM_START},
+    {.kind = DOCUMENT_START, .implicit = 1},
+    {.kind = MAPPING_START, .implicit = 1},
+    {.kind = SCALAR, .implicit = 1, .quoted_implicit = 1, .value = {0, 4}},
+    {.kind = SCALAR, .has_anchor = 1, .anchor = {10, 5}, .has_tag = 1, .tag = {15, 5}, .value = {4, 4}},
+    {.kind = SCALAR, .implicit = 1, .quoted_implicit = 1, .value = {8, 2}},
+    {.kind = ALIAS, .anchor = {10, 5}},
+    {.kind = MAPPING_END},
+    {.kind = DOCUMENT_END, .implicit = 1},
+    {.kind = STREAM_END},
+};
+
+static int32_t emit(size_t count, uint8_t *out, size_t capacity, struct yaml_c_result *result) {
+    static const struct yaml_c_directive none[1];
+    static const struct yaml_c_settings settings; /* zeros: those of a new emitter */
+    return yaml_emit(events, count, none, 0, texts, sizeof texts - 1, &settings, out, capacity, result);
+}
+
+int main(void) {
+    size_t count = sizeof events / sizeof *events;
+    uint8_t small[8];
+    struct yaml_c_result result;
+    if (emit(count, small, sizeof small, &result) != YAML_TOO_SMALL) return 1;
+    printf("%zu bytes\n", result.length);
+    uint8_t *yaml = malloc(result.length);
+    if (yaml == NULL) return 1;
+    if (emit(count, yaml, result.length, &result) != YAML_DONE) return 1;
+    fwrite(yaml, 1, result.length, stdout);
+    free(yaml);
+    static const struct yaml_c_event wrong[] = {{.kind = STREAM_START}, {.kind = MAPPING_END}};
+    static const struct yaml_c_directive none[1];
+    static const struct yaml_c_settings settings;
+    int32_t status = yaml_emit(wrong, 2, none, 0, texts, 0, &settings, small, sizeof small, &result);
+    if (status != YAML_REFUSED) return 1;
+    printf("%s: event %" PRIu64 ", %s\n", yaml_status_text(status), result.event, yaml_error_text(result.error));
+    return 0;
+}

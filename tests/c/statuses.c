@@ -1,0 +1,273 @@
+/* Calls of yaml_emit, one for each status and for each kind of event that has no reading; a line for each that isn't as written. */
+#include <stdio.h>
+#include <stdlib.h>
+#include <string.h>
+
+#include "yaml_c.h"
+
+#define COUNT(array) (sizeof(array) / sizeof *(array))
+
+static int failures;
+static int calls;
+
+static uint8_t texts[64];
+static size_t texts_len;
+static struct yaml_c_directive directives[4];
+static struct yaml_c_event events[12];
+static struct yaml_c_settings settings;
+static uint8_t out[256];
+static struct yaml_c_result result;
+
+static struct yaml_c_span place(const char *text) {
+    struct yaml_c_span span;
+    span.start = texts_len;
+    span.length = strlen(text);
+    memcpy(texts + texts_len, text, span.length);
+    texts_len += span.length;
+    return span;
+}
+
+/* A stream of one document with one scalar: its version, a directive, an anchor, a tag and a value. */
+static void begin(void) {
+    memset(events, 0, sizeof events);
+    memset(directives, 0, sizeof directives);
+    memset(&settings, 0, sizeof settings);
+    texts_len = 0;
+    directives[0].handle = place("!e!");
+    directives[0].prefix = place("tag:e,2000:");
+    events[0].kind = 1;
+    events[1].kind = 3;
+    events[1].has_version = 1;
+    events[1].major = 1;
+    events[1].minor = 1;
+    events[1].directives.length = 1;
+    events[2].kind = 6;
+    events[2].has_anchor = 7; /* any number but 0 is on */
+    events[2].anchor = place("a1");
+    events[2].has_tag = 1;
+    events[2].tag = place("tag:e,2000:city");
+    events[2].value = place("Oslo");
+    events[3].kind = 4;
+    events[3].implicit = 1;
+    events[4].kind = 2;
+}
+
+static const char yaml[] = "%YAML 1.1\n%TAG !e! tag:e,2000:\n--- &a1 !e!city Oslo\n";
+
+/* What a call of the first `count` events and a buffer of `capacity` bytes comes to, and that the buffer past `written` stays. */
+static void expect(const char *name, size_t count, size_t capacity, int32_t status, size_t length, uint64_t event, uint32_t error,
+                   const char *written) {
+    size_t i, size = strlen(written);
+    int32_t got;
+    memset(out, 0xa5, sizeof out);
+    memset(&result, 0xff, sizeof result);
+    got = yaml_emit(events, count, directives, COUNT(directives), texts, texts_len, &settings, out, capacity, &result);
+    calls++;
+    int good = got == status && result.length == length && result.event == event && result.error == error && memcmp(out, written, size) == 0;
+    for (i = size; i < sizeof out; i++) good = good && out[i] == 0xa5;
+    if (good) return;
+    failures++;
+    printf("%s: status %d, length %lu, event %lu, error %lu\n%.*s\n", name, (int)got, (unsigned long)result.length,
+           (unsigned long)result.event, (unsigned long)result.error, (int)result.length, (const char *)out);
+}
+
+static void expect_bad(const char *name, uint64_t event) { expect(name, 5, sizeof out, YAML_BAD_EVENT, 0, event, 0, ""); }
+
+static void done(void) {
+    char unended[sizeof yaml] = "";
+    begin();
+    expect("a stream", 5, sizeof out, YAML_DONE, sizeof yaml - 1, 0, 0, yaml);
+    expect("a buffer of just its length", 5, sizeof yaml - 1, YAML_DONE, sizeof yaml - 1, 0, 0, yaml);
+    expect("a buffer one byte short", 5, sizeof yaml - 2, YAML_TOO_SMALL, sizeof yaml - 1, 0, 0, "");
+    settings.skip = 10;
+    expect("the first line skipped", 5, sizeof yaml - 11, YAML_DONE, sizeof yaml - 1, 0, 0, yaml + 10);
+    expect("a buffer short of the rest", 5, sizeof yaml - 12, YAML_TOO_SMALL, sizeof yaml - 1, 0, 0, "");
+    settings.skip = SIZE_MAX;
+    expect("more skipped than there is", 5, 0, YAML_DONE, sizeof yaml - 1, 0, 0, "");
+    settings.skip = 0;
+    expect("no event", 0, sizeof out, YAML_DONE, 0, 0, 0, "");
+    memcpy(unended, yaml, sizeof yaml - 2); /* the line of a document's root is ended with the document */
+    expect("a stream that isn't ended", 3, sizeof out, YAML_DONE, sizeof yaml - 2, 0, 0, unended);
+}
+
+static void bad_settings(void) {
+    begin();
+    settings.encoding = 4;
+    expect("encoding 4", 5, sizeof out, YAML_BAD_SETTINGS, 0, 0, 0, "");
+    settings.encoding = 0;
+    settings.line_break = 4;
+    expect("line break 4", 5, sizeof out, YAML_BAD_SETTINGS, 0, 0, 0, "");
+}
+
+static void bad_numbers(void) {
+    static const uint32_t kinds[] = {0, 11, UINT32_MAX};
+    static const size_t starts[] = {7, 9};
+    size_t i;
+    for (i = 0; i < COUNT(kinds); i++) {
+        begin();
+        events[2].kind = kinds[i];
+        expect_bad("an unknown kind", 2);
+    }
+    begin();
+    events[0].style = 4;
+    expect_bad("an encoding", 0);
+    begin();
+    events[2].style = 6;
+    expect_bad("a scalar's style", 2);
+    for (i = 0; i < COUNT(starts); i++) {
+        begin();
+        events[2].kind = (uint32_t)starts[i];
+        events[2].style = 3;
+        expect_bad("a collection's style", 2);
+    }
+}
+
+static void bad_spans(void) {
+    begin();
+    events[2].value.length++;
+    expect_bad("one byte past the arena", 2);
+    begin();
+    events[2].value.start = SIZE_MAX;
+    events[2].value.length = SIZE_MAX;
+    expect_bad("a sum that overflows", 2);
+    begin();
+    events[2].value.start = 1;
+    events[2].value.length = SIZE_MAX;
+    expect_bad("a sum that comes to 0", 2);
+    begin();
+    events[2].anchor.start = texts_len + 1;
+    events[2].anchor.length = 0;
+    expect_bad("nothing, behind the arena", 2);
+    begin();
+    events[2].tag.length = 1000;
+    expect_bad("a tag past the arena", 2);
+    begin();
+    events[2].kind = 5;
+    events[2].anchor.length = 1000;
+    expect_bad("an alias past the arena", 2);
+    begin();
+    events[1].directives.length = 5;
+    expect_bad("more directives than there are", 1);
+    begin();
+    events[1].directives.start = SIZE_MAX;
+    events[1].directives.length = SIZE_MAX;
+    expect_bad("directives whose sum overflows", 1);
+    begin();
+    directives[0].handle.start = SIZE_MAX;
+    expect_bad("a handle past the arena", 1);
+    begin();
+    directives[0].prefix.length = SIZE_MAX;
+    expect_bad("a prefix past the arena", 1);
+}
+
+static void bad_texts(void) {
+    static const char *const bad[] = {"\xff", "\xc3", "\xc0\x80", "\xed\xa0\x80", "\xf4\x90\x80\x80"};
+    size_t i;
+    for (i = 0; i < COUNT(bad); i++) {
+        begin();
+        events[2].value = place(bad[i]);
+        expect_bad("a value that isn't UTF-8", 2);
+    }
+    begin();
+    events[2].tag = place("\x80");
+    expect_bad("a tag that isn't UTF-8", 2);
+    begin();
+    events[2].value = place("\xc3\xa9");
+    events[2].value.length = 1;
+    expect_bad("half a character", 2);
+}
+
+/* Fields that a kind doesn't read may hold anything. */
+static void unread(void) {
+    begin();
+    events[4].style = 99;
+    events[4].value.length = SIZE_MAX;
+    events[3].has_anchor = 1;
+    events[3].anchor.start = SIZE_MAX;
+    events[2].directives.length = SIZE_MAX;
+    expect("fields that aren't read", 5, sizeof out, YAML_DONE, sizeof yaml - 1, 0, 0, yaml);
+    events[2].has_anchor = 0;
+    events[2].anchor.length = SIZE_MAX;
+    expect("an anchor that isn't there", 5, sizeof out, YAML_DONE, sizeof yaml - 5, 0, 0,
+           "%YAML 1.1\n%TAG !e! tag:e,2000:\n--- !e!city Oslo\n");
+}
+
+static void refused(void) {
+    begin();
+    expect("an event before the stream", 0, 0, YAML_DONE, 0, 0, 0, "");
+    events[0].kind = 2;
+    expect("no stream's start", 5, sizeof out, YAML_REFUSED, 0, 0, YAML_EXPECTED_STREAM_START, "");
+    begin();
+    events[1].minor = 3;
+    expect("a version that can't be written", 5, sizeof out, YAML_REFUSED, 0, 2, YAML_INCOMPATIBLE_VERSION, "");
+    begin();
+    events[1].directives.length = 2;
+    directives[1] = directives[0];
+    expect("a handle that comes twice", 5, sizeof out, YAML_REFUSED, 0, 2, YAML_DUPLICATE_DIRECTIVE, "");
+    begin();
+    events[2].anchor.length = 0;
+    expect("an empty anchor", 5, sizeof out, YAML_REFUSED, 0, 2, YAML_ANCHOR_EMPTY, "");
+    begin();
+    events[3].kind = 6;
+    expect("a second root", 5, sizeof out, YAML_REFUSED, 0, 3, YAML_EXPECTED_DOCUMENT_END, "");
+    begin();
+    settings.limit = sizeof yaml - 1;
+    expect("a limit that is kept", 5, sizeof out, YAML_DONE, sizeof yaml - 1, 0, 0, yaml);
+    settings.limit--;
+    expect("a limit that is passed", 5, sizeof out, YAML_REFUSED, 0, 3, YAML_PAST_LIMIT, "");
+    begin();
+    events[2].anchor.length = 0;
+    events[3].kind = 0;
+    expect("a refusal before a bad event", 5, sizeof out, YAML_REFUSED, 0, 2, YAML_ANCHOR_EMPTY, "");
+    begin();
+    events[2].anchor.length = 0;
+    events[1].kind = 0;
+    expect_bad("a bad event before a refusal", 1);
+}
+
+/* Sequences in sequences, 100,000 deep, which take no stack. */
+static void deep(void) {
+    const size_t levels = 100000, count = 2 * levels + 4;
+    struct yaml_c_event *nested = (struct yaml_c_event *)calloc(count, sizeof *nested);
+    uint8_t *brackets = (uint8_t *)calloc(count, 1);
+    size_t i;
+    int good = nested != NULL && brackets != NULL;
+    calls++;
+    begin();
+    settings.width = -1;
+    if (good) {
+        nested[0].kind = 1;
+        nested[1].kind = 3;
+        nested[1].implicit = 1;
+        for (i = 0; i < levels; i++) {
+            nested[2 + i].kind = 7;
+            nested[2 + i].implicit = 1;
+            nested[2 + i].style = 2;
+            nested[2 + levels + i].kind = 8;
+        }
+        nested[2 + 2 * levels].kind = 4;
+        nested[2 + 2 * levels].implicit = 1;
+        nested[3 + 2 * levels].kind = 2;
+        good = yaml_emit(nested, count, directives, 0, texts, 0, &settings, brackets, count, &result) == YAML_DONE
+            && result.length == 2 * levels + 1 && brackets[levels - 1] == '[' && brackets[levels] == ']' && brackets[2 * levels] == '\n';
+    }
+    free(nested);
+    free(brackets);
+    if (good) return;
+    failures++;
+    printf("sequences in sequences: length %lu, event %lu\n", (unsigned long)result.length, (unsigned long)result.event);
+}
+
+int main(void) {
+    if (yaml_c_version() != YAML_C_VERSION) return 1;
+    done();
+    bad_settings();
+    bad_numbers();
+    bad_spans();
+    bad_texts();
+    unread();
+    refused();
+    deep();
+    printf("%d calls, %d not as written\n", calls, failures);
+    return failures != 0;
+}
