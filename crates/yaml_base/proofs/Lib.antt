@@ -39,8 +39,9 @@ pub mod stream_keys
 pub mod stream_nodes
 pub mod stream_documents
 pub mod CallerLaws
-pub mod SurelyTexts
 pub mod SchemaWords
+pub mod no_numbers
+pub mod SurelyTexts
 pub mod JsonSpelling
 pub mod NumberCuts
 pub mod NumbersByCore

@@ -29,4 +29,5 @@ pub mod RowsPortable
 mod RowsIndentedSequences
 mod RowsWrittenTexts
 mod RowsSchema
+mod RowsSurelyText
 mod RowsJsonNumbers

@@ -1,4 +1,5 @@
-pub mod WordLemmas
+pub mod ReservedLemmas
+pub mod TextBytes
 pub mod ValidNumbers
 pub mod PartLemmas
 pub mod SpellingLemmas

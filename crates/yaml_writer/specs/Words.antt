@@ -1,45 +1,49 @@
--- The words of a schema that begin neither with a digit nor with a point, past a sign.
-use Rattle.std.specs.Prelude.{Bool, true, false, List, [], ◌∷◌, ◌++◌, ◌||◌, codes, is_some}
-use Rattle.yaml_base.specs.Characters.{Text}
-use Rattle.yaml_base.specs.Words.{named}
-use Rattle.yaml_base.specs.values.Resolved.{Resolved, all_mean, meant_null, meant_boolean, meant_merge, meant_value}
+-- The reserved words, in groups; their texts are in lower case.
+use Rattle.std.specs.Prelude.{ℕ, Bool, ◌||◌, codes}
+use Rattle.std.specs.List.{list_any, slice_split}
+use Rattle.yaml_base.specs.Characters.{Text, is_among, is_space}
+use Rattle.yaml_base.specs.Words.{is_word}
 
--- the empty text
-abbrev pub empty_word : List (Text × Resolved)
-empty_word = ([], meant_null) ∷ []
+-- a text is one of these words, one space apart
+abbrev pub is_of : Text → Text → Bool
+is_of words text = list_any (is_word text) (slice_split is_space words)
 
--- the other words for nothing
-abbrev pub null_words : List (Text × Resolved)
-null_words = all_mean (codes "~ null Null NULL") meant_null
+-- begins a reserved word
+abbrev pub begins_reserved : ℕ → Bool
+begins_reserved c = is_among (codes "~ntfyo<=.i+-") c
 
--- true in both schemas
-abbrev pub true_words : List (Text × Resolved)
-true_words = all_mean (codes "true True TRUE") (meant_boolean true)
+-- words for nothing
+abbrev pub null_words : Text
+null_words = codes "~ null"
 
--- false in both
-abbrev pub false_words : List (Text × Resolved)
-false_words = all_mean (codes "false False FALSE") (meant_boolean false)
+-- true and false in both schemas
+abbrev pub truth_words : Text
+truth_words = codes "true false"
 
--- true in YAML 1.1 alone
-abbrev pub yes_words : List (Text × Resolved)
-yes_words = all_mean (codes "y Y yes Yes YES on On ON") (meant_boolean true)
-
--- false in YAML 1.1 alone
-abbrev pub no_words : List (Text × Resolved)
-no_words = all_mean (codes "n N no No NO off Off OFF") (meant_boolean false)
+-- true and false in YAML 1.1 alone
+abbrev pub answer_words : Text
+answer_words = codes "y n yes no on off"
 
 -- the merge key and the default value of YAML 1.1
-abbrev pub key_words : List (Text × Resolved)
-key_words = all_mean (codes "<<") meant_merge ++ all_mean (codes "=") meant_value
+abbrev pub key_words : Text
+key_words = codes "<< ="
 
--- a text is one of a table's words
-abbrev pub is_of : List (Text × Resolved) → Text → Bool
-is_of table text = is_some (named table text)
+-- infinity and no number, without a sign
+abbrev pub float_words : Text
+float_words = codes ".inf .nan inf nan infinity"
+
+-- after a plus
+abbrev pub plus_words : Text
+plus_words = codes "+.inf +.nan +inf +nan +infinity"
+
+-- after a minus
+abbrev pub minus_words : Text
+minus_words = codes "-.inf -.nan -inf -nan -infinity"
 
 -- a text is one of all these
-abbrev pub is_schema_word : Text → Bool
-is_schema_word text =
-    is_of empty_word text
-    || (is_of null_words text
-    || (is_of true_words text
-    || (is_of false_words text || (is_of yes_words text || (is_of no_words text || is_of key_words text)))))
+abbrev pub is_reserved_word : Text → Bool
+is_reserved_word text =
+    is_of null_words text
+    || (is_of truth_words text
+    || (is_of answer_words text
+    || (is_of key_words text || (is_of float_words text || (is_of plus_words text || is_of minus_words text)))))

@@ -1,52 +1,209 @@
-//! Texts that are read as texts, whichever schema reads them.
-ghost use Rattle.std.specs.Prelude.{◌≡◌, chars};
-ghost use Rattle.yaml_base.specs.values.Resolved as schema;
+//! Texts that are read as texts, whichever schema reads them. A text is looked at by its bytes: a character past ASCII has none
+//! that one of ASCII has.
+ghost use Rattle.std.specs.Prelude.{◌≡◌, ◌≤◌, ◌||◌, not, chars, length, take};
+ghost use Rattle.std.specs.Char.{to_ascii_lowercase};
+ghost use Rattle.std.specs.List.{list_all, list_any, prefix_len, take_while};
+ghost use Rattle.yaml_base.specs.Characters.{is_ascii};
+ghost use Rattle.yaml_base.specs.Words.{is_word};
+ghost use Rattle.yaml_base.specs.values.Resolved.{first_is, is_decimal};
+ghost use Rattle.yaml_base.specs.values.SchemaOf11.{past};
 ghost use Rattle.yaml_base.specs.values.SurelyText as surely;
+ghost use Rattle.yaml_writer.specs.Words as words;
 
-use crate::words::is_schema_word;
+use crate::words::is_reserved_word;
 
-fn is_sign(character: char) -> bool
-    ensures { result ≡ schema.is_sign character }
+/// A reserved word may begin with it.
+fn begins_reserved(byte: u8) -> bool
+    ensures { result ≡ words.begins_reserved (to_ascii_lowercase byte) }
 {
-    character == '+' || character == '-'
+    matches!(
+        byte.to_ascii_lowercase(),
+        b'~' | b'n' | b't' | b'f' | b'y' | b'o' | b'<' | b'=' | b'.' | b'i' | b'+' | b'-'
+    )
 }
 
-fn begins_number(character: char) -> bool
-    ensures { result ≡ surely.begins_number character }
-{
-    character.is_digit(10) || character == '.'
-}
+/// One byte more than the longest reserved word has.
+const HEAD: usize = 10;
 
-fn first_begins_number(text: &str) -> bool
-    ensures { result ≡ schema.first_is surely.begins_number (chars text.now) }
+/// The first bytes, some more than a reserved word has.
+fn head(text: &[u8]) -> &[u8]
+    ensures { result.now ≡ take 10 text.now }
 {
-    text.chars().next().is_some_and(begins_number)
-}
-
-/// Whether a text begins with a digit or a point, past a sign.
-fn begins_as_number(text: &str) -> bool
-    ensures { result ≡ schema.first_is surely.begins_number (schema.past_sign (chars text.now)) }
-{
-    let mut rest = text.chars();
-    match rest.next() {
-        None => false,
-        Some(first) => {
-            if is_sign(first) {
-                first_begins_number(rest.as_str())
-            } else {
-                begins_number(first)
-            }
-        }
+    if text.len() > HEAD {
+        &text[..HEAD]
+    } else {
+        text
     }
 }
 
-/// Whether a text, written plain, is read as a text by the type repository of YAML 1.1 and by the core schema of YAML 1.2:
-/// it is no word of theirs and begins neither with a digit nor with a point, past a sign.
+/// How many bytes stand before the first that isn't ASCII.
+fn ascii_length(text: &[u8]) -> usize
+    ensures value { result ≡ prefix_len is_ascii text.now }
+    ensures few { result ≤ length text.now }
+{
+    text.iter().take_while(|byte| byte.is_ascii()).count()
+}
+
+/// The bytes before the first that isn't ASCII.
+fn ascii_front(text: &[u8]) -> &[u8]
+    ensures { result.now ≡ take_while is_ascii text.now }
+{
+    text.split_at(ascii_length(text)).0
+}
+
+/// The first bytes of a text, up to one that isn't ASCII, are a reserved word in any case.
+fn begins_with_reserved_word(text: &[u8]) -> bool
+    ensures { result ≡ list_any (is_word (surely.ascii_front text.now)) surely.reserved_words }
+{
+    is_reserved_word(ascii_front(head(text)))
+}
+
+/// Nothing, or a reserved word in any case, alone or before a byte that isn't ASCII.
+fn is_reserved(text: &[u8]) -> bool
+    ensures { result ≡ surely.is_reserved text.now }
+{
+    match text.first() {
+        None => true,
+        Some(first) => begins_reserved(*first) && begins_with_reserved_word(text),
+    }
+}
+
+/// A text begins with `:`, as a symbol of Ruby does.
+fn is_symbol(text: &[u8]) -> bool
+    ensures { result ≡ surely.is_symbol text.now }
+{
+    match text.first() {
+        None => false,
+        Some(first) => *first == b':',
+    }
+}
+
+fn precedes_number(byte: u8) -> bool
+    ensures { result ≡ surely.precedes_number byte }
+{
+    matches!(byte, b'+' | b'-' | b'_')
+}
+
+fn names_base(byte: u8) -> bool
+    ensures { result ≡ surely.names_base byte }
+{
+    matches!(byte, b'_' | b'x' | b'X' | b'o' | b'O' | b'b' | b'B')
+}
+
+/// `0`, and then `_` or the letter of a base.
+fn begins_based(text: &[u8]) -> bool
+    ensures { result ≡ surely.begins_based text.now }
+{
+    text.len() > 1 && text[0] == b'0' && names_base(text[1])
+}
+
+/// How many signs and underscores stand first.
+fn sign_count(text: &[u8]) -> usize
+    ensures value { result ≡ prefix_len surely.precedes_number text.now }
+    ensures few { result ≤ length text.now }
+{
+    text.iter()
+        .take_while(|byte| precedes_number(**byte))
+        .count()
+}
+
+/// The bytes past signs and underscores.
+fn past_signs(text: &[u8]) -> &[u8]
+    ensures { result.now ≡ past surely.precedes_number text.now }
+{
+    text.split_at(sign_count(text)).1
+}
+
+/// A number in a base.
+fn is_based(text: &[u8]) -> bool
+    ensures { result ≡ surely.is_based text.now }
+{
+    begins_based(past_signs(text))
+}
+
+fn is_digit(byte: u8) -> bool
+    ensures { result ≡ is_decimal byte }
+{
+    byte.is_ascii_digit()
+}
+
+fn begins_number(byte: u8) -> bool
+    ensures { result ≡ surely.begins_number byte }
+{
+    is_digit(byte) || matches!(byte, b'.' | b'+' | b'-' | b'_' | b'e' | b'E')
+}
+
+fn is_number_letter(byte: u8) -> bool
+    ensures { result ≡ surely.is_number_letter byte }
+{
+    matches!(
+        byte,
+        b'e' | b'E' | b't' | b'T' | b'z' | b'Z' | b'x' | b'X' | b'o' | b'O' | b'b' | b'B'
+    )
+}
+
+fn in_number(byte: u8) -> bool
+    ensures { result ≡ surely.in_number byte }
+{
+    is_digit(byte)
+        || is_number_letter(byte)
+        || matches!(byte, b' ' | b'\t' | b'+' | b'-' | b'.' | b'_' | b':' | b',')
+}
+
+/// A text begins as a number.
+fn begins_as_number(text: &[u8]) -> bool
+    ensures { result ≡ first_is surely.begins_number text.now }
+{
+    match text.first() {
+        None => false,
+        Some(first) => begins_number(*first),
+    }
+}
+
+/// A text has the characters of numbers and timestamps alone.
+fn are_in_number(text: &[u8]) -> bool
+    ensures { result ≡ list_all surely.in_number text.now }
+{
+    text.iter().all(|byte| in_number(*byte))
+}
+
+fn has_digit(text: &[u8]) -> bool
+    ensures { result ≡ list_any is_decimal text.now }
+{
+    text.iter().any(|byte| is_digit(*byte))
+}
+
+fn has_number_letter(text: &[u8]) -> bool
+    ensures { result ≡ list_any surely.is_number_letter text.now }
+{
+    text.iter().any(|byte| is_number_letter(*byte))
+}
+
+/// A text has a digit, or no letter of numbers.
+fn has_digit_or_no_letter(text: &[u8]) -> bool
+    ensures { result ≡ (list_any is_decimal text.now || not (list_any surely.is_number_letter text.now)) }
+{
+    has_digit(text) || !has_number_letter(text)
+}
+
+/// A text begins as a number, and has no other characters than numbers and timestamps.
+fn is_numeric(text: &[u8]) -> bool
+    ensures { result ≡ surely.is_numeric text.now }
+{
+    begins_as_number(text) && are_in_number(text) && has_digit_or_no_letter(text)
+}
+
+/// A text may be taken for another value, by its bytes.
+fn is_doubtful(text: &[u8]) -> bool
+    ensures { result ≡ surely.is_doubtful text.now }
+{
+    is_reserved(text) || is_symbol(text) || is_based(text) || is_numeric(text)
+}
+
+/// Whether a text, written plain, is read as a text by the type repository of YAML 1.1, by the core schema of YAML 1.2, and by
+/// readers that keep to neither: it is no word of theirs, and looks like no symbol, number or timestamp.
 pub fn is_surely_text(text: &str) -> bool
     ensures { result ≡ surely.is_surely_text (chars text.now) }
 {
-    if is_schema_word(text) {
-        return false;
-    }
-    !begins_as_number(text)
+    !is_doubtful(text.as_bytes())
 }

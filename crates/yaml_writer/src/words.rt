@@ -1,67 +1,91 @@
-//! The words that a schema of YAML doesn't take for texts.
-ghost use Rattle.std.specs.Prelude.{◌≡◌};
+//! The words that a reader may take for another value than a text.
+ghost use Rattle.std.specs.Prelude.{◌≡◌, map};
+ghost use Rattle.std.specs.Char.{to_ascii_lowercase};
+ghost use Rattle.yaml_base.specs.Words as tables;
 ghost use Rattle.yaml_writer.specs.Words as words;
 
-/// Whether a word is `~`, `null`, `Null` or `NULL`.
-fn is_null_word(text: &str) -> bool
-    ensures { result ≡ words.is_of words.null_words text.now }
+/// A text is this word, in any case.
+fn is_word(text: &[u8], word: &[u8]) -> bool
+    ensures { result ≡ tables.is_word (map to_ascii_lowercase text.now) (map to_ascii_lowercase word.now) }
 {
-    matches!(text, "~" | "null" | "Null" | "NULL")
+    text.eq_ignore_ascii_case(word)
 }
 
-/// Whether a word is `true`, `True` or `TRUE`.
-fn is_true_word(text: &str) -> bool
-    ensures { result ≡ words.is_of words.true_words text.now }
+/// `~` or `null`.
+fn is_null_word(text: &[u8]) -> bool
+    ensures { result ≡ words.is_of words.null_words (map to_ascii_lowercase text.now) }
 {
-    matches!(text, "true" | "True" | "TRUE")
+    is_word(text, b"~") || is_word(text, b"null")
 }
 
-/// Whether a word is `false`, `False` or `FALSE`.
-fn is_false_word(text: &str) -> bool
-    ensures { result ≡ words.is_of words.false_words text.now }
+/// `true` or `false`.
+fn is_truth_word(text: &[u8]) -> bool
+    ensures { result ≡ words.is_of words.truth_words (map to_ascii_lowercase text.now) }
 {
-    matches!(text, "false" | "False" | "FALSE")
+    is_word(text, b"true") || is_word(text, b"false")
 }
 
-/// Whether a word is true in YAML 1.1 alone.
-fn is_yes_word(text: &str) -> bool
-    ensures { result ≡ words.is_of words.yes_words text.now }
+/// A word that is true or false in YAML 1.1 alone.
+fn is_answer_word(text: &[u8]) -> bool
+    ensures { result ≡ words.is_of words.answer_words (map to_ascii_lowercase text.now) }
 {
-    matches!(text, "y" | "Y" | "yes" | "Yes" | "YES" | "on" | "On" | "ON")
+    is_word(text, b"y")
+        || is_word(text, b"n")
+        || is_word(text, b"yes")
+        || is_word(text, b"no")
+        || is_word(text, b"on")
+        || is_word(text, b"off")
 }
 
-/// Whether a word is false in YAML 1.1 alone.
-fn is_no_word(text: &str) -> bool
-    ensures { result ≡ words.is_of words.no_words text.now }
+/// `<<` or `=`, the merge key and the default value of YAML 1.1.
+fn is_key_word(text: &[u8]) -> bool
+    ensures { result ≡ words.is_of words.key_words (map to_ascii_lowercase text.now) }
 {
-    matches!(text, "n" | "N" | "no" | "No" | "NO" | "off" | "Off" | "OFF")
+    is_word(text, b"<<") || is_word(text, b"=")
 }
 
-/// Whether a word is `<<` or `=`, the merge key and the default value of YAML 1.1.
-fn is_key_word(text: &str) -> bool
-    ensures { result ≡ words.is_of words.key_words text.now }
+/// A word for infinity or for no number.
+fn is_float_word(text: &[u8]) -> bool
+    ensures { result ≡ words.is_of words.float_words (map to_ascii_lowercase text.now) }
 {
-    matches!(text, "<<" | "=")
+    is_word(text, b".inf")
+        || is_word(text, b".nan")
+        || is_word(text, b"inf")
+        || is_word(text, b"nan")
+        || is_word(text, b"infinity")
 }
 
-/// The bytes of the longest word.
-const LONGEST: usize = 5;
-
-fn is_short_word(text: &str) -> bool
-    ensures { result ≡ words.is_schema_word text.now }
+/// Such a word after `+`.
+fn is_plus_word(text: &[u8]) -> bool
+    ensures { result ≡ words.is_of words.plus_words (map to_ascii_lowercase text.now) }
 {
-    text.is_empty()
-        || is_null_word(text)
-        || is_true_word(text)
-        || is_false_word(text)
-        || is_yes_word(text)
-        || is_no_word(text)
+    is_word(text, b"+.inf")
+        || is_word(text, b"+.nan")
+        || is_word(text, b"+inf")
+        || is_word(text, b"+nan")
+        || is_word(text, b"+infinity")
+}
+
+/// Such a word after `-`.
+fn is_minus_word(text: &[u8]) -> bool
+    ensures { result ≡ words.is_of words.minus_words (map to_ascii_lowercase text.now) }
+{
+    is_word(text, b"-.inf")
+        || is_word(text, b"-.nan")
+        || is_word(text, b"-inf")
+        || is_word(text, b"-nan")
+        || is_word(text, b"-infinity")
+}
+
+/// A reserved word, in any case.
+pub(crate) fn is_reserved_word(text: &[u8]) -> bool
+    ensures { result ≡ words.is_reserved_word (map to_ascii_lowercase text.now) }
+{
+    is_null_word(text)
+        || is_truth_word(text)
+        || is_answer_word(text)
         || is_key_word(text)
-}
-
-/// A word of a schema that begins neither with a digit nor with a point, past a sign. Most texts are longer than any.
-pub fn is_schema_word(text: &str) -> bool
-    ensures { result ≡ words.is_schema_word text.now }
-{
-    text.len() <= LONGEST && is_short_word(text)
+        || is_float_word(text)
+        || is_plus_word(text)
+        || is_minus_word(text)
 }

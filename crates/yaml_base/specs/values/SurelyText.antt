@@ -1,18 +1,80 @@
--- Texts that are written plain and read as texts, whichever schema reads them.
-use Rattle.std.specs.Prelude.{◌≡◌, ℕ, Bool, true, ◌||◌, ◌&&◌, not, is_some}
-use Rattle.yaml_base.specs.Characters.{Text}
-use Rattle.yaml_base.specs.Words.{named}
-use Rattle.yaml_base.specs.values.Resolved.{meant_text, words_of_11, is_point, is_decimal, first_is, past_sign}
+-- Texts that are written plain and read as texts, whichever schema reads them, and by readers that keep to none.
+use Rattle.std.specs.Prelude.{◌≡◌, ℕ, Bool, true, false, List, [], ◌∷◌, ◌==◌, ◌||◌, ◌&&◌, not, length, codes, map}
+use Rattle.std.specs.Char.{to_ascii_lowercase}
+use Rattle.std.specs.List.{list_all, list_any, slice_split, take_while}
+use Rattle.yaml_base.specs.Characters.{Text, is_among, is_ascii, is_blank, is_space}
+use Rattle.yaml_base.specs.Words.{is_word}
+use Rattle.yaml_base.specs.values.Resolved.{meant_text, is_point, is_exponent_mark, is_sign, is_decimal, first_is}
 use Rattle.yaml_base.specs.values.SchemaCore.{resolved_by_core}
-use Rattle.yaml_base.specs.values.SchemaOf11.{resolved_by_11}
+use Rattle.yaml_base.specs.values.SchemaOf11.{is_underscore, is_colon, past, resolved_by_11}
 
--- a digit or a point, with one of which each number and each timestamp begins, past its sign
+-- ---- words
+
+-- the words of the schemas, and what readers take for infinity or for no number, in lower case
+abbrev pub reserved_words : List Text
+reserved_words =
+    slice_split is_space
+    (codes "~ null true false y n yes no on off << = .inf .nan inf nan infinity +.inf +.nan +inf +nan +infinity -.inf -.nan -inf -nan -infinity")
+
+-- the characters before the first past U+007F, in lower case
+abbrev pub ascii_front : Text → Text
+ascii_front text = map to_ascii_lowercase (take_while is_ascii text)
+
+-- nothing, or a word in any case, alone or before a character past U+007F
+abbrev pub is_reserved : Text → Bool
+is_reserved text = length text == 0 || list_any (is_word (ascii_front text)) reserved_words
+
+-- ---- symbols
+
+-- begins as a symbol of Ruby
+abbrev pub is_symbol : Text → Bool
+is_symbol text = first_is is_colon text
+
+-- ---- numbers
+
+-- stands before a number
+abbrev pub precedes_number : ℕ → Bool
+precedes_number c = is_sign c || is_underscore c
+
+-- `_`, or the letter of a base
+abbrev pub names_base : ℕ → Bool
+names_base c = is_among (codes "_xXoObB") c
+
+-- begins with `0` and what names a base
+abbrev pub begins_based : Text → Bool
+begins_based (zero_digit ∷ c ∷ rest) = zero_digit == 0x30 && names_base c
+begins_based _ = false
+
+-- begins as a number in a base, whose digits may be any letters
+abbrev pub is_based : Text → Bool
+is_based text = begins_based (past precedes_number text)
+
+-- begins a number
 abbrev pub begins_number : ℕ → Bool
-begins_number c = is_decimal c || is_point c
+begins_number c = is_decimal c || is_point c || precedes_number c || is_exponent_mark c
 
--- no word of a schema, those of 1.1 being all, and no digit or point at its start, past a sign
+-- a letter of numbers and timestamps
+abbrev pub is_number_letter : ℕ → Bool
+is_number_letter c = is_among (codes "eEtTzZxXoObB") c
+
+-- stands in a number or a timestamp
+abbrev pub in_number : ℕ → Bool
+in_number c = is_decimal c || is_number_letter c || is_blank c || is_among (codes "+-._:,") c
+
+-- begins as a number, has no other characters than numbers and timestamps, and a digit if it has a letter
+abbrev pub is_numeric : Text → Bool
+is_numeric text =
+    first_is begins_number text && list_all in_number text && (list_any is_decimal text || not (list_any is_number_letter text))
+
+-- ---- texts
+
+-- a reader may take it for another value
+abbrev pub is_doubtful : Text → Bool
+is_doubtful text = is_reserved text || is_symbol text || is_based text || is_numeric text
+
+-- no reader does
 abbrev pub is_surely_text : Text → Bool
-is_surely_text text = not (is_some (named words_of_11 text)) && not (first_is begins_number (past_sign text))
+is_surely_text text = not (is_doubtful text)
 
 -- such a text means a text by both schemas
 abbrev pub SurelyTextIsText : Type 0

@@ -13,13 +13,16 @@ const WORDS: &[Call] = &[
     Call::Text("<<"),
     Call::Text("null"),
     Call::Text("True"),
+    Call::Text("tRue"),
+    Call::Text("inf"),
+    Call::Text("No\u{eb}l"),
     Call::End,
 ];
 
 #[test]
-fn words_of_a_schema_stand_in_quotes(rt: HostRuntime) {
+fn words_stand_in_quotes(rt: HostRuntime) {
     let expected =
-        "---\n- 'no'\n- 'NO'\n- 'n'\n- 'off'\n- '~'\n- ''\n- '='\n- '<<'\n- 'null'\n- 'True'\n";
+        "---\n- 'no'\n- 'NO'\n- 'n'\n- 'off'\n- '~'\n- ''\n- '='\n- '<<'\n- 'null'\n- 'True'\n- 'tRue'\n- 'inf'\n- 'No\u{eb}l'\n";
     check_portable(&rt, rt.alloc(), WORDS, expected);
 }
 
@@ -35,14 +38,41 @@ const NUMBERS: &[Call] = &[
     Call::Text("0x1F"),
     Call::Text("+1"),
     Call::Text("-.inf"),
+    Call::Text("12e03"),
+    Call::Text("E5"),
+    Call::Text("_0"),
+    Call::Text("-_0"),
+    Call::Text("-:1"),
+    Call::Text(":a"),
     Call::End,
 ];
 
 #[test]
-fn what_begins_as_a_number_stands_in_quotes(rt: HostRuntime) {
+fn what_may_be_a_number_or_a_symbol_stands_in_quotes(rt: HostRuntime) {
     let expected =
-        "---\n- '1:30'\n- '0o10'\n- '010'\n- '1_000'\n- '.5'\n- '1e5'\n- '2001-12-14'\n- '0x1F'\n- '+1'\n- '-.inf'\n";
+        "---\n- '1:30'\n- '0o10'\n- '010'\n- '1_000'\n- '.5'\n- '1e5'\n- '2001-12-14'\n- '0x1F'\n- '+1'\n- '-.inf'\n- '12e03'\n- 'E5'\n- '_0'\n- '-_0'\n- '-:1'\n- ':a'\n";
     check_portable(&rt, rt.alloc(), NUMBERS, expected);
+}
+
+const AMOUNTS: &[Call] = &[
+    Call::Sequence,
+    Call::Text("100Mi"),
+    Call::Text("5s"),
+    Call::Text("3rd"),
+    Call::Text("./run.sh"),
+    Call::Text(".github"),
+    Call::Text("8080/tcp"),
+    Call::Text("10.0.0.0/8"),
+    Call::Text("-x"),
+    Call::Text("5\u{e9}"),
+    Call::End,
+];
+
+#[test]
+fn what_no_reader_takes_for_a_number_stands_plain(rt: HostRuntime) {
+    let expected =
+        "---\n- 100Mi\n- 5s\n- 3rd\n- ./run.sh\n- .github\n- 8080/tcp\n- 10.0.0.0/8\n- -x\n- 5\u{e9}\n";
+    check_portable(&rt, rt.alloc(), AMOUNTS, expected);
 }
 
 const OTHERS: &[Call] = &[

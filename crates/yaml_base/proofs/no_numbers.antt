@@ -1,0 +1,4 @@
+pub mod NoNumbers
+pub mod NumbersBegin
+pub mod NumbersWithin
+pub mod NumbersHoldDigits

@@ -1,0 +1,164 @@
+-- A text without a digit is no number and no timestamp, unless it is of points alone.
+use Rattle.std.proofs.Common.{◌≡◌, refl, sym, ap, ◌∙◌}
+use Rattle.std.proofs.lemmas.Bool.{true≢false, and_parts, and_left, and_right, or_parts, or_from, eqb-true}
+use Rattle.std.proofs.lemmas.List.Folds.{list_any-append}
+use Rattle.std.specs.List.{list_all, list_any, slice_split, onto_first, concat}
+use Rattle.std.specs.Prelude.{ℕ, Bool, true, false, None, List, [], ◌∷◌, ◌++◌, ◌==◌, ◌||◌, ◌&&◌, length, if◌then◌else◌}
+use Rattle.yaml_base.specs.Characters.{Text}
+use Rattle.yaml_base.specs.values.Resolved.{is_point, is_exponent_mark, is_sign, is_decimal, is_negative, first_is, past_sign, pointed, exponent_read}
+use Rattle.yaml_base.specs.values.SchemaCore.{core_mantissa}
+use Rattle.yaml_base.specs.values.SchemaOf11.{is_leading, begins_grouped, is_colon, mantissa_11, exponent_11, has_more_points}
+use Rattle.yaml_base.specs.values.SurelyText.{is_number_letter}
+use Rattle.yaml_base.proofs.no_numbers.NoNumbers.{NoNumber, off, filled}
+use Rattle.yaml_base.proofs.no_numbers.NumbersBegin.{first_part, digits_begin, scientific_begins, more_points_11_begins, octal_11_begins, leading_begins}
+use Rattle.yaml_base.proofs.no_numbers.NumbersBegin.{decimal_11_begins, groups_begin, split_begins, fine_sixties_begin, timestamp_begins}
+
+-- a text holds a digit
+abbrev holds_digit : Text → Bool
+holds_digit text = list_any is_decimal text
+
+first_without : (text : Text) → holds_digit text ≡ false → first_is is_decimal text ≡ false
+first_without [] h = refl
+first_without (c ∷ rest) h = (or_parts (is_decimal c) (holds_digit rest) h).0
+
+-- past its sign
+past_sign_without : (test : ℕ → Bool) (text : Text) → list_any test text ≡ false → list_any test (past_sign text) ≡ false
+past_sign_without test [] h = h
+past_sign_without test (c ∷ rest) h = by (is_sign c)
+  where
+    by : (x : Bool) → list_any test (if x then rest else c ∷ rest) ≡ false
+    by true = (or_parts (test c) (list_any test rest) h).1
+    by false = h
+
+-- in its pieces
+onto_without : (c : ℕ) (parts : List Text) → is_decimal c ≡ false → list_any holds_digit parts ≡ false
+    → list_any holds_digit (onto_first c parts) ≡ false
+onto_without c [] other h = or_from _ _ (or_from _ _ other refl) refl
+onto_without c (part ∷ parts) other h =
+    let both = or_parts (holds_digit part) (list_any holds_digit parts) h in or_from _ _ (or_from _ _ other both.0) both.1
+
+parts_without : (sign : ℕ → Bool) (text : Text) → holds_digit text ≡ false → list_any holds_digit (slice_split sign text) ≡ false
+parts_without sign [] h = refl
+parts_without sign (c ∷ rest) h = by (sign c) (parts_without sign rest both.1)
+  where
+    both : (is_decimal c ≡ false) × (holds_digit rest ≡ false)
+    both = or_parts (is_decimal c) (holds_digit rest) h
+
+    by : (x : Bool) → list_any holds_digit (slice_split sign rest) ≡ false
+        → list_any holds_digit (if x then [] ∷ slice_split sign rest else onto_first c (slice_split sign rest)) ≡ false
+    by true later = later
+    by false later = onto_without c (slice_split sign rest) both.0 later
+
+first_part_without : (parts : List Text) → list_any holds_digit parts ≡ false → holds_digit (first_part parts) ≡ false
+first_part_without [] h = refl
+first_part_without (part ∷ parts) h = (or_parts (holds_digit part) (list_any holds_digit parts) h).0
+
+-- and in all of them together
+concat_without : (parts : List Text) → list_any holds_digit parts ≡ false → holds_digit (concat parts) ≡ false
+concat_without [] h = refl
+concat_without (part ∷ parts) h =
+    let both = or_parts (holds_digit part) (list_any holds_digit parts) h in
+    list_any-append is_decimal part (concat parts) ∙ or_from _ _ both.0 (concat_without parts both.1)
+
+-- ---- numbers
+
+pointed_without : (negative : Bool) (whole fraction : Text) → holds_digit whole ≡ false → holds_digit fraction ≡ false → pointed negative whole fraction ≡ None
+pointed_without negative whole fraction one two =
+    off _ _ (digits_begin (whole ++ fraction) (first_without (whole ++ fraction) (list_any-append is_decimal whole fraction ∙ or_from _ _ one two)))
+
+begins_without : (text : Text) → holds_digit text ≡ false → begins_grouped is_decimal text ≡ false
+begins_without text h = and_left (first_is is_decimal text) _ (first_without text h)
+
+core_mantissa_without : (negative : Bool) (parts : List Text) → list_any holds_digit parts ≡ false → core_mantissa negative parts ≡ None
+core_mantissa_without negative [] h = refl
+core_mantissa_without negative (whole ∷ []) h = pointed_without negative whole [] (or_parts (holds_digit whole) false h).0 refl
+core_mantissa_without negative (whole ∷ fraction ∷ []) h =
+    let both = or_parts (holds_digit whole) (holds_digit fraction || false) h in
+    pointed_without negative whole fraction both.0 (or_parts (holds_digit fraction) false both.1).0
+core_mantissa_without negative (a ∷ b ∷ c ∷ rest) h = refl
+
+mantissa_11_without : (negative : Bool) (parts : List Text) → list_any holds_digit parts ≡ false → mantissa_11 negative parts ≡ None
+mantissa_11_without negative [] h = refl
+mantissa_11_without negative ([] ∷ []) h = refl
+mantissa_11_without negative ((c ∷ whole) ∷ []) h = refl
+mantissa_11_without negative ([] ∷ fraction ∷ []) h = pointed_without negative [] fraction refl (or_parts (holds_digit fraction) false h).0
+mantissa_11_without negative ((c ∷ whole) ∷ fraction ∷ []) h =
+    off _ _ (and_left _ _ (begins_without (c ∷ whole) (or_parts (holds_digit (c ∷ whole)) (holds_digit fraction || false) h).0))
+mantissa_11_without negative ([] ∷ a ∷ b ∷ rest) h = refl
+mantissa_11_without negative ((c ∷ whole) ∷ a ∷ b ∷ rest) h = refl
+
+more_points_without : (parts : List Text) → list_any holds_digit parts ≡ false → has_more_points parts ≡ false
+more_points_without [] h = refl
+more_points_without (whole ∷ []) h = refl
+more_points_without (whole ∷ a ∷ []) h = refl
+more_points_without ([] ∷ a ∷ b ∷ rest) h =
+    digits_begin (concat (a ∷ b ∷ rest)) (first_without (concat (a ∷ b ∷ rest)) (concat_without (a ∷ b ∷ rest) h))
+more_points_without ((c ∷ whole) ∷ a ∷ b ∷ rest) h =
+    and_left _ _
+    (or_from _ _ (filled (length whole)) (begins_without (c ∷ whole) (or_parts (holds_digit (c ∷ whole)) (list_any holds_digit (a ∷ b ∷ rest)) h).0))
+
+-- ---- points alone
+
+points_lack_letters : (text : Text) → list_all is_point text ≡ true → list_any is_number_letter text ≡ false
+points_lack_letters [] h = refl
+points_lack_letters (c ∷ rest) h =
+    or_from (is_number_letter c) _ (ap is_number_letter (eqb-true c 0x2E both.0)) (points_lack_letters rest both.1)
+  where
+    both : (is_point c ≡ true) × (list_all is_point rest ≡ true)
+    both = and_parts (is_point c) (list_all is_point rest) h
+
+not_points : (text : Text) → list_any is_number_letter text ≡ true → list_all is_point (past_sign text) ≡ false
+not_points text h = by (list_all is_point (past_sign text)) refl
+  where
+    of_rest : (rest : Text) → list_any is_number_letter (past_sign rest) ≡ false → list_any is_number_letter rest ≡ false
+    of_rest [] k = refl
+    of_rest (c ∷ rest) k = by_sign (c == 0x2B) (c == 0x2D) refl refl k
+      where
+        by_sign : (x y : Bool) → (c == 0x2B) ≡ x → (c == 0x2D) ≡ y → list_any is_number_letter (if x || y then rest else c ∷ rest) ≡ false
+            → (is_number_letter c || list_any is_number_letter rest) ≡ false
+        by_sign true y e f g = or_from _ _ (ap is_number_letter (eqb-true c 0x2B e)) g
+        by_sign false true e f g = or_from _ _ (ap is_number_letter (eqb-true c 0x2D f)) g
+        by_sign false false e f g = g
+
+    by : (x : Bool) → list_all is_point (past_sign text) ≡ x → x ≡ false
+    by true e = absurd (true≢false (sym h ∙ of_rest text (points_lack_letters (past_sign text) e)))
+    by false e = refl
+
+-- ---- all
+
+-- with a letter it is no number and no timestamp
+pub without_digits : (text : Text) → list_any is_decimal text ≡ false → list_any is_number_letter text ≡ true → NoNumber text
+without_digits text h letter =
+    record {
+      timestamp = timestamp_begins text (first_without text h);
+      float = scientific_begins _ exponent_11 parts (mantissa_11_without negative pieces at_point);
+      octal = octal_11_begins negative number digit;
+      decimal = decimal_11_begins negative number digit;
+      sixties = off _ _ (groups_begin is_leading (slice_split is_colon number) (split_begins is_leading is_colon number (leading_begins number digit)));
+      fine_sixties = fine_sixties_begin negative (slice_split is_point number) (split_begins is_decimal is_point number digit);
+      more_points = more_points_11_begins parts (more_points_without pieces at_point);
+      points = off _ _ (and_right (first_is is_point number) _ (not_points text letter));
+      core_integer = off _ _ (digits_begin number digit);
+      core_decimal = scientific_begins _ exponent_read parts (core_mantissa_without negative pieces at_point);
+    }
+  where
+    negative : Bool
+    negative = is_negative text
+
+    number : Text
+    number = past_sign text
+
+    parts : List Text
+    parts = slice_split is_exponent_mark number
+
+    none : holds_digit number ≡ false
+    none = past_sign_without is_decimal text h
+
+    digit : first_is is_decimal number ≡ false
+    digit = first_without number none
+
+    pieces : List Text
+    pieces = slice_split is_point (first_part parts)
+
+    at_point : list_any holds_digit pieces ≡ false
+    at_point = parts_without is_point (first_part parts) (first_part_without parts (parts_without is_exponent_mark number none))

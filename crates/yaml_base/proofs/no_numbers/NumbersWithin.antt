@@ -1,0 +1,399 @@
+-- A text that holds a character which stands in no number is no number and no timestamp.
+use Rattle.std.proofs.Common.{◌≡◌, ◌⊎◌, inl, inr, refl, sym, ap, ◌∙◌, arith}
+use Rattle.std.proofs.lemmas.Bool.{true≢false, and_cases, and_left, and_right, or_cases, or_from, or_left, eqb-true, ltb-true, lt-ltb}
+use Rattle.std.proofs.lemmas.List.Folds.{list_all-append}
+use Rattle.std.proofs.lemmas.Slice.Eq.{bytes_eq-Decides}
+use Rattle.std.specs.Char.{digit_value, is_digit}
+use Rattle.std.specs.List.{list_all, slice_split, onto_first, concat}
+use Rattle.std.specs.Prelude.{ℕ, ℤ, pos, Bool, true, false, Option, None, Some, List, [], ◌∷◌, ◌++◌, ◌==◌, ◌||◌, ◌&&◌, not, length, codes, if◌then◌else◌}
+use Rattle.yaml_base.specs.Characters.{Text, is_blank, is_between}
+use Rattle.yaml_base.specs.Words.{is_word}
+use Rattle.yaml_base.specs.values.Resolved.{Decimal, is_point, is_exponent_mark, is_sign, is_decimal, is_negative, first_is, past_sign, are_digits}
+use Rattle.yaml_base.specs.values.Resolved.{counted_digits, pointed, exponent_read, scaled, scientific}
+use Rattle.yaml_base.specs.values.SchemaCore.{core_mantissa}
+use Rattle.yaml_base.specs.values.SchemaOf11.{is_underscore, ungrouped, are_grouped, begins_grouped, is_leading, octal_11, decimal_11, is_sixtieth}
+use Rattle.yaml_base.specs.values.SchemaOf11.{are_sixtieths, is_colon, fine_sixties_11, mantissa_11, exponent_11, has_more_points, more_points_11}
+use Rattle.yaml_base.specs.values.SchemaOf11.{past, is_hyphen, is_date, in_clock, is_clock, is_offset, is_zone, is_time, in_date, is_time_after_date, timestamp_11}
+use Rattle.yaml_base.specs.values.SurelyText.{in_number}
+use Rattle.yaml_base.proofs.no_numbers.NoNumbers.{NoNumber, off, filled, past_cons}
+
+-- a text has the characters of numbers alone
+abbrev within : Text → Bool
+within text = list_all in_number text
+
+-- ---- tests
+
+-- what not all pass, not all pass by a stronger test
+stronger : {X : Type 0} (weak strong : X → Bool) → ((x : X) → strong x ≡ true → weak x ≡ true) → (xs : List X)
+    → list_all weak xs ≡ false → list_all strong xs ≡ false
+stronger weak strong implied [] h = absurd (true≢false h)
+stronger weak strong implied (x ∷ xs) h = by (strong x) refl (stronger weak strong implied xs)
+  where
+    by : (t : Bool) → strong x ≡ t → (list_all weak xs ≡ false → list_all strong xs ≡ false) → (t && list_all strong xs) ≡ false
+    by false e later = refl
+    by true e later = later (sym (ap (λ t. t && list_all weak xs) (implied x e)) ∙ h)
+
+and_true : (x : Bool) → (x && true) ≡ x
+and_true true = refl
+and_true false = refl
+
+-- the last of two
+two_cases : (x y : Bool) → (x && (y && true)) ≡ false → (x ≡ false) ⊎ (y ≡ false)
+two_cases false y h = inl refl
+two_cases true y h = inr (sym (and_true y) ∙ h)
+
+-- ---- characters
+
+digit_stands : (c : ℕ) → is_decimal c ≡ true → in_number c ≡ true
+digit_stands c h = or_left _ _ (or_left _ _ (or_left (is_decimal c) _ h))
+
+octal_stands : (c : ℕ) → is_digit c 8 ≡ true → in_number c ≡ true
+octal_stands c h = let few = ltb-true (digit_value c) 8 h in digit_stands c (lt-ltb (digit_value c) 10 (omega (arith, few)))
+
+-- one that is a character of numbers
+same_stands : (n c : ℕ) → in_number n ≡ true → (c == n) ≡ true → in_number c ≡ true
+same_stands n c h e = ap in_number (eqb-true c n e) ∙ h
+
+-- one of two
+either_stands : (n m c : ℕ) → in_number n ≡ true → in_number m ≡ true → (c == n || c == m) ≡ true → in_number c ≡ true
+either_stands n m c h k e = by (or_cases (c == n) (c == m) e)
+  where
+    by : ((c == n) ≡ true) ⊎ ((c == m) ≡ true) → in_number c ≡ true
+    by (inl f) = same_stands n c h f
+    by (inr f) = same_stands m c k f
+
+sign_stands : (c : ℕ) → is_sign c ≡ true → in_number c ≡ true
+sign_stands c h = either_stands 0x2B 0x2D c refl refl h
+
+mark_stands : (c : ℕ) → is_exponent_mark c ≡ true → in_number c ≡ true
+mark_stands c h = either_stands 0x65 0x45 c refl refl h
+
+blank_stands : (c : ℕ) → is_blank c ≡ true → in_number c ≡ true
+blank_stands c h = either_stands 0x20 0x9 c refl refl h
+
+point_stands : (c : ℕ) → is_point c ≡ true → in_number c ≡ true
+point_stands c h = same_stands 0x2E c refl h
+
+colon_stands : (c : ℕ) → is_colon c ≡ true → in_number c ≡ true
+colon_stands c h = same_stands 0x3A c refl h
+
+-- a digit or another character of numbers
+or_stands : (test other : ℕ → Bool) → ((c : ℕ) → test c ≡ true → in_number c ≡ true) → ((c : ℕ) → other c ≡ true → in_number c ≡ true)
+    → (c : ℕ) → (test c || other c) ≡ true → in_number c ≡ true
+or_stands test other one two c h = by (or_cases (test c) (other c) h)
+  where
+    by : (test c ≡ true) ⊎ (other c ≡ true) → in_number c ≡ true
+    by (inl e) = one c e
+    by (inr e) = two c e
+
+date_stands : (c : ℕ) → in_date c ≡ true → in_number c ≡ true
+date_stands c h = or_stands is_decimal is_hyphen digit_stands (λ d k. same_stands 0x2D d refl k) c h
+
+clock_stands : (c : ℕ) → in_clock c ≡ true → in_number c ≡ true
+clock_stands c h =
+    or_stands (λ d. is_decimal d || is_colon d) is_point (or_stands is_decimal is_colon digit_stands colon_stands) point_stands c h
+
+-- ---- digits
+
+digits_outside : (text : Text) → within text ≡ false → are_digits 10 text ≡ false
+digits_outside text h = and_right (not (length text == 0)) _ (stronger in_number is_decimal digit_stands text h)
+
+grouped_outside : (base : ℕ) → ((c : ℕ) → is_digit c base ≡ true → in_number c ≡ true) → (text : Text) → within text ≡ false → are_grouped base text ≡ false
+grouped_outside base stands text h =
+    stronger in_number (λ c. is_digit c base || is_underscore c)
+    (or_stands (λ c. is_digit c base) is_underscore stands (λ c e. same_stands 0x5F c refl e)) text h
+
+counted_outside : (least most : ℕ) (text : Text) → within text ≡ false → counted_digits least most text ≡ false
+counted_outside least most text h = and_right (is_between least most (length text)) _ (stronger in_number is_decimal digit_stands text h)
+
+begins_outside : (test : ℕ → Bool) (text : Text) → within text ≡ false → begins_grouped test text ≡ false
+begins_outside test text h = and_right (first_is test text) _ (grouped_outside 10 digit_stands text h)
+
+filled_outside : (text : Text) → within text ≡ false → (length text == 0) ≡ false
+filled_outside [] h = absurd (true≢false h)
+filled_outside (c ∷ rest) h = filled (length rest)
+
+word_outside : (word text : Text) → within word ≡ true → within text ≡ false → is_word text word ≡ false
+word_outside word text k h = by (is_word text word) refl
+  where
+    by : (x : Bool) → is_word text word ≡ x → x ≡ false
+    by true e = absurd (true≢false (sym k ∙ ap within (sym ((bytes_eq-Decides text word).0 e)) ∙ h))
+    by false e = refl
+
+-- ---- pieces
+
+-- such a character is in one of the pieces
+onto_within : (c : ℕ) (parts : List Text) → list_all within (onto_first c parts) ≡ (in_number c && list_all within parts)
+onto_within c [] = by (in_number c)
+  where
+    by : (x : Bool) → ((x && true) && true) ≡ (x && true)
+    by true = refl
+    by false = refl
+onto_within c (part ∷ parts) = by (in_number c)
+  where
+    by : (x : Bool) → ((x && within part) && list_all within parts) ≡ (x && (within part && list_all within parts))
+    by true = refl
+    by false = refl
+
+parts_outside : (sign : ℕ → Bool) → ((c : ℕ) → sign c ≡ true → in_number c ≡ true) → (text : Text) → within text ≡ false
+    → list_all within (slice_split sign text) ≡ false
+parts_outside sign stands [] h = absurd (true≢false h)
+parts_outside sign stands (c ∷ rest) h = by (sign c) refl (parts_outside sign stands rest)
+  where
+    parts : List Text
+    parts = slice_split sign rest
+
+    either : (within rest ≡ false → list_all within parts ≡ false) → (in_number c ≡ false) ⊎ (within rest ≡ false)
+        → (in_number c && list_all within parts) ≡ false
+    either later (inl e) = and_left (in_number c) _ e
+    either later (inr e) = and_right (in_number c) _ (later e)
+
+    by : (x : Bool) → sign c ≡ x → (within rest ≡ false → list_all within parts ≡ false)
+        → list_all within (if x then [] ∷ parts else onto_first c parts) ≡ false
+    by true e later = later (sym (ap (λ t. t && within rest) (stands c e)) ∙ h)
+    by false e later = onto_within c parts ∙ either later (and_cases (in_number c) (within rest) h)
+
+-- or in all of them together
+concat_within : (parts : List Text) → within (concat parts) ≡ list_all within parts
+concat_within [] = refl
+concat_within (part ∷ parts) = list_all-append in_number part (concat parts) ∙ ap (λ x. within part && x) (concat_within parts)
+
+-- past characters of numbers it is still there
+past_outside : (test : ℕ → Bool) → ((c : ℕ) → test c ≡ true → in_number c ≡ true) → (text : Text) → within text ≡ false → within (past test text) ≡ false
+past_outside test stands [] h = absurd (true≢false h)
+past_outside test stands (c ∷ rest) h = ap within (past_cons test c rest) ∙ by (test c) refl (past_outside test stands rest)
+  where
+    by : (x : Bool) → test c ≡ x → (within rest ≡ false → within (past test rest) ≡ false) → within (if x then past test rest else c ∷ rest) ≡ false
+    by true e later = later (sym (ap (λ t. t && within rest) (stands c e)) ∙ h)
+    by false e later = h
+
+sign_outside : (text : Text) → within text ≡ false → within (past_sign text) ≡ false
+sign_outside [] h = h
+sign_outside (c ∷ rest) h = by (is_sign c) refl
+  where
+    by : (x : Bool) → is_sign c ≡ x → within (if x then rest else c ∷ rest) ≡ false
+    by true e = sym (ap (λ t. t && within rest) (sign_stands c e)) ∙ h
+    by false e = h
+
+-- ---- floats
+
+scaled_none : (decimal : Option Decimal) → scaled decimal None ≡ None
+scaled_none None = refl
+scaled_none (Some decimal) = refl
+
+scientific_outside : (mantissa : Text → Option Decimal) (exponent : Text → Option ℤ) → ((text : Text) → within text ≡ false → mantissa text ≡ None)
+    → ((text : Text) → within text ≡ false → exponent text ≡ None) → (parts : List Text) → list_all within parts ≡ false
+    → scientific mantissa exponent parts ≡ None
+scientific_outside mantissa exponent one two [] h = refl
+scientific_outside mantissa exponent one two (m ∷ []) h = ap (λ d. scaled d (Some (pos 0))) (one m (sym (and_true (within m)) ∙ h))
+scientific_outside mantissa exponent one two (m ∷ e ∷ []) h = by (two_cases (within m) (within e) h)
+  where
+    by : (within m ≡ false) ⊎ (within e ≡ false) → scaled (mantissa m) (exponent e) ≡ None
+    by (inl f) = ap (λ d. scaled d (exponent e)) (one m f)
+    by (inr f) = ap (scaled (mantissa m)) (two e f) ∙ scaled_none (mantissa m)
+scientific_outside mantissa exponent one two (m ∷ e ∷ f ∷ rest) h = refl
+
+exponent_outside : (text : Text) → within text ≡ false → exponent_read text ≡ None
+exponent_outside text h = off _ _ (digits_outside (past_sign text) (sign_outside text h))
+
+exponent_11_outside : (text : Text) → within text ≡ false → exponent_11 text ≡ None
+exponent_11_outside text h = by (first_is is_sign text)
+  where
+    by : (x : Bool) → (if x then exponent_read text else None) ≡ None
+    by true = exponent_outside text h
+    by false = refl
+
+pointed_outside : (negative : Bool) (whole fraction : Text) → (within whole && within fraction) ≡ false → pointed negative whole fraction ≡ None
+pointed_outside negative whole fraction h = off _ _ (digits_outside (whole ++ fraction) (list_all-append in_number whole fraction ∙ h))
+
+core_mantissa_outside : (negative : Bool) (parts : List Text) → list_all within parts ≡ false → core_mantissa negative parts ≡ None
+core_mantissa_outside negative [] h = refl
+core_mantissa_outside negative (whole ∷ []) h = pointed_outside negative whole [] h
+core_mantissa_outside negative (whole ∷ fraction ∷ []) h =
+    pointed_outside negative whole fraction (ap (λ x. within whole && x) (sym (and_true (within fraction))) ∙ h)
+core_mantissa_outside negative (a ∷ b ∷ c ∷ rest) h = refl
+
+mantissa_11_outside : (negative : Bool) (parts : List Text) → list_all within parts ≡ false → mantissa_11 negative parts ≡ None
+mantissa_11_outside negative [] h = refl
+mantissa_11_outside negative ([] ∷ []) h = refl
+mantissa_11_outside negative ((c ∷ whole) ∷ []) h = refl
+mantissa_11_outside negative ([] ∷ fraction ∷ []) h = pointed_outside negative [] fraction (sym (and_true (within fraction)) ∙ h)
+mantissa_11_outside negative ((c ∷ whole) ∷ fraction ∷ []) h = off _ _ (by (two_cases (within (c ∷ whole)) (within fraction) h))
+  where
+    by : (within (c ∷ whole) ≡ false) ⊎ (within fraction ≡ false) → (begins_grouped is_decimal (c ∷ whole) && are_grouped 10 fraction) ≡ false
+    by (inl e) = and_left _ (are_grouped 10 fraction) (begins_outside is_decimal (c ∷ whole) e)
+    by (inr e) = and_right (begins_grouped is_decimal (c ∷ whole)) _ (grouped_outside 10 digit_stands fraction e)
+mantissa_11_outside negative ([] ∷ a ∷ b ∷ rest) h = refl
+mantissa_11_outside negative ((c ∷ whole) ∷ a ∷ b ∷ rest) h = refl
+
+points_outside : (parts : List Text) → list_all within parts ≡ false → has_more_points parts ≡ false
+points_outside [] h = refl
+points_outside (whole ∷ []) h = refl
+points_outside (whole ∷ a ∷ []) h = refl
+points_outside (whole ∷ a ∷ b ∷ rest) h = by (and_cases (within whole) _ h)
+  where
+    by : (within whole ≡ false) ⊎ (list_all within (a ∷ b ∷ rest) ≡ false) → has_more_points (whole ∷ a ∷ b ∷ rest) ≡ false
+    by (inl e) = and_left _ _ (or_from _ _ (filled_outside whole e) (begins_outside is_decimal whole e))
+    by (inr e) =
+        and_right (length whole == 0 || begins_grouped is_decimal whole) _
+        (digits_outside (ungrouped whole ++ concat (a ∷ b ∷ rest))
+        (list_all-append in_number (ungrouped whole) (concat (a ∷ b ∷ rest)) ∙ and_right (within (ungrouped whole)) _ (concat_within (a ∷ b ∷ rest) ∙ e)))
+
+more_points_outside : (parts : List Text) → list_all within parts ≡ false → more_points_11 parts ≡ None
+more_points_outside [] h = refl
+more_points_outside (m ∷ []) h =
+    off _ _ (points_outside (slice_split is_point m) (parts_outside is_point point_stands m (sym (and_true (within m)) ∙ h)))
+more_points_outside (m ∷ e ∷ []) h = off _ _ (by (two_cases (within m) (within e) h))
+  where
+    more : Bool
+    more = has_more_points (slice_split is_point m)
+
+    by : (within m ≡ false) ⊎ (within e ≡ false) → (more && first_is is_sign e && are_digits 10 (past_sign e)) ≡ false
+    by (inl f) = and_left _ _ (and_left more _ (points_outside (slice_split is_point m) (parts_outside is_point point_stands m f)))
+    by (inr f) = and_right (more && first_is is_sign e) _ (digits_outside (past_sign e) (sign_outside e f))
+more_points_outside (m ∷ e ∷ f ∷ rest) h = refl
+
+-- ---- integers
+
+octal_outside : (negative : Bool) (text : Text) → within text ≡ false → octal_11 negative text ≡ None
+octal_outside negative [] h = refl
+octal_outside negative (c ∷ []) h = refl
+octal_outside negative (c ∷ d ∷ rest) h = off _ _ (by (c == 0x30) refl)
+  where
+    by : (x : Bool) → (c == 0x30) ≡ x → (x && are_grouped 8 (d ∷ rest)) ≡ false
+    by true e = grouped_outside 8 octal_stands (d ∷ rest) (sym (ap (λ t. t && within (d ∷ rest)) (same_stands 0x30 c refl e)) ∙ h)
+    by false e = refl
+
+decimal_outside : (negative : Bool) (text : Text) → within text ≡ false → decimal_11 negative text ≡ None
+decimal_outside negative text h = off _ _ (or_from _ _ (word_outside (codes "0") text refl h) (begins_outside is_leading text h))
+
+sixtieth_stands : (text : Text) → is_sixtieth text ≡ true → within text ≡ true
+sixtieth_stands text k = by (within text) refl
+  where
+    by : (x : Bool) → within text ≡ x → x ≡ true
+    by true e = refl
+    by false e = absurd (true≢false (sym k ∙ and_left _ _ (counted_outside 1 2 text e)))
+
+groups_outside : (test : ℕ → Bool) (groups : List Text) → list_all within groups ≡ false → are_sixtieths test groups ≡ false
+groups_outside test [] h = refl
+groups_outside test (a ∷ []) h = refl
+groups_outside test (a ∷ b ∷ rest) h = by (and_cases (within a) _ h)
+  where
+    by : (within a ≡ false) ⊎ (list_all within (b ∷ rest) ≡ false) → are_sixtieths test (a ∷ b ∷ rest) ≡ false
+    by (inl e) = and_left _ (list_all is_sixtieth (b ∷ rest)) (begins_outside test a e)
+    by (inr e) = and_right (begins_grouped test a) _ (stronger within is_sixtieth sixtieth_stands (b ∷ rest) e)
+
+fine_sixties_outside : (negative : Bool) (parts : List Text) → list_all within parts ≡ false → fine_sixties_11 negative parts ≡ None
+fine_sixties_outside negative [] h = refl
+fine_sixties_outside negative (a ∷ []) h = refl
+fine_sixties_outside negative (a ∷ b ∷ []) h = off _ _ (by (two_cases (within a) (within b) h))
+  where
+    groups : List Text
+    groups = slice_split is_colon a
+
+    by : (within a ≡ false) ⊎ (within b ≡ false) → (are_sixtieths is_decimal groups && are_grouped 10 b) ≡ false
+    by (inl e) = and_left _ (are_grouped 10 b) (groups_outside is_decimal groups (parts_outside is_colon colon_stands a e))
+    by (inr e) = and_right (are_sixtieths is_decimal groups) _ (grouped_outside 10 digit_stands b e)
+fine_sixties_outside negative (a ∷ b ∷ d ∷ rest) h = refl
+
+-- ---- timestamps
+
+-- it is in the rest where the first character isn't it
+rest_outside : (c : ℕ) (rest : Text) (test later : Bool) → (test ≡ true → in_number c ≡ true) → (within rest ≡ false → later ≡ false)
+    → within (c ∷ rest) ≡ false → (test && later) ≡ false
+rest_outside c rest false later stands fails h = refl
+rest_outside c rest true later stands fails h = fails (sym (ap (λ t. t && within rest) (stands refl)) ∙ h)
+
+offset_outside : (parts : List Text) → list_all within parts ≡ false → is_offset parts ≡ false
+offset_outside [] h = refl
+offset_outside (hours ∷ []) h = counted_outside 1 2 hours (sym (and_true (within hours)) ∙ h)
+offset_outside (hours ∷ minutes ∷ []) h = by (two_cases (within hours) (within minutes) h)
+  where
+    by : (within hours ≡ false) ⊎ (within minutes ≡ false) → is_offset (hours ∷ minutes ∷ []) ≡ false
+    by (inl e) = and_left _ (counted_digits 2 2 minutes) (counted_outside 1 2 hours e)
+    by (inr e) = and_right (counted_digits 1 2 hours) _ (counted_outside 2 2 minutes e)
+offset_outside (a ∷ b ∷ d ∷ rest) h = refl
+
+zone_outside : (text : Text) → within text ≡ false → is_zone text ≡ false
+zone_outside [] h = refl
+zone_outside (c ∷ rest) h =
+    or_from _ _
+    (rest_outside c rest (c == 0x5A) (length rest == 0) (λ e. same_stands 0x5A c refl e) (filled_outside rest) h)
+    (rest_outside c rest (is_sign c) (is_offset (slice_split is_colon rest)) (sign_stands c)
+    (λ e. offset_outside (slice_split is_colon rest) (parts_outside is_colon colon_stands rest e)) h)
+
+time_outside : (text : Text) → within text ≡ false → is_time text ≡ false
+time_outside text h =
+    and_right _ _
+    (or_from _ _ (filled_outside rest later) (zone_outside (past is_blank rest) (past_outside is_blank blank_stands rest later)))
+  where
+    rest : Text
+    rest = past in_clock text
+
+    later : within rest ≡ false
+    later = past_outside in_clock clock_stands text h
+
+after_date_outside : (text : Text) → within text ≡ false → is_time_after_date text ≡ false
+after_date_outside [] h = refl
+after_date_outside (c ∷ rest) h =
+    or_from _ _
+    (rest_outside c rest (c == 0x54 || c == 0x74) (is_time rest) (either_stands 0x54 0x74 c refl refl) (time_outside rest) h)
+    (rest_outside c rest (is_blank c) (is_time (past is_blank rest)) (blank_stands c)
+    (λ e. time_outside (past is_blank rest) (past_outside is_blank blank_stands rest e)) h)
+
+timestamp_outside : (text : Text) → within text ≡ false → timestamp_11 text ≡ None
+timestamp_outside text h = off _ _ (or_from _ _ (and_right _ _ (filled_outside rest later)) (and_right _ _ (after_date_outside rest later)))
+  where
+    rest : Text
+    rest = past in_date text
+
+    later : within rest ≡ false
+    later = past_outside in_date date_stands text h
+
+-- ---- all
+
+-- it is no number and no timestamp
+pub with_others : (text : Text) → list_all in_number text ≡ false → NoNumber text
+with_others text h =
+    record {
+      timestamp = timestamp_outside text h;
+      float = scientific_outside mantissa_read exponent_11 mantissa_outside exponent_11_outside parts at_mark;
+      octal = octal_outside negative number later;
+      decimal = decimal_outside negative number later;
+      sixties = off _ _ (groups_outside is_leading (slice_split is_colon number) (parts_outside is_colon colon_stands number later));
+      fine_sixties = fine_sixties_outside negative (slice_split is_point number) (at_point number later);
+      more_points = more_points_outside parts at_mark;
+      points = off _ _ (and_right (first_is is_point number) _ (stronger in_number is_point point_stands number later));
+      core_integer = off _ _ (digits_outside number later);
+      core_decimal = scientific_outside core_mantissa_read exponent_read of_core exponent_outside parts at_mark;
+    }
+  where
+    negative : Bool
+    negative = is_negative text
+
+    number : Text
+    number = past_sign text
+
+    later : within number ≡ false
+    later = sign_outside text h
+
+    parts : List Text
+    parts = slice_split is_exponent_mark number
+
+    at_mark : list_all within parts ≡ false
+    at_mark = parts_outside is_exponent_mark mark_stands number later
+
+    at_point : (m : Text) → within m ≡ false → list_all within (slice_split is_point m) ≡ false
+    at_point m e = parts_outside is_point point_stands m e
+
+    mantissa_read : Text → Option Decimal
+    mantissa_read m = mantissa_11 negative (slice_split is_point m)
+
+    mantissa_outside : (m : Text) → within m ≡ false → mantissa_read m ≡ None
+    mantissa_outside m e = mantissa_11_outside negative (slice_split is_point m) (at_point m e)
+
+    core_mantissa_read : Text → Option Decimal
+    core_mantissa_read m = core_mantissa negative (slice_split is_point m)
+
+    of_core : (m : Text) → within m ≡ false → core_mantissa_read m ≡ None
+    of_core m e = core_mantissa_outside negative (slice_split is_point m) (at_point m e)

@@ -1,0 +1,187 @@
+-- Whether a text is surely one is seen by its bytes: they are its characters up to the first past ASCII, from which on nothing
+-- is looked at but that it is no character of ASCII.
+use Rattle.std.proofs.Common.{◌≡◌, ◌<◌, refl, sym, ap, ◌∙◌, subst, arith, length-append}
+use Rattle.std.proofs.lemmas.Bool.{true≢false, and_left, and_right, and_parts, or_from, eqb-true, ltb-true, leb-true, le-leb}
+use Rattle.std.proofs.lemmas.List.Sums.{take_while-cons}
+use Rattle.std.proofs.lemmas.Str.{char_from_byte, encode_ascii, length-encode, len_utf8_bounds, encodes-chars}
+use Rattle.std.proofs.lemmas.Str.Parse.{digit_from_value}
+use Rattle.std.specs.Char.{digit_value, encode_utf8, to_ascii_lowercase}
+use Rattle.std.specs.List.{list_all, list_any, take_while}
+use Rattle.std.specs.Str.{chars, IsUtf8, encode_utf8_all}
+use Rattle.std.specs.Prelude.{ℕ, Bool, true, false, List, [], ◌∷◌, ◌++◌, ◌==◌, ◌||◌, ◌&&◌, not, codes, length, map, if◌then◌else◌}
+use Rattle.yaml_base.specs.Characters.{Text, is_among, is_ascii, is_blank}
+use Rattle.yaml_base.specs.Words.{is_word}
+use Rattle.yaml_base.specs.values.Resolved.{first_is, is_decimal, is_point, is_sign}
+use Rattle.yaml_base.specs.values.SchemaOf11.{is_colon, past}
+use Rattle.yaml_base.specs.values.SurelyText.{ascii_front, reserved_words, is_reserved, is_symbol, precedes_number, begins_based, is_based, begins_number}
+use Rattle.yaml_base.specs.values.SurelyText.{is_number_letter, in_number, is_numeric, is_doubtful}
+use Rattle.yaml_base.proofs.no_numbers.NoNumbers.{past_cons, filled}
+
+-- ---- texts and bytes alike
+
+-- the same up to the first character past ASCII
+data Alike : Text → List ℕ → Type 0 where
+  at_end : Alike [] []
+  same : (c : ℕ) (text : Text) (bytes : List ℕ) → Alike text bytes → Alike (c ∷ text) (c ∷ bytes)
+  others : (c b : ℕ) (text : Text) (bytes : List ℕ) → is_ascii c ≡ false → is_ascii b ≡ false → Alike (c ∷ text) (b ∷ bytes)
+
+-- a byte of a character past ASCII is past ASCII
+past_byte : (c : ℕ) (rest : List ℕ) (b : ℕ) (bytes : List ℕ) → b ∷ bytes ≡ encode_utf8 c ++ rest → is_ascii c ≡ false → is_ascii b ≡ false
+past_byte c rest b bytes e h = by (is_ascii b) refl
+  where
+    by : (x : Bool) → is_ascii b ≡ x → x ≡ false
+    by true f =
+        let few = leb-true b 0x7F f in
+        sym f ∙ ap is_ascii (sym (char_from_byte (b ∷ bytes) rest c e (omega (arith, few)) (omega arith))) ∙ h
+    by false f = refl
+
+-- a text and its bytes are alike
+alike_bytes : (text : Text) → Alike text (encode_utf8_all text)
+alike_bytes [] = at_end
+alike_bytes (c ∷ text) = by (is_ascii c) refl (alike_bytes text)
+  where
+    rest : List ℕ
+    rest = encode_utf8_all text
+
+    shaped : is_ascii c ≡ false → (bytes : List ℕ) → bytes ≡ encode_utf8 c ++ rest → Alike (c ∷ text) bytes
+    shaped h [] e = absurd (omega (arith, ap (λ (l : List ℕ). length l) e, length-append (encode_utf8 c) rest, length-encode c, (len_utf8_bounds c).0))
+    shaped h (b ∷ bytes) e = others c b text bytes h (past_byte c rest b bytes e h)
+
+    by : (x : Bool) → is_ascii c ≡ x → Alike text rest → Alike (c ∷ text) (encode_utf8 c ++ rest)
+    by true h later =
+        let few = leb-true c 0x7F h in
+        subst (λ (bytes : List ℕ). Alike (c ∷ text) (bytes ++ rest)) (sym (encode_ascii c (omega (arith, few)))) (same c text rest later)
+    by false h later = shaped h (encode_utf8 c ++ rest) refl
+
+-- ---- characters past ASCII
+
+unlike : (n c : ℕ) → is_ascii n ≡ true → is_ascii c ≡ false → (c == n) ≡ false
+unlike n c small h = by (c == n) refl
+  where
+    by : (x : Bool) → (c == n) ≡ x → x ≡ false
+    by true e = absurd (true≢false (sym small ∙ ap is_ascii (sym (eqb-true c n e)) ∙ h))
+    by false e = refl
+
+not_among : (members : Text) (c : ℕ) → list_all is_ascii members ≡ true → is_ascii c ≡ false → is_among members c ≡ false
+not_among [] c small h = refl
+not_among (member ∷ members) c small h =
+    or_from (c == member) _ (unlike member c both.0 h) (not_among members c both.1 h)
+  where
+    both : (is_ascii member ≡ true) × (list_all is_ascii members ≡ true)
+    both = and_parts (is_ascii member) (list_all is_ascii members) small
+
+no_digit : (c : ℕ) → is_ascii c ≡ false → is_decimal c ≡ false
+no_digit c h = by (is_decimal c) refl
+  where
+    by : (x : Bool) → is_decimal c ≡ x → x ≡ false
+    by true e =
+        let within = digit_from_value c (ltb-true (digit_value c) 10 e) in absurd (true≢false (sym (le-leb c 0x7F (omega (arith, within))) ∙ h))
+    by false e = refl
+
+not_before_number : (c : ℕ) → is_ascii c ≡ false → precedes_number c ≡ false
+not_before_number c h =
+    or_from (is_sign c) _ (or_from (c == 0x2B) _ (unlike 0x2B c refl h) (unlike 0x2D c refl h)) (unlike 0x5F c refl h)
+
+not_first : (c : ℕ) → is_ascii c ≡ false → begins_number c ≡ false
+not_first c h =
+    or_from (is_decimal c || is_point c || precedes_number c) _
+    (or_from (is_decimal c || is_point c) _ (or_from (is_decimal c) _ (no_digit c h) (unlike 0x2E c refl h)) (not_before_number c h))
+    (or_from (c == 0x65) _ (unlike 0x65 c refl h) (unlike 0x45 c refl h))
+
+not_within : (c : ℕ) → is_ascii c ≡ false → in_number c ≡ false
+not_within c h =
+    or_from (is_decimal c || is_number_letter c || is_blank c) _
+    (or_from (is_decimal c || is_number_letter c) _ (or_from (is_decimal c) _ (no_digit c h) (not_among (codes "eEtTzZxXoObB") c refl h))
+    (or_from (c == 0x20) _ (unlike 0x20 c refl h) (unlike 0x9 c refl h)))
+    (not_among (codes "+-._:,") c refl h)
+
+-- ---- what is looked at
+
+first_alike : (test : ℕ → Bool) → ((c : ℕ) → is_ascii c ≡ false → test c ≡ false) → (text : Text) (bytes : List ℕ) → Alike text bytes
+    → first_is test text ≡ first_is test bytes
+first_alike test fails _ _ at_end = refl
+first_alike test fails _ _ (same c text bytes a) = refl
+first_alike test fails _ _ (others c b text bytes h k) = fails c h ∙ sym (fails b k)
+
+front_alike : (text : Text) (bytes : List ℕ) → Alike text bytes → take_while is_ascii text ≡ take_while is_ascii bytes
+front_alike _ _ at_end = refl
+front_alike _ _ (same c text bytes a) =
+    take_while-cons is_ascii c text ∙ ap (λ (t : Text). if is_ascii c then c ∷ t else []) (front_alike text bytes a) ∙ sym (take_while-cons is_ascii c bytes)
+front_alike _ _ (others c b text bytes h k) =
+    take_while-cons is_ascii c text ∙ ap (λ x. if x then c ∷ take_while is_ascii text else []) h
+    ∙ sym (take_while-cons is_ascii b bytes ∙ ap (λ x. if x then b ∷ take_while is_ascii bytes else []) k)
+
+empty_alike : (text : Text) (bytes : List ℕ) → Alike text bytes → (length text == 0) ≡ (length bytes == 0)
+empty_alike _ _ at_end = refl
+empty_alike _ _ (same c text bytes a) = filled (length text) ∙ sym (filled (length bytes))
+empty_alike _ _ (others c b text bytes h k) = filled (length text) ∙ sym (filled (length bytes))
+
+reserved_alike : (text : Text) (bytes : List ℕ) → Alike text bytes → is_reserved text ≡ is_reserved bytes
+reserved_alike text bytes a =
+    ap (λ x. x || list_any (is_word (ascii_front text)) reserved_words) (empty_alike text bytes a)
+    ∙ ap (λ (t : Text). length bytes == 0 || list_any (is_word (map to_ascii_lowercase t)) reserved_words) (front_alike text bytes a)
+
+second_alike : (c : ℕ) (text : Text) (bytes : List ℕ) → Alike text bytes → begins_based (c ∷ text) ≡ begins_based (c ∷ bytes)
+second_alike c _ _ at_end = refl
+second_alike c _ _ (same d text bytes a) = refl
+second_alike c _ _ (others d b text bytes h k) =
+    ap (λ x. c == 0x30 && x) (not_among (codes "_xXoObB") d refl h ∙ sym (not_among (codes "_xXoObB") b refl k))
+
+no_base : (c : ℕ) (text : Text) → is_ascii c ≡ false → begins_based (past precedes_number (c ∷ text)) ≡ false
+no_base c text h =
+    ap begins_based (past_cons precedes_number c text ∙ ap (λ x. if x then past precedes_number text else c ∷ text) (not_before_number c h)) ∙ by text
+  where
+    by : (rest : Text) → begins_based (c ∷ rest) ≡ false
+    by [] = refl
+    by (d ∷ rest) = and_left (c == 0x30) _ (unlike 0x30 c refl h)
+
+based_alike : (text : Text) (bytes : List ℕ) → Alike text bytes → is_based text ≡ is_based bytes
+based_alike _ _ at_end = refl
+based_alike _ _ (same c text bytes a) =
+    ap begins_based (past_cons precedes_number c text) ∙ by (precedes_number c) (based_alike text bytes a)
+    ∙ sym (ap begins_based (past_cons precedes_number c bytes))
+  where
+    by : (x : Bool) → is_based text ≡ is_based bytes
+        → begins_based (if x then past precedes_number text else c ∷ text) ≡ begins_based (if x then past precedes_number bytes else c ∷ bytes)
+    by true later = later
+    by false later = second_alike c text bytes a
+based_alike _ _ (others c b text bytes h k) = no_base c text h ∙ sym (no_base b bytes k)
+
+all_alike : (text : Text) (bytes : List ℕ) → Alike text bytes → list_all in_number text ≡ list_all in_number bytes
+all_alike _ _ at_end = refl
+all_alike _ _ (same c text bytes a) = ap (λ x. in_number c && x) (all_alike text bytes a)
+all_alike _ _ (others c b text bytes h k) =
+    and_left (in_number c) _ (not_within c h) ∙ sym (and_left (in_number b) _ (not_within b k))
+
+equal_alike : (text : Text) (bytes : List ℕ) → Alike text bytes → list_all in_number text ≡ true → text ≡ bytes
+equal_alike _ _ at_end e = refl
+equal_alike _ _ (same c text bytes a) e =
+    ap (λ (t : Text). c ∷ t) (equal_alike text bytes a (and_parts (in_number c) (list_all in_number text) e).1)
+equal_alike _ _ (others c b text bytes h k) e =
+    absurd (true≢false (sym (and_parts (in_number c) (list_all in_number text) e).0 ∙ not_within c h))
+
+numeric_alike : (text : Text) (bytes : List ℕ) → Alike text bytes → is_numeric text ≡ is_numeric bytes
+numeric_alike text bytes a = by (list_all in_number text) refl
+  where
+    none : (t : Text) → list_all in_number t ≡ false → is_numeric t ≡ false
+    none t h =
+        and_left (first_is begins_number t && list_all in_number t) (list_any is_decimal t || not (list_any is_number_letter t))
+        (and_right (first_is begins_number t) (list_all in_number t) h)
+
+    by : (x : Bool) → list_all in_number text ≡ x → is_numeric text ≡ is_numeric bytes
+    by true e = ap is_numeric (equal_alike text bytes a e)
+    by false e = none text e ∙ sym (none bytes (sym (all_alike text bytes a) ∙ e))
+
+-- ---- all
+
+doubtful_alike : (text : Text) (bytes : List ℕ) → Alike text bytes → is_doubtful text ≡ is_doubtful bytes
+doubtful_alike text bytes a =
+    ap (λ x. x || is_symbol text || is_based text || is_numeric text) (reserved_alike text bytes a)
+    ∙ ap (λ x. is_reserved bytes || x || is_based text || is_numeric text) (first_alike is_colon (λ c h. unlike 0x3A c refl h) text bytes a)
+    ∙ ap (λ x. is_reserved bytes || is_symbol bytes || x || is_numeric text) (based_alike text bytes a)
+    ∙ ap (λ x. is_reserved bytes || is_symbol bytes || is_based bytes || x) (numeric_alike text bytes a)
+
+-- a text is doubtful where its bytes are
+pub doubtful_by_bytes : (bytes : List ℕ) → IsUtf8 bytes → is_doubtful (chars bytes) ≡ is_doubtful bytes
+doubtful_by_bytes bytes is =
+    doubtful_alike (chars bytes) bytes (subst (Alike (chars bytes)) (encodes-chars bytes is) (alike_bytes (chars bytes)))
