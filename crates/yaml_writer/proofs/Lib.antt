@@ -11,3 +11,4 @@ pub mod Finishing
 pub mod WaitingStarts
 pub mod PlainLemmas
 pub mod PlainNumbers
+pub mod rows

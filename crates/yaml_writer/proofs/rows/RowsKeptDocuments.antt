@@ -1,0 +1,47 @@
+-- Worked rows: a writer keeps all bytes of the documents that it ended, whatever its later calls answer.
+use Rattle.std.proofs.Common.{◌≡◌, refl}
+use Rattle.std.specs.Prelude.{ℕ, false, true, Option, None, Result, List, [], ◌∷◌, ◌++◌, codes}
+use Rattle.yaml_base.proofs.Prefixes.{prefix_then}
+use Rattle.yaml_base.specs.Event.{Event, document_end}
+use Rattle.yaml_base.specs.Prefix.{IsPrefix}
+use Rattle.yaml_base.specs.declared.errors.yaml_error_t.{yaml_error_t}
+use Rattle.yaml_pen.specs.Wrote.{Grows}
+use Rattle.yaml_emitter.proofs.rows.RowsKeptDocuments.{begun, both, kept, not_empty, two}
+use Rattle.yaml_emitter.proofs.standing.KeptDocuments.{documents_kept}
+use Rattle.yaml_emitter.proofs.standing.Promising.{promised}
+use Rattle.yaml_emitter.specs.Given.{nothing_given}
+use Rattle.yaml_emitter.specs.State.{new_state}
+use Rattle.yaml_writer.specs.Writing.{Ended, Gave, Passed, StandsTaken, WriterState, opening, plain_start, text_event}
+
+-- a writer without properties for the next node
+abbrev bare : WriterState
+bare = record { emitter = new_state; canonical = false; levels = []; anchor = None; tag = None }
+
+-- the events of a text, of another in a second document, and of the start of a third
+its_events :
+    opening ++ text_event bare (codes "a") ∷ document_end true ∷ plain_start ∷ text_event bare (codes "b") ∷ document_end true ∷ plain_start ∷ []
+    ≡ begun
+its_events = refl
+
+-- the emitter stood after the two documents and what followed, without an error
+module _ (later : List Event) (sent : List ℕ) (before : WriterState) (stood : StandsTaken nothing_given (two ++ later) sent before.emitter)
+    (none : before.emitter.error ≡ None) (after : WriterState) where
+  stays : Grows before.emitter.page after.emitter.page → IsPrefix both after.emitter.page.output
+  stays grows =
+      prefix_then
+      (kept (two ++ later) later before.emitter.page.output refl
+      (documents_kept nothing_given (two ++ later) before.emitter (promised nothing_given (two ++ later) before.emitter stood.stands) none))
+      grows.output
+
+  -- so no state whose output was emptied is told of a call, whether it gave an event, and whatever its error is,
+  emptied_giving : (event : Event) (error : Option yaml_error_t) → Gave before event error after → after.emitter.page.output ≡ [] → ⊥
+  emptied_giving event error h = not_empty after.emitter.page.output (stays h.grows)
+
+  -- or ended the document and began the next,
+  emptied_passing : (events : List Event) (answer : Result (Unit {0}) yaml_error_t) → Passed before events answer after
+      → after.emitter.page.output ≡ [] → ⊥
+  emptied_passing events answer h = not_empty after.emitter.page.output (stays h.grows)
+
+  -- or ended a collection
+  emptied_ending : (answer : Result (Unit {0}) yaml_error_t) → Ended before answer after → after.emitter.page.output ≡ [] → ⊥
+  emptied_ending answer h = not_empty after.emitter.page.output (stays h.grows)
