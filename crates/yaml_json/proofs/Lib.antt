@@ -5,6 +5,7 @@ pub mod NameLemmas
 pub mod HeldNameLemmas
 pub mod Walking
 pub mod Refusing
+pub mod SingleFault
 pub mod KeepingNames
 pub mod Stops
 pub mod Taking

@@ -1,5 +1,5 @@
 -- Why the walk over the tokens of a value is stopped by them.
-use Rattle.std.proofs.Common.{drop, get_or, ap₂, ◌≡◌, ℕ, suc, ◌+◌, ◌-◌, ◌<◌, ◌≤◌, refl, sym, ap, ◌∙◌, subst, append_assoc, append-nil, arith, inl, inr}
+use Rattle.std.proofs.Common.{◌≡◌, ℕ, suc, ◌+◌, ◌-◌, ◌<◌, ◌≤◌, refl, sym, ap, ◌∙◌, subst, append_assoc, append-nil, arith, inl, inr}
 use Rattle.std.proofs.lemmas.List.{append_cancel_right}
 use Rattle.std.proofs.Math.Nat.{le-max_left, le-max_right}
 use Rattle.std.specs.Prelude.{◌⊎◌, Bool, true, max, Option, None, Some, option_and_then, List, [], ◌∷◌, ◌++◌, length, Result, Ok, Err, IfErr}
@@ -301,58 +301,3 @@ unrefused (Err (stops.NotJson spot)) never P held = absurd (never tt)
 unrefused (Err stops.TooDeep) never P held = absurd (never tt)
 unrefused (Err (stops.NameAgain offset)) never P held = absurd (never tt)
 unrefused (Err (stops.Failed error)) never P held = held error
-
--- ---- that no text has two of them
-
--- of two prefixes of a list one is a prefix of the other
-either_prefix : {A : Type 0} (a b c d : List A) → a ++ b ≡ c ++ d
-    → ((r : List A) × (c ≡ a ++ r) × (b ≡ r ++ d)) ⊎ ((r : List A) × (a ≡ c ++ r) × (d ≡ r ++ b))
-either_prefix [] b c d is = inl (c, refl, is)
-either_prefix (x ∷ a) b [] d is = inr (x ∷ a, refl, sym is)
-either_prefix {A} (x ∷ a) b (y ∷ c) d is = one_more (either_prefix a b c d (ap (λ (l : List A). drop 1 l) is)) where
-  first : x ≡ y
-  first = ap (λ (l : List A). get_or l 0 x) is
-
-  one_more : ((r : List A) × (c ≡ a ++ r) × (b ≡ r ++ d)) ⊎ ((r : List A) × (a ≡ c ++ r) × (d ≡ r ++ b))
-      → ((r : List A) × (y ∷ c ≡ x ∷ a ++ r) × (b ≡ r ++ d)) ⊎ ((r : List A) × (x ∷ a ≡ y ∷ c ++ r) × (d ≡ r ++ b))
-  one_more (inl (r, one, other)) = inl (r, ap₂ (λ (e : A) (l : List A). e ∷ l) (sym first) one, other)
-  one_more (inr (r, one, other)) = inr (r, ap₂ (λ (e : A) (l : List A). e ∷ l) first one, other)
-
--- a text that breaks off doesn't nest too deep before it does
-module _ (depth : ℕ) (unique : Bool) (all : List Token) (broken : BreaksOff depth unique all) (deep : OpensTooDeep depth unique all) where
-  abbrev front : List Token
-  front = deep.taken ++ deep.next ∷ []
-
-  too_deep : (r : List Token) → broken.taken ≡ front ++ r → ⊥
-  too_deep r is =
-      let less = deep.deeper broken.begins.json (record {
-        rest = r ++ broken.begins.begins.rest;
-        parts = sym (append_assoc front r broken.begins.begins.rest) ∙ ap (λ (l : List Token). l ++ broken.begins.begins.rest) (sym is)
-            ∙ broken.begins.begins.parts;
-      }) in
-      let fits = broken.begins.allowed.nested in
-      omega (arith, less, fits)
-
-  longer : (r : List Token) → front ≡ broken.taken ++ r → broken.left ≡ r ++ deep.left → ⊥
-  longer [] is left = too_deep [] (sym (append-nil broken.taken) ∙ sym is ∙ sym (append-nil front))
-  longer (token ∷ r) is left =
-      subst (NoneGoesOn broken.taken) left broken.breaks (
-        deep.some.0,
-        record {
-          rest = r ++ deep.some.1.rest;
-          parts = append_assoc broken.taken (token ∷ []) (r ++ deep.some.1.rest) ∙ sym (append_assoc broken.taken (token ∷ r) deep.some.1.rest)
-              ∙ ap (λ (l : List Token). l ++ deep.some.1.rest) (sym is) ∙ deep.some.1.parts;
-        },
-      )
-
-  by_place : ((r : List Token) × (front ≡ broken.taken ++ r) × (broken.left ≡ r ++ deep.left))
-      ⊎ ((r : List Token) × (broken.taken ≡ front ++ r) × (deep.left ≡ r ++ broken.left))
-      → ⊥
-  by_place (inl (r, one, other)) = longer r one other
-  by_place (inr (r, one, other)) = too_deep r one
-
-  pub never_both : ⊥
-  never_both =
-      by_place
-      (either_prefix broken.taken broken.left front deep.left
-      (broken.parts ∙ sym deep.parts ∙ sym (append_assoc deep.taken (deep.next ∷ []) deep.left)))

@@ -72,9 +72,13 @@ pub record NamesTwice (depth : ℕ) (unique : Bool) (all : List Token) : Type 0 
   pub some : BeginsValue depth (taken ++ key name ∷ [])
   pub twice : (json : Json) → IsPrefix (taken ++ key name ∷ []) (json_tokens json) → HasUniqueKeys json → ⊥
 
--- no tokens both break off and open too many
+-- no tokens have two of these faults
 abbrev pub FaultsDiffer : Type 0
-FaultsDiffer = (depth : ℕ) → (unique : Bool) → (all : List Token) → BreaksOff depth unique all → OpensTooDeep depth unique all → ⊥
+FaultsDiffer =
+    (depth : ℕ) (unique : Bool) (all : List Token)
+    → (BreaksOff depth unique all → OpensTooDeep depth unique all → ⊥)
+    × (BreaksOff depth unique all → NamesTwice depth unique all → ⊥)
+    × (OpensTooDeep depth unique all → NamesTwice depth unique all → ⊥)
 
 -- ---- that the text isn't JSON
 

@@ -1,5 +1,5 @@
-use Rattle.yaml_json.proofs.Refusing.{never_both}
+use Rattle.yaml_json.proofs.SingleFault.{deep_not_twice, not_deep, not_twice}
 use Rattle.yaml_json.proofs.laws.faults_differ.Goals as goal
 
 pub returns : goal.returns
-returns c = never_both
+returns c depth unique all = (not_deep depth unique all, not_twice depth unique all, deep_not_twice depth unique all)
