@@ -8,6 +8,6 @@ abbrev pub status_of : Fault → ℕ
 status_of (faults.Refused error) = 1
 status_of (faults.NotText line column) = 1
 status_of faults.Marked = 1
-status_of faults.ReadFailed = 3
-status_of faults.WriteFailed = 3
+status_of (faults.ReadFailed error) = 3
+status_of (faults.WriteFailed error) = 3
 status_of faults.NoMemory = 3

@@ -1,24 +1,13 @@
 //! What the program's arguments ask for.
+ghost use Rattle.std.specs.Prelude.{codes};
+ghost use Rattle.json2yaml.specs.Options.{IsOff, IsOn, value_of};
+
+use crate::options::command_of;
+use clap::{ArgMatches, Error};
 use std::alloc::{AllocError, Global};
 use std::rt::Runtime;
 use std::{env, io};
 use yaml_json::JsonSettings;
-
-/// As deep as the emitter lets collections nest.
-const DEEPEST: usize = 1_000_000;
-
-/// What the program is asked for.
-#[derive(Drop)]
-pub enum Task<'a> {
-    /// Write the texts of some files as YAML.
-    Convert(Conversion<'a>),
-    /// Print how the program is used.
-    Help,
-    /// Print its version.
-    Version,
-    /// Nothing that it knows.
-    Misuse,
-}
 
 /// What is written, where and how.
 #[derive(Drop)]
@@ -30,126 +19,46 @@ pub struct Conversion<'a> {
     pub files: Vec<&'a str>,
 }
 
-/// Which option the next word belongs to.
-#[derive(Clone, Copy)]
-enum Awaited {
-    Nothing,
-    Output,
-    Indent,
-    Width,
-    Depth,
+/// The settings that the options ask for.
+fn settings_of(matches: &ArgMatches<'_>) -> JsonSettings
+    ensures flow { IsOn (value_of matches.now (codes "flow")) result.flow }
+    ensures names { IsOff (value_of matches.now (codes "allow-duplicates")) result.unique_names }
+    ensures canonical { IsOn (value_of matches.now (codes "canonical")) result.writer.canonical }
+    ensures portable { IsOff (value_of matches.now (codes "no-portable")) result.writer.portable }
+{
+    let mut settings = JsonSettings::default();
+    settings.flow = matches.get_flag("flow");
+    settings.unique_names = !matches.get_flag("allow-duplicates");
+    settings.writer.canonical = matches.get_flag("canonical");
+    settings.writer.portable = !matches.get_flag("no-portable");
+    if let Some(columns) = matches.get_one::<i32>("indent") {
+        settings.writer.indent = columns;
+    }
+    if let Some(column) = matches.get_one::<i32>("width") {
+        settings.writer.width = column;
+    }
+    if let Some(levels) = matches.get_one::<usize>("depth") {
+        settings.depth = levels;
+    }
+    settings
 }
 
-/// What one word of the arguments comes to.
-#[derive(Clone, Copy)]
-enum Word<'a> {
-    /// It is taken, and the next is awaited.
-    Taken(Awaited),
-    File(&'a str),
-    Help,
-    Version,
-    Misuse,
-}
-
-impl<'a> Conversion<'a> {
-    /// Takes a word that belongs to no option before it.
-    fn take_word(&mut self, word: &'a str) -> Word<'a> {
-        match word {
-            "--help" => return Word::Help,
-            "--version" => return Word::Version,
-            "-o" => return Word::Taken(Awaited::Output),
-            "--indent" => return Word::Taken(Awaited::Indent),
-            "--width" => return Word::Taken(Awaited::Width),
-            "--depth" => return Word::Taken(Awaited::Depth),
-            "--canonical" => self.settings.writer.canonical = true,
-            "--flow" => self.settings.flow = true,
-            "--allow-duplicates" => self.settings.unique_names = false,
-            "--no-portable" => self.settings.writer.portable = false,
-            name => {
-                return if name.starts_with('-') {
-                    Word::Misuse
-                } else {
-                    Word::File(name)
-                };
-            }
-        }
-        Word::Taken(Awaited::Nothing)
-    }
-
-    /// Takes the name of the output, which is given once.
-    fn take_output(&mut self, name: &'a str) -> Word<'a> {
-        if self.output.is_some() {
-            return Word::Misuse;
-        }
-        self.output = Some(name);
-        Word::Taken(Awaited::Nothing)
-    }
-
-    fn take_indent(&mut self, word: &str) -> Word<'a> {
-        match word.parse::<i32>() {
-            Ok(columns) if columns >= 2 && columns <= 9 => {
-                self.settings.writer.indent = columns;
-                Word::Taken(Awaited::Nothing)
-            }
-            _ => Word::Misuse,
-        }
-    }
-
-    fn take_width(&mut self, word: &str) -> Word<'a> {
-        match word.parse::<i32>() {
-            Ok(columns) => {
-                self.settings.writer.width = columns;
-                Word::Taken(Awaited::Nothing)
-            }
-            Err(_) => Word::Misuse,
-        }
-    }
-
-    fn take_depth(&mut self, word: &str) -> Word<'a> {
-        match word.parse::<usize>() {
-            Ok(levels) if levels <= DEEPEST => {
-                self.settings.depth = levels;
-                Word::Taken(Awaited::Nothing)
-            }
-            _ => Word::Misuse,
-        }
-    }
-
-    fn take(&mut self, awaited: Awaited, word: &'a str) -> Word<'a> {
-        match awaited {
-            Awaited::Nothing => self.take_word(word),
-            Awaited::Output => self.take_output(word),
-            Awaited::Indent => self.take_indent(word),
-            Awaited::Width => self.take_width(word),
-            Awaited::Depth => self.take_depth(word),
-        }
+/// The files that are named.
+fn files_of<'a>(alloc: Global, matches: &ArgMatches<'a>) -> Result<Vec<&'a str>, AllocError> {
+    match matches.get_strs("files") {
+        Some(names) => Vec::from_slice(alloc, names),
+        None => Ok(Vec::new(alloc)),
     }
 }
 
-/// What the arguments after the program's name ask for. The first that decides is the last that is read.
-pub fn task_of<'a>(alloc: Global, arguments: &'a [String]) -> Result<Task<'a>, AllocError> {
-    let mut conversion = Conversion {
-        settings: JsonSettings::default(),
-        output: None,
-        files: Vec::new(alloc),
-    };
-    let mut awaited = Awaited::Nothing;
-    for word in arguments {
-        match conversion.take(awaited, word.as_str()) {
-            Word::Taken(next) => awaited = next,
-            Word::File(name) => {
-                conversion.files.push(name)?;
-                awaited = Awaited::Nothing;
-            }
-            Word::Help => return Ok(Task::Help),
-            Word::Version => return Ok(Task::Version),
-            Word::Misuse => return Ok(Task::Misuse),
-        }
-    }
-    match awaited {
-        Awaited::Nothing => Ok(Task::Convert(conversion)),
-        _ => Ok(Task::Misuse),
-    }
+/// What the arguments after the program's name ask for, or the text that tells why they ask for no conversion.
+pub fn conversion_of<'a>(alloc: Global, arguments: &'a [String]) -> Result<Conversion<'a>, Error> {
+    let matches = command_of(alloc)?.try_get_matches_from(arguments)?;
+    Ok(Conversion {
+        settings: settings_of(&matches),
+        output: matches.get_str("output"),
+        files: files_of(alloc, &matches)?,
+    })
 }
 
 /// The arguments after the program's name.

@@ -2,7 +2,9 @@
 #![tactic(auto)]
 
 mod arguments;
+mod options;
 mod program;
+mod version;
 
 use crate::arguments::read_arguments;
 use crate::program::{refuse_arguments, serve};
@@ -11,10 +13,11 @@ use std::process::ExitCode;
 
 /// Ends with the run's status, also where what went wrong can't be told.
 fn main(rt: HostRuntime) -> ExitCode {
+    let stdin = rt.stdin();
     let stderr = rt.stderr();
     let mut faults = io::writer(&stderr);
     let status = match read_arguments(&rt) {
-        Ok(words) => serve(&rt, words.as_slice(), &mut faults),
+        Ok(words) => serve(&rt, words.as_slice(), &stdin, &mut faults),
         Err(error) => refuse_arguments(&error, &mut faults),
     };
     ExitCode::from(status)

@@ -1,18 +1,20 @@
 //! The program: what its arguments ask for is done with files and the standard streams.
 ghost use Rattle.std.specs.Prelude.{◌≡◌, ◌≤◌, OnOk};
 ghost use Rattle.yaml_json.specs.Wrote.{IsBare, WroteTexts};
-ghost use Rattle.json2yaml.specs.Faults as faults;
+ghost use Rattle.json2yaml.specs.Faults as statuses;
 
-use crate::arguments::{Conversion, Task, task_of};
+use crate::arguments::{Conversion, conversion_of};
+use clap::Error as UsageError;
+use clap::error::ErrorKind as UsageKind;
 use std::alloc::Global;
-use std::io::{ErrorKind, Read, Write};
+use std::io::{ErrorKind, IsTerminal, Read, Write};
 use std::rt::Runtime;
 use std::{fs, io, str};
 use thiserror::Error;
 use yaml_json::{JsonError, JsonSettings, Writer, place_of, write_json_texts, yaml_error_t};
 
-const USAGE: &str =
-    "usage: json2yaml [-o FILE] [--indent N] [--width N] [--depth N] [--canonical] [--flow] [--no-portable] [--allow-duplicates] [--help] [--version] [FILE..]";
+/// The name that means standard input, or standard output for the file that is written.
+const STREAM: &str = "-";
 
 /// A byte order mark, which no JSON text begins with.
 const MARK: &[u8] = b"\xef\xbb\xbf";
@@ -26,21 +28,21 @@ enum Fault {
     NotText { line: usize, column: usize },
     #[error("line 1, column 1: a byte order mark")]
     Marked,
-    #[error("cannot read")]
-    ReadFailed,
-    #[error("cannot write")]
-    WriteFailed,
+    #[error("cannot read: {0}")]
+    ReadFailed(io::Error),
+    #[error("cannot write: {0}")]
+    WriteFailed(io::Error),
     #[error("out of memory")]
     NoMemory,
 }
 
 /// The program's status: 1 where a text isn't written as YAML, 3 where reading, writing or memory failed.
 fn status_of(fault: &Fault) -> u8
-    ensures { result ≡ faults.status_of fault.now }
+    ensures { result ≡ statuses.status_of fault.now }
 {
     match fault {
         Fault::Refused(_) | Fault::NotText { .. } | Fault::Marked => 1,
-        Fault::ReadFailed | Fault::WriteFailed | Fault::NoMemory => 3,
+        Fault::ReadFailed(_) | Fault::WriteFailed(_) | Fault::NoMemory => 3,
     }
 }
 
@@ -61,7 +63,7 @@ fn read_fault(error: io::Error) -> Fault {
     if error.kind() == ErrorKind::OutOfMemory {
         Fault::NoMemory
     } else {
-        Fault::ReadFailed
+        Fault::ReadFailed(error)
     }
 }
 
@@ -73,14 +75,12 @@ fn bytes_of<R: Read>(alloc: Global, reader: &mut R) -> Result<Vec<u8>, Fault> {
 }
 
 /// The bytes of a file, or of standard input.
-fn bytes_in<R: Runtime + AllocGlobal>(rt: &R, name: Option<&str>) -> Result<Vec<u8>, Fault> {
-    match name {
-        None => bytes_of(rt.alloc(), &mut rt.reader()),
-        Some(name) => {
-            let mut file = fs::open(rt, name).map_err(|_| Fault::ReadFailed)?;
-            bytes_of(rt.alloc(), &mut file)
-        }
+fn bytes_in<R: Runtime + AllocGlobal>(rt: &R, name: &str) -> Result<Vec<u8>, Fault> {
+    if name == STREAM {
+        return bytes_of(rt.alloc(), &mut rt.reader());
     }
+    let mut file = fs::open(rt, name).map_err(read_fault)?;
+    bytes_of(rt.alloc(), &mut file)
 }
 
 /// Gives a writer the JSON texts of these bytes, a document each.
@@ -111,7 +111,7 @@ fn give_bytes(
 fn give_file<R: Runtime + AllocGlobal>(
     rt: &R,
     writer: &mut Writer<Global>,
-    name: Option<&str>,
+    name: &str,
     settings: &JsonSettings,
 ) -> Result<(), Fault>
     requires { IsBare writer.old }
@@ -144,7 +144,7 @@ fn give_files<'a, R: Runtime + AllocGlobal>(
             begin_next(writer).map_err(|fault| (Some(*name), fault))?;
         }
         first = false;
-        give_file(rt, writer, Some(*name), settings).map_err(|fault| (Some(*name), fault))?;
+        give_file(rt, writer, name, settings).map_err(|fault| (Some(*name), fault))?;
     }
     Ok(())
 }
@@ -165,7 +165,7 @@ fn give_all<'a, R: Runtime + AllocGlobal>(
             &conversion.settings,
         );
     }
-    give_file(rt, writer, None, &conversion.settings).map_err(|fault| (None, fault))
+    give_file(rt, writer, STREAM, &conversion.settings).map_err(|fault| (None, fault))
 }
 
 /// The YAML of all that is to be converted.
@@ -191,25 +191,49 @@ fn write_bytes<R: Runtime + AllocGlobal>(
     name: Option<&str>,
 ) -> io::Result<()> {
     match name {
-        None => io::writer(rt).write_all(bytes),
-        Some(name) => {
+        Some(name) if name != STREAM => {
             let mut file = fs::create(rt, name)?;
             file.write_all(bytes)
         }
+        _ => io::writer(rt).write_all(bytes),
+    }
+}
+
+/// A file's name as a message shows it, where `stream` is what the program reads or writes without a name.
+fn shown<'a>(name: Option<&'a str>, stream: &'a str) -> &'a str {
+    match name {
+        Some(name) if name != STREAM => name,
+        _ => stream,
     }
 }
 
 /// Says in a line what went wrong, with the name of the file that can't be read or written, or whose text is refused.
 fn write_fault<W: Write>(fault: &Fault, name: Option<&str>, faults: &mut W) -> io::Result<()> {
     match (fault, name) {
-        (Fault::ReadFailed | Fault::WriteFailed, Some(name)) => {
-            writeln!(faults, "json2yaml: {fault} {name}")
+        (Fault::ReadFailed(error), name) => {
+            let name = shown(name, "standard input");
+            writeln!(faults, "json2yaml: cannot read {name}: {error}")
+        }
+        (Fault::WriteFailed(error), name) => {
+            let name = shown(name, "standard output");
+            writeln!(faults, "json2yaml: cannot write {name}: {error}")
         }
         (Fault::Refused(_) | Fault::NotText { .. } | Fault::Marked, Some(name)) => {
+            let name = shown(Some(name), "standard input");
             writeln!(faults, "json2yaml: {name}: {fault}")
         }
         _ => writeln!(faults, "json2yaml: {fault}"),
     }
+}
+
+/// Says what went wrong, unless it is that nobody reads what is written, and returns the status.
+fn give_up<W: Write>(fault: &Fault, name: Option<&str>, faults: &mut W) -> u8
+    ensures { result ≡ statuses.status_of fault.now }
+{
+    if !matches!(fault, Fault::WriteFailed(error) if error.kind() == ErrorKind::BrokenPipe) {
+        let _told = write_fault(fault, name, faults);
+    }
+    status_of(fault)
 }
 
 /// Converts, says what went wrong, and returns the status.
@@ -220,23 +244,24 @@ fn convert<R: Runtime + AllocGlobal, W: Write>(
 ) -> u8
     ensures { result ≤ 3 }
 {
-    let (name, fault) = match converted(rt, conversion) {
+    match converted(rt, conversion) {
         Ok(bytes) => match write_bytes(rt, bytes.as_slice(), conversion.output) {
-            Ok(()) => return 0,
-            Err(_) => (conversion.output, Fault::WriteFailed),
+            Ok(()) => 0,
+            Err(error) => give_up(&Fault::WriteFailed(error), conversion.output, faults),
         },
-        Err(failure) => failure,
-    };
-    let _told = write_fault(&fault, name, faults);
-    status_of(&fault)
+        Err((name, fault)) => give_up(&fault, name, faults),
+    }
 }
 
-/// Says how the program is used.
-fn write_usage<R: Runtime>(rt: &R) -> io::Result<()> {
-    println!(rt; "{USAGE}")?;
-    println!(rt;
-        "Writes the JSON texts of the FILEs, or of standard input, as YAML to the FILE of -o, or to standard output."
-    )
+/// Says that the program waits for what is typed.
+fn hint<I: IsTerminal, W: Write>(conversion: &Conversion<'_>, stdin: &I, faults: &mut W) {
+    let reads = conversion.files.is_empty() || conversion.files.contains(&STREAM);
+    if reads && stdin.is_terminal() {
+        let _told = writeln!(
+            faults,
+            "json2yaml: reading JSON from the terminal, up to Ctrl-D; json2yaml --help tells more"
+        );
+    }
 }
 
 /// Says why the arguments can't be read, and returns the program's status.
@@ -244,32 +269,43 @@ pub fn refuse_arguments<W: Write>(error: &io::Error, faults: &mut W) -> u8
     ensures { result ≤ 3 }
 {
     if error.kind() == ErrorKind::OutOfMemory {
-        let _told = write_fault(&Fault::NoMemory, None, faults);
-        return 3;
+        return give_up(&Fault::NoMemory, None, faults);
     }
     let _told = writeln!(faults, "json2yaml: an argument isn't UTF-8");
     2
 }
 
-/// Does what the arguments ask for, says on `faults` what went wrong, and returns the program's status.
-pub fn serve<R: Runtime + AllocGlobal, W: Write>(rt: &R, arguments: &[String], faults: &mut W) -> u8
+/// Says why the arguments ask for no conversion, which may be that they ask for help, and returns the program's status.
+fn answer<R: Runtime, W: Write>(rt: &R, error: &UsageError, faults: &mut W) -> u8
     ensures { result ≤ 3 }
 {
-    let told = match task_of(rt.alloc(), arguments) {
-        Ok(Task::Convert(conversion)) => return convert(rt, &conversion, faults),
-        Ok(Task::Help) => write_usage(rt),
-        Ok(Task::Version) => println!(rt; "json2yaml 0.2.11"),
-        Ok(Task::Misuse) => {
-            let _told = writeln!(faults, "{USAGE}");
-            return 2;
+    match error.kind() {
+        UsageKind::OutOfMemory => give_up(&Fault::NoMemory, None, faults),
+        UsageKind::DisplayHelp | UsageKind::DisplayVersion => match print!(rt; "{error}") {
+            Ok(()) => 0,
+            Err(error) => give_up(&Fault::WriteFailed(error), None, faults),
+        },
+        _ => {
+            let _told = write!(faults, "{error}");
+            2
         }
-        Err(_) => {
-            let _told = write_fault(&Fault::NoMemory, None, faults);
-            return 3;
+    }
+}
+
+/// Does what the arguments ask for, says on `faults` what went wrong, and returns the program's status.
+pub fn serve<R: Runtime + AllocGlobal, I: IsTerminal, W: Write>(
+    rt: &R,
+    arguments: &[String],
+    stdin: &I,
+    faults: &mut W,
+) -> u8
+    ensures { result ≤ 3 }
+{
+    match conversion_of(rt.alloc(), arguments) {
+        Ok(conversion) => {
+            hint(&conversion, stdin, faults);
+            convert(rt, &conversion, faults)
         }
-    };
-    match told {
-        Ok(()) => 0,
-        Err(_) => 3,
+        Err(error) => answer(rt, &error, faults),
     }
 }
