@@ -8,3 +8,4 @@ pub mod GraphLemmas
 pub mod NameLemmas
 pub mod WalkStateLemmas
 pub mod WalkLemmas
+pub mod rows
