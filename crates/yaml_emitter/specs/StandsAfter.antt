@@ -172,7 +172,7 @@ FailedFront waiting error before after =
     (given : Settings) (all front : List Event) → Reached given all front waiting before → StandsFailed given all error (failed_by error after)
 
 -- the first event that waits was processed
-pub record TookFirst (waiting : List Event) (before after : MachineState) (answer : Result (Unit {0}) yaml_error_t) : Type 0 where
+pub record ProcessedFirst (waiting : List Event) (before after : MachineState) (answer : Result (Unit {0}) yaml_error_t) : Type 0 where
   pub event : Event
   pub rest : List Event
   pub waits : waiting ≡ event ∷ rest

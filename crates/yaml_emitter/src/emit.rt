@@ -10,7 +10,7 @@ ghost use Rattle.yaml_pen.specs.Wrote.{Grows};
 ghost use Rattle.yaml_emitter.specs.Promises.{FitsLimit, HasAllBytes, Promised};
 ghost use Rattle.yaml_emitter.specs.Queue.{is_head_ready};
 ghost use Rattle.yaml_emitter.specs.State.{KeepsGiven, KeepsSet, with_all_taken};
-ghost use Rattle.yaml_emitter.specs.StandsAfter.{FailedFront, Reached, StandsAfter, StandsBy, TookFirst, WroteFront};
+ghost use Rattle.yaml_emitter.specs.StandsAfter.{FailedFront, Reached, StandsAfter, StandsBy, ProcessedFirst, WroteFront};
 
 use crate::emitter::yaml_emitter_t;
 use crate::machine::Machine;
@@ -168,7 +168,7 @@ fn write_next<A: Allocator + Copy>(
     waiting: &[yaml_event_t<A>],
 ) -> Result<(), yaml_error_t>
     requires { is_head_ready (seen_events waiting.now) ≡ true }
-    ensures { TookFirst (seen_events waiting.now) machine.old machine.new result }
+    ensures { ProcessedFirst (seen_events waiting.now) machine.old machine.new result }
 {
     let (event, rest) = first_and_rest(waiting);
     let empty = closes_at_once(event, rest);

@@ -12,7 +12,7 @@ use Rattle.yaml_base.specs.declared.errors.yaml_error_t.{yaml_error_t}
 use Rattle.yaml_base.specs.declared.errors.yaml_error_t.TheVariants.{WriteError, Memory}
 use Rattle.yaml_emitter.specs.State.{MachineState, State, machine_of}
 use Rattle.yaml_emitter.specs.Queue.{is_head_ready}
-use Rattle.yaml_emitter.specs.StandsAfter.{FailedFront, Reached, ReachedOn, StandsBy, StandsSo, StandsWell, TookFirst, WroteFront, failed_by}
+use Rattle.yaml_emitter.specs.StandsAfter.{FailedFront, Reached, ReachedOn, StandsBy, StandsSo, StandsWell, ProcessedFirst, WroteFront, failed_by}
 use Rattle.yaml_emitter.specs.Processing.{Processed, closes_at_once}
 use Rattle.yaml_emitter.proofs.standing.Standing.{reached_first}
 use Rattle.yaml_emitter.proofs.standing.StandingSteps.{reached_end, reached_next}
@@ -20,7 +20,7 @@ use Rattle.yaml_emitter.proofs.standing.StandingFailed.{reached_failed}
 use Rattle.yaml_emitter.proofs.standing.StandingPromises.{stands_well}
 
 -- The first of the events that wait was ready.
-took_ready : (waiting : List Event) (before after : MachineState) (answer : Result (Unit {0}) yaml_error_t) (h : TookFirst waiting before after answer)
+took_ready : (waiting : List Event) (before after : MachineState) (answer : Result (Unit {0}) yaml_error_t) (h : ProcessedFirst waiting before after answer)
     → is_head_ready waiting ≡ true → is_ready h.event h.rest ≡ true
 took_ready waiting before after answer h ready = subst (λ r. is_head_ready r ≡ true) h.waits ready
 
@@ -32,11 +32,11 @@ processed_error event empty before after (Err WriteError) done = ap (λ (m : Mac
 processed_error event empty before after (Err Memory) done = ap (λ (m : MachineState). m.error) done.kept
 processed_error event empty before after (Err error) done = ap (λ (m : MachineState). m.error) done.kept
 
-pub took_error : (waiting : List Event) (before after : MachineState) (answer : Result (Unit {0}) yaml_error_t) → TookFirst waiting before after answer
+pub took_error : (waiting : List Event) (before after : MachineState) (answer : Result (Unit {0}) yaml_error_t) → ProcessedFirst waiting before after answer
     → after.error ≡ before.error
 took_error waiting before after answer h = processed_error h.event (closes_at_once h.event h.rest) before after answer h.done
 
-pub took_next : (waiting : List Event) (before after : MachineState) → TookFirst waiting before after (Ok tt) → is_head_ready waiting ≡ true
+pub took_next : (waiting : List Event) (before after : MachineState) → ProcessedFirst waiting before after (Ok tt) → is_head_ready waiting ≡ true
     → ReachedOn waiting before (drop 1 waiting) after
 took_next waiting before after h ready given all front reached =
     let at : Reached given all front (h.event ∷ h.rest) before = subst (λ r. Reached given all front r before) h.waits reached in
@@ -44,7 +44,7 @@ took_next waiting before after h ready given all front reached =
     reached_next given all front h.rest h.event before after at (took_ready waiting before after (Ok tt) h ready) h.done in
     (front ++ h.event ∷ [], subst (λ r. Reached given all (front ++ h.event ∷ []) r after) (sym (ap (drop 1) h.waits)) on)
 
-pub took_failed : (waiting : List Event) (before after : MachineState) (error : yaml_error_t) → TookFirst waiting before after (Err error)
+pub took_failed : (waiting : List Event) (before after : MachineState) (error : yaml_error_t) → ProcessedFirst waiting before after (Err error)
     → is_head_ready waiting ≡ true → FailedFront waiting error before after
 took_failed waiting before after error h ready given all front reached =
     let at : Reached given all front (h.event ∷ h.rest) before = subst (λ r. Reached given all front r before) h.waits reached in
@@ -62,8 +62,8 @@ pub seen_behind : {E : Type 0} (seen : E → Event) (xs : List E) (n : ℕ) → 
 seen_behind seen xs n = ap (map seen) (take_rest xs n) ∙ sym (drop-map seen n xs)
 
 pub took_behind : (waiting part : List Event) (n : ℕ) (before after : MachineState) (answer : Result (Unit {0}) yaml_error_t) → part ≡ drop n waiting
-    → TookFirst part before after answer → TookFirst (drop n waiting) before after answer
-took_behind waiting part n before after answer is took = subst (λ w. TookFirst w before after answer) is took
+    → ProcessedFirst part before after answer → ProcessedFirst (drop n waiting) before after answer
+took_behind waiting part n before after answer is took = subst (λ w. ProcessedFirst w before after answer) is took
 
 pub next_behind : (waiting : List Event) (n : ℕ) (before after : MachineState) → ReachedOn (drop n waiting) before (drop 1 (drop n waiting)) after
     → ReachedOn (drop n waiting) before (drop (n + 1) waiting) after
@@ -71,7 +71,7 @@ next_behind waiting n before after on = subst (λ left. ReachedOn (drop n waitin
 
 -- There was one.
 pub took_within : {E : Type 0} (seen : E → Event) (xs : List E) (n : ℕ) (before after : MachineState) (answer : Result (Unit {0}) yaml_error_t)
-    → TookFirst (drop n (map seen xs)) before after answer → n + 1 ≤ length xs
+    → ProcessedFirst (drop n (map seen xs)) before after answer → n + 1 ≤ length xs
 took_within seen xs n before after answer took =
     let long : length (drop n (map seen xs)) ≡ suc (length took.rest) = ap length took.waits in
     omega (arith, long, length-drop n (map seen xs), length-map xs seen)
@@ -113,7 +113,7 @@ closes_none mapping_end = refl
 
 -- What processes an event where none waits takes the first of a queue that holds it alone.
 pub took_alone : (event : Event) (before after : MachineState) (answer : Result (Unit {0}) yaml_error_t)
-    → Processed event false before after answer → TookFirst (event ∷ []) before after answer
+    → Processed event false before after answer → ProcessedFirst (event ∷ []) before after answer
 took_alone event before after answer done =
     record {
       event = event;

@@ -9,7 +9,7 @@ use Rattle.yaml_pen.specs.Wrote.{Flushed, Grows}
 use Rattle.yaml_pen.proofs.Composing.{wrote_grows}
 use Rattle.yaml_emitter.specs.State.{MachineState}
 use Rattle.yaml_emitter.specs.Processing.{WritesPage, CutPage, unwritten, partly_written, Processed}
-use Rattle.yaml_emitter.specs.StandsAfter.{TookFirst}
+use Rattle.yaml_emitter.specs.StandsAfter.{ProcessedFirst}
 
 -- a page grows by nothing where text and output are equal
 pub grows_same : (before after : Page) → after.text ≡ before.text → after.output ≡ before.output → Grows before after
@@ -38,7 +38,7 @@ processed_grows event empty before after (Err WriteError) done = cut_grows Write
 processed_grows event empty before after (Err Memory) done = cut_grows Memory event empty before after done.page
 processed_grows event empty before after (Err error) done = grows_page before.page after.page (ap (λ (s : MachineState). s.page) done.kept)
 
-pub took_grows : (waiting : List Event) (before after : MachineState) (answer : Result (Unit {0}) yaml_error_t) → TookFirst waiting before after answer
+pub took_grows : (waiting : List Event) (before after : MachineState) (answer : Result (Unit {0}) yaml_error_t) → ProcessedFirst waiting before after answer
     → Grows before.page after.page
 took_grows waiting before after answer took = processed_grows took.event _ before after answer took.done
 

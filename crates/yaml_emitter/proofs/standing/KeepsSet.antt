@@ -6,7 +6,7 @@ use Rattle.yaml_base.specs.declared.errors.yaml_error_t.TheVariants.{WriteError,
 use Rattle.yaml_pen.specs.Page.{Page}
 use Rattle.yaml_emitter.specs.State.{KeepsGiven, KeepsSet, MachineState, State, machine_of}
 use Rattle.yaml_emitter.specs.Processing.{CutPage, Keeps, Processed, WritesPage, partly_written, unwritten}
-use Rattle.yaml_emitter.specs.StandsAfter.{TookFirst}
+use Rattle.yaml_emitter.specs.StandsAfter.{ProcessedFirst}
 
 pub keeps_given_same : (machine : MachineState) → KeepsGiven machine machine
 keeps_given_same machine = record { given = refl; taken = refl }
@@ -39,7 +39,7 @@ processed_keeps_given event empty before after (Err error) done =
     record { given = ap (λ (m : MachineState). m.given) done.kept; taken = ap (λ (m : MachineState). m.page.taken) done.kept }
 
 pub took_keeps_given : (waiting : List Event) (before after : MachineState) (answer : Result (Unit {0}) yaml_error_t)
-    → TookFirst waiting before after answer → KeepsGiven before after
+    → ProcessedFirst waiting before after answer → KeepsGiven before after
 took_keeps_given waiting before after answer took = processed_keeps_given took.event _ before after answer took.done
 
 -- an emitter keeps what its machine keeps, and its own

@@ -4,7 +4,7 @@ use Rattle.std.proofs.lemmas.Bool.{false≢true}
 use Rattle.std.proofs.lemmas.List.{length-map}
 use Rattle.yaml_base.specs.Seen.{seen_event, seen_events}
 use Rattle.yaml_emitter.specs.Queue.{is_head_ready}
-use Rattle.yaml_emitter.specs.StandsAfter.{TookFirst}
+use Rattle.yaml_emitter.specs.StandsAfter.{ProcessedFirst}
 use Rattle.yaml_pen.proofs.Composing.{grows_then}
 use Rattle.yaml_emitter.proofs.standing.Emitting.{next_behind, reached_on, seen_behind, took_behind, took_error, took_failed, took_next, took_within}
 use Rattle.yaml_emitter.proofs.standing.Growing.{grows_page, took_grows}
@@ -28,7 +28,7 @@ events-preserved g c =
     let n = c.events.count in
     let part = seen_behind seen_event c.args.waiting.now n in
     let ready : is_head_ready (drop n waiting) ≡ true = ap is_head_ready (sym part) ∙ sym c.is_next_ready.ensures ∙ c.events-test.true in
-    let took : TookFirst (drop n waiting) c.events.machine c.write_next.new.machine (Ok tt) =
+    let took : ProcessedFirst (drop n waiting) c.events.machine c.write_next.new.machine (Ok tt) =
     took_behind waiting _ n c.events.machine c.write_next.new.machine (Ok tt) part c.in-Ok.ensures in
     record {
       within = took_within seen_event c.args.waiting.now n c.events.machine _ (Ok tt) took;
