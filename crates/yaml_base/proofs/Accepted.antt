@@ -10,20 +10,20 @@ use Rattle.std.specs.Prelude.{option_and_then, flat_map}
 use Rattle.yaml_base.specs.Event.{Event, stream_end, document_end, sequence_start, sequence_end, mapping_start, mapping_end}
 use Rattle.yaml_base.specs.Grammar.{no_nodes, nodes_and, no_pairs, pairs_and, Level, at_item, at_key, at_value, Partial, before_stream, between_documents}
 use Rattle.yaml_base.specs.Grammar.{within_document, after_root, after_stream, push, pushed, partial_of}
-use Rattle.yaml_base.specs.Refusal.{fault_if, name_or_tag_fault, content_fault, expected, place_fault, most_open, begins_collection, ends_collection}
+use Rattle.yaml_base.specs.Refusal.{some_if, name_or_tag_fault, content_fault, expected, place_fault, most_open, begins_collection, ends_collection}
 use Rattle.yaml_base.specs.Refusal.{open_levels, depth_fault, refusal_at, refusal, is_sound, open_count, BeginsAccepted, RefusedExactly}
 use Rattle.yaml_base.specs.Pieces.{empty_scalar, innermost_missing, outer_missing, levels_missing, missing, missing_after, completion}
 use Rattle.yaml_base.proofs.NoFaults.{neither, is_none_none}
 use Rattle.yaml_base.proofs.Trees.{stream_pushed}
 use Rattle.yaml_base.proofs.Pushes.{partial_of_events}
-use Rattle.yaml_base.proofs.Completions.{pushed-append, stream_completed, completion_pushed, front_begins}
+use Rattle.yaml_base.proofs.Completions.{pushed-append, stream_completed, completion_pushed, prefix_is_partial}
 use Rattle.yaml_base.proofs.OpenCounts.{open_count-levels}
 use Rattle.yaml_base.specs.declared.errors.yaml_error_t.TheVariants.{TooDeep}
 use Rattle.yaml_base.specs.declared.errors.yaml_error_t.{yaml_error_t}
 
--- no front leaves too many collections open
+-- no prefix leaves too many collections open
 abbrev IsShallow : List Event → Type 0
-IsShallow events = (front rest : List Event) → front ++ rest ≡ events → open_count front ≤ most_open
+IsShallow events = (prefix rest : List Event) → prefix ++ rest ≡ events → open_count prefix ≤ most_open
 
 -- a list is a partial tree's, sound and shallow
 pub record Stands (canonical : Bool) (events : List Event) : Type 0 where
@@ -50,13 +50,13 @@ stands_from_begins canonical events given =
     let rest = given.rest in
     let whole : partial_of (events ++ rest) ≡ Some (after_stream given.accepted.stream) = ap partial_of (sym given.accepted.is_stream)
     ∙ stream_pushed given.accepted.stream in
-    let begun = front_begins events rest (after_stream given.accepted.stream) whole in
+    let begun = prefix_is_partial events rest (after_stream given.accepted.stream) whole in
     record {
       partial = begun.0;
       is_partial = begun.1;
       sound = and_left (list_all (is_sound canonical) events) (list_all (is_sound canonical) rest)
           (sym (list_all-append (is_sound canonical) events rest) ∙ given.accepted.sound);
-      shallow = (λ front more is. given.accepted.shallow front (more ++ rest) (sym (append_assoc front more rest) ∙ ap (λ events. events ++ rest) is));
+      shallow = (λ prefix more is. given.accepted.shallow prefix (more ++ rest) (sym (append_assoc prefix more rest) ∙ ap (λ events. events ++ rest) is));
     }
 
 -- Missing events are sound and begin no collection.
@@ -118,7 +118,7 @@ starts-append a b = sum_by-append (λ x. cond (begins_collection x) 1 0) a b
 stops-append : (a b : List Event) → stops (a ++ b) ≡ stops a + stops b
 stops-append a b = sum_by-append (λ x. cond (ends_collection x) 1 0) a b
 
--- a front of two lists in a row lies in the first, or has all of it and a front of the second
+-- a prefix of two lists in a row lies in the first, or has all of it and a prefix of the second
 data Cut (a r b c : List Event) : Type 0 where
   within : (x : List Event) → a ++ x ≡ b → Cut a r b c
   past : (x : List Event) → a ≡ b ++ x → x ++ r ≡ c → Cut a r b c
@@ -136,10 +136,11 @@ cut_at (y ∷ a) r (z ∷ b) c same =
     cut_more y z a r b c first (cut_at a r b c others)
 
 -- More events with few enough starts keep a list shallow.
-shallow_cut : (events more : List Event) (front rest : List Event) → IsShallow events → open_count events + starts more ≤ most_open → Cut front rest events more
-    → open_count front ≤ most_open
-shallow_cut events more front rest shallow few (within x is) = shallow front x is
-shallow_cut events more front rest shallow few (past x is others) =
+shallow_cut : (events more : List Event) (prefix rest : List Event) → IsShallow events → open_count events + starts more ≤ most_open
+    → Cut prefix rest events more
+    → open_count prefix ≤ most_open
+shallow_cut events more prefix rest shallow few (within x is) = shallow prefix x is
+shallow_cut events more prefix rest shallow few (past x is others) =
     let counted : starts x + starts rest ≡ starts more = sym (starts-append x rest) ∙ ap starts others in
     let bound : (m : ℕ) → open_count events + starts more ≤ m → open_count (events ++ x) ≤ m =
     (λ m h. omega (arith, starts-append events x, stops-append events x, counted)) in
@@ -147,8 +148,8 @@ shallow_cut events more front rest shallow few (past x is others) =
     rw is all
 
 shallow_more : (events more : List Event) → IsShallow events → open_count events + starts more ≤ most_open → IsShallow (events ++ more)
-shallow_more events more shallow few front rest is =
-    shallow_cut events more front rest shallow few (cut_at front rest events more is)
+shallow_more events more shallow few prefix rest is =
+    shallow_cut events more prefix rest shallow few (cut_at prefix rest events more is)
 
 -- What stands begins an accepted list: its completion.
 pub begins_from_stands : (canonical : Bool) (events : List Event) → Stands canonical events → BeginsAccepted canonical events
@@ -173,7 +174,7 @@ begins_from_stands canonical events stands =
 or_none : (a b : Option yaml_error_t) → a ≡ None → b ≡ None → option_or a b ≡ None
 or_none a b h k = ap (λ x. option_or x b) h ∙ k
 
-no_fault : (wrong : Bool) (fault : yaml_error_t) → fault_if wrong fault ≡ None → wrong ≡ false
+no_fault : (wrong : Bool) (fault : yaml_error_t) → some_if wrong fault ≡ None → wrong ≡ false
 no_fault true fault h = cc
 no_fault false fault h = refl
 
@@ -274,8 +275,8 @@ not_refused canonical before event given next =
     (λ begins. lt-ltb (length (open_levels p)) most_open
     (room_left before event most_open (length (open_levels p)) (omega arith) (open_count-levels before p given.is_partial) all begins)) in
     or_none names (option_or (place_fault p event) (option_or content (depth_fault p event))) (neither names content own_none).0
-    (or_none (place_fault p event) (option_or content (depth_fault p event)) (ap (λ b. fault_if b (expected p)) stands_at)
-    (or_none content (depth_fault p event) (neither names content own_none).1 (ap (λ b. fault_if b TooDeep) deep)))
+    (or_none (place_fault p event) (option_or content (depth_fault p event)) (ap (λ b. some_if b (expected p)) stands_at)
+    (or_none content (depth_fault p event) (neither names content own_none).1 (ap (λ b. some_if b TooDeep) deep)))
 
 pub refused_exactly : RefusedExactly
 refused_exactly canonical before event begun =

@@ -3,15 +3,15 @@ use Rattle.std.proofs.Common.{◌≡◌, refl, inl, inr}
 use Rattle.std.proofs.lemmas.Bool.{and_from, and_parts, or_cases, or_left, or_right, or_parts, not-true, eqb-true}
 use Rattle.std.specs.Prelude.{ℕ, Bool, true, false, not, [], ◌∷◌, ◌++◌, ◌==◌, ◌||◌, ◌&&◌, if◌then◌else◌}
 use Rattle.yaml_base.specs.Characters.{Text, carriage_return, is_break, line_feed, next_line, space}
-use Rattle.yaml_base.specs.LineBreaks.{begins_indented, break_text, is_indented_text, is_laid_text, line_breaks_read_after, with_breaks_written}
+use Rattle.yaml_base.specs.LineBreaks.{begins_indented, break_text, is_indented_text, is_rendered_text, line_breaks_read_after, with_breaks_written}
 use Rattle.yaml_base.specs.LineBreaks.{with_line_breaks_read}
 use Rattle.yaml_base.specs.Settings.{LineBreak, both_break, carriage_return_break, line_feed_break}
 
--- a laid text's front and rest are laid
-pub laid-cons : (c : ℕ) (rest : Text) → is_laid_text (c ∷ rest) ≡ true
-    → ((c == carriage_return) ≡ false) × ((c == next_line) ≡ false) × (is_laid_text rest ≡ true)
-laid-cons c rest h =
-    let p : (not (c == carriage_return || c == next_line) ≡ true) × (is_laid_text rest ≡ true) = and_parts _ _ h in
+-- a rendered text's prefix and rest are rendered
+pub rendered-cons : (c : ℕ) (rest : Text) → is_rendered_text (c ∷ rest) ≡ true
+    → ((c == carriage_return) ≡ false) × ((c == next_line) ≡ false) × (is_rendered_text rest ≡ true)
+rendered-cons c rest h =
+    let p : (not (c == carriage_return || c == next_line) ≡ true) × (is_rendered_text rest ≡ true) = and_parts _ _ h in
     let q : ((c == carriage_return) ≡ false) × ((c == next_line) ≡ false) = or_parts _ _ (not-true _ p.0) in
     (q.0, q.1, p.1)
 
@@ -22,11 +22,11 @@ lf-step : (c : ℕ) (rest : Text) (b : Bool) → (c == line_feed) ≡ b → (c =
 lf-step c rest true is not_cr not_nel ih = let e : c ≡ line_feed = eqb-true c _ is in rw (e, ih)
 lf-step c rest false is not_cr not_nel ih = rw (is, not_cr, not_nel, ih)
 
-lf-read : (text : Text) → is_laid_text text ≡ true
+lf-read : (text : Text) → is_rendered_text text ≡ true
     → line_breaks_read_after false (with_breaks_written line_feed_break text) ≡ text
 lf-read [] h = refl
 lf-read (c ∷ rest) h =
-    let p = laid-cons c rest h in
+    let p = rendered-cons c rest h in
     lf-step c rest (c == line_feed) refl p.0 p.1 (lf-read rest p.2)
 
 -- of a text whose line breaks are CR: after one the flag is on, and no LF follows
@@ -36,11 +36,11 @@ cr-step : (after : Bool) (c : ℕ) (rest : Text) (b : Bool) → (c == line_feed)
 cr-step after c rest true is not_cr not_nel ih = let e : c ≡ line_feed = eqb-true c _ is in rw (e, ih true)
 cr-step after c rest false is not_cr not_nel ih = rw (is, not_cr, not_nel, ih false)
 
-cr-read : (after : Bool) (text : Text) → is_laid_text text ≡ true
+cr-read : (after : Bool) (text : Text) → is_rendered_text text ≡ true
     → line_breaks_read_after after (with_breaks_written carriage_return_break text) ≡ text
 cr-read after [] h = refl
 cr-read after (c ∷ rest) h =
-    let p = laid-cons c rest h in
+    let p = rendered-cons c rest h in
     cr-step after c rest (c == line_feed) refl p.0 p.1 (λ next. cr-read next rest p.2)
 
 -- of a text whose line breaks are CR LF: the flag is off again after the LF
@@ -50,26 +50,26 @@ both-step : (c : ℕ) (rest : Text) (b : Bool) → (c == line_feed) ≡ b → (c
 both-step c rest true is not_cr not_nel ih = let e : c ≡ line_feed = eqb-true c _ is in rw (e, ih)
 both-step c rest false is not_cr not_nel ih = rw (is, not_cr, not_nel, ih)
 
-both-read : (text : Text) → is_laid_text text ≡ true
+both-read : (text : Text) → is_rendered_text text ≡ true
     → line_breaks_read_after false (with_breaks_written both_break text) ≡ text
 both-read [] h = refl
 both-read (c ∷ rest) h =
-    let p = laid-cons c rest h in
+    let p = rendered-cons c rest h in
     both-step c rest (c == line_feed) refl p.0 p.1 (both-read rest p.2)
 
--- a laid text is what its line breaks read as, however they are written
-pub breaks-round : (setting : LineBreak) (text : Text) → is_laid_text text ≡ true
+-- a rendered text is what its line breaks read as, however they are written
+pub breaks-round : (setting : LineBreak) (text : Text) → is_rendered_text text ≡ true
     → with_line_breaks_read (with_breaks_written setting text) ≡ text
 breaks-round carriage_return_break text h = cr-read false text h
 breaks-round line_feed_break text h = lf-read text h
 breaks-round both_break text h = both-read text h
 
--- joined texts are laid where both are
-pub laid-append : (a b : Text) → is_laid_text a ≡ true → is_laid_text b ≡ true → is_laid_text (a ++ b) ≡ true
-laid-append [] b h k = k
-laid-append (c ∷ a) b h k =
-    let p : (not (c == carriage_return || c == next_line) ≡ true) × (is_laid_text a ≡ true) = and_parts _ _ h in
-    and_from _ _ p.0 (laid-append a b p.1 k)
+-- joined texts are rendered where both are
+pub rendered-append : (a b : Text) → is_rendered_text a ≡ true → is_rendered_text b ≡ true → is_rendered_text (a ++ b) ≡ true
+rendered-append [] b h k = k
+rendered-append (c ∷ a) b h k =
+    let p : (not (c == carriage_return || c == next_line) ≡ true) × (is_rendered_text a ≡ true) = and_parts _ _ h in
+    and_from _ _ p.0 (rendered-append a b p.1 k)
 
 -- a line that begins with a break is empty
 pub break-begins : (c : ℕ) (rest : Text) → is_break c ≡ true → begins_indented (c ∷ rest) ≡ true

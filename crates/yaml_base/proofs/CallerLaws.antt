@@ -7,7 +7,7 @@ use Rattle.yaml_base.specs.Characters.{Text, is_among}
 use Rattle.yaml_base.specs.Settings.{Encoding, Effective}
 use Rattle.yaml_base.specs.Encoding.{encode, cut}
 use Rattle.yaml_base.specs.Decode.{decode}
-use Rattle.yaml_base.specs.Cursor.{Cursor, Laid, then_laid}
+use Rattle.yaml_base.specs.Cursor.{Cursor, Rendered, render_then}
 use Rattle.yaml_base.specs.Event.{ScalarStyle, any_style, plain, single_quoted, double_quoted, literal, folded, TagDirective, Scalar, Collection, Event}
 use Rattle.yaml_base.specs.Event.{stream_start, stream_end, document_start, document_end, alias, scalar, sequence_start, sequence_end, mapping_start}
 use Rattle.yaml_base.specs.Event.{mapping_end}
@@ -16,14 +16,16 @@ use Rattle.yaml_base.specs.scalars.Style.{Choice}
 use Rattle.yaml_base.specs.Grammar.{Stream, stream_events, tree_of}
 use Rattle.yaml_base.specs.reading.ReadPlain.{is_read_white, begins_white, begins_no_plain, begins_with_hash, holds_no_plain, read_plain}
 use Rattle.yaml_base.specs.Layout.{Role, as_root, as_item, as_key, as_value, Place, is_key, is_undented, deeper, is_simple_alias, is_simple_scalar}
-use Rattle.yaml_base.specs.Layout.{is_simple_collection, flow_place_laid, block_place_laid, place_laid, Piece, Standing, PieceLaid, lead_alone, properties_laid}
-use Rattle.yaml_base.specs.Layout.{separation_laid, alias_laid, body_laid, mark_after, choice_of, body_at, scalar_piece, is_written_in_flow, Brackets, square}
-use Rattle.yaml_base.specs.Layout.{curly, end_laid, first_standing, layout}
+use Rattle.yaml_base.specs.Layout.{is_simple_collection, render_flow_place, render_block_place, render_place, Piece, Standing, RenderedPiece}
+use Rattle.yaml_base.specs.Layout.{piece_without_body, render_properties}
+use Rattle.yaml_base.specs.Layout.{render_separation, render_alias, render_body, open_ended_after, choice_of, body_at, scalar_piece}
+use Rattle.yaml_base.specs.Layout.{is_written_in_flow, Brackets, square}
+use Rattle.yaml_base.specs.Layout.{curly, render_end, first_standing, layout}
 use Rattle.yaml_base.specs.Steps.{Frame, Stage, at_stream, at_document, at_node, at_document_end, next_place, stage_after, is_first, Stepped, leaf_step}
 use Rattle.yaml_base.specs.Steps.{frame_opened, start_step, end_step, node_step, step, ends_next, Steps, then_steps, steps}
 use Rattle.yaml_base.specs.Pieces.{list_layout}
 use Rattle.yaml_base.specs.Output.{settings_for, text_written, bytes_written}
-use Rattle.yaml_base.specs.Laws.{TreeIsFound, IsPlainInside, PlainHoldsNoSign, LimitCuts, EncodingsAgree}
+use Rattle.yaml_base.specs.Laws.{TreeIsFound, IsPlainInside, PlainHoldsNoIndicator, LimitCuts, EncodingsAgree}
 use Rattle.yaml_base.proofs.Decoding.{decode-encode}
 use Rattle.yaml_base.proofs.StepLaws.{stream_steps}
 use Rattle.yaml_base.proofs.Trees.{tree_of-stream_events}
@@ -44,7 +46,7 @@ inside_here breaks12 flow [] c rest h =
     record {
       no_key = λ is. then_false (c == 58) (begins_white breaks12 rest) (ap (λ n. n == 58) is) first.0;
       no_comment = λ is. then_false (is_read_white breaks12 c) (begins_with_hash rest) is first.1;
-      no_flow_sign = λ is. then_false flow (is_among (codes ",?:[]{}") c) is parts.1;
+      no_flow_indicator = λ is. then_false flow (is_among (codes ",?:[]{}") c) is parts.1;
     }
 inside_here breaks12 flow (x ∷ before) c rest h = inside_here breaks12 flow before c rest (or_parts _ _ h).1
 
@@ -57,9 +59,9 @@ read_holds : (breaks12 flow : Bool) (c : ℕ) (rest value : Text) → read_plain
     → holds_no_plain breaks12 flow (c ∷ rest) ≡ false
 read_holds breaks12 flow c rest value h = read_if (begins_no_plain breaks12 (c ∷ rest)) (holds_no_plain breaks12 flow (c ∷ rest)) _ value h
 
-pub plain_holds_no_sign : PlainHoldsNoSign
-plain_holds_no_sign breaks12 flow [] c rest value h = inside_here breaks12 flow [] c rest (read_holds breaks12 flow c rest value h)
-plain_holds_no_sign breaks12 flow (x ∷ before) c rest value h =
+pub plain_holds_no_indicator : PlainHoldsNoIndicator
+plain_holds_no_indicator breaks12 flow [] c rest value h = inside_here breaks12 flow [] c rest (read_holds breaks12 flow c rest value h)
+plain_holds_no_indicator breaks12 flow (x ∷ before) c rest value h =
     inside_here breaks12 flow (x ∷ before) c rest (read_holds breaks12 flow x (before ++ c ∷ rest) value h)
 
 -- No layout goes by the encoding or the limit.
@@ -67,7 +69,7 @@ abbrev other : Effective → Encoding → ℕ → Effective
 other s e limit = record s { encoding = e; limit = limit }
 
 flow_place_other : (s : Effective) (e : Encoding) (limit : ℕ) (role : Role) (simple : Bool) (column : Option ℕ) (cursor : Cursor)
-    → flow_place_laid (other s e limit) role simple column cursor ≡ flow_place_laid s role simple column cursor
+    → render_flow_place (other s e limit) role simple column cursor ≡ render_flow_place s role simple column cursor
 flow_place_other s e limit as_root simple column cursor = refl
 flow_place_other s e limit (as_item first) simple column cursor = refl
 flow_place_other s e limit (as_key first) simple column cursor = refl
@@ -75,13 +77,13 @@ flow_place_other s e limit (as_value true) simple column cursor = refl
 flow_place_other s e limit (as_value false) simple column cursor = refl
 
 place_other : (s : Effective) (e : Encoding) (limit : ℕ) (place : Place) (simple : Bool) (cursor : Cursor)
-    → place_laid (other s e limit) place simple cursor ≡ place_laid s place simple cursor
+    → render_place (other s e limit) place simple cursor ≡ render_place s place simple cursor
 place_other s e limit place simple cursor =
-    ap (λ (laid : Laid). if place.in_flow then laid else block_place_laid place.role simple place.column cursor)
+    ap (λ (rendered : Rendered). if place.in_flow then rendered else render_block_place place.role simple place.column cursor)
     (flow_place_other s e limit place.role simple place.column cursor)
 
 body_other : (style : ScalarStyle) (s : Effective) (e : Encoding) (limit : ℕ) (width : Option ℕ) (indent : ℕ) (value : Text) (cursor : Cursor)
-    → body_laid style (other s e limit) width indent value cursor ≡ body_laid style s width indent value cursor
+    → render_body style (other s e limit) width indent value cursor ≡ render_body style s width indent value cursor
 body_other any_style s e limit width indent value cursor = refl
 body_other plain s e limit width indent value cursor = refl
 body_other single_quoted s e limit width indent value cursor = refl
@@ -90,17 +92,17 @@ body_other literal s e limit width indent value cursor = refl
 body_other folded s e limit width indent value cursor = refl
 
 -- a scalar's piece after what its place puts, with its body
-abbrev lead_after : Effective → List TagDirective → Place → Choice → Scalar → Laid → Laid
+abbrev lead_after : Effective → List TagDirective → Place → Choice → Scalar → Rendered → Rendered
 lead_after s directives place choice content placed =
-    then_laid
-    (then_laid placed (properties_laid s.portable directives content.anchor (scalar_tag s.canonical content) choice.bare))
-    (separation_laid choice.style place.in_flow content.value)
+    render_then
+    (render_then placed (render_properties s.portable directives content.anchor (scalar_tag s.canonical content) choice.bare))
+    (render_separation choice.style place.in_flow content.value)
 
-abbrev scalar_made : Place → Choice → Scalar → ℕ → (lead body : Laid) → PieceLaid
-scalar_made place choice content mark lead body =
+abbrev scalar_made : Place → Choice → Scalar → ℕ → (lead body : Rendered) → RenderedPiece
+scalar_made place choice content open_ended lead body =
     record {
       piece = record { lead = lead.text; body = Some (body_at place choice.style content.value body) };
-      standing = record { cursor = body.cursor; mark = mark_after choice.style content.value mark };
+      standing = record { cursor = body.cursor; open_ended = open_ended_after choice.style content.value open_ended };
     }
 
 scalar_other : (s : Effective) (e : Encoding) (limit : ℕ) (directives : List TagDirective) (place : Place) (simple : Bool) (content : Scalar)
@@ -110,16 +112,16 @@ scalar_other s e limit directives place simple content standing =
     let choice = choice_of s place simple content in
     let width : Option ℕ = if simple then None else s.width in
     let indent = deeper s.indent place.column in
-    let lead = λ (placed : Laid). lead_after s directives place choice content placed in
-    let placed = place_laid s place simple standing.cursor in
-    ap (λ (placed : Laid). scalar_made place choice content standing.mark (lead placed)
-    (body_laid choice.style (other s e limit) width indent content.value (lead placed).cursor))
+    let lead = λ (placed : Rendered). lead_after s directives place choice content placed in
+    let placed = render_place s place simple standing.cursor in
+    ap (λ (placed : Rendered). scalar_made place choice content standing.open_ended (lead placed)
+    (render_body choice.style (other s e limit) width indent content.value (lead placed).cursor))
     (place_other s e limit place simple standing.cursor)
-    ∙ ap (λ (body : Laid). scalar_made place choice content standing.mark (lead placed) body)
+    ∙ ap (λ (body : Rendered). scalar_made place choice content standing.open_ended (lead placed) body)
     (body_other choice.style s e limit width indent content.value (lead placed).cursor)
 
 end_other : (s : Effective) (e : Encoding) (limit : ℕ) (brackets : Brackets) (in_flow empty : Bool) (column : Option ℕ) (cursor : Cursor)
-    → end_laid (other s e limit) brackets in_flow empty column cursor ≡ end_laid s brackets in_flow empty column cursor
+    → render_end (other s e limit) brackets in_flow empty column cursor ≡ render_end s brackets in_flow empty column cursor
 end_other s e limit brackets false empty column cursor = refl
 end_other s e limit brackets true true column cursor = refl
 end_other s e limit brackets true false column cursor = refl
@@ -130,12 +132,12 @@ start_other : (s : Effective) (e : Encoding) (limit : ℕ) (directives : List Ta
     ≡ start_step s directives frames undented simple empty role start standing
 start_other s e limit directives frames undented simple empty role start standing =
     let place = next_place frames in
-    ap (λ (placed : Laid).
-    let laid : PieceLaid = lead_alone standing.mark
-    (then_laid placed (properties_laid s.portable directives start.anchor (collection_tag s.canonical start) false)) in
+    ap (λ (placed : Rendered).
+    let rendered : RenderedPiece = piece_without_body standing.open_ended
+    (render_then placed (render_properties s.portable directives start.anchor (collection_tag s.canonical start) false)) in
     let made : Stepped = record {
-      laid = laid;
-      stage = at_node directives (frame_opened s place (is_written_in_flow s place start empty) undented simple role laid ∷ frames);
+      rendered = rendered;
+      stage = at_node directives (frame_opened s place (is_written_in_flow s place start empty) undented simple role rendered ∷ frames);
     } in
     made)
     (place_other s e limit place simple standing.cursor)
@@ -144,8 +146,8 @@ end_step_other : (s : Effective) (e : Encoding) (limit : ℕ) (brackets : Bracke
     → end_step (other s e limit) brackets directives frames standing ≡ end_step s brackets directives frames standing
 end_step_other s e limit brackets directives [] standing = refl
 end_step_other s e limit brackets directives (frame ∷ outer) standing =
-    ap (λ (laid : Laid).
-    let made : Stepped = record { laid = lead_alone standing.mark laid; stage = stage_after directives outer frame.simple } in
+    ap (λ (rendered : Rendered).
+    let made : Stepped = record { rendered = piece_without_body standing.open_ended rendered; stage = stage_after directives outer frame.simple } in
     made)
     (end_other s e limit brackets frame.place.in_flow (is_first frame.place.role) (next_place outer).column standing.cursor)
 
@@ -154,11 +156,12 @@ node_other : (s : Effective) (e : Encoding) (limit : ℕ) (directives : List Tag
     → node_step (other s e limit) directives frames event empty standing ≡ node_step s directives frames event empty standing
 node_other s e limit directives frames (alias name) empty standing =
     let simple = is_key (next_place frames).role && (not s.canonical && is_simple_alias name) in
-    ap (λ (placed : Laid). leaf_step directives frames simple (lead_alone standing.mark (then_laid placed (alias_laid name simple))))
+    ap (λ (placed : Rendered). leaf_step directives frames simple (piece_without_body standing.open_ended (render_then placed (render_alias name simple))))
     (place_other s e limit (next_place frames) simple standing.cursor)
 node_other s e limit directives frames (scalar content) empty standing =
     let simple = is_key (next_place frames).role && (not s.canonical && is_simple_scalar s.canonical directives content) in
-    ap (λ (laid : PieceLaid). leaf_step directives frames simple laid) (scalar_other s e limit directives (next_place frames) simple content standing)
+    ap (λ (rendered : RenderedPiece). leaf_step directives frames simple rendered)
+    (scalar_other s e limit directives (next_place frames) simple content standing)
 node_other s e limit directives frames (sequence_start start) empty standing =
     start_other s e limit directives frames (is_undented s (next_place frames).role)
     (is_key (next_place frames).role && (not s.canonical && is_simple_collection s.canonical directives start empty))
@@ -186,8 +189,9 @@ steps_other [] s e limit follows stage standing = refl
 steps_other (event ∷ rest) s e limit follows stage standing =
     let stepped = step s stage event (ends_next rest follows) standing in
     ap (λ (made : Stepped). then_steps made (steps (other s e limit) follows rest)) (step_other s e limit stage event (ends_next rest follows) standing)
-    ∙ ap (λ (after : Steps). let made : Steps = record { pieces = stepped.laid.piece ∷ after.pieces; standing = after.standing; stage = after.stage } in made)
-    (steps_other rest s e limit follows stepped.stage stepped.laid.standing)
+    ∙ ap (λ (after : Steps). let made : Steps = record { pieces = stepped.rendered.piece ∷ after.pieces; standing = after.standing; stage = after.stage } in
+    made)
+    (steps_other rest s e limit follows stepped.stage stepped.rendered.standing)
 
 layout_other : (s : Effective) (e : Encoding) (limit : ℕ) (stream : Stream) → layout (other s e limit) stream ≡ layout s stream
 layout_other s e limit stream =

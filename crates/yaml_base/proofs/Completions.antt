@@ -83,8 +83,8 @@ completion_pushed events p begins =
     ∙ missing_pushed p
 
 -- Where a list begins one that is a whole stream's, it begins a stream.
-pub front_begins : (a b : List Event) (q : Partial) → partial_of (a ++ b) ≡ Some q → (p : Partial) × (partial_of a ≡ Some p)
-front_begins a b q whole = of (partial_of a) (sym (pushed-append a b before_stream) ∙ whole)
+pub prefix_is_partial : (a b : List Event) (q : Partial) → partial_of (a ++ b) ≡ Some q → (p : Partial) × (partial_of a ≡ Some p)
+prefix_is_partial a b q whole = of (partial_of a) (sym (pushed-append a b before_stream) ∙ whole)
   where
     of : (o : Option Partial) → option_and_then (λ r. pushed r b) o ≡ Some q → (p : Partial) × (o ≡ Some p)
     of None is = cc

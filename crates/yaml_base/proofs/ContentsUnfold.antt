@@ -10,8 +10,8 @@ use Rattle.yaml_base.specs.Grammar.{Documents, no_documents, documents_and, Stre
 use Rattle.yaml_base.specs.reading.Content.{DocumentContent, content_tag, node_content, nodes_content, pairs_content, document_content, documents_content}
 use Rattle.yaml_base.specs.reading.Content.{content_of}
 use Rattle.yaml_base.specs.graphs.Meetings.{Graph, GraphNode, Held, scalar_held, sequence_held, mapping_held, node_numbered, document_event_list}
-use Rattle.yaml_base.specs.graphs.Unfolding.{NodeKind, scalar_kind, sequence_kind, mapping_kind, Label, Placed, alias_placed, node_placed, PlacedAll}
-use Rattle.yaml_base.specs.graphs.Unfolding.{none_placed, placed_and, kind_held, label_of, tag_told, HasShape, HaveShapes, node_shape_of, nodes_shapes}
+use Rattle.yaml_base.specs.graphs.Unfolding.{NodeKind, scalar_kind, sequence_kind, mapping_kind, Label, Placed, alias_placed, node_placed, PlacedNodes}
+use Rattle.yaml_base.specs.graphs.Unfolding.{none_placed, placed_and, kind_held, label_of, explicit_tag, HasShape, HaveShapes, node_shape_of, nodes_shapes}
 use Rattle.yaml_base.specs.graphs.Unfolding.{pairs_shapes, content_shape, contents_shapes, content_pairs_shapes, TreeUnfolds, ContentUnfolds, IsDocument}
 use Rattle.yaml_base.specs.graphs.Dumped.{AreDumped, ContentsUnfold}
 use Rattle.yaml_base.proofs.Trees.{tree_of-stream_events}
@@ -46,18 +46,18 @@ tag_in : Option Label → Option Text
 tag_in None = None
 tag_in (Some label) = label.tag
 
-told_some : (tag : Option Text) (text : Text) (implicit : Bool) → Some text ≡ tag → tag ≡ tag_told (content_tag tag implicit)
+told_some : (tag : Option Text) (text : Text) (implicit : Bool) → Some text ≡ tag → tag ≡ explicit_tag (content_tag tag implicit)
 told_some None text implicit is = cc
 told_some (Some other) text implicit is = refl
 
 tag_kept : (found : Option GraphNode) (label : Label) (implicit : Bool) → option_map (label_of true) found ≡ Some label
-    → label.tag ≡ tag_told (content_tag label.tag implicit)
+    → label.tag ≡ explicit_tag (content_tag label.tag implicit)
 unfolding tag_in
 tag_kept None label implicit is = cc
 tag_kept (Some node) label implicit is = told_some label.tag node.tag implicit (ap tag_in is)
 
 scalar_label : (found : Option GraphNode) (label : Label) (implicit : Bool) → option_map (label_of true) found ≡ Some label
-    → option_map (label_of false) found ≡ Some (record { tag = tag_told (content_tag label.tag implicit); kind = unstyled_kind label.kind })
+    → option_map (label_of false) found ≡ Some (record { tag = explicit_tag (content_tag label.tag implicit); kind = unstyled_kind label.kind })
 scalar_label found label implicit is =
     labels_same found label is ∙ ap (λ (tag : Option Text). Some (record { tag = tag; kind = unstyled_kind label.kind })) (tag_kept found label implicit is)
 
@@ -90,14 +90,14 @@ mutual
     content_pairs_fit graph pairs below fits.3,
   )
 
-  contents_fit : (graph : Graph) (items : Nodes) (below : PlacedAll) → HaveShapes true graph below (nodes_shapes items)
+  contents_fit : (graph : Graph) (items : Nodes) (below : PlacedNodes) → HaveShapes true graph below (nodes_shapes items)
       → HaveShapes false graph below (contents_shapes (nodes_content items))
   contents_fit graph no_nodes none_placed fit = fit
   contents_fit graph no_nodes (placed_and before last) fit = fit
   contents_fit graph (nodes_and items item) none_placed fit = fit
   contents_fit graph (nodes_and items item) (placed_and before last) fit = (contents_fit graph items before fit.0, content_fits graph item last fit.1)
 
-  content_pairs_fit : (graph : Graph) (pairs : Pairs) (below : PlacedAll) → HaveShapes true graph below (pairs_shapes pairs)
+  content_pairs_fit : (graph : Graph) (pairs : Pairs) (below : PlacedNodes) → HaveShapes true graph below (pairs_shapes pairs)
       → HaveShapes false graph below (content_pairs_shapes (pairs_content pairs))
   content_pairs_fit graph no_pairs none_placed fit = fit
   content_pairs_fit graph no_pairs (placed_and before last) fit = fit

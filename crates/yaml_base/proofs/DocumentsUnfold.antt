@@ -14,7 +14,8 @@ use Rattle.yaml_base.specs.Event.{Event, document_start, document_end}
 use Rattle.yaml_base.specs.Grammar.{node_events}
 use Rattle.yaml_base.specs.graphs.Meetings.{Graph, Step, enters, leaves, meets_again, is_entry_of, steps, node_met_again, anchor_of, step_events}
 use Rattle.yaml_base.specs.graphs.Meetings.{document_event_list}
-use Rattle.yaml_base.specs.graphs.Unfolding.{Placed, Occurrence, alias_occurrence, node_occurrence, occurrences, carries, is_occurrence_of, IsNamed, AreNamed}
+use Rattle.yaml_base.specs.graphs.Unfolding.{Placed, Occurrence, alias_occurrence, node_occurrence, occurrences, has_anchor, is_occurrence_of}
+use Rattle.yaml_base.specs.graphs.Unfolding.{IsNamed, AreNamed}
 use Rattle.yaml_base.specs.graphs.Unfolding.{IsReached, first_reached, child_reached, TreeUnfolds, IsDocument, EventsUnfold}
 use Rattle.yaml_base.proofs.SharedNodes.{has, shared_named, anchors_differ}
 use Rattle.yaml_base.proofs.UnfoldSteps.{FollowEntries, is_meeting_of, IsOrderly, orderly_steps}
@@ -54,7 +55,7 @@ places_counted named test number nodes aliases (leaves other ∷ walk) =
 -- a node's anchor is carried by its place alone
 carried_by : (walk : List Step) (number : ℕ) (name : Text) → anchor_of walk number ≡ Some name → (other : ℕ) (anchor : Option Text)
     → anchor_of walk other ≡ anchor
-    → carries name (node_occurrence anchor other) ≡ (number == other)
+    → has_anchor name (node_occurrence anchor other) ≡ (number == other)
 carried_by walk number name is other None none =
     sym (ne_eqb number other (λ same. let both : Some name ≡ None = sym is ∙ ap (anchor_of walk) same ∙ none in cc))
 carried_by walk number name is other (Some anchor) also =
@@ -95,7 +96,7 @@ again_met number (meets_again other ∷ walk) is =
 pub record HasName (walk : List Step) (number : ℕ) : Type 0 where
   pub name : Text
   pub is : anchor_of walk number ≡ Some name
-  pub once : count_by (carries name) (filter_map (place_of (anchor_of walk)) walk) ≡ 1
+  pub once : count_by (has_anchor name) (filter_map (place_of (anchor_of walk)) walk) ≡ 1
 
 names_shared : (graph : Graph) (walk : List Step) → IsOrderly graph walk → (number : ℕ) → list_any (is_again number) walk ≡ true → HasName walk number
 names_shared graph walk orderly number again =
@@ -104,7 +105,7 @@ names_shared graph walk orderly number again =
       name = named.0;
       is = named.1;
       once =
-          places_counted (anchor_of walk) (carries named.0) number (λ other. carried_by walk number named.0 named.1 other (anchor_of walk other) refl)
+          places_counted (anchor_of walk) (has_anchor named.0) number (λ other. carried_by walk number named.0 named.1 other (anchor_of walk other) refl)
           (λ name other. refl) walk
           ∙ orderly.once number ∙ ap {B = ℕ} (λ (b : Bool). cond b 1 0) (orderly.met number (again_met number walk again));
     }
@@ -135,7 +136,7 @@ place_more : (named : ℕ → Option Text) (before : List Step) (step : Step)
 place_more named before step = filter_map-append (place_of named) before (step ∷ [])
 
 alias_named : (named : ℕ → Option Text) (before : List Step) (all : List Occurrence) (number : ℕ) (name : Text) → named number ≡ Some name
-    → count_by (carries name) all ≡ 1
+    → count_by (has_anchor name) all ≡ 1
     → list_any (is_entry_of number) before ≡ true → IsNamed all (filter_map (place_of named) before) (alias_occurrence (unwrap_or (named number) []) number)
 alias_named named before all number name is once entered =
     let told : unwrap_or (named number) [] ≡ name = ap (λ (o : Option Text). unwrap_or o []) is in

@@ -1,5 +1,6 @@
 -- Of the events of a graph none is refused but for an empty tag or too great a depth.
-use Rattle.std.proofs.Common.{◌≡◌, ◌⊎◌, inl, inr, ℕ, zero, suc, ◌+◌, ◌-◌, ◌/◌, ◌%◌, ◌==◌, ◌<◌, ◌||◌, ◌&&◌, Bool, true, false, cond, Option, None, Some, option_map}
+use Rattle.std.proofs.Common.{◌≡◌, ◌⊎◌, inl, inr, ℕ, zero, suc, ◌+◌, ◌-◌, ◌/◌, ◌%◌, ◌==◌, ◌<◌, ◌||◌, ◌&&◌, Bool, true, false, cond, Option, None}
+use Rattle.std.proofs.Common.{Some, option_map}
 use Rattle.std.proofs.Common.{unwrap_or, List, [], ◌∷◌, ◌++◌, length, replicate, refl, sym, ap, ◌∙◌, subst, arith, append_assoc, eq-eqb}
 use Rattle.std.specs.Prelude.{option_and_then, is_none, flat_map, if◌then◌else◌}
 use Rattle.std.specs.Option.{option_or}
@@ -13,15 +14,15 @@ use Rattle.yaml_base.specs.Event.{Event, DocumentStart, stream_start, stream_end
 use Rattle.yaml_base.specs.Event.{mapping_end}
 use Rattle.yaml_base.specs.Tags.{name_fault, anchor_fault, alias_fault, tag_fault}
 use Rattle.yaml_base.specs.Grammar.{Partial, after_stream, Stream, stream_events, push, partial_of}
-use Rattle.yaml_base.specs.Refusal.{fault_if, name_or_tag_fault, content_fault, expected, place_fault, depth_fault, refusal_at, refusal}
+use Rattle.yaml_base.specs.Refusal.{some_if, name_or_tag_fault, content_fault, expected, place_fault, depth_fault, refusal_at, refusal}
 use Rattle.yaml_base.specs.graphs.Meetings.{Graph, GraphNode, Held, scalar_held, sequence_held, mapping_held, Step, enters, leaves, meets_again, node_numbered}
-use Rattle.yaml_base.specs.graphs.Meetings.{steps, node_met_again, shared_nodes, decimal_digits, numbered_name, anchor_of, beginning_of, beginning_events}
-use Rattle.yaml_base.specs.graphs.Meetings.{ending_of, ending_events, step_events, document_event_list}
+use Rattle.yaml_base.specs.graphs.Meetings.{steps, node_met_again, shared_nodes, decimal_digits, numbered_name, anchor_of, opening_event_of, opening_events}
+use Rattle.yaml_base.specs.graphs.Meetings.{closing_event_of, closing_events, step_events, document_event_list}
 use Rattle.yaml_base.specs.declared.errors.yaml_error_t.{yaml_error_t}
 use Rattle.yaml_base.specs.declared.errors.yaml_error_t.TheVariants.{TagEmpty, TooDeep, AnchorEmpty, AnchorAlphabet, AliasEmpty, AliasAlphabet}
 use Rattle.yaml_base.proofs.Trees.{stream_pushed}
 use Rattle.yaml_base.proofs.Accepted.{pushed_next}
-use Rattle.yaml_base.proofs.Completions.{front_begins}
+use Rattle.yaml_base.proofs.Completions.{prefix_is_partial}
 use Rattle.yaml_base.proofs.SharedNodes.{has, shared_named}
 use Rattle.yaml_base.proofs.Twins.{IsIn, in_either}
 
@@ -39,27 +40,27 @@ first_fault None None (Some other) depth error stands sound is = cc
 first_fault None (Some other) content depth error stands sound is = cc
 first_fault (Some fault) place content depth error stands sound is = inl is
 
-only_depth : (deep : Bool) (error : yaml_error_t) → fault_if deep TooDeep ≡ Some error → error ≡ TooDeep
+only_depth : (deep : Bool) (error : yaml_error_t) → some_if deep TooDeep ≡ Some error → error ≡ TooDeep
 only_depth true error is = cc
 only_depth false error is = cc
 
 stands : (pushed : Option Partial) (after : Partial) (fault : yaml_error_t) → option_and_then (λ next. Some next) pushed ≡ Some after
-    → fault_if (is_none pushed) fault ≡ None
+    → some_if (is_none pushed) fault ≡ None
 stands None after fault is = cc
 stands (Some next) after fault is = refl
 
 -- an event of a stream is refused for its tag or its depth
-pub refused_so : (stream : Stream) (front : List Event) (event : Event) (later : List Event) (error : yaml_error_t)
-    → front ++ event ∷ later ≡ stream_events stream → IsWritable event → refusal true front event ≡ Some error
+pub refused_so : (stream : Stream) (prefix : List Event) (event : Event) (later : List Event) (error : yaml_error_t)
+    → prefix ++ event ∷ later ≡ stream_events stream → IsWritable event → refusal true prefix event ≡ Some error
     → (error ≡ TagEmpty) ⊎ (error ≡ TooDeep)
-refused_so stream front event later error parts writable refused =
-    let whole : partial_of (front ++ event ∷ later) ≡ Some (after_stream stream) = ap partial_of parts ∙ stream_pushed stream in
-    let before = front_begins front (event ∷ later) (after_stream stream) whole in
-    let after = front_begins (front ++ event ∷ []) later (after_stream stream) (ap partial_of (append_assoc front (event ∷ []) later) ∙ whole) in
+refused_so stream prefix event later error parts writable refused =
+    let whole : partial_of (prefix ++ event ∷ later) ≡ Some (after_stream stream) = ap partial_of parts ∙ stream_pushed stream in
+    let before = prefix_is_partial prefix (event ∷ later) (after_stream stream) whole in
+    let after = prefix_is_partial (prefix ++ event ∷ []) later (after_stream stream) (ap partial_of (append_assoc prefix (event ∷ []) later) ∙ whole) in
     let at : refusal_at true before.0 event ≡ Some error =
     sym (ap (option_and_then (λ partial. refusal_at true partial event)) before.1) ∙ refused in
     let placed : place_fault before.0 event ≡ None =
-    stands (push before.0 event) after.0 (expected before.0) (sym (pushed_next front event before.0 before.1) ∙ after.1) in
+    stands (push before.0 event) after.0 (expected before.0) (sym (pushed_next prefix event before.0 before.1) ∙ after.1) in
     elim (first_fault (name_or_tag_fault true event) (place_fault before.0 event) (content_fault true event) (depth_fault before.0 event) error placed
     writable.content at) as (λ _. (error ≡ TagEmpty) ⊎ (error ≡ TooDeep)) [
       | inl own ↦ inl (writable.named error own)
@@ -120,7 +121,8 @@ only_tag [] None error none is = cc
 only_tag (c ∷ tag) None error none is = cc
 only_tag tag (Some other) error none is = cc
 
-beginning_writable : (anchor : Option Text) (tag : Text) (held : Held) → option_and_then anchor_fault anchor ≡ None → IsWritable (beginning_of anchor tag held)
+beginning_writable : (anchor : Option Text) (tag : Text) (held : Held) → option_and_then anchor_fault anchor ≡ None
+    → IsWritable (opening_event_of anchor tag held)
 beginning_writable anchor tag (scalar_held value style) none =
     record { named = λ error is. only_tag tag (option_and_then anchor_fault anchor) error none is; content = refl }
 beginning_writable anchor tag (sequence_held items style) none =
@@ -140,19 +142,19 @@ both_writable : (some others : List Event) → AreWritable some → AreWritable 
 both_writable some others all more event within =
     elim (in_either event some others within) as (λ _. IsWritable event) [ inl earlier ↦ all event earlier | inr later ↦ more event later ]
 
-beginnings_writable : (anchor : Option Text) (found : Option GraphNode) → option_and_then anchor_fault anchor ≡ None → AreWritable (beginning_events anchor found)
+beginnings_writable : (anchor : Option Text) (found : Option GraphNode) → option_and_then anchor_fault anchor ≡ None → AreWritable (opening_events anchor found)
 beginnings_writable anchor None none event within = absurd within
 beginnings_writable anchor (Some node) none event within =
-    one_writable (beginning_of anchor node.tag node.held) (beginning_writable anchor node.tag node.held none) event within
+    one_writable (opening_event_of anchor node.tag node.held) (beginning_writable anchor node.tag node.held none) event within
 
-held_writable : (held : Held) → AreWritable (ending_of held)
+held_writable : (held : Held) → AreWritable (closing_event_of held)
 held_writable (scalar_held value style) event within = absurd within
 held_writable (sequence_held items style) event within =
     one_writable sequence_end (record { named = λ error is. cc; content = refl }) event within
 held_writable (mapping_held pairs style) event within =
     one_writable mapping_end (record { named = λ error is. cc; content = refl }) event within
 
-endings_writable : (found : Option GraphNode) → AreWritable (ending_events found)
+endings_writable : (found : Option GraphNode) → AreWritable (closing_events found)
 endings_writable None event within = absurd within
 endings_writable (Some node) event within = held_writable node.held event within
 

@@ -1,4 +1,4 @@
--- What it says that no fault is told.
+-- What it says that no fault is returned.
 use Rattle.std.proofs.Common.{◌≡◌, ℕ, Bool, true, false, cond, Option, None, Some, refl}
 use Rattle.std.specs.Option.{option_or}
 use Rattle.std.specs.Prelude.{is_none}
@@ -13,7 +13,7 @@ pub is_none_none : {A : Type 0} (x : Option A) → is_none x ≡ true → x ≡ 
 is_none_none None h = refl
 is_none_none (Some x) h = cc
 
--- a fault that isn't told
+-- a fault that isn't returned
 pub not_given : {A : Type 0} (given : Bool) (fault : A) → cond {A = Option A} given (Some fault) None ≡ None → given ≡ false
 not_given true fault e = absurd (cc)
 not_given false fault e = refl

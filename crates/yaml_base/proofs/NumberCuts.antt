@@ -8,7 +8,8 @@ use Rattle.std.specs.List.{All, list_all, slice_split, take_while}
 use Rattle.std.specs.Prelude.{ℕ, suc, Bool, true, false, Option, None, Some, List, [], ◌∷◌, ◌++◌, ◌==◌, ◌||◌, ◌&&◌, not, length, codes, ⊤, if◌then◌else◌}
 use Rattle.yaml_base.specs.Characters.{Text}
 use Rattle.yaml_base.specs.Words.{named}
-use Rattle.yaml_base.specs.values.Resolved.{Resolved, meant_timestamp, words_of_core, words_of_11, is_point, is_exponent_mark, is_sign, is_decimal, first_is}
+use Rattle.yaml_base.specs.values.Resolved.{Resolved, meant_timestamp, words_of_core, words_of_11, is_point, is_exponent_letter, is_plus_or_minus}
+use Rattle.yaml_base.specs.values.Resolved.{is_decimal, first_meets}
 use Rattle.yaml_base.specs.values.Resolved.{past_sign, is_negative, are_digits}
 use Rattle.yaml_base.specs.values.SchemaOf11.{is_underscore, ungrouped, are_grouped, is_hyphen, past, in_date, is_date, is_time_after_date, timestamp_11}
 use Rattle.yaml_base.specs.values.JsonNumbers.{JsonExponent, minus, exponent_negative, exponent_spelled}
@@ -27,10 +28,10 @@ digit_unlike c n other digit = by (c == n) refl
 digit_no_point : (c : ℕ) → is_decimal c ≡ true → is_point c ≡ false
 digit_no_point c digit = digit_unlike c 0x2E refl digit
 
-digit_no_mark : (c : ℕ) → is_decimal c ≡ true → is_exponent_mark c ≡ false
-digit_no_mark c digit = or_from (c == 0x65) (c == 0x45) (digit_unlike c 0x65 refl digit) (digit_unlike c 0x45 refl digit)
+digit_no_exponent_letter : (c : ℕ) → is_decimal c ≡ true → is_exponent_letter c ≡ false
+digit_no_exponent_letter c digit = or_from (c == 0x65) (c == 0x45) (digit_unlike c 0x65 refl digit) (digit_unlike c 0x45 refl digit)
 
-digit_no_sign : (c : ℕ) → is_decimal c ≡ true → is_sign c ≡ false
+digit_no_sign : (c : ℕ) → is_decimal c ≡ true → is_plus_or_minus c ≡ false
 digit_no_sign c digit = or_from (c == 0x2B) (c == 0x2D) (digit_unlike c 0x2B refl digit) (digit_unlike c 0x2D refl digit)
 
 digit_no_hyphen : (c : ℕ) → is_decimal c ≡ true → is_hyphen c ≡ false
@@ -74,8 +75,8 @@ uncut sign other digits h = slice_split_none sign digits (free sign other digits
 pub no_point : (digits : Text) → list_all is_decimal digits ≡ true → slice_split is_point digits ≡ digits ∷ []
 no_point digits h = uncut is_point digit_no_point digits h
 
-pub no_exponent : (digits : Text) → list_all is_decimal digits ≡ true → slice_split is_exponent_mark digits ≡ digits ∷ []
-no_exponent digits h = uncut is_exponent_mark digit_no_mark digits h
+pub no_exponent : (digits : Text) → list_all is_decimal digits ≡ true → slice_split is_exponent_letter digits ≡ digits ∷ []
+no_exponent digits h = uncut is_exponent_letter digit_no_exponent_letter digits h
 
 -- digits with a point among them are cut there
 pub at_point : (whole fraction : Text) → list_all is_decimal whole ≡ true → list_all is_decimal fraction ≡ true
@@ -98,40 +99,40 @@ abbrev pub HasDigits : Option JsonExponent → Type 0
 HasDigits None = ⊤
 HasDigits (Some exponent) = are_digits 10 exponent.digits ≡ true
 
-no_mark_in_mantissa : (whole fraction : Text) → list_all is_decimal whole ≡ true → list_all is_decimal fraction ≡ true
-    → All (λ c. is_exponent_mark c ≡ false) (mantissa_of whole fraction)
-no_mark_in_mantissa whole fraction h g =
-    All-append (λ c. is_exponent_mark c ≡ false) whole (codes "." ++ fraction) (free is_exponent_mark digit_no_mark whole h)
-    (All-cons (λ c. is_exponent_mark c ≡ false) 0x2E fraction refl (free is_exponent_mark digit_no_mark fraction g))
+no_exponent_letter_in_mantissa : (whole fraction : Text) → list_all is_decimal whole ≡ true → list_all is_decimal fraction ≡ true
+    → All (λ c. is_exponent_letter c ≡ false) (mantissa_of whole fraction)
+no_exponent_letter_in_mantissa whole fraction h g =
+    All-append (λ c. is_exponent_letter c ≡ false) whole (codes "." ++ fraction) (free is_exponent_letter digit_no_exponent_letter whole h)
+    (All-cons (λ c. is_exponent_letter c ≡ false) 0x2E fraction refl (free is_exponent_letter digit_no_exponent_letter fraction g))
 
 -- a spelling with a point is cut at its `e`
 pub at_exponent : (whole fraction : Text) (exponent : Option JsonExponent) → list_all is_decimal whole ≡ true → list_all is_decimal fraction ≡ true
     → HasDigits exponent
-    → slice_split is_exponent_mark (mantissa_of whole fraction ++ exponent_spelled exponent) ≡ mantissa_of whole fraction ∷ exponent_parts exponent
+    → slice_split is_exponent_letter (mantissa_of whole fraction ++ exponent_spelled exponent) ≡ mantissa_of whole fraction ∷ exponent_parts exponent
 at_exponent whole fraction None h g e =
-    ap (slice_split is_exponent_mark) (append-nil (mantissa_of whole fraction))
-    ∙ slice_split_none is_exponent_mark (mantissa_of whole fraction) (no_mark_in_mantissa whole fraction h g)
+    ap (slice_split is_exponent_letter) (append-nil (mantissa_of whole fraction))
+    ∙ slice_split_none is_exponent_letter (mantissa_of whole fraction) (no_exponent_letter_in_mantissa whole fraction h g)
 at_exponent whole fraction (Some exponent) h g e = by (exponent_negative exponent)
   where
     digits : list_all is_decimal exponent.digits ≡ true
     digits = (and_parts (not (length exponent.digits == 0)) (list_all is_decimal exponent.digits) e).1
 
-    signed_uncut : (sign : ℕ) → is_exponent_mark sign ≡ false → slice_split is_exponent_mark (sign ∷ exponent.digits) ≡ (sign ∷ exponent.digits) ∷ []
+    signed_uncut : (sign : ℕ) → is_exponent_letter sign ≡ false → slice_split is_exponent_letter (sign ∷ exponent.digits) ≡ (sign ∷ exponent.digits) ∷ []
     signed_uncut sign other =
-        slice_split_none is_exponent_mark (sign ∷ exponent.digits)
-        (All-cons (λ c. is_exponent_mark c ≡ false) sign exponent.digits other (free is_exponent_mark digit_no_mark exponent.digits digits))
+        slice_split_none is_exponent_letter (sign ∷ exponent.digits)
+        (All-cons (λ c. is_exponent_letter c ≡ false) sign exponent.digits other (free is_exponent_letter digit_no_exponent_letter exponent.digits digits))
 
-    front : (sign : ℕ) → is_exponent_mark sign ≡ false
-        → slice_split is_exponent_mark (mantissa_of whole fraction ++ 0x65 ∷ sign ∷ exponent.digits)
+    prefix : (sign : ℕ) → is_exponent_letter sign ≡ false
+        → slice_split is_exponent_letter (mantissa_of whole fraction ++ 0x65 ∷ sign ∷ exponent.digits)
         ≡ mantissa_of whole fraction ∷ (sign ∷ exponent.digits) ∷ []
-    front sign other =
-        slice_split_at is_exponent_mark (mantissa_of whole fraction) 0x65 (sign ∷ exponent.digits) (no_mark_in_mantissa whole fraction h g) refl
+    prefix sign other =
+        slice_split_at is_exponent_letter (mantissa_of whole fraction) 0x65 (sign ∷ exponent.digits) (no_exponent_letter_in_mantissa whole fraction h g) refl
         ∙ ap (λ parts. mantissa_of whole fraction ∷ parts) (signed_uncut sign other)
 
-    by : (x : Bool) → slice_split is_exponent_mark (mantissa_of whole fraction ++ (codes "e" ++ (if x then codes "-" else codes "+") ++ exponent.digits))
+    by : (x : Bool) → slice_split is_exponent_letter (mantissa_of whole fraction ++ (codes "e" ++ (if x then codes "-" else codes "+") ++ exponent.digits))
         ≡ mantissa_of whole fraction ∷ ((if x then codes "-" else codes "+") ++ exponent.digits) ∷ []
-    by true = front 0x2D refl
-    by false = front 0x2B refl
+    by true = prefix 0x2D refl
+    by false = prefix 0x2B refl
 
 -- Signs
 
@@ -149,14 +150,14 @@ minus_read false c rest h = digit_no_hyphen c h
 
 -- a digit stands first, past a sign
 abbrev begins_otherwise : Text → Bool
-begins_otherwise text = not (first_is is_decimal (past_sign text))
+begins_otherwise text = not (first_meets is_decimal (past_sign text))
 
 -- a number is no word of a schema
 pub no_word : (table : List (Text × Resolved)) (negative : Bool) (c : ℕ) (rest : Text) → list_all (λ entry. begins_otherwise entry.0) table ≡ true
     → is_decimal c ≡ true → named table (minus negative ++ (c ∷ rest)) ≡ None
 no_word table negative c rest all h =
     named_unlike begins_otherwise table (minus negative ++ (c ∷ rest)) all
-    (ap (λ text. not (first_is is_decimal text)) (past_minus negative c rest h) ∙ ap not h)
+    (ap (λ text. not (first_meets is_decimal text)) (past_minus negative c rest h) ∙ ap not h)
 
 pub no_word_of_core : (negative : Bool) (c : ℕ) (rest : Text) → is_decimal c ≡ true → named words_of_core (minus negative ++ (c ∷ rest)) ≡ None
 no_word_of_core negative c rest h = no_word words_of_core negative c rest refl h
@@ -164,14 +165,14 @@ no_word_of_core negative c rest h = no_word words_of_core negative c rest refl h
 pub no_word_of_11 : (negative : Bool) (c : ℕ) (rest : Text) → is_decimal c ≡ true → named words_of_11 (minus negative ++ (c ∷ rest)) ≡ None
 no_word_of_11 negative c rest h = no_word words_of_11 negative c rest refl h
 
--- digits and what can't stand in a date: these digits are its front
-date_front : (digits rest : Text) → list_all is_decimal digits ≡ true → first_is in_date rest ≡ false → take_while in_date (digits ++ rest) ≡ digits
-date_front [] [] h g = refl
-date_front [] (c ∷ rest) h g = take_while-cons in_date c rest ∙ ap (λ x. if x then c ∷ take_while in_date rest else []) g
-date_front (c ∷ digits) rest h g =
+-- digits and what can't stand in a date: these digits are its prefix
+date_prefix : (digits rest : Text) → list_all is_decimal digits ≡ true → first_meets in_date rest ≡ false → take_while in_date (digits ++ rest) ≡ digits
+date_prefix [] [] h g = refl
+date_prefix [] (c ∷ rest) h g = take_while-cons in_date c rest ∙ ap (λ x. if x then c ∷ take_while in_date rest else []) g
+date_prefix (c ∷ digits) rest h g =
     take_while-cons in_date c (digits ++ rest)
     ∙ ap (λ x. if x then c ∷ take_while in_date (digits ++ rest) else []) (or_left (is_decimal c) (is_hyphen c) both.0)
-    ∙ ap (λ text. c ∷ text) (date_front digits rest both.1 g)
+    ∙ ap (λ text. c ∷ text) (date_prefix digits rest both.1 g)
   where
     both : (is_decimal c ≡ true) × (list_all is_decimal digits ≡ true)
     both = and_parts (is_decimal c) (list_all is_decimal digits) h
@@ -180,18 +181,18 @@ date_front (c ∷ digits) rest h g =
 abbrev Short : List Text → Type 0
 Short parts = (least : ℕ) → is_date least parts ≡ false
 
-short_front : (negative : Bool) (digits rest : Text) → list_all is_decimal digits ≡ true → first_is in_date rest ≡ false
+short_prefix : (negative : Bool) (digits rest : Text) → list_all is_decimal digits ≡ true → first_meets in_date rest ≡ false
     → Short (slice_split is_hyphen (take_while in_date (minus negative ++ (digits ++ rest))))
-short_front true digits rest h g least =
+short_prefix true digits rest h g least =
     ap (λ text. is_date least (slice_split is_hyphen text)) (take_while-cons in_date 0x2D (digits ++ rest)
-    ∙ ap (λ text. 0x2D ∷ text) (date_front digits rest h g))
+    ∙ ap (λ text. 0x2D ∷ text) (date_prefix digits rest h g))
     ∙ ap (is_date least) (slice_split-cons_yes is_hyphen 0x2D digits refl ∙ ap (λ parts. [] ∷ parts) (uncut is_hyphen digit_no_hyphen digits h))
-short_front false digits rest h g least =
-    ap (λ text. is_date least (slice_split is_hyphen text)) (date_front digits rest h g)
+short_prefix false digits rest h g least =
+    ap (λ text. is_date least (slice_split is_hyphen text)) (date_prefix digits rest h g)
     ∙ ap (is_date least) (uncut is_hyphen digit_no_hyphen digits h)
 
 -- a number is no timestamp
-pub no_timestamp : (negative : Bool) (digits rest : Text) → list_all is_decimal digits ≡ true → first_is in_date rest ≡ false
+pub no_timestamp : (negative : Bool) (digits rest : Text) → list_all is_decimal digits ≡ true → first_meets in_date rest ≡ false
     → timestamp_11 (minus negative ++ (digits ++ rest)) ≡ None
 no_timestamp negative digits rest h g = ap (λ x. if x then Some meant_timestamp else None) neither
   where
@@ -202,5 +203,5 @@ no_timestamp negative digits rest h g = ap (λ x. if x then Some meant_timestamp
     date = slice_split is_hyphen (take_while in_date text)
 
     neither : ((is_date 2 date && length (past in_date text) == 0) || (is_date 1 date && is_time_after_date (past in_date text))) ≡ false
-    neither = or_from _ _ (and_left (is_date 2 date) _ (short_front negative digits rest h g 2))
-        (and_left (is_date 1 date) _ (short_front negative digits rest h g 1))
+    neither = or_from _ _ (and_left (is_date 2 date) _ (short_prefix negative digits rest h g 2))
+        (and_left (is_date 1 date) _ (short_prefix negative digits rest h g 1))

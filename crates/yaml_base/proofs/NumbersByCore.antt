@@ -7,8 +7,9 @@ use Rattle.std.specs.Str.Parse.{digits_value}
 use Rattle.std.specs.Prelude.{ℕ, ℤ, pos, neg_ℤ, Bool, true, false, Option, None, Some, List, [], ◌∷◌, ◌++◌, ◌==◌, ◌&&◌, ◌+ℤ◌, not, length, codes, if◌then◌else◌}
 use Rattle.yaml_base.specs.Characters.{Text}
 use Rattle.yaml_base.specs.Words.{named}
-use Rattle.yaml_base.specs.values.Resolved.{Decimal, Resolved, meant_integer, meant_decimal, first_reading, words_of_core, is_point, is_exponent_mark}
-use Rattle.yaml_base.specs.values.Resolved.{is_decimal, first_is, past_sign, is_negative, signed, are_digits, pointed, exponent_read, scaled, scientific}
+use Rattle.yaml_base.specs.values.Resolved.{Decimal, Resolved, meant_integer, meant_decimal, first_reading, words_of_core, is_point, is_exponent_letter}
+use Rattle.yaml_base.specs.values.Resolved.{is_decimal, first_meets, past_sign, is_negative, signed, are_digits, decimal_of_digits, exponent_read}
+use Rattle.yaml_base.specs.values.Resolved.{times_power_of_ten, scientific}
 use Rattle.yaml_base.specs.values.SchemaCore.{core_integer, core_based, core_mantissa, core_decimal, resolved_by_core}
 use Rattle.yaml_base.specs.values.JsonNumbers.{JsonExponent, minus, exponent_negative, exponent_value, exponent_spelled}
 use Rattle.yaml_base.proofs.NumberCuts.{digit_unlike, some_digits, at_point, mantissa_of, exponent_parts, HasDigits, at_exponent, past_minus, minus_read}
@@ -38,7 +39,7 @@ decimal_of negative whole fraction = record {
 }
 
 pub pointed_read : (negative : Bool) (c : ℕ) (whole fraction : Text) → list_all is_decimal (c ∷ whole) ≡ true → list_all is_decimal fraction ≡ true
-    → pointed negative (c ∷ whole) fraction ≡ Some (decimal_of negative (c ∷ whole) fraction)
+    → decimal_of_digits negative (c ∷ whole) fraction ≡ Some (decimal_of negative (c ∷ whole) fraction)
 pointed_read negative c whole fraction h g =
     given (are_digits 10 ((c ∷ whole) ++ fraction)) (decimal_of negative (c ∷ whole) fraction)
     (some_digits c (whole ++ fraction)
@@ -62,10 +63,10 @@ pub scientific_read : (mantissa : Text → Option Decimal) (read : Text → Opti
     → mantissa text ≡ Some decimal → HasDigits exponent
     → scientific mantissa read (text ∷ exponent_parts exponent)
     ≡ Some (meant_decimal (record { digits = decimal.digits; exponent = decimal.exponent +ℤ exponent_value exponent }))
-scientific_read mantissa read text decimal None reads h e = ap (λ d. scaled d (Some (pos 0))) h
+scientific_read mantissa read text decimal None reads h e = ap (λ d. times_power_of_ten d (Some (pos 0))) h
 scientific_read mantissa read text decimal (Some exponent) reads h e =
-    ap (λ d. scaled d (read (exponent_sign (exponent_negative exponent) ++ exponent.digits))) h
-    ∙ ap (scaled (Some decimal)) (reads (exponent_negative exponent) exponent.digits e)
+    ap (λ d. times_power_of_ten d (read (exponent_sign (exponent_negative exponent) ++ exponent.digits))) h
+    ∙ ap (times_power_of_ten (Some decimal)) (reads (exponent_negative exponent) exponent.digits e)
 
 -- The core schema
 
@@ -113,12 +114,12 @@ core_integer_none negative c rest digit h =
     text = minus negative ++ (c ∷ rest)
 
 -- no letter begins what follows a digit
-pub no_letter : (letter : ℕ) (digits rest : Text) → is_decimal letter ≡ false → list_all is_decimal digits ≡ true → first_is (λ c. c == letter) rest ≡ false
-    → first_is (λ c. c == letter) (digits ++ rest) ≡ false
+pub no_letter : (letter : ℕ) (digits rest : Text) → is_decimal letter ≡ false → list_all is_decimal digits ≡ true → first_meets (λ c. c == letter) rest ≡ false
+    → first_meets (λ c. c == letter) (digits ++ rest) ≡ false
 no_letter letter [] rest other h g = g
 no_letter letter (c ∷ digits) rest other h g = digit_unlike c letter other (and_parts (is_decimal c) (list_all is_decimal digits) h).0
 
-core_based_none : (letter base : ℕ) (negative : Bool) (c : ℕ) (rest : Text) → first_is (λ d. d == letter) rest ≡ false
+core_based_none : (letter base : ℕ) (negative : Bool) (c : ℕ) (rest : Text) → first_meets (λ d. d == letter) rest ≡ false
     → core_based letter base (minus negative ++ (c ∷ rest)) ≡ None
 core_based_none letter base true c rest h = refl
 core_based_none letter base false c [] h = refl
@@ -129,9 +130,9 @@ core_based_none letter base false c (d ∷ rest) h =
 -- a number that is no integer, cut at its exponent
 pub cut_read : (c : ℕ) (whole fraction : Text) (exponent : Option JsonExponent) → list_all is_decimal (c ∷ whole) ≡ true → list_all is_decimal fraction ≡ true
     → HasDigits exponent
-    → slice_split is_exponent_mark ((c ∷ whole) ++ after_whole fraction exponent) ≡ mantissa_of (c ∷ whole) fraction ∷ exponent_parts exponent
+    → slice_split is_exponent_letter ((c ∷ whole) ++ after_whole fraction exponent) ≡ mantissa_of (c ∷ whole) fraction ∷ exponent_parts exponent
 cut_read c whole fraction exponent h g e =
-    ap (slice_split is_exponent_mark) (sym (append_assoc (c ∷ whole) (codes "." ++ fraction) (exponent_spelled exponent)))
+    ap (slice_split is_exponent_letter) (sym (append_assoc (c ∷ whole) (codes "." ++ fraction) (exponent_spelled exponent)))
     ∙ at_exponent (c ∷ whole) fraction exponent h g e
 
 -- what such a number means
@@ -145,9 +146,9 @@ core_decimal_read : (negative : Bool) (c : ℕ) (whole fraction : Text) (exponen
     → list_all is_decimal fraction ≡ true → HasDigits exponent
     → core_decimal (minus negative ++ ((c ∷ whole) ++ after_whole fraction exponent)) ≡ Some (scientific_of negative (c ∷ whole) fraction exponent)
 core_decimal_read negative c whole fraction exponent h g e =
-    ap (λ x. scientific (λ m. core_mantissa x (slice_split is_point m)) exponent_read (slice_split is_exponent_mark (past_sign text)))
+    ap (λ x. scientific (λ m. core_mantissa x (slice_split is_point m)) exponent_read (slice_split is_exponent_letter (past_sign text)))
     (minus_read negative c (whole ++ after_whole fraction exponent) digit)
-    ∙ ap (λ t. scientific mantissa exponent_read (slice_split is_exponent_mark t)) (past_minus negative c (whole ++ after_whole fraction exponent) digit)
+    ∙ ap (λ t. scientific mantissa exponent_read (slice_split is_exponent_letter t)) (past_minus negative c (whole ++ after_whole fraction exponent) digit)
     ∙ ap (scientific mantissa exponent_read) (cut_read c whole fraction exponent h g e)
     ∙ scientific_read mantissa exponent_read (mantissa_of (c ∷ whole) fraction) (decimal_of negative (c ∷ whole) fraction) exponent exponent_read_signed
     (ap (core_mantissa negative) (at_point (c ∷ whole) fraction h g) ∙ pointed_read negative c whole fraction h g) e

@@ -7,13 +7,13 @@ use Rattle.std.specs.Str.Parse.{digits_value}
 use Rattle.std.specs.Prelude.{ℕ, pos, Bool, true, false, Option, None, Some, List, [], ◌∷◌, ◌++◌, ◌==◌, ◌||◌, ◌&&◌, not, length, codes, if◌then◌else◌}
 use Rattle.yaml_base.specs.Characters.{Text}
 use Rattle.yaml_base.specs.Words.{named, is_word}
-use Rattle.yaml_base.specs.values.Resolved.{Decimal, Resolved, meant_integer, first_reading, words_of_11, is_point, is_exponent_mark, is_decimal, first_is}
-use Rattle.yaml_base.specs.values.Resolved.{past_sign, is_negative, signed, are_digits, pointed, scaled, scientific}
+use Rattle.yaml_base.specs.values.Resolved.{Decimal, Resolved, meant_integer, first_reading, words_of_11, is_point, is_exponent_letter, is_decimal, first_meets}
+use Rattle.yaml_base.specs.values.Resolved.{past_sign, is_negative, signed, are_digits, decimal_of_digits, times_power_of_ten, scientific}
 use Rattle.yaml_base.specs.values.SchemaCore.{resolved_by_core}
 use Rattle.yaml_base.specs.values.SchemaOf11.{ungrouped, are_grouped, integer_of, in_date, is_leading, begins_grouped, based_11, octal_11, decimal_11}
 use Rattle.yaml_base.specs.values.SchemaOf11.{sixties_11, fine_sixties_11, is_colon, mantissa_11, exponent_11, float_11, more_points_11, points_11}
 use Rattle.yaml_base.specs.values.SchemaOf11.{timestamp_11, numbers_11, resolved_by_11}
-use Rattle.yaml_base.specs.values.JsonNumbers.{JsonNumber, JsonExponent, NumbersAreRead, minus, is_whole, is_json_number, is_json_integer, fraction_or}
+use Rattle.yaml_base.specs.values.JsonNumbers.{JsonNumber, JsonExponent, NumbersAreRead, minus, is_whole, is_json_number, is_json_integer, fraction_or_default}
 use Rattle.yaml_base.specs.values.JsonNumbers.{json_value, yaml_number, number_meant, means_number}
 use Rattle.yaml_base.proofs.JsonSpelling.{spelling_keeps_value}
 use Rattle.yaml_base.proofs.NumberCuts.{digits_grouped, digits_ungrouped, no_point, no_exponent, at_point, mantissa_of, HasDigits, past_minus, minus_read}
@@ -32,9 +32,9 @@ exponent_11_signed false digits h = exponent_read_signed false digits h
 float_11_none : (negative : Bool) (c : ℕ) (digits : Text) → list_all is_decimal (c ∷ digits) ≡ true → float_11 negative (c ∷ digits) ≡ None
 float_11_none negative c digits h =
     ap (scientific (λ m. mantissa_11 negative (slice_split is_point m)) exponent_11) (no_exponent (c ∷ digits) h)
-    ∙ ap (λ parts. scaled (mantissa_11 negative parts) (Some (pos 0))) (no_point (c ∷ digits) h)
+    ∙ ap (λ parts. times_power_of_ten (mantissa_11 negative parts) (Some (pos 0))) (no_point (c ∷ digits) h)
 
-based_11_none : (negative : Bool) (letter base : ℕ) (c : ℕ) (rest : Text) → first_is (λ d. d == letter) rest ≡ false
+based_11_none : (negative : Bool) (letter base : ℕ) (c : ℕ) (rest : Text) → first_meets (λ d. d == letter) rest ≡ false
     → based_11 negative letter base (c ∷ rest) ≡ None
 based_11_none negative letter base c [] h = refl
 based_11_none negative letter base c (d ∷ []) h = refl
@@ -101,17 +101,17 @@ integer_without_sign negative c digits h whole =
     rest =
         sixties_11 negative (slice_split is_colon text)
         ∷ fine_sixties_11 negative (slice_split is_point text)
-        ∷ more_points_11 (slice_split is_exponent_mark text)
+        ∷ more_points_11 (slice_split is_exponent_letter text)
         ∷ points_11 text
         ∷ []
 
-    letter_none : (letter : ℕ) → is_decimal letter ≡ false → first_is (λ d. d == letter) [] ≡ false → first_is (λ d. d == letter) digits ≡ false
+    letter_none : (letter : ℕ) → is_decimal letter ≡ false → first_meets (λ d. d == letter) [] ≡ false → first_meets (λ d. d == letter) digits ≡ false
     letter_none letter other none =
-        ap (first_is (λ d. d == letter)) (sym (append-nil digits))
+        ap (first_meets (λ d. d == letter)) (sym (append-nil digits))
         ∙ no_letter letter digits [] other (and_parts (is_decimal c) (list_all is_decimal digits) h).1 none
 
 -- a number's reading by 1.1 is that of what follows its sign
-past_sign_11 : (negative : Bool) (c : ℕ) (whole rest : Text) (meant : Resolved) → list_all is_decimal (c ∷ whole) ≡ true → first_is in_date rest ≡ false
+past_sign_11 : (negative : Bool) (c : ℕ) (whole rest : Text) (meant : Resolved) → list_all is_decimal (c ∷ whole) ≡ true → first_meets in_date rest ≡ false
     → first_reading (numbers_11 negative ((c ∷ whole) ++ rest)) ≡ meant → resolved_by_11 (minus negative ++ ((c ∷ whole) ++ rest)) ≡ meant
 past_sign_11 negative c whole rest meant h g reads =
     passed (named words_of_11 text) (timestamp_11 text ∷ numbers_11 (is_negative text) (past_sign text)) (no_word_of_11 negative c (whole ++ rest) digit)
@@ -137,12 +137,12 @@ integer_by_11 negative c digits h whole =
 mantissa_11_read : (negative : Bool) (c : ℕ) (whole fraction : Text) → list_all is_decimal (c ∷ whole) ≡ true → list_all is_decimal fraction ≡ true
     → mantissa_11 negative ((c ∷ whole) ∷ fraction ∷ []) ≡ Some (decimal_of negative (c ∷ whole) fraction)
 mantissa_11_read negative c whole fraction h g =
-    ap (λ x. if x then pointed negative (ungrouped (c ∷ whole)) (ungrouped fraction) else None)
+    ap (λ x. if x then decimal_of_digits negative (ungrouped (c ∷ whole)) (ungrouped fraction) else None)
     (and_from (begins_grouped is_decimal (c ∷ whole)) (are_grouped 10 fraction)
     (and_from (is_decimal c) (are_grouped 10 (c ∷ whole)) (and_parts (is_decimal c) (list_all is_decimal whole) h).0 (digits_grouped (c ∷ whole) h))
     (digits_grouped fraction g))
-    ∙ ap (λ t. pointed negative t (ungrouped fraction)) (digits_ungrouped (c ∷ whole) h)
-    ∙ ap (pointed negative (c ∷ whole)) (digits_ungrouped fraction g)
+    ∙ ap (λ t. decimal_of_digits negative t (ungrouped fraction)) (digits_ungrouped (c ∷ whole) h)
+    ∙ ap (decimal_of_digits negative (c ∷ whole)) (digits_ungrouped fraction g)
     ∙ pointed_read negative c whole fraction h g
 
 float_11_read : (negative : Bool) (c : ℕ) (whole fraction : Text) (exponent : Option JsonExponent) → list_all is_decimal (c ∷ whole) ≡ true
@@ -169,7 +169,7 @@ decimal_by_11 negative c whole fraction exponent h g e =
     ∷ decimal_11 negative text
     ∷ sixties_11 negative (slice_split is_colon text)
     ∷ fine_sixties_11 negative (slice_split is_point text)
-    ∷ more_points_11 (slice_split is_exponent_mark text)
+    ∷ more_points_11 (slice_split is_exponent_letter text)
     ∷ points_11 text
     ∷ [])
     (scientific_of negative (c ∷ whole) fraction exponent) (float_11_read negative c whole fraction exponent h g e))
@@ -230,14 +230,14 @@ spelling_read number h = (ap resolved_by_11 regrouped ∙ read.0, ap resolved_by
     inner = and_parts (is_whole number.whole) _ outer.0
 
     rest : Text
-    rest = if is_json_integer number then [] else after_whole (fraction_or (codes "0") number) number.exponent
+    rest = if is_json_integer number then [] else after_whole (fraction_or_default (codes "0") number) number.exponent
 
     regrouped : yaml_number number ≡ minus number.negative ++ (number.whole ++ rest)
     regrouped = append_assoc (minus number.negative) number.whole rest
 
     read : ReadAs (minus number.negative ++ (number.whole ++ rest)) (number_meant number)
     read =
-        parts_read number.negative number.whole (fraction_or (codes "0") number) number.exponent inner.0 (fraction_digits number.fraction inner.1)
+        parts_read number.negative number.whole (fraction_or_default (codes "0") number) number.exponent inner.0 (fraction_digits number.fraction inner.1)
         (exponent_digits number.exponent outer.1) (is_json_integer number)
 
 -- so every number of JSON, so spelled, is that number by both

@@ -166,29 +166,30 @@ prefix_stands portable (c ∷ text) =
     list_all-append stands_in_prefix (character_written kept c) (percent_escaped text)
     ∙ and_from _ _ (first_in_prefix kept c (kept_in_prefix portable c)) (all_in_prefix (percent_escaped text) (escaped_stands text))
 
--- In portable mode no sign of flow stands after a handle.
-abbrev is_flow_sign : ℕ → Bool
-is_flow_sign c = is_among (codes ",[]") c
+-- In portable mode no flow indicator stands after a handle.
+abbrev is_flow_indicator : ℕ → Bool
+is_flow_indicator c = is_among (codes ",[]") c
 
-digit_is_no_flow_sign : (n : ℕ) → is_flow_sign (hex_digit (n % 16)) ≡ false
-digit_is_no_flow_sign n = agree_below_at (λ d. is_flow_sign (hex_digit d)) (λ d. false) 16 (n % 16) refl (omega arith)
+digit_is_no_flow_indicator : (n : ℕ) → is_flow_indicator (hex_digit (n % 16)) ≡ false
+digit_is_no_flow_indicator n = agree_below_at (λ d. is_flow_indicator (hex_digit d)) (λ d. false) 16 (n % 16) refl (omega arith)
 
-forms_hold_no_flow_sign : (bs : List ℕ) → list_any is_flow_sign (flat_map byte_escaped bs) ≡ false
-forms_hold_no_flow_sign [] = refl
-forms_hold_no_flow_sign (b ∷ bs) = rw (digit_is_no_flow_sign (b / 16), digit_is_no_flow_sign b, forms_hold_no_flow_sign bs) refl
+forms_hold_no_flow_indicator : (bs : List ℕ) → list_any is_flow_indicator (flat_map byte_escaped bs) ≡ false
+forms_hold_no_flow_indicator [] = refl
+forms_hold_no_flow_indicator (b ∷ bs) = rw (digit_is_no_flow_indicator (b / 16), digit_is_no_flow_indicator b, forms_hold_no_flow_indicator bs) refl
 
-pub character_is_no_flow_sign : (kept : Bool) (c : ℕ) → (kept ≡ true → is_flow_sign c ≡ false) → list_any is_flow_sign (character_written kept c) ≡ false
-character_is_no_flow_sign true c k = rw (k refl) refl
-character_is_no_flow_sign false c k = forms_hold_no_flow_sign (encode c)
+pub character_is_no_flow_indicator : (kept : Bool) (c : ℕ) → (kept ≡ true → is_flow_indicator c ≡ false)
+    → list_any is_flow_indicator (character_written kept c) ≡ false
+character_is_no_flow_indicator true c k = rw (k refl) refl
+character_is_no_flow_indicator false c k = forms_hold_no_flow_indicator (encode c)
 
-kept_is_no_flow_sign : (c : ℕ) → is_suffix_character true c ≡ true → is_flow_sign c ≡ false
-kept_is_no_flow_sign c h = not-true (is_flow_sign c) (and_parts (not (is_flow_sign c)) (is_tag_character c) h).0
+kept_is_no_flow_indicator : (c : ℕ) → is_suffix_character true c ≡ true → is_flow_indicator c ≡ false
+kept_is_no_flow_indicator c h = not-true (is_flow_indicator c) (and_parts (not (is_flow_indicator c)) (is_tag_character c) h).0
 
-pub portable_suffix_has_no_flow_sign : (text : Text) → list_any (is_among (codes ",[]")) (suffix_escaped true text) ≡ false
-portable_suffix_has_no_flow_sign [] = refl
-portable_suffix_has_no_flow_sign (c ∷ text) =
-    list_any-append is_flow_sign (character_written (is_suffix_character true c) c) (suffix_escaped true text)
-    ∙ or_from _ _ (character_is_no_flow_sign (is_suffix_character true c) c (kept_is_no_flow_sign c)) (portable_suffix_has_no_flow_sign text)
+pub portable_suffix_has_no_flow_indicator : (text : Text) → list_any (is_among (codes ",[]")) (suffix_escaped true text) ≡ false
+portable_suffix_has_no_flow_indicator [] = refl
+portable_suffix_has_no_flow_indicator (c ∷ text) =
+    list_any-append is_flow_indicator (character_written (is_suffix_character true c) c) (suffix_escaped true text)
+    ∙ or_from _ _ (character_is_no_flow_indicator (is_suffix_character true c) c (kept_is_no_flow_indicator c)) (portable_suffix_has_no_flow_indicator text)
 
 -- no such character is a space, a break, `!`, `<` or `>`
 abbrev pub separates : ℕ → Bool
@@ -197,8 +198,8 @@ separates c = is_blank c || is_break c || is_among (codes "!<>") c
 pub written_never_separates : (c : ℕ) → stands_written c ≡ true → separates c ≡ false
 written_never_separates c h = grind (arith, nat_tests)
 
-pub written_is_no_mark : (c : ℕ) → stands_written c ≡ true → (c == 0x21) ≡ false
-written_is_no_mark c h = grind (arith, nat_tests)
+pub written_is_no_exclamation : (c : ℕ) → stands_written c ≡ true → (c == 0x21) ≡ false
+written_is_no_exclamation c h = grind (arith, nat_tests)
 
 pub written_is_no_less : (c : ℕ) → stands_written c ≡ true → (c == 0x3C) ≡ false
 written_is_no_less c h = grind (arith, nat_tests)

@@ -10,11 +10,11 @@ use Rattle.yaml_base.specs.Grammar.{pushed, partial_of, finished}
 use Rattle.yaml_base.specs.Refusal.{begins_collection, ends_collection}
 use Rattle.yaml_base.specs.Layout.{Standing, first_standing, layout, OnePieceEach}
 use Rattle.yaml_base.specs.Steps.{Stage, at_stream, at_document, at_node, at_document_end, step, ends_next, Steps, then_steps, steps, joined_steps}
-use Rattle.yaml_base.specs.Pieces.{missing, missing_after, completion, list_layout, begins_last, ends_first, closes_at_once, PiecesStand}
+use Rattle.yaml_base.specs.Pieces.{missing, missing_after, completion, list_layout, last_begins_collection, first_ends_collection, closes_at_once, PiecesStand}
 use Rattle.yaml_base.proofs.Trees.{stream_pushed}
 use Rattle.yaml_base.proofs.StepLaws.{stream_steps}
 use Rattle.yaml_base.proofs.Pushes.{partial_of_events}
-use Rattle.yaml_base.proofs.Completions.{stream_completed, completion_pushed, front_begins}
+use Rattle.yaml_base.proofs.Completions.{stream_completed, completion_pushed, prefix_is_partial}
 
 -- Each event gives one piece.
 pub steps_count : (events : List Event) (s : Effective) (follows : Bool) (stage : Stage) (standing : Standing)
@@ -22,7 +22,7 @@ pub steps_count : (events : List Event) (s : Effective) (follows : Bool) (stage 
 steps_count [] s follows stage standing = refl
 steps_count (event ∷ rest) s follows stage standing =
     let stepped = step s stage event (ends_next rest follows) standing in
-    ap suc (steps_count rest s follows stepped.stage stepped.laid.standing)
+    ap suc (steps_count rest s follows stepped.stage stepped.rendered.standing)
 
 pub one_piece_each : OnePieceEach
 one_piece_each s t =
@@ -39,16 +39,17 @@ steps-append [] b s follows stage standing = refl
 steps-append (event ∷ a) b s follows stage standing =
     let stepped = step s stage event (ends_next a (ends_next b follows)) standing in
     ap (λ empty. then_steps (step s stage event empty standing) (steps s follows (a ++ b))) (ends_next-append a b follows)
-    ∙ ap (λ (after : Steps). let made : Steps = record { pieces = stepped.laid.piece ∷ after.pieces; standing = after.standing; stage = after.stage } in made)
-    (steps-append a b s follows stepped.stage stepped.laid.standing)
+    ∙ ap (λ (after : Steps). let made : Steps = record { pieces = stepped.rendered.piece ∷ after.pieces; standing = after.standing; stage = after.stage } in
+    made)
+    (steps-append a b s follows stepped.stage stepped.rendered.standing)
 
--- The first pieces are those of the front.
-pub front_pieces : (a b : List Event) (s : Effective) (follows : Bool) (stage : Stage) (standing : Standing)
+-- The first pieces are those of the prefix.
+pub prefix_pieces : (a b : List Event) (s : Effective) (follows : Bool) (stage : Stage) (standing : Standing)
     → take (length a) (steps s follows (a ++ b) stage standing).pieces ≡ (steps s (ends_next b follows) a stage standing).pieces
-front_pieces a b s follows stage standing =
-    let front = steps s (ends_next b follows) a stage standing in
+prefix_pieces a b s follows stage standing =
+    let prefix = steps s (ends_next b follows) a stage standing in
     ap (λ (made : Steps). take (length a) made.pieces) (steps-append a b s follows stage standing)
-    ∙ take_at front.pieces (steps s follows b front.stage front.standing).pieces (length a) (steps_count a s (ends_next b follows) stage standing)
+    ∙ take_at prefix.pieces (steps s follows b prefix.stage prefix.standing).pieces (length a) (steps_count a s (ends_next b follows) stage standing)
 
 -- What follows matters to a collection's start alone.
 pub step_same : (event : Event) (stage : Stage) (s : Effective) (f g : Bool) (standing : Standing) → begins_collection event ≡ false
@@ -65,27 +66,27 @@ step_same mapping_end (at_node d frames) s f g standing other = refl
 step_same (document_end implicit) at_document_end s f g standing other = refl
 step_same event stage s f g standing other = refl
 
-pub steps_same : (events : List Event) (s : Effective) (f g : Bool) (stage : Stage) (standing : Standing) → begins_last events ≡ false
+pub steps_same : (events : List Event) (s : Effective) (f g : Bool) (stage : Stage) (standing : Standing) → last_begins_collection events ≡ false
     → steps s f events stage standing ≡ steps s g events stage standing
 steps_same [] s f g stage standing other = refl
 steps_same (event ∷ []) s f g stage standing other =
     ap (λ stepped. then_steps stepped (steps s f [])) (step_same event stage s f g standing other)
 steps_same (event ∷ next ∷ rest) s f g stage standing other =
     let stepped = step s stage event (ends_collection next) standing in
-    ap (λ (after : Steps). let made : Steps = record { pieces = stepped.laid.piece ∷ after.pieces; standing = after.standing; stage = after.stage } in made)
-    (steps_same (next ∷ rest) s f g stepped.stage stepped.laid.standing other)
+    ap (λ (after : Steps). let made : Steps = record { pieces = stepped.rendered.piece ∷ after.pieces; standing = after.standing; stage = after.stage } in made)
+    (steps_same (next ∷ rest) s f g stepped.stage stepped.rendered.standing other)
 
-ends_next-first : (rest : List Event) → ends_next rest false ≡ ends_first rest
+ends_next-first : (rest : List Event) → ends_next rest false ≡ first_ends_collection rest
 ends_next-first [] = refl
 ends_next-first (event ∷ rest) = refl
 
-open_steps : (front rest : List Event) (s : Effective) (b c : Bool) → begins_last front ≡ b → ends_first rest ≡ c → b && c ≡ false
-    → (steps s (ends_next rest false) front at_stream first_standing).pieces ≡ (steps s false front at_stream first_standing).pieces
-open_steps front rest s false c last first other =
-    ap (λ (made : Steps). made.pieces) (steps_same front s (ends_next rest false) false at_stream first_standing last)
-open_steps front rest s true false last first other =
-    ap (λ follows. (steps s follows front at_stream first_standing).pieces) (ends_next-first rest ∙ first)
-open_steps front rest s true true last first other = cc
+open_steps : (prefix rest : List Event) (s : Effective) (b c : Bool) → last_begins_collection prefix ≡ b → first_ends_collection rest ≡ c → b && c ≡ false
+    → (steps s (ends_next rest false) prefix at_stream first_standing).pieces ≡ (steps s false prefix at_stream first_standing).pieces
+open_steps prefix rest s false c last first other =
+    ap (λ (made : Steps). made.pieces) (steps_same prefix s (ends_next rest false) false at_stream first_standing last)
+open_steps prefix rest s true false last first other =
+    ap (λ follows. (steps s follows prefix at_stream first_standing).pieces) (ends_next-first rest ∙ first)
+open_steps prefix rest s true true last first other = cc
 
 -- The layout of a whole list, event by event.
 pub list_layout_steps : (events : List Event) (t : Stream) (s : Effective) → partial_of events ≡ Some (after_stream t)
@@ -95,22 +96,22 @@ list_layout_steps events t s whole =
     ∙ sym (stream_steps t s)
     ∙ ap (λ all. (steps s false all at_stream first_standing).pieces) (partial_of_events events (after_stream t) whole)
 
--- A front's pieces in any whole list that begins with it and doesn't at once close a collection that it begins last.
-pub front_layout : (front rest : List Event) (t : Stream) (s : Effective) → partial_of (front ++ rest) ≡ Some (after_stream t)
-    → closes_at_once front rest ≡ false → take (length front) (list_layout s (front ++ rest)) ≡ (steps s false front at_stream first_standing).pieces
-front_layout front rest t s whole other =
-    ap (take (length front)) (list_layout_steps (front ++ rest) t s whole)
-    ∙ front_pieces front rest s false at_stream first_standing
-    ∙ open_steps front rest s (begins_last front) (ends_first rest) refl refl other
+-- A prefix's pieces in any whole list that begins with it and doesn't at once close a collection that it begins last.
+pub prefix_layout : (prefix rest : List Event) (t : Stream) (s : Effective) → partial_of (prefix ++ rest) ≡ Some (after_stream t)
+    → closes_at_once prefix rest ≡ false → take (length prefix) (list_layout s (prefix ++ rest)) ≡ (steps s false prefix at_stream first_standing).pieces
+prefix_layout prefix rest t s whole other =
+    ap (take (length prefix)) (list_layout_steps (prefix ++ rest) t s whole)
+    ∙ prefix_pieces prefix rest s false at_stream first_standing
+    ∙ open_steps prefix rest s (last_begins_collection prefix) (first_ends_collection rest) refl refl other
 
 -- A completion doesn't at once close a collection.
-start_not_closed : (event : Event) (p q : Partial) → push p event ≡ Some q → begins_collection event && ends_first (missing q) ≡ false
+start_not_closed : (event : Event) (p q : Partial) → push p event ≡ Some q → begins_collection event && first_ends_collection (missing q) ≡ false
 start_not_closed (sequence_start c) (within_document e d s levels) q given =
     let same : within_document e d s (at_item c no_nodes ∷ levels) ≡ q = cc in
-    ap (λ r. ends_first (missing r)) (sym same)
+    ap (λ r. first_ends_collection (missing r)) (sym same)
 start_not_closed (mapping_start c) (within_document e d s levels) q given =
     let same : within_document e d s (at_key c no_pairs ∷ levels) ≡ q = cc in
-    ap (λ r. ends_first (missing r)) (sym same)
+    ap (λ r. first_ends_collection (missing r)) (sym same)
 start_not_closed (sequence_start c) p q given = cc
 start_not_closed (mapping_start c) p q given = cc
 start_not_closed (stream_start e) p q given = refl
@@ -138,22 +139,22 @@ completion_not_closed (event ∷ rest) p q given =
     not_closed_next event rest p q (push p event) refl given (λ r. completion_not_closed rest r q)
 
 -- The pieces of a beginning, event by event.
-pub begun_pieces : (front : List Event) (p : Partial) (s : Effective) → partial_of front ≡ Some p
-    → take (length front) (list_layout s (completion front)) ≡ (steps s false front at_stream first_standing).pieces
-begun_pieces front p s begins =
-    let same : completion front ≡ front ++ missing p = ap (λ o. front ++ missing_after o) begins in
-    ap (λ events. take (length front) (list_layout s events)) same
-    ∙ front_layout front (missing p) (stream_completed p) s
-    (ap partial_of (sym same) ∙ completion_pushed front p begins)
-    (completion_not_closed front before_stream p begins)
+pub begun_pieces : (prefix : List Event) (p : Partial) (s : Effective) → partial_of prefix ≡ Some p
+    → take (length prefix) (list_layout s (completion prefix)) ≡ (steps s false prefix at_stream first_standing).pieces
+begun_pieces prefix p s begins =
+    let same : completion prefix ≡ prefix ++ missing p = ap (λ o. prefix ++ missing_after o) begins in
+    ap (λ events. take (length prefix) (list_layout s events)) same
+    ∙ prefix_layout prefix (missing p) (stream_completed p) s
+    (ap partial_of (sym same) ∙ completion_pushed prefix p begins)
+    (completion_not_closed prefix before_stream p begins)
 
 pub pieces_stand : PiecesStand
 pieces_stand s events rest k within accepted other =
-    let front = take k events in
-    let count : length front ≡ k = length-take-le k events within in
-    let whole : partial_of (front ++ rest) ≡ Some (after_stream accepted.stream) = ap partial_of (sym accepted.is_stream) ∙ stream_pushed accepted.stream in
-    let begins = front_begins front rest (after_stream accepted.stream) whole in
-    ap (λ n. take n (list_layout s (front ++ rest))) (sym count)
-    ∙ front_layout front rest accepted.stream s whole other
-    ∙ sym (begun_pieces front begins.0 s begins.1)
-    ∙ ap (λ n. take n (list_layout s (completion front))) count
+    let prefix = take k events in
+    let count : length prefix ≡ k = length-take-le k events within in
+    let whole : partial_of (prefix ++ rest) ≡ Some (after_stream accepted.stream) = ap partial_of (sym accepted.is_stream) ∙ stream_pushed accepted.stream in
+    let begins = prefix_is_partial prefix rest (after_stream accepted.stream) whole in
+    ap (λ n. take n (list_layout s (prefix ++ rest))) (sym count)
+    ∙ prefix_layout prefix rest accepted.stream s whole other
+    ∙ sym (begun_pieces prefix begins.0 s begins.1)
+    ∙ ap (λ n. take n (list_layout s (completion prefix))) count

@@ -8,18 +8,18 @@ use Rattle.yaml_base.specs.Refusal.{ends_collection}
 use Rattle.yaml_base.specs.Ready.{is_ready, written, held_back}
 use Rattle.yaml_base.specs.Layout.{Standing}
 use Rattle.yaml_base.specs.Steps.{Stage, step, ends_next, then_steps, steps, joined_steps, ready_steps, progress}
-use Rattle.yaml_base.specs.Pieces.{begins_last, ends_first, list_layout, completion, pieces}
+use Rattle.yaml_base.specs.Pieces.{last_begins_collection, first_ends_collection, list_layout, completion, pieces}
 use Rattle.yaml_base.proofs.ReadyLaws.{ready_stays}
 use Rattle.yaml_base.proofs.QueueLaws.{written_within, open_at_written, no_end_held}
 use Rattle.yaml_base.proofs.PieceLaws.{steps-append, steps_same, begun_pieces}
 
--- The front of a longer list.
+-- The prefix of a longer list.
 take_add : (k m : ℕ) (events more : List Event) → k ≤ length events → take (k + m) (events ++ more) ≡ take k events ++ take m (drop k events ++ more)
 take_add zero m events more h = ap (λ n. take n (events ++ more)) (let e : 0 + m ≡ m = omega arith in e)
 take_add (suc k) m [] more h = absurd (omega arith)
 take_add (suc k) m (x ∷ events) more h =
     ap (λ n. take n (x ∷ (events ++ more))) (let e : suc k + m ≡ suc (k + m) = omega arith in e)
-    ∙ ap (λ front. x ∷ front) (take_add k m events more (omega arith))
+    ∙ ap (λ prefix. x ∷ prefix) (take_add k m events more (omega arith))
 
 drop_add : (k m : ℕ) (events more : List Event) → k ≤ length events → drop (k + m) (events ++ more) ≡ drop m (drop k events ++ more)
 drop_add zero m events more h = ap (λ n. drop n (events ++ more)) (let e : 0 + m ≡ m = omega arith in e)
@@ -44,9 +44,9 @@ written-append (event ∷ rest) more = more_written event rest more (is_ready ev
 pub progress_pieces : (events : List Event) (p : Partial) (s : Effective) → partial_of (take (written events) events) ≡ Some p
     → pieces s events (written events) ≡ (progress s events).pieces
 progress_pieces events p s begins =
-    let front = take (written events) events in
-    ap (λ n. take n (list_layout s (completion front))) (sym (count (written events) events (written_within events)))
-    ∙ begun_pieces front p s begins
+    let prefix = take (written events) events in
+    ap (λ n. take n (list_layout s (completion prefix))) (sym (count (written events) events (written_within events)))
+    ∙ begun_pieces prefix p s begins
   where
     count : (k : ℕ) (events : List Event) → k ≤ length events → length (take k events) ≡ k
     count zero events h = refl

@@ -93,9 +93,9 @@ within_added e d s levels (mapping_start c) q given = level_added e d s levels (
 within_added e d s (level ∷ levels) event q given = closed_added e d s level levels event (closed level event) q refl given
 within_added e d s [] event q given = cc
 
-document_added : (e : Option Encoding) (d : Documents) (x : Document)
+with_read_document : (e : Option Encoding) (d : Documents) (x : Document)
     → stream_start e ∷ documents_events (documents_and d x) ≡ begun_events e d x.start (node_events x.root) ++ document_end x.end_implicit ∷ []
-document_added e d x =
+with_read_document e d x =
     let head = documents_events d ++ document_start x.start ∷ [] in
     ap (λ events. stream_start e ∷ events)
     (sym (append_assoc (documents_events d) (document_start x.start ∷ []) (node_events x.root ++ document_end x.end_implicit ∷ []))
@@ -114,7 +114,7 @@ push_events (within_document e d s levels) event q given = within_added e d s le
 push_events (after_root e d s root) (document_end implicit) q given =
     let x : Document = record { start = s; root = root; end_implicit = implicit } in
     let same : between_documents e (documents_and d x) ≡ q = cc in
-    ap partial_events (sym same) ∙ document_added e d x
+    ap partial_events (sym same) ∙ with_read_document e d x
 push_events p event q given = cc
 
 abbrev AddsEvents : List Event → Partial → Partial → Type 0

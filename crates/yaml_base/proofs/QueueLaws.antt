@@ -12,9 +12,9 @@ use Rattle.yaml_base.specs.Grammar.{Node, alias_node, scalar_node, sequence_node
 use Rattle.yaml_base.specs.Grammar.{Document, Documents, no_documents, documents_and, Stream, node_events, nodes_events, pairs_events, document_events}
 use Rattle.yaml_base.specs.Grammar.{documents_events, stream_events}
 use Rattle.yaml_base.specs.Refusal.{begins_collection, ends_collection}
-use Rattle.yaml_base.specs.Ready.{is_start, is_end, awaited, is_balanced, fronts, is_ready, written}
-use Rattle.yaml_base.specs.Pieces.{ends_first, closes_at_once}
-use Rattle.yaml_base.proofs.ReadyLaws.{any_map, any_front}
+use Rattle.yaml_base.specs.Ready.{is_start, is_end, awaited, is_balanced, nonempty_prefixes, is_ready, written}
+use Rattle.yaml_base.specs.Pieces.{first_ends_collection, closes_at_once}
+use Rattle.yaml_base.proofs.ReadyLaws.{any_map, any_prefix}
 
 -- No more events are ready than there are.
 written_if : (b : Bool) (m n : ℕ) → m ≤ n → (if b then suc m else 0) ≤ suc n
@@ -53,7 +53,7 @@ middle_false true b c h = cc
 pub held_is_short : (event : Event) (rest : List Event) → is_ready event rest ≡ false → length (event ∷ rest) ≤ awaited event
 held_is_short event rest waits =
     let short : nat_lt (awaited event) (length (event ∷ rest)) ≡ false =
-    middle_false (awaited event == 0) (nat_lt (awaited event) (length (event ∷ rest))) (list_any is_balanced (fronts (event ∷ rest))) waits in
+    middle_false (awaited event == 0) (nat_lt (awaited event) (length (event ∷ rest))) (list_any is_balanced (nonempty_prefixes (event ∷ rest))) waits in
     grind (arith, nat_tests)
 
 -- A collection that the ready events begin last isn't closed by what is held, nor by what may come.
@@ -82,7 +82,7 @@ open_next first next rest more false is others = and_false (begins_collection fi
 open_first : (first : Event) (rest more : List Event) (b : Bool) → is_ready first rest ≡ b → OpenAt rest more (written rest)
     → OpenAt (first ∷ rest) more (if b then suc (written rest) else 0)
 open_first first rest more false is others = refl
-open_first first [] more true is others = ap (λ a. a && ends_first more) (no_start_alone first is)
+open_first first [] more true is others = ap (λ a. a && first_ends_collection more) (no_start_alone first is)
 open_first first (next ∷ rest) more true is others = open_next first next rest more (is_ready next rest) refl others
 
 pub open_at_written : (events more : List Event) → OpenAt events more (written events)
@@ -133,12 +133,12 @@ mutual
 document_balanced : (x : Document) → Balanced (document_events x)
 document_balanced x = balanced_around (document_start x.start) (document_end x.end_implicit) (node_events x.root) refl refl refl refl (node_balanced x.root)
 
--- A list is a front of itself.
-whole_front : (first : Event) (rest : List Event) (p : List Event → Bool) → p (first ∷ rest) ≡ true → list_any p (fronts (first ∷ rest)) ≡ true
-whole_front first [] p h = ap (λ b. b || false) h
-whole_front first (next ∷ rest) p h =
-    or_right (p (first ∷ [])) (list_any p (map (λ front. first ∷ front) (fronts (next ∷ rest))))
-    (any_map p (λ front. first ∷ front) (fronts (next ∷ rest)) ∙ whole_front next rest (λ front. p (first ∷ front)) h)
+-- A list is a prefix of itself.
+whole_prefix : (first : Event) (rest : List Event) (p : List Event → Bool) → p (first ∷ rest) ≡ true → list_any p (nonempty_prefixes (first ∷ rest)) ≡ true
+whole_prefix first [] p h = ap (λ b. b || false) h
+whole_prefix first (next ∷ rest) p h =
+    or_right (p (first ∷ [])) (list_any p (map (λ prefix. first ∷ prefix) (nonempty_prefixes (next ∷ rest))))
+    (any_map p (λ prefix. first ∷ prefix) (nonempty_prefixes (next ∷ rest)) ∙ whole_prefix next rest (λ prefix. p (first ∷ prefix)) h)
   where
     or_right : (a b : Bool) → b ≡ true → a || b ≡ true
     or_right true b h = refl
@@ -151,9 +151,10 @@ or_last false b h = h
 -- A start is ready where its end is there.
 balanced_ready : (start : Event) (inside rest : List Event) → Balanced (start ∷ inside) → is_ready start (inside ++ rest) ≡ true
 balanced_ready start inside rest h =
-    or_last (awaited start == 0 || nat_lt (awaited start) (length (start ∷ (inside ++ rest)))) (list_any is_balanced (fronts (start ∷ (inside ++ rest))))
-    (any_front (start ∷ inside) rest is_balanced
-    (whole_front start inside is_balanced (eq-eqb (count_by is_start (start ∷ inside)) (count_by is_end (start ∷ inside)) h.counts)))
+    or_last (awaited start == 0 || nat_lt (awaited start) (length (start ∷ (inside ++ rest))))
+    (list_any is_balanced (nonempty_prefixes (start ∷ (inside ++ rest))))
+    (any_prefix (start ∷ inside) rest is_balanced
+    (whole_prefix start inside is_balanced (eq-eqb (count_by is_start (start ∷ inside)) (count_by is_end (start ∷ inside)) h.counts)))
 
 -- all of a list is ready before any other
 abbrev AllReady : List Event → List Event → Type 0

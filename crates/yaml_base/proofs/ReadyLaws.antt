@@ -5,7 +5,7 @@ use Rattle.std.proofs.lemmas.Bool.Decides.{nat_tests}
 use Rattle.std.specs.Prelude.{ℕ, suc, ◌≤◌, Bool, true, false, ◌||◌, ◌==◌, nat_lt, List, [], ◌∷◌, ◌++◌, length, map, if◌then◌else◌}
 use Rattle.std.specs.List.{list_any}
 use Rattle.yaml_base.specs.Event.{Event}
-use Rattle.yaml_base.specs.Ready.{awaited, is_balanced, fronts, is_ready, written, ReadyStays}
+use Rattle.yaml_base.specs.Ready.{awaited, is_balanced, nonempty_prefixes, is_ready, written, ReadyStays}
 
 pub any_map : (p : List Event → Bool) (f : List Event → List Event) (xs : List (List Event)) → list_any p (map f xs) ≡ list_any (λ x. p (f x)) xs
 any_map p f [] = refl
@@ -15,12 +15,13 @@ either : (a b c : Bool) → (b ≡ true → c ≡ true) → a || b ≡ true → 
 either true b c more given = refl
 either false b c more given = more given
 
--- A front of a list is a front of every longer one.
-pub any_front : (a b : List Event) (p : List Event → Bool) → list_any p (fronts a) ≡ true → list_any p (fronts (a ++ b)) ≡ true
-any_front [] b p given = cc
-any_front (x ∷ a) b p given =
-    either (p (x ∷ [])) (list_any p (map (λ front. x ∷ front) (fronts a))) (list_any p (map (λ front. x ∷ front) (fronts (a ++ b))))
-    (λ some. any_map p (λ front. x ∷ front) (fronts (a ++ b)) ∙ any_front a b (λ front. p (x ∷ front)) (sym (any_map p (λ front. x ∷ front) (fronts a)) ∙ some))
+-- A prefix of a list is a prefix of every longer one.
+pub any_prefix : (a b : List Event) (p : List Event → Bool) → list_any p (nonempty_prefixes a) ≡ true → list_any p (nonempty_prefixes (a ++ b)) ≡ true
+any_prefix [] b p given = cc
+any_prefix (x ∷ a) b p given =
+    either (p (x ∷ [])) (list_any p (map (λ prefix. x ∷ prefix) (nonempty_prefixes a))) (list_any p (map (λ prefix. x ∷ prefix) (nonempty_prefixes (a ++ b))))
+    (λ some. any_map p (λ prefix. x ∷ prefix) (nonempty_prefixes (a ++ b))
+    ∙ any_prefix a b (λ prefix. p (x ∷ prefix)) (sym (any_map p (λ prefix. x ∷ prefix) (nonempty_prefixes a)) ∙ some))
     given
 
 more_stand : (n : ℕ) (a b : List Event) → nat_lt n (length a) ≡ true → nat_lt n (length (a ++ b)) ≡ true
@@ -35,12 +36,12 @@ pub ready_stays : (event : Event) (rest more : List Event) → is_ready event re
 ready_stays event rest more given =
     either_of
     (awaited event == 0 || nat_lt (awaited event) (length (event ∷ rest)))
-    (list_any is_balanced (fronts (event ∷ rest)))
+    (list_any is_balanced (nonempty_prefixes (event ∷ rest)))
     (awaited event == 0 || nat_lt (awaited event) (length (event ∷ (rest ++ more))))
-    (list_any is_balanced (fronts (event ∷ (rest ++ more))))
+    (list_any is_balanced (nonempty_prefixes (event ∷ (rest ++ more))))
     (either (awaited event == 0) (nat_lt (awaited event) (length (event ∷ rest))) (nat_lt (awaited event) (length (event ∷ (rest ++ more))))
     (more_stand (awaited event) (event ∷ rest) more))
-    (any_front (event ∷ rest) more is_balanced)
+    (any_prefix (event ∷ rest) more is_balanced)
     given
 
 counted : (now later : Bool) (m n : ℕ) → (now ≡ true → later ≡ true) → m ≤ n → (if now then suc m else 0) ≤ (if later then suc n else 0)

@@ -11,7 +11,8 @@ use Rattle.yaml_base.specs.Event.{any_style, any_layout, DocumentStart, Event, s
 use Rattle.yaml_base.specs.Event.{sequence_start, sequence_end, mapping_start, mapping_end}
 use Rattle.yaml_base.specs.Output.{encoding_asked, output_of}
 use Rattle.yaml_base.specs.graphs.Meetings.{Graph, GraphNode, Held, scalar_held, sequence_held, mapping_held, Step, enters, leaves, meets_again, node_numbered}
-use Rattle.yaml_base.specs.graphs.Meetings.{string_tag, sequence_tag, mapping_tag, beginning_of, beginning_events, ending_of, ending_events, anchor_of, steps}
+use Rattle.yaml_base.specs.graphs.Meetings.{string_tag, sequence_tag, mapping_tag, opening_event_of, opening_events, closing_event_of, closing_events}
+use Rattle.yaml_base.specs.graphs.Meetings.{anchor_of, steps}
 use Rattle.yaml_base.specs.graphs.Meetings.{step_events, document_event_list}
 use Rattle.yaml_base.specs.graphs.Unfolding.{NodeKind, scalar_kind, sequence_kind, mapping_kind, Label, label_of, IsReached, IsDocument}
 use Rattle.yaml_base.specs.graphs.Isomorphic.{label_at, Isomorphic, IsWrittenAlike, AreWrittenAlike}
@@ -22,27 +23,27 @@ use Rattle.yaml_base.proofs.SameWalks.{AllReached, node_of_step, renumbered, sam
 
 -- ---- a node's events, by its label
 
-abbrev begun_by : Option Text → Text → NodeKind → Event
-begun_by anchor tag (scalar_kind value style) =
+abbrev scan_first_byte : Option Text → Text → NodeKind → Event
+scan_first_byte anchor tag (scalar_kind value style) =
     let implicit = bytes_eq tag string_tag in
     scalar (record { anchor = anchor; tag = Some tag; value = value; plain_implicit = implicit; quoted_implicit = implicit; style = any_style })
-begun_by anchor tag (sequence_kind style) =
+scan_first_byte anchor tag (sequence_kind style) =
     sequence_start (record { anchor = anchor; tag = Some tag; implicit = bytes_eq tag sequence_tag; style = any_layout })
-begun_by anchor tag (mapping_kind style) =
+scan_first_byte anchor tag (mapping_kind style) =
     mapping_start (record { anchor = anchor; tag = Some tag; implicit = bytes_eq tag mapping_tag; style = any_layout })
 
 abbrev beginning_by : Option Text → Option Label → List Event
 beginning_by anchor None = []
-beginning_by anchor (Some label) = begun_by anchor (unwrap_or label.tag []) label.kind ∷ []
+beginning_by anchor (Some label) = scan_first_byte anchor (unwrap_or label.tag []) label.kind ∷ []
 
 held_begins : (anchor : Option Text) (tag : Text) (held : Held)
-    → map unstyled (beginning_of anchor tag held ∷ []) ≡ beginning_by anchor (Some (label_of false (record { tag = tag; held = held })))
+    → map unstyled (opening_event_of anchor tag held ∷ []) ≡ beginning_by anchor (Some (label_of false (record { tag = tag; held = held })))
 held_begins anchor tag (scalar_held value style) = refl
 held_begins anchor tag (sequence_held items style) = refl
 held_begins anchor tag (mapping_held pairs style) = refl
 
 begins_by : (anchor : Option Text) (found : Option GraphNode)
-    → map unstyled (beginning_events anchor found) ≡ beginning_by anchor (option_map (label_of false) found)
+    → map unstyled (opening_events anchor found) ≡ beginning_by anchor (option_map (label_of false) found)
 begins_by anchor None = refl
 begins_by anchor (Some node) = held_begins anchor node.tag node.held
 
@@ -55,12 +56,12 @@ abbrev ending_by : Option Label → List Event
 ending_by None = []
 ending_by (Some label) = ended_by label.kind
 
-held_ends : (tag : Text) (held : Held) → map unstyled (ending_of held) ≡ ending_by (Some (label_of false (record { tag = tag; held = held })))
+held_ends : (tag : Text) (held : Held) → map unstyled (closing_event_of held) ≡ ending_by (Some (label_of false (record { tag = tag; held = held })))
 held_ends tag (scalar_held value style) = refl
 held_ends tag (sequence_held items style) = refl
 held_ends tag (mapping_held pairs style) = refl
 
-ends_by : (found : Option GraphNode) → map unstyled (ending_events found) ≡ ending_by (option_map (label_of false) found)
+ends_by : (found : Option GraphNode) → map unstyled (closing_events found) ≡ ending_by (option_map (label_of false) found)
 ends_by None = refl
 ends_by (Some node) = held_ends node.tag node.held
 

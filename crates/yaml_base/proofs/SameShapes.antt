@@ -7,11 +7,12 @@ use Rattle.std.proofs.lemmas.List.{map-append}
 use Rattle.std.proofs.lemmas.Slice.Eq.{bytes_eq-Decides}
 use Rattle.yaml_base.specs.Characters.{Text}
 use Rattle.yaml_base.specs.graphs.Meetings.{Graph, children}
-use Rattle.yaml_base.specs.graphs.Unfolding.{Shape, numbers_at, number_at, Occurrence, alias_occurrence, node_occurrence, occurrences, carries}
+use Rattle.yaml_base.specs.graphs.Unfolding.{Shape, numbers_at, number_at, Occurrence, alias_occurrence, node_occurrence, occurrences, has_anchor}
 use Rattle.yaml_base.specs.graphs.Unfolding.{is_occurrence_of, IsNamed, AreNamed, IsReached, first_reached, Unfolds}
 use Rattle.yaml_base.specs.graphs.Isomorphic.{label_at, Isomorphic}
 use Rattle.yaml_base.proofs.Twins.{Twin, alias_twin, node_twin, Twins, none_twins, twins_and, first_placed, firsts_placed, second_placed, seconds_placed}
-use Rattle.yaml_base.proofs.Twins.{TwinFits, TwinsFit, joined, Pair, alias_pair, node_pair, pairs, pairs_below, first_number, second_number, first_of, second_of}
+use Rattle.yaml_base.proofs.Twins.{TwinFits, TwinsFit, joined, Pair, alias_pair, node_pair, pairs, pairs_below, first_number, second_number, first_of}
+use Rattle.yaml_base.proofs.Twins.{second_of}
 use Rattle.yaml_base.proofs.Twins.{first_occurrences, second_occurrences, IsIn, in_left, in_right, in_either, contained_in, in_map, number_in}
 use Rattle.yaml_base.proofs.Twins.{occurrence_reached, only_one, count_map, counted_in}
 
@@ -76,7 +77,7 @@ back_is all anchor number other within once =
 
 -- an alias's name is carried once, by a node of its number
 named_at : (all before rest : List Occurrence) (name : Text) (number : ℕ) → AreNamed all before rest → IsIn (alias_occurrence name number) rest
-    → (count_by (carries name) all ≡ 1) × IsIn (node_occurrence (Some name) number) (before ++ rest)
+    → (count_by (has_anchor name) all ≡ 1) × IsIn (node_occurrence (Some name) number) (before ++ rest)
 named_at all before [] name number named within = absurd within
 named_at all before (first ∷ rest) name number named (inl is) =
     let one : IsNamed all before (alias_occurrence name number) = subst (λ o. IsNamed all before o) is named.0 in
@@ -113,8 +114,8 @@ alias_matches all name number other within named also once =
     let carried = (bytes_eq-Decides name name).1 refl in
     partner_is all (Some name) number node.0 node.1 once
     ∙ ap second_number
-    (only_one (λ pair. carries name (first_of pair)) (node_pair (Some name) number node.0) (node_pair (Some name) again.0 other) all node.1 again.1
-    carried carried (sym (count_map first_of (carries name) all) ∙ one.0))
+    (only_one (λ pair. has_anchor name (first_of pair)) (node_pair (Some name) number node.0) (node_pair (Some name) again.0 other) all node.1 again.1
+    carried carried (sym (count_map first_of (has_anchor name) all) ∙ one.0))
 
 -- ---- what a node's partner has
 
@@ -171,10 +172,10 @@ mutual
 
 -- ---- a node that is reached has its place
 
-record HasPair (all : List Pair) (first_is : ℕ) : Type 0 where
+record HasPair (all : List Pair) (first_meets : ℕ) : Type 0 where
   anchor : Option Text
   other : ℕ
-  within : IsIn (node_pair anchor first_is other) all
+  within : IsIn (node_pair anchor first_meets other) all
 
 node_of : (all : List Pair) (number : ℕ) → count_by (is_occurrence_of number) (map first_of all) ≡ 1 → HasPair all number
 node_of all number once =

@@ -11,7 +11,8 @@ use Rattle.std.proofs.lemmas.List.Elements.{Contains-append_left, Contains-appen
 use Rattle.yaml_base.specs.Characters.{Text}
 use Rattle.yaml_base.specs.graphs.Meetings.{Graph, Step, enters, leaves, meets_again, children, is_entry_of, steps, node_met_again, first_of_each}
 use Rattle.yaml_base.specs.graphs.Meetings.{shared_nodes, numbered_name, anchor_of, is_whole}
-use Rattle.yaml_base.specs.graphs.Unfolding.{Placed, alias_placed, node_placed, PlacedAll, none_placed, placed_and, number_at, numbers_at, IsReached, first_reached}
+use Rattle.yaml_base.specs.graphs.Unfolding.{Placed, alias_placed, node_placed, PlacedNodes, none_placed, placed_and, number_at, numbers_at}
+use Rattle.yaml_base.specs.graphs.Unfolding.{IsReached, first_reached}
 use Rattle.yaml_base.specs.graphs.Unfolding.{child_reached}
 use Rattle.yaml_base.specs.graphs.Isomorphic.{Isomorphic}
 use Rattle.yaml_base.proofs.UnfoldSteps.{Keeps, steps_keep}
@@ -21,24 +22,24 @@ use Rattle.yaml_base.proofs.Twins.{IsIn, in_either}
 -- ---- each step in its turn
 
 -- a node is entered where it wasn't before, and met again where it was
-abbrev pub IsTurn : List Step → Step → Type 0
-IsTurn before (enters number) = list_any (is_entry_of number) before ≡ false
-IsTurn before (meets_again number) = list_any (is_entry_of number) before ≡ true
-IsTurn before (leaves number) = ⊤
+abbrev pub IsStepOf : List Step → Step → Type 0
+IsStepOf before (enters number) = list_any (is_entry_of number) before ≡ false
+IsStepOf before (meets_again number) = list_any (is_entry_of number) before ≡ true
+IsStepOf before (leaves number) = ⊤
 
-abbrev pub AreTurns : List Step → List Step → Type 0
-AreTurns before [] = ⊤
-AreTurns before (step ∷ rest) = IsTurn before step × AreTurns (before ++ step ∷ []) rest
+abbrev pub AreStepsOf : List Step → List Step → Type 0
+AreStepsOf before [] = ⊤
+AreStepsOf before (step ∷ rest) = IsStepOf before step × AreStepsOf (before ++ step ∷ []) rest
 
-turns_more : (before walk : List Step) (step : Step) → AreTurns before walk → IsTurn (before ++ walk) step → AreTurns before (walk ++ step ∷ [])
-turns_more before [] step turns now = (subst (λ steps. IsTurn steps step) (append-nil before) now, tt)
+turns_more : (before walk : List Step) (step : Step) → AreStepsOf before walk → IsStepOf (before ++ walk) step → AreStepsOf before (walk ++ step ∷ [])
+turns_more before [] step turns now = (subst (λ steps. IsStepOf steps step) (append-nil before) now, tt)
 turns_more before (first ∷ walk) step turns now = (
   turns.0,
   turns_more (before ++ first ∷ []) walk step turns.1
-      (subst (λ steps. IsTurn steps step) (sym (append_assoc before (first ∷ []) walk)) now),
+      (subst (λ steps. IsStepOf steps step) (sym (append_assoc before (first ∷ []) walk)) now),
 )
 
-keeps_turns : (graph : Graph) → Keeps graph (AreTurns [])
+keeps_turns : (graph : Graph) → Keeps graph (AreStepsOf [])
 keeps_turns graph =
     record {
       met = λ before number some turns. turns_more [] before (meets_again number) turns some;
@@ -46,14 +47,14 @@ keeps_turns graph =
       left = λ before number turns. turns_more [] before (leaves number) turns tt;
     }
 
-walk_turns : (graph : Graph) → AreTurns [] (steps graph)
-walk_turns graph = steps_keep graph (AreTurns []) (keeps_turns graph) (suc (length graph.nodes)) [] 1 first_reached tt
+walk_turns : (graph : Graph) → AreStepsOf [] (steps graph)
+walk_turns graph = steps_keep graph (AreStepsOf []) (keeps_turns graph) (suc (length graph.nodes)) [] 1 first_reached tt
 
 -- those of a list after its first part
-later_turns : (before some others : List Step) → AreTurns before (some ++ others) → AreTurns (before ++ some) others
-later_turns before [] others turns = subst (λ steps. AreTurns steps others) (sym (append-nil before)) turns
+later_turns : (before some others : List Step) → AreStepsOf before (some ++ others) → AreStepsOf (before ++ some) others
+later_turns before [] others turns = subst (λ steps. AreStepsOf steps others) (sym (append-nil before)) turns
 later_turns before (step ∷ some) others turns =
-    subst (λ steps. AreTurns steps others) (append_assoc before (step ∷ []) some) (later_turns (before ++ step ∷ []) some others turns.1)
+    subst (λ steps. AreStepsOf steps others) (append_assoc before (step ∷ []) some) (later_turns (before ++ step ∷ []) some others turns.1)
 
 -- ---- steps of nodes that are reached
 
@@ -88,7 +89,7 @@ mutual
       (λ child within. child_reached reached (subst (λ (numbers : List ℕ). Contains numbers child) fits.2 within)))
       (one_reached graph (leaves number) reached))
 
-  below_reached : (named : ℕ → Option Text) (graph : Graph) (below : PlacedAll) → AllFit named graph below
+  below_reached : (named : ℕ → Option Text) (graph : Graph) (below : PlacedNodes) → AllFit named graph below
       → ((child : ℕ) → Contains (numbers_at below) child → IsReached graph child) → AllReached graph (below_steps below)
   below_reached named graph none_placed fit reached step within = absurd within
   below_reached named graph (placed_and before last) fit reached step within =
@@ -150,8 +151,8 @@ last_parts (a ∷ xs) (b ∷ ys) x y same =
 mutual
   mirrored : (first second : Graph) (iso : Isomorphic first second) (named also : ℕ → Option Text) (one two : Placed) (before after later : List Step)
       → Fits named first one → Fits also second two → number_at two ≡ iso.partner (number_at one) → IsReached first (number_at one)
-      → AllReached first before → AreTurns before (placed_steps one ++ after)
-      → AreTurns (map (renumbered iso.partner) before) (placed_steps two ++ later)
+      → AllReached first before → AreStepsOf before (placed_steps one ++ after)
+      → AreStepsOf (map (renumbered iso.partner) before) (placed_steps two ++ later)
       → placed_steps two ≡ map (renumbered iso.partner) (placed_steps one)
   mirrored first second iso named also (alias_placed name number) (alias_placed told other) before after later fits matches is reached all turns takes =
       ap (λ (n : ℕ). meets_again n ∷ []) is
@@ -177,20 +178,20 @@ mutual
       held
       (λ child inside. child_reached reached (subst (λ (numbers : List ℕ). Contains numbers child) fits.2 inside))
       (both_reached first before (enters number ∷ []) all (one_reached first (enters number) reached))
-      (subst (λ steps. AreTurns (before ++ enters number ∷ []) steps) (append_assoc (below_steps below) (leaves number ∷ []) after) turns.1)
-      (subst (λ steps. AreTurns steps (below_steps lower ++ leaves other ∷ later)) within
-      (subst (λ steps. AreTurns (map (renumbered partner) before ++ enters other ∷ []) steps) (append_assoc (below_steps lower) (leaves other ∷ []) later)
+      (subst (λ steps. AreStepsOf (before ++ enters number ∷ []) steps) (append_assoc (below_steps below) (leaves number ∷ []) after) turns.1)
+      (subst (λ steps. AreStepsOf steps (below_steps lower ++ leaves other ∷ later)) within
+      (subst (λ steps. AreStepsOf (map (renumbered partner) before ++ enters other ∷ []) steps) (append_assoc (below_steps lower) (leaves other ∷ []) later)
       takes.1)) in
       ap (λ (n : ℕ). enters n ∷ (below_steps lower ++ leaves n ∷ [])) is
       ∙ ap (λ steps. enters (partner number) ∷ (steps ++ leaves (partner number) ∷ [])) inner
       ∙ ap (λ steps. enters (partner number) ∷ steps) (sym (map-append (renumbered partner) (below_steps below) (leaves number ∷ [])))
 
-  mirrored_below : (first second : Graph) (iso : Isomorphic first second) (named also : ℕ → Option Text) (some others : PlacedAll)
+  mirrored_below : (first second : Graph) (iso : Isomorphic first second) (named also : ℕ → Option Text) (some others : PlacedNodes)
       (before after later : List Step)
       → AllFit named first some → AllFit also second others → numbers_at others ≡ map iso.partner (numbers_at some)
       → ((child : ℕ) → Contains (numbers_at some) child → IsReached first child)
-      → AllReached first before → AreTurns before (below_steps some ++ after)
-      → AreTurns (map (renumbered iso.partner) before) (below_steps others ++ later)
+      → AllReached first before → AreStepsOf before (below_steps some ++ after)
+      → AreStepsOf (map (renumbered iso.partner) before) (below_steps others ++ later)
       → below_steps others ≡ map (renumbered iso.partner) (below_steps some)
   mirrored_below first second iso named also none_placed none_placed before after later fit match are reached all turns takes = refl
   mirrored_below first second iso named also none_placed (placed_and earlier last) before after later fit match are reached all turns takes =
@@ -209,8 +210,8 @@ mutual
       (are ∙ map-append partner (numbers_at earlier) (number_at last ∷ [])) in
       let reached_earlier = λ (child : ℕ) (within : Contains (numbers_at earlier) child).
       reached child (Contains-append_left (numbers_at earlier) (number_at last ∷ []) child within) in
-      let turned = subst (λ steps. AreTurns before steps) (append_assoc (below_steps earlier) (placed_steps last) after) turns in
-      let taken = subst (λ steps. AreTurns (map (renumbered partner) before) steps) (append_assoc (below_steps sooner) (placed_steps latter) later) takes in
+      let turned = subst (λ steps. AreStepsOf before steps) (append_assoc (below_steps earlier) (placed_steps last) after) turns in
+      let taken = subst (λ steps. AreStepsOf (map (renumbered partner) before) steps) (append_assoc (below_steps sooner) (placed_steps latter) later) takes in
       let inner =
       mirrored_below first second iso named also earlier sooner before (placed_steps last ++ after) (placed_steps latter ++ later) fit.0 match.0 parts.0
       reached_earlier all turned taken in
@@ -221,7 +222,7 @@ mutual
       (reached (number_at last) (Contains-append_right (numbers_at earlier) (number_at last ∷ []) (number_at last) (0, omega arith, refl)))
       (both_reached first before (below_steps earlier) all (below_reached named first earlier fit.0 reached_earlier))
       (later_turns before (below_steps earlier) (placed_steps last ++ after) turned)
-      (subst (λ steps. AreTurns steps (placed_steps latter ++ later)) within
+      (subst (λ steps. AreStepsOf steps (placed_steps latter ++ later)) within
       (later_turns (map (renumbered partner) before) (below_steps sooner) (placed_steps latter ++ later) taken)) in
       ap (λ steps. steps ++ placed_steps latter) inner
       ∙ ap (λ steps. map (renumbered partner) (below_steps earlier) ++ steps) now
@@ -240,8 +241,8 @@ same_walks first second iso whole also_whole some also_some =
     let one = walk_placed named first whole some in
     let two = walk_placed also second also_whole also_some in
     let root : IsReached first (number_at one.placed) = subst (λ (n : ℕ). IsReached first n) (sym one.root) first_reached in
-    let turns = subst (λ steps. AreTurns [] steps) (one.adds ∙ sym (append-nil (placed_steps one.placed))) (walk_turns first) in
-    let takes = subst (λ steps. AreTurns [] steps) (two.adds ∙ sym (append-nil (placed_steps two.placed))) (walk_turns second) in
+    let turns = subst (λ steps. AreStepsOf [] steps) (one.adds ∙ sym (append-nil (placed_steps one.placed))) (walk_turns first) in
+    let takes = subst (λ steps. AreStepsOf [] steps) (two.adds ∙ sym (append-nil (placed_steps two.placed))) (walk_turns second) in
     record {
       same =
           two.adds

@@ -21,13 +21,13 @@ named_unlike {A} test (entry ∷ table) text all other = by (is_word text entry.
     by false e ih = ih
 
 -- a word of two tables is one of either
-pub named_either : {A : Type 0} (front rest : List (Text × A)) (text : Text)
-    → is_some (named (front ++ rest) text) ≡ (is_some (named front text) || is_some (named rest text))
+pub named_either : {A : Type 0} (prefix rest : List (Text × A)) (text : Text)
+    → is_some (named (prefix ++ rest) text) ≡ (is_some (named prefix text) || is_some (named rest text))
 named_either [] rest text = refl
-named_either {A} (entry ∷ front) rest text = by (is_word text entry.0) (named_either front rest text)
+named_either {A} (entry ∷ prefix) rest text = by (is_word text entry.0) (named_either prefix rest text)
   where
-    by : (x : Bool) → is_some (named (front ++ rest) text) ≡ (is_some (named front text) || is_some (named rest text))
-        → is_some (if x then Some entry.1 else named (front ++ rest) text)
-        ≡ (is_some (if x then Some entry.1 else named front text) || is_some (named rest text))
+    by : (x : Bool) → is_some (named (prefix ++ rest) text) ≡ (is_some (named prefix text) || is_some (named rest text))
+        → is_some (if x then Some entry.1 else named (prefix ++ rest) text)
+        ≡ (is_some (if x then Some entry.1 else named prefix text) || is_some (named rest text))
     by true ih = refl
     by false ih = ih

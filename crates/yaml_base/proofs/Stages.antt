@@ -8,7 +8,7 @@ use Rattle.yaml_base.specs.Event.{sequence_end, mapping_start, mapping_end}
 use Rattle.yaml_base.specs.Grammar.{Node, alias_node, scalar_node, no_nodes, nodes_and, no_pairs, pairs_and, Documents, no_documents, documents_and, Level}
 use Rattle.yaml_base.specs.Grammar.{at_item, at_key, at_value, Partial, before_stream, between_documents, within_document, after_root, after_stream, with_node}
 use Rattle.yaml_base.specs.Grammar.{closed, push_within, push, pushed, partial_of}
-use Rattle.yaml_base.specs.Refusal.{fault_if, name_or_tag_fault, content_fault, expected, begins_collection, ends_collection, open_levels, most_open}
+use Rattle.yaml_base.specs.Refusal.{some_if, name_or_tag_fault, content_fault, expected, begins_collection, ends_collection, open_levels, most_open}
 use Rattle.yaml_base.specs.Refusal.{refusal_at, refusal}
 use Rattle.yaml_base.specs.Layout.{Standing, Role, as_item, as_key, as_value, is_key, first_standing}
 use Rattle.yaml_base.specs.Steps.{Frame, Stage, at_stream, at_document, at_node, at_document_end, at_nothing, role_after, stage_after, step, ends_next, steps}
@@ -133,7 +133,7 @@ next_stands : (event : Event) (rest : List Event) → ListStands rest → (p q :
 next_stands event rest others p q stage s follows standing h None is given = cc
 next_stands event rest others p q stage s follows standing h (Some r) is given =
     let stepped = step s stage event (ends_next rest follows) standing in
-    others r q stepped.stage s follows stepped.laid.standing (step_stands p stage event h r s (ends_next rest follows) standing is) given
+    others r q stepped.stage s follows stepped.rendered.standing (step_stands p stage event h r s (ends_next rest follows) standing is) given
 
 list_stands : (events : List Event) → ListStands events
 list_stands [] = λ p q stage s follows standing h given. stands_as p q stage given h
@@ -217,10 +217,10 @@ pub stage_refuses : (canonical : Bool) (p : Partial) (stage : Stage) (event : Ev
 stage_refuses canonical p stage event h =
     let names = name_or_tag_fault canonical event in
     let content = content_fault canonical event in
-    let full = (λ (n : ℕ). fault_if (begins_collection event && not (nat_lt n most_open)) TooDeep) in
-    ap (λ b. option_or names (option_or (fault_if b (stage_expected stage)) (option_or content (full (open_frames stage))))) (stage_allowed p stage event h)
-    ∙ ap (λ x. option_or names (option_or (fault_if (is_none (push p event)) x) (option_or content (full (open_frames stage))))) (stage_expects p stage h)
-    ∙ ap (λ n. option_or names (option_or (fault_if (is_none (push p event)) (expected p)) (option_or content (full n)))) (frames_open p stage h)
+    let full = (λ (n : ℕ). some_if (begins_collection event && not (nat_lt n most_open)) TooDeep) in
+    ap (λ b. option_or names (option_or (some_if b (stage_expected stage)) (option_or content (full (open_frames stage))))) (stage_allowed p stage event h)
+    ∙ ap (λ x. option_or names (option_or (some_if (is_none (push p event)) x) (option_or content (full (open_frames stage))))) (stage_expects p stage h)
+    ∙ ap (λ n. option_or names (option_or (some_if (is_none (push p event)) (expected p)) (option_or content (full n)))) (frames_open p stage h)
 
 pub stage_refusal_after : (canonical : Bool) (events : List Event) (event : Event) (p : Partial) (s : Effective) (follows : Bool) → partial_of events ≡ Some p
     → stage_refusal canonical (steps s follows events at_stream first_standing).stage event ≡ refusal canonical events event

@@ -7,20 +7,21 @@ use Rattle.yaml_base.specs.Tags.{directives_in_force}
 use Rattle.yaml_base.specs.Grammar.{Node, alias_node, scalar_node, sequence_node, mapping_node, Nodes, no_nodes, nodes_and, Pairs, no_pairs, pairs_and}
 use Rattle.yaml_base.specs.Grammar.{Document, Documents, no_documents, documents_and, Stream, node_events, nodes_events, pairs_events, document_events}
 use Rattle.yaml_base.specs.Grammar.{documents_events, stream_events}
-use Rattle.yaml_base.specs.Layout.{Piece, Standing, PiecesLaid, one_piece, then_pieces, Role, as_item, as_key, as_value, is_undented, entries_column}
+use Rattle.yaml_base.specs.Layout.{Piece, Standing, RenderedPieces, one_piece, then_pieces, Role, as_item, as_key, as_value, is_undented, entries_column}
 use Rattle.yaml_base.specs.Layout.{has_no_nodes, has_no_pairs, is_simple, is_simple_at, start_piece, is_written_in_flow, square, curly, end_piece, entry_place}
-use Rattle.yaml_base.specs.Layout.{root_place, node_laid, nodes_laid, pairs_laid, document_start_piece, document_end_piece, document_laid, has_no_documents}
-use Rattle.yaml_base.specs.Layout.{documents_laid, first_standing, stream_start_piece, stream_end_piece, layout}
+use Rattle.yaml_base.specs.Layout.{root_place, render_node, render_nodes, render_pairs, document_start_piece, document_end_piece, render_document}
+use Rattle.yaml_base.specs.Layout.{has_no_documents}
+use Rattle.yaml_base.specs.Layout.{render_documents, first_standing, stream_start_piece, stream_end_piece, layout}
 use Rattle.yaml_base.specs.Steps.{Frame, at_stream, at_document, at_node, at_nothing, next_place, stage_after, step, ends_next, Steps, then_steps, steps}
 
 -- pieces of a tree, and then steps from where they leave off
-abbrev after_pieces : PiecesLaid → (Standing → Steps) → Steps
-after_pieces laid next =
-    let after = next laid.standing in
-    record { pieces = laid.pieces ++ after.pieces; standing = after.standing; stage = after.stage }
+abbrev after_pieces : RenderedPieces → (Standing → Steps) → Steps
+after_pieces rendered next =
+    let after = next rendered.standing in
+    record { pieces = rendered.pieces ++ after.pieces; standing = after.standing; stage = after.stage }
 
 -- More pieces and then steps: the pieces, then the more, then the steps.
-after_pieces-then_pieces : (a : PiecesLaid) (f : Standing → PiecesLaid) (g : Standing → Steps)
+after_pieces-then_pieces : (a : RenderedPieces) (f : Standing → RenderedPieces) (g : Standing → Steps)
     → after_pieces (then_pieces a f) g ≡ after_pieces a (λ standing. after_pieces (f standing) g)
 after_pieces-then_pieces a f g =
     let b = f a.standing in
@@ -29,7 +30,7 @@ after_pieces-then_pieces a f g =
     (append_assoc a.pieces b.pieces c.pieces)
 
 -- Steps that agree where the pieces leave off.
-after_pieces-same : (a : PiecesLaid) (f g : Standing → Steps) → f a.standing ≡ g a.standing → after_pieces a f ≡ after_pieces a g
+after_pieces-same : (a : RenderedPieces) (f g : Standing → Steps) → f a.standing ≡ g a.standing → after_pieces a f ≡ after_pieces a g
 after_pieces-same a f g same =
     ap (λ (after : Steps). let made : Steps = record { pieces = a.pieces ++ after.pieces; standing = after.standing; stage = after.stage } in made) same
 
@@ -77,7 +78,7 @@ frame_at in_flow role column simple = record { place = entry_place in_flow role 
 mutual
   pub node_steps : (n : Node) (s : Effective) (follows : Bool) (rest : List Event) (d : List TagDirective) (frames : List Frame) (standing : Standing)
       → steps s follows (node_events n ++ rest) (at_node d frames) standing
-      ≡ after_pieces (node_laid n s d (next_place frames) standing)
+      ≡ after_pieces (render_node n s d (next_place frames) standing)
       (steps s follows rest (stage_after d frames (is_simple_at (next_place frames) s.canonical d n)))
   node_steps (alias_node name) s follows rest d frames standing = refl
   node_steps (scalar_node content) s follows rest d frames standing = refl
@@ -88,8 +89,8 @@ mutual
       let in_flow = is_written_in_flow s place c empty in
       let start = start_piece s d place simple c standing in
       let column = entries_column in_flow (is_undented s place.role) s.indent place.column start.standing.cursor in
-      let entries = nodes_laid items s d in_flow column in
-      let end : Standing → PiecesLaid = (λ after. one_piece (end_piece s square in_flow empty place.column after)) in
+      let entries = render_nodes items s d in_flow column in
+      let end : Standing → RenderedPieces = (λ after. one_piece (end_piece s square in_flow empty place.column after)) in
       let next = steps s follows rest (stage_after d frames simple) in
       ap (λ events. steps s follows (sequence_start c ∷ events) (at_node d frames) standing) (append_assoc (nodes_events items) (sequence_end ∷ []) rest)
       ∙ ap (λ ends. then_steps (step s (at_node d frames) (sequence_start c) ends standing) (steps s follows (nodes_events items ++ sequence_end ∷ rest)))
@@ -107,8 +108,8 @@ mutual
       let in_flow = is_written_in_flow s place c empty in
       let start = start_piece s d place simple c standing in
       let column = entries_column in_flow false s.indent place.column start.standing.cursor in
-      let entries = pairs_laid pairs s d in_flow column in
-      let end : Standing → PiecesLaid = (λ after. one_piece (end_piece s curly in_flow empty place.column after)) in
+      let entries = render_pairs pairs s d in_flow column in
+      let end : Standing → RenderedPieces = (λ after. one_piece (end_piece s curly in_flow empty place.column after)) in
       let next = steps s follows rest (stage_after d frames simple) in
       ap (λ events. steps s follows (mapping_start c ∷ events) (at_node d frames) standing) (append_assoc (pairs_events pairs) (mapping_end ∷ []) rest)
       ∙ ap (λ ends. then_steps (step s (at_node d frames) (mapping_start c) ends standing) (steps s follows (pairs_events pairs ++ mapping_end ∷ rest)))
@@ -123,33 +124,33 @@ mutual
   pub nodes_steps : (items : Nodes) (s : Effective) (follows : Bool) (rest : List Event) (d : List TagDirective) (in_flow : Bool) (column : ℕ) (simple : Bool)
       (frames : List Frame) (standing : Standing)
       → steps s follows (nodes_events items ++ rest) (at_node d (frame_at in_flow (as_item true) column simple ∷ frames)) standing
-      ≡ after_pieces (nodes_laid items s d in_flow column standing)
+      ≡ after_pieces (render_nodes items s d in_flow column standing)
       (steps s follows rest (at_node d (frame_at in_flow (as_item (has_no_nodes items)) column simple ∷ frames)))
   nodes_steps no_nodes s follows rest d in_flow column simple frames standing = refl
   nodes_steps (nodes_and items last) s follows rest d in_flow column simple frames standing =
       let place = entry_place in_flow (as_item (has_no_nodes items)) column in
-      let before = nodes_laid items s d in_flow column standing in
+      let before = render_nodes items s d in_flow column standing in
       let next = steps s follows rest (at_node d (frame_at in_flow (as_item false) column simple ∷ frames)) in
       ap (λ events. steps s follows events (at_node d (frame_at in_flow (as_item true) column simple ∷ frames)) standing)
       (append_assoc (nodes_events items) (node_events last) rest)
       ∙ nodes_steps items s follows (node_events last ++ rest) d in_flow column simple frames standing
       ∙ after_pieces-same before (steps s follows (node_events last ++ rest)
-      (at_node d (frame_at in_flow (as_item (has_no_nodes items)) column simple ∷ frames))) (λ after. after_pieces (node_laid last s d place after) next)
+      (at_node d (frame_at in_flow (as_item (has_no_nodes items)) column simple ∷ frames))) (λ after. after_pieces (render_node last s d place after) next)
       (node_steps last s follows rest d (frame_at in_flow (as_item (has_no_nodes items)) column simple ∷ frames) before.standing)
-      ∙ sym (after_pieces-then_pieces before (node_laid last s d place) next)
+      ∙ sym (after_pieces-then_pieces before (render_node last s d place) next)
 
   pub pairs_steps : (pairs : Pairs) (s : Effective) (follows : Bool) (rest : List Event) (d : List TagDirective) (in_flow : Bool) (column : ℕ) (simple : Bool)
       (frames : List Frame) (standing : Standing)
       → steps s follows (pairs_events pairs ++ rest) (at_node d (frame_at in_flow (as_key true) column simple ∷ frames)) standing
-      ≡ after_pieces (pairs_laid pairs s d in_flow column standing)
+      ≡ after_pieces (render_pairs pairs s d in_flow column standing)
       (steps s follows rest (at_node d (frame_at in_flow (as_key (has_no_pairs pairs)) column simple ∷ frames)))
   pairs_steps no_pairs s follows rest d in_flow column simple frames standing = refl
   pairs_steps (pairs_and pairs last_key last_value) s follows rest d in_flow column simple frames standing =
       let key_place = entry_place in_flow (as_key (has_no_pairs pairs)) column in
       let key_simple = is_simple s.canonical d last_key in
       let value_place = entry_place in_flow (as_value key_simple) column in
-      let before = pairs_laid pairs s d in_flow column standing in
-      let keyed = then_pieces before (node_laid last_key s d key_place) in
+      let before = render_pairs pairs s d in_flow column standing in
+      let keyed = then_pieces before (render_node last_key s d key_place) in
       let at_the_key = frame_at in_flow (as_key (has_no_pairs pairs)) column simple ∷ frames in
       let at_the_value = frame_at in_flow (as_value key_simple) column simple ∷ frames in
       let next = steps s follows rest (at_node d (frame_at in_flow (as_key false) column simple ∷ frames)) in
@@ -158,21 +159,21 @@ mutual
       ∙ ap (λ after. pairs_events pairs ++ after) (append_assoc (node_events last_key) (node_events last_value) rest))
       ∙ pairs_steps pairs s follows (node_events last_key ++ (node_events last_value ++ rest)) d in_flow column simple frames standing
       ∙ after_pieces-same before (steps s follows (node_events last_key ++ (node_events last_value ++ rest)) (at_node d at_the_key))
-      (λ after. after_pieces (node_laid last_key s d key_place after) (steps s follows (node_events last_value ++ rest) (at_node d at_the_value)))
+      (λ after. after_pieces (render_node last_key s d key_place after) (steps s follows (node_events last_value ++ rest) (at_node d at_the_value)))
       (node_steps last_key s follows (node_events last_value ++ rest) d at_the_key before.standing)
-      ∙ sym (after_pieces-then_pieces before (node_laid last_key s d key_place) (steps s follows (node_events last_value ++ rest) (at_node d at_the_value)))
+      ∙ sym (after_pieces-then_pieces before (render_node last_key s d key_place) (steps s follows (node_events last_value ++ rest) (at_node d at_the_value)))
       ∙ after_pieces-same keyed (steps s follows (node_events last_value ++ rest) (at_node d at_the_value))
-      (λ after. after_pieces (node_laid last_value s d value_place after) next) (node_steps last_value s follows rest d at_the_value keyed.standing)
-      ∙ sym (after_pieces-then_pieces keyed (node_laid last_value s d value_place) next)
+      (λ after. after_pieces (render_node last_value s d value_place after) next) (node_steps last_value s follows rest d at_the_value keyed.standing)
+      ∙ sym (after_pieces-then_pieces keyed (render_node last_value s d value_place) next)
 
 pub document_steps : (x : Document) (s : Effective) (first follows : Bool) (rest : List Event) (standing : Standing)
     → steps s follows (document_events x ++ rest) (at_document first) standing
-    ≡ after_pieces (document_laid s first x standing) (steps s follows rest (at_document false))
+    ≡ after_pieces (render_document s first x standing) (steps s follows rest (at_document false))
 document_steps x s first follows rest standing =
     let d = directives_in_force x.start.directives in
     let start = document_start_piece s first x.start standing in
-    let root = node_laid x.root s d root_place in
-    let end : Standing → PiecesLaid = (λ after. one_piece (document_end_piece x.end_implicit after)) in
+    let root = render_node x.root s d root_place in
+    let end : Standing → RenderedPieces = (λ after. one_piece (document_end_piece x.end_implicit after)) in
     let next = steps s follows rest (at_document false) in
     ap (λ events. steps s follows (document_start x.start ∷ events) (at_document first) standing)
     (append_assoc (node_events x.root) (document_end x.end_implicit ∷ []) rest)
@@ -184,24 +185,24 @@ document_steps x s first follows rest standing =
 
 pub documents_steps : (x : Documents) (s : Effective) (follows : Bool) (rest : List Event) (standing : Standing)
     → steps s follows (documents_events x ++ rest) (at_document true) standing
-    ≡ after_pieces (documents_laid s x standing) (steps s follows rest (at_document (has_no_documents x)))
+    ≡ after_pieces (render_documents s x standing) (steps s follows rest (at_document (has_no_documents x)))
 documents_steps no_documents s follows rest standing = refl
 documents_steps (documents_and x last) s follows rest standing =
-    let before = documents_laid s x standing in
+    let before = render_documents s x standing in
     let first = has_no_documents x in
     let next = steps s follows rest (at_document false) in
     ap (λ events. steps s follows events (at_document true) standing) (append_assoc (documents_events x) (document_events last) rest)
     ∙ documents_steps x s follows (document_events last ++ rest) standing
     ∙ after_pieces-same before (steps s follows (document_events last ++ rest) (at_document first))
-    (λ after. after_pieces (document_laid s first last after) next) (document_steps last s first follows rest before.standing)
-    ∙ sym (after_pieces-then_pieces before (document_laid s first last) next)
+    (λ after. after_pieces (render_document s first last after) next) (document_steps last s first follows rest before.standing)
+    ∙ sym (after_pieces-then_pieces before (render_document s first last) next)
 
 -- The layout of a stream is what its events give, one after another.
 pub stream_steps : (t : Stream) (s : Effective) → (steps s false (stream_events t) at_stream first_standing).pieces ≡ layout s t
 stream_steps t s =
     let start = stream_start_piece first_standing in
-    let inside = documents_laid s t.documents in
-    let end : Standing → PiecesLaid = (λ after. one_piece (stream_end_piece after)) in
+    let inside = render_documents s t.documents in
+    let end : Standing → RenderedPieces = (λ after. one_piece (stream_end_piece after)) in
     let next : Standing → Steps = steps s false [] at_nothing in
     ap (λ (made : Steps). made.pieces)
     (after_pieces-same (one_piece start) (steps s false (documents_events t.documents ++ stream_end ∷ []) (at_document true))

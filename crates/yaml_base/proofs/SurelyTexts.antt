@@ -5,11 +5,13 @@ use Rattle.std.specs.List.{list_all, list_any}
 use Rattle.std.specs.Prelude.{ℕ, Bool, true, false, Option, None, Some, List, [], ◌∷◌, ◌++◌, ◌==◌, ◌||◌, ◌&&◌, not, is_some, ⊤, if◌then◌else◌}
 use Rattle.yaml_base.specs.Characters.{Text}
 use Rattle.yaml_base.specs.Words.{named, is_word}
-use Rattle.yaml_base.specs.values.Resolved.{Resolved, meant_text, first_reading, words_of_core, words_besides, words_of_11, is_decimal, is_point, is_exponent_mark}
-use Rattle.yaml_base.specs.values.Resolved.{is_sign, is_negative, first_is, past_sign, are_digits}
+use Rattle.yaml_base.specs.values.Resolved.{Resolved, meant_text, first_reading, words_of_core, words_of_repository, words_of_11, is_decimal}
+use Rattle.yaml_base.specs.values.Resolved.{is_point, is_exponent_letter}
+use Rattle.yaml_base.specs.values.Resolved.{is_plus_or_minus, is_negative, first_meets, past_sign, are_digits}
 use Rattle.yaml_base.specs.values.SchemaCore.{core_integer, core_based, core_decimal, resolved_by_core}
 use Rattle.yaml_base.specs.values.SchemaOf11.{is_underscore, are_grouped, based_11, past, timestamp_11, numbers_11, resolved_by_11}
-use Rattle.yaml_base.specs.values.SurelyText.{is_reserved, is_symbol, precedes_number, names_base, begins_based, is_based, begins_number, in_number, is_number_letter}
+use Rattle.yaml_base.specs.values.SurelyText.{is_reserved, is_symbol, precedes_number, names_base, begins_based, is_based, begins_number, in_number}
+use Rattle.yaml_base.specs.values.SurelyText.{is_number_letter}
 use Rattle.yaml_base.specs.values.SurelyText.{is_numeric, is_doubtful, is_surely_text, SurelyTextIsText}
 use Rattle.yaml_base.proofs.SchemaWords.{named_unlike}
 use Rattle.yaml_base.proofs.no_numbers.NoNumbers.{NoNumber, off, past_cons}
@@ -31,9 +33,9 @@ word_by_core text h = named_unlike is_reserved words_of_core text refl h
 -- a sign stands before a number
 past_sign_based : (text : Text) → begins_based (past precedes_number text) ≡ begins_based (past precedes_number (past_sign text))
 past_sign_based [] = refl
-past_sign_based (c ∷ rest) = by (is_sign c) refl
+past_sign_based (c ∷ rest) = by (is_plus_or_minus c) refl
   where
-    by : (x : Bool) → is_sign c ≡ x
+    by : (x : Bool) → is_plus_or_minus c ≡ x
         → begins_based (past precedes_number (c ∷ rest)) ≡ begins_based (past precedes_number (if x then rest else c ∷ rest))
     by true e =
         ap begins_based (past_cons precedes_number c rest
@@ -69,30 +71,30 @@ based_by_core letter base (c ∷ d ∷ rest) among h =
 -- ---- other numbers
 
 -- a text that begins no number has no sign
-without_first : (text : Text) → first_is begins_number text ≡ false → first_is begins_digits (past_sign text) ≡ false
+without_first : (text : Text) → first_meets begins_number text ≡ false → first_meets begins_digits (past_sign text) ≡ false
 without_first [] h = refl
 without_first (c ∷ rest) h =
-    ap (λ x. first_is begins_digits (if x then rest else c ∷ rest)) sign ∙ (or_parts (is_decimal c || is_point c) (precedes_number c) marked).0
+    ap (λ x. first_meets begins_digits (if x then rest else c ∷ rest)) sign ∙ (or_parts (is_decimal c || is_point c) (precedes_number c) marked).0
   where
     marked : (is_decimal c || is_point c || precedes_number c) ≡ false
-    marked = (or_parts (is_decimal c || is_point c || precedes_number c) (is_exponent_mark c) h).0
+    marked = (or_parts (is_decimal c || is_point c || precedes_number c) (is_exponent_letter c) h).0
 
-    sign : is_sign c ≡ false
-    sign = (or_parts (is_sign c) _ (or_parts (is_decimal c || is_point c) (precedes_number c) marked).1).0
+    sign : is_plus_or_minus c ≡ false
+    sign = (or_parts (is_plus_or_minus c) _ (or_parts (is_decimal c || is_point c) (precedes_number c) marked).1).0
 
 -- a text that isn't numeric is no number
 number_none : (text : Text) → is_numeric text ≡ false → NoNumber text
-number_none text h = by (and_cases (first_is begins_number text && list_all in_number text) (list_any is_decimal text || not letters) h)
+number_none text h = by (and_cases (first_meets begins_number text && list_all in_number text) (list_any is_decimal text || not letters) h)
   where
     letters : Bool
     letters = list_any is_number_letter text
 
-    of_two : ((first_is begins_number text ≡ false) ⊎ (list_all in_number text ≡ false)) → NoNumber text
+    of_two : ((first_meets begins_number text ≡ false) ⊎ (list_all in_number text ≡ false)) → NoNumber text
     of_two (inl e) = without_begin text (without_first text e)
     of_two (inr e) = with_others text e
 
-    by : ((first_is begins_number text && list_all in_number text) ≡ false) ⊎ ((list_any is_decimal text || not letters) ≡ false) → NoNumber text
-    by (inl e) = of_two (and_cases (first_is begins_number text) (list_all in_number text) e)
+    by : ((first_meets begins_number text && list_all in_number text) ≡ false) ⊎ ((list_any is_decimal text || not letters) ≡ false) → NoNumber text
+    by (inl e) = of_two (and_cases (first_meets begins_number text) (list_all in_number text) e)
     by (inr e) =
         let both = or_parts (list_any is_decimal text) (not letters) e in without_digits text both.0 (not-false letters both.1)
 
@@ -109,9 +111,31 @@ nothing_read (reading ∷ rest) h = ap (λ r. first_reading (r ∷ rest)) h.0 �
 
 text_by_11 : (text : Text) → is_reserved text ≡ false → is_based text ≡ false → NoNumber text → resolved_by_11 text ≡ meant_text
 text_by_11 text word based none =
-    nothing_read (named words_of_11 text ∷ timestamp_11 text ∷ numbers_11 negative number)
-    (word_by_11 text word, (none.timestamp, (none.float, (of_base 0x62 2 refl, (of_base 0x78 16 refl, (none.octal, (none.decimal, (none.sixties,
-    (none.fine_sixties, (none.more_points, (none.points, tt)))))))))))
+    nothing_read (named words_of_11 text ∷ timestamp_11 text ∷ numbers_11 negative number) (
+      word_by_11 text word,
+      (
+        none.timestamp,
+        (
+          none.float,
+          (
+            of_base 0x62 2 refl,
+            (
+              of_base 0x78 16 refl,
+              (
+                none.octal,
+                (
+                  none.decimal,
+                  (
+                    none.sixties,
+                    (none.fine_sixties, (none.more_points, (none.points, tt))),
+                  ),
+                ),
+              ),
+            ),
+          ),
+        ),
+      ),
+    )
   where
     negative : Bool
     negative = is_negative text
@@ -131,11 +155,11 @@ text_by_core text word based none =
 pub surely_text : SurelyTextIsText
 surely_text text h = (text_by_11 text word based none, text_by_core text word based none)
   where
-    front : ((is_reserved text || is_symbol text || is_based text) ≡ false) × (is_numeric text ≡ false)
-    front = or_parts (is_reserved text || is_symbol text || is_based text) (is_numeric text) (not-true _ h)
+    prefix : ((is_reserved text || is_symbol text || is_based text) ≡ false) × (is_numeric text ≡ false)
+    prefix = or_parts (is_reserved text || is_symbol text || is_based text) (is_numeric text) (not-true _ h)
 
     others : ((is_reserved text || is_symbol text) ≡ false) × (is_based text ≡ false)
-    others = or_parts (is_reserved text || is_symbol text) (is_based text) front.0
+    others = or_parts (is_reserved text || is_symbol text) (is_based text) prefix.0
 
     word : is_reserved text ≡ false
     word = (or_parts (is_reserved text) (is_symbol text) others.0).0
@@ -144,4 +168,4 @@ surely_text text h = (text_by_11 text word based none, text_by_core text word ba
     based = others.1
 
     none : NoNumber text
-    none = number_none text front.1
+    none = number_none text prefix.1

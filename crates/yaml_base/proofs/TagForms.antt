@@ -7,8 +7,9 @@ use Rattle.std.specs.List.{list_all}
 use lib.Utf8.{scalar, scalars}
 use Rattle.yaml_base.specs.Characters.{Text, is_alpha}
 use Rattle.yaml_base.specs.Event.{TagDirective}
-use Rattle.yaml_base.specs.reading.ReadTags.{prefix_among, directives_assumed, without_end_sign}
-use Rattle.yaml_base.specs.Tags.{tag_mark, last_from, without_last, handle_fault, directive_fault, gives_handle, next_directive_fault, directives_fault_after}
+use Rattle.yaml_base.specs.reading.ReadTags.{prefix_among, directives_assumed, without_closing_angle}
+use Rattle.yaml_base.specs.Tags.{exclamation_mark, last_from, without_last, handle_fault, directive_fault, gives_handle, next_directive_fault}
+use Rattle.yaml_base.specs.Tags.{directives_fault_after}
 use Rattle.yaml_base.specs.Tags.{directives_fault, directives_in_force, behind, Spelling, shorthand, verbatim, spelling_by, spelling, spelled}
 use Rattle.yaml_base.proofs.NoFaults.{neither, not_given}
 use Rattle.yaml_base.specs.declared.errors.yaml_error_t.TheVariants.{TagHandleStart, TagHandleEnd, TagHandleAlphabet, DuplicateDirective}
@@ -26,16 +27,16 @@ without_last-append (c ∷ []) end = refl
 without_last-append (c ∷ next ∷ rest) end = ap (λ x. c ∷ x) (without_last-append (next ∷ rest) end)
 
 -- what stands before the sign at the end
-pub end_sign_dropped : (text : Text) → without_end_sign (text ++ 0x3E ∷ []) ≡ Some text
-end_sign_dropped [] = refl
-end_sign_dropped (c ∷ []) = refl
-end_sign_dropped (c ∷ d ∷ rest) = ap (option_map (λ text. c ∷ text)) (end_sign_dropped (d ∷ rest))
+pub closing_angle_dropped : (text : Text) → without_closing_angle (text ++ 0x3E ∷ []) ≡ Some text
+closing_angle_dropped [] = refl
+closing_angle_dropped (c ∷ []) = refl
+closing_angle_dropped (c ∷ d ∷ rest) = ap (option_map (λ text. c ∷ text)) (closing_angle_dropped (d ∷ rest))
 
 -- Handles
 
-pub front_and_last : (c d : ℕ) (rest : Text) → d ∷ rest ≡ without_last (d ∷ rest) ++ last_from c (d ∷ rest) ∷ []
-front_and_last c d [] = refl
-front_and_last c d (e ∷ rest) = ap (λ x. d ∷ x) (front_and_last d e rest)
+pub prefix_and_last : (c d : ℕ) (rest : Text) → d ∷ rest ≡ without_last (d ∷ rest) ++ last_from c (d ∷ rest) ∷ []
+prefix_and_last c d [] = refl
+prefix_and_last c d (e ∷ rest) = ap (λ x. d ∷ x) (prefix_and_last d e rest)
 
 handle_tests : (a b t : Bool) → cond {A = Option yaml_error_t} a (Some TagHandleStart)
     (cond b (Some TagHandleEnd) (cond t None (Some TagHandleAlphabet))) ≡ None → (a ≡ false) × (b ≡ false) × (t ≡ true)
@@ -47,22 +48,22 @@ handle_tests false false false e = cc
 -- `!`, or characters of the anchor alphabet between two
 abbrev pub IsHandle : Text → Type 0
 IsHandle handle =
-    (handle ≡ tag_mark ∷ [])
-    ⊎ ((middle : Text) × (handle ≡ (tag_mark ∷ middle) ++ tag_mark ∷ []) × (list_all is_alpha middle ≡ true))
+    (handle ≡ exclamation_mark ∷ [])
+    ⊎ ((middle : Text) × (handle ≡ (exclamation_mark ∷ middle) ++ exclamation_mark ∷ []) × (list_all is_alpha middle ≡ true))
 
 pub handle_form : (handle : Text) → handle_fault handle ≡ None → IsHandle handle
 handle_form [] e = absurd (cc)
 handle_form (c ∷ []) e =
-    let tests = handle_tests (not (c == tag_mark)) (not (c == tag_mark)) true e in
-    inl (ap (λ x. x ∷ []) (eqb-true c tag_mark (not-false _ tests.0)))
+    let tests = handle_tests (not (c == exclamation_mark)) (not (c == exclamation_mark)) true e in
+    inl (ap (λ x. x ∷ []) (eqb-true c exclamation_mark (not-false _ tests.0)))
 handle_form (c ∷ d ∷ rest) e =
-    let tests = handle_tests (not (c == tag_mark)) (not (last_from c (d ∷ rest) == tag_mark)) (list_all is_alpha (without_last (d ∷ rest))) e in
-    let first : c ≡ tag_mark = eqb-true _ _ (not-false _ tests.0) in
-    let last : last_from c (d ∷ rest) ≡ tag_mark = eqb-true _ _ (not-false _ tests.1) in
+    let tests = handle_tests (not (c == exclamation_mark)) (not (last_from c (d ∷ rest) == exclamation_mark)) (list_all is_alpha (without_last (d ∷ rest))) e in
+    let first : c ≡ exclamation_mark = eqb-true _ _ (not-false _ tests.0) in
+    let last : last_from c (d ∷ rest) ≡ exclamation_mark = eqb-true _ _ (not-false _ tests.1) in
     let whole =
-    ap (λ x. c ∷ x) (front_and_last c d rest)
+    ap (λ x. c ∷ x) (prefix_and_last c d rest)
     ∙ ap (λ x. (c ∷ without_last (d ∷ rest)) ++ x ∷ []) last
-    ∙ ap (λ x. (x ∷ without_last (d ∷ rest)) ++ tag_mark ∷ []) first
+    ∙ ap (λ x. (x ∷ without_last (d ∷ rest)) ++ exclamation_mark ∷ []) first
     in
     inr (without_last (d ∷ rest), whole, tests.2)
 

@@ -8,99 +8,104 @@ use Rattle.yaml_base.specs.Characters.{Text, is_alpha}
 use Rattle.yaml_base.specs.Event.{TagDirective}
 use Rattle.yaml_base.specs.Percent.{percent_escaped, suffix_escaped}
 use Rattle.yaml_base.specs.reading.ReadPercent.{percent_read}
-use Rattle.yaml_base.specs.reading.ReadTags.{name_said, prefix_among, directives_assumed, cut_after_mark, name_joined}
+use Rattle.yaml_base.specs.reading.ReadTags.{name_parsed, prefix_among, directives_assumed, cut_after_exclamation, name_joined}
 use Rattle.yaml_base.specs.reading.CanonicalReader.{shorthand_read, verbatim_read, tag_read}
-use Rattle.yaml_base.specs.Tags.{tag_mark, handle_fault, directives_fault, directives_in_force, Spelling, verbatim, spelling, spelled}
-use Rattle.yaml_base.proofs.PercentLaws.{decoded_escaped, decoded_suffix, stands_written, suffix_stands, suffix_begins, written_is_no_mark, written_is_no_less}
+use Rattle.yaml_base.specs.Tags.{exclamation_mark, handle_fault, directives_fault, directives_in_force, Spelling, verbatim, spelling, spelled}
+use Rattle.yaml_base.proofs.PercentLaws.{decoded_escaped, decoded_suffix, stands_written, suffix_stands, suffix_begins, written_is_no_exclamation}
+use Rattle.yaml_base.proofs.PercentLaws.{written_is_no_less}
 use Rattle.yaml_base.proofs.PercentLaws.{alpha_is_no_less}
-use Rattle.yaml_base.proofs.TagForms.{end_sign_dropped, IsHandle, handle_form, scalars_behind, spelling_is, in_force_found}
+use Rattle.yaml_base.proofs.TagForms.{closing_angle_dropped, IsHandle, handle_form, scalars_behind, spelling_is, in_force_found}
 
 -- Verbatim tags
 
 pub verbatim_reads : (portable : Bool) (own : List TagDirective) (tag : Text) → scalars tag ≡ true
-    → tag_read own (spelled portable (verbatim tag)) ≡ Some (name_said tag)
-verbatim_reads portable own tag h = ap verbatim_read (end_sign_dropped (percent_escaped tag)) ∙ ap (option_map name_said) (decoded_escaped tag h)
+    → tag_read own (spelled portable (verbatim tag)) ≡ Some (name_parsed tag)
+verbatim_reads portable own tag h = ap verbatim_read (closing_angle_dropped (percent_escaped tag)) ∙ ap (option_map name_parsed) (decoded_escaped tag h)
 
 -- A text up to its last `!`
 
-abbrev no_mark : Text → Bool
-no_mark text = list_all (λ c. not (c == tag_mark)) text
+abbrev no_exclamation : Text → Bool
+no_exclamation text = list_all (λ c. not (c == exclamation_mark)) text
 
-uncut : (text : Text) → no_mark text ≡ true → cut_after_mark text ≡ record { front = []; rest = text }
+uncut : (text : Text) → no_exclamation text ≡ true → cut_after_exclamation text ≡ record { prefix = []; rest = text }
 uncut [] h = refl
 uncut (c ∷ rest) h =
-    let both = and_parts (not (c == tag_mark)) (no_mark rest) h in rw (uncut rest both.1, not-true _ both.0) refl
+    let both = and_parts (not (c == exclamation_mark)) (no_exclamation rest) h in rw (uncut rest both.1, not-true _ both.0) refl
 
-cut_at_mark : (text : Text) → no_mark text ≡ true → cut_after_mark (tag_mark ∷ text) ≡ record { front = tag_mark ∷ []; rest = text }
-cut_at_mark text h = rw (uncut text h) refl
+cut_at_exclamation : (text : Text) → no_exclamation text ≡ true
+    → cut_after_exclamation (exclamation_mark ∷ text) ≡ record { prefix = exclamation_mark ∷ []; rest = text }
+cut_at_exclamation text h = rw (uncut text h) refl
 
-cut_further : (front : Text) (c : ℕ) (handle suffix text : Text) → cut_after_mark text ≡ record { front = c ∷ handle; rest = suffix }
-    → cut_after_mark (front ++ text) ≡ record { front = front ++ (c ∷ handle); rest = suffix }
+cut_further : (prefix : Text) (c : ℕ) (handle suffix text : Text) → cut_after_exclamation text ≡ record { prefix = c ∷ handle; rest = suffix }
+    → cut_after_exclamation (prefix ++ text) ≡ record { prefix = prefix ++ (c ∷ handle); rest = suffix }
 cut_further [] c handle suffix text e = e
 cut_further (d ∷ []) c handle suffix text e = rw e refl
-cut_further (d ∷ f ∷ front) c handle suffix text e = rw (cut_further (f ∷ front) c handle suffix text e) refl
+cut_further (d ∷ f ∷ prefix) c handle suffix text e = rw (cut_further (f ∷ prefix) c handle suffix text e) refl
 
-pub stands_no_mark : (text : Text) → list_all stands_written text ≡ true → no_mark text ≡ true
-stands_no_mark [] h = refl
-stands_no_mark (c ∷ rest) h =
+pub stands_no_exclamation : (text : Text) → list_all stands_written text ≡ true → no_exclamation text ≡ true
+stands_no_exclamation [] h = refl
+stands_no_exclamation (c ∷ rest) h =
     let both = and_parts (stands_written c) (list_all stands_written rest) h in
-    rw (written_is_no_mark c both.0, stands_no_mark rest both.1) refl
+    rw (written_is_no_exclamation c both.0, stands_no_exclamation rest both.1) refl
 
 -- Shorthands
 
-within_marks : (handle middle text : Text) → handle ≡ (tag_mark ∷ middle) ++ tag_mark ∷ [] → handle ++ text ≡ (tag_mark ∷ middle) ++ (tag_mark ∷ text)
-within_marks handle middle text e = ap (λ x. x ++ text) e ∙ append_assoc (tag_mark ∷ middle) (tag_mark ∷ []) text
+within_exclamations : (handle middle text : Text) → handle ≡ (exclamation_mark ∷ middle) ++ exclamation_mark ∷ []
+    → handle ++ text ≡ (exclamation_mark ∷ middle) ++ (exclamation_mark ∷ text)
+within_exclamations handle middle text e = ap (λ x. x ++ text) e ∙ append_assoc (exclamation_mark ∷ middle) (exclamation_mark ∷ []) text
 
-pub cut_at_handle : (handle text : Text) → IsHandle handle → no_mark text ≡ true → cut_after_mark (handle ++ text) ≡ record { front = handle; rest = text }
-cut_at_handle handle text (inl e) h = rw e (cut_at_mark text h)
+pub cut_at_handle : (handle text : Text) → IsHandle handle → no_exclamation text ≡ true
+    → cut_after_exclamation (handle ++ text) ≡ record { prefix = handle; rest = text }
+cut_at_handle handle text (inl e) h = rw e (cut_at_exclamation text h)
 cut_at_handle handle text (inr form) h =
-    ap cut_after_mark (within_marks handle form.0 text form.1)
-    ∙ cut_further (tag_mark ∷ form.0) tag_mark [] text (tag_mark ∷ text) (cut_at_mark text h)
-    ∙ ap (λ x. record { front = x; rest = text }) (sym form.1)
+    ap cut_after_exclamation (within_exclamations handle form.0 text form.1)
+    ∙ cut_further (exclamation_mark ∷ form.0) exclamation_mark [] text (exclamation_mark ∷ text) (cut_at_exclamation text h)
+    ∙ ap (λ x. record { prefix = x; rest = text }) (sym form.1)
 
 -- a text that begins with `!` and goes on with another character than `<`
 by_shorthand : (own : List TagDirective) (d : ℕ) (rest : Text) → (d == 0x3C) ≡ false
-    → tag_read own (tag_mark ∷ d ∷ rest) ≡ shorthand_read own (cut_after_mark (tag_mark ∷ d ∷ rest))
+    → tag_read own (exclamation_mark ∷ d ∷ rest) ≡ shorthand_read own (cut_after_exclamation (exclamation_mark ∷ d ∷ rest))
 by_shorthand own d rest h = rw h refl
 
 alpha_first : (own : List TagDirective) (middle text : Text) → list_all is_alpha middle ≡ true
-    → tag_read own ((tag_mark ∷ middle) ++ (tag_mark ∷ text)) ≡ shorthand_read own (cut_after_mark ((tag_mark ∷ middle) ++ (tag_mark ∷ text)))
-alpha_first own [] text h = by_shorthand own tag_mark text refl
+    → tag_read own ((exclamation_mark ∷ middle) ++ (exclamation_mark ∷ text)) ≡ shorthand_read own
+    (cut_after_exclamation ((exclamation_mark ∷ middle) ++ (exclamation_mark ∷ text)))
+alpha_first own [] text h = by_shorthand own exclamation_mark text refl
 alpha_first own (m ∷ middle) text h =
-    by_shorthand own m (middle ++ (tag_mark ∷ text)) (alpha_is_no_less m (and_parts (is_alpha m) (list_all is_alpha middle) h).0)
+    by_shorthand own m (middle ++ (exclamation_mark ∷ text)) (alpha_is_no_less m (and_parts (is_alpha m) (list_all is_alpha middle) h).0)
 
 handle_first : (own : List TagDirective) (handle : Text) (d : ℕ) (rest : Text) → IsHandle handle → stands_written d ≡ true
-    → tag_read own (handle ++ (d ∷ rest)) ≡ shorthand_read own (cut_after_mark (handle ++ (d ∷ rest)))
+    → tag_read own (handle ++ (d ∷ rest)) ≡ shorthand_read own (cut_after_exclamation (handle ++ (d ∷ rest)))
 handle_first own handle d rest (inl e) h = rw e (by_shorthand own d rest (written_is_no_less d h))
 handle_first own handle d rest (inr form) h =
-    let P : Text → Type 0 = λ text. tag_read own text ≡ shorthand_read own (cut_after_mark text) in
-    subst P (sym (within_marks handle form.0 (d ∷ rest) form.1)) (alpha_first own form.0 (d ∷ rest) form.2)
+    let P : Text → Type 0 = λ text. tag_read own text ≡ shorthand_read own (cut_after_exclamation text) in
+    subst P (sym (within_exclamations handle form.0 (d ∷ rest) form.1)) (alpha_first own form.0 (d ∷ rest) form.2)
 
 -- a handle whose prefix is known, and the rest of a tag
 shorthand_reads : (portable : Bool) (own : List TagDirective) (handle prefix : Text) (c : ℕ) (suffix : Text) → handle_fault handle ≡ None
     → prefix_among (own ++ directives_assumed) handle ≡ Some prefix → scalars (c ∷ suffix) ≡ true
-    → tag_read own (handle ++ suffix_escaped portable (c ∷ suffix)) ≡ Some (name_said (prefix ++ (c ∷ suffix)))
+    → tag_read own (handle ++ suffix_escaped portable (c ∷ suffix)) ≡ Some (name_parsed (prefix ++ (c ∷ suffix)))
 shorthand_reads portable own handle prefix c suffix f g h =
     let written = suffix_escaped portable (c ∷ suffix) in
     let form = handle_form handle f in
     let begins = suffix_begins portable c suffix in
     let stands : list_all stands_written written ≡ true = suffix_stands portable (c ∷ suffix) in
     let P : Text → Type 0 = λ text. list_all stands_written text ≡ true in
-    let Q : Text → Type 0 = λ text. tag_read own (handle ++ text) ≡ shorthand_read own (cut_after_mark (handle ++ text)) in
+    let Q : Text → Type 0 = λ text. tag_read own (handle ++ text) ≡ shorthand_read own (cut_after_exclamation (handle ++ text)) in
     let first = (and_parts (stands_written begins.0) (list_all stands_written begins.1) (subst P begins.2 stands)).0 in
     subst Q (sym begins.2) (handle_first own handle begins.0 begins.1 form first)
-    ∙ ap (shorthand_read own) (cut_at_handle handle written form (stands_no_mark written stands))
+    ∙ ap (shorthand_read own) (cut_at_handle handle written form (stands_no_exclamation written stands))
     ∙ ap (λ x. name_joined x (percent_read written)) g
     ∙ ap (name_joined (Some prefix)) (decoded_suffix portable (c ∷ suffix) h)
 
 -- Written tags
 
 pub written_tag_reads : (portable : Bool) (own : List TagDirective) (tag : Text) → directives_fault own ≡ None → scalars tag ≡ true
-    → tag_read own (spelled portable (spelling (directives_in_force own) tag)) ≡ Some (name_said tag)
+    → tag_read own (spelled portable (spelling (directives_in_force own) tag)) ≡ Some (name_parsed tag)
 written_tag_reads portable own tag h k =
-    let P : Spelling → Type 0 = λ s. tag_read own (spelled portable s) ≡ Some (name_said tag) in
+    let P : Spelling → Type 0 = λ s. tag_read own (spelled portable s) ≡ Some (name_parsed tag) in
     let IsText : Text → Type 0 = λ text. scalars text ≡ true in
     spelling_is P own (directives_in_force own) tag (in_force_found own h) (verbatim_reads portable own tag k)
     (λ handle prefix c suffix f g whole.
     shorthand_reads portable own handle prefix c suffix f g (scalars_behind prefix (c ∷ suffix) (subst IsText (sym whole) k))
-    ∙ ap (λ x. Some (name_said x)) whole)
+    ∙ ap (λ x. Some (name_parsed x)) whole)

@@ -6,7 +6,7 @@ use Rattle.std.specs.List.{list_all, list_any}
 use Rattle.yaml_base.specs.Characters.{Text, is_alpha, is_blank, is_break}
 use Rattle.yaml_base.specs.Event.{TagDirective}
 use Rattle.yaml_base.specs.Percent.{percent_escaped, suffix_escaped}
-use Rattle.yaml_base.specs.Tags.{tag_mark, handle_fault, directives_fault, directives_in_force, Spelling, spelling, spelled}
+use Rattle.yaml_base.specs.Tags.{exclamation_mark, handle_fault, directives_fault, directives_in_force, Spelling, spelling, spelled}
 use Rattle.yaml_base.proofs.PercentLaws.{stands_written, separates, escaped_stands, suffix_stands, suffix_begins, written_never_separates}
 use Rattle.yaml_base.proofs.TagForms.{IsHandle, handle_form, spelling_is, in_force_found}
 
@@ -31,7 +31,7 @@ letters_end_no_word (c ∷ rest) h =
 pub handle_ends_no_word : (handle : Text) → IsHandle handle → list_any ends_word handle ≡ false
 handle_ends_no_word handle (inl e) = rw e refl
 handle_ends_no_word handle (inr form) =
-    rw form.1 (any-append ends_word (tag_mark ∷ form.0) (tag_mark ∷ []) (letters_end_no_word form.0 form.2) refl)
+    rw form.1 (any-append ends_word (exclamation_mark ∷ form.0) (exclamation_mark ∷ []) (letters_end_no_word form.0 form.2) refl)
 
 never_separates : (text : Text) → list_all stands_written text ≡ true → list_any separates text ≡ false
 never_separates [] h = refl
@@ -67,16 +67,16 @@ written_tag_ends_no_word portable own tag h =
     any-append ends_word handle (suffix_escaped portable (c ∷ suffix)) (handle_ends_no_word handle (handle_form handle f))
     (suffix_ends_no_word portable (c ∷ suffix)))
 
-two_at_least : (handle : Text) (d : ℕ) (more : Text) → handle_fault handle ≡ None → handle ++ (d ∷ more) ≡ tag_mark ∷ [] → ⊥
+two_at_least : (handle : Text) (d : ℕ) (more : Text) → handle_fault handle ≡ None → handle ++ (d ∷ more) ≡ exclamation_mark ∷ [] → ⊥
 two_at_least [] d more f e = cc
 two_at_least (x ∷ []) d more f e = cc
 two_at_least (x ∷ y ∷ handle) d more f e = cc
 
 -- a written tag is never the bare tag
 pub written_tag_is_not_bare : (portable : Bool) (own : List TagDirective) (tag : Text) → directives_fault own ≡ None
-    → spelled portable (spelling (directives_in_force own) tag) ≡ tag_mark ∷ [] → ⊥
+    → spelled portable (spelling (directives_in_force own) tag) ≡ exclamation_mark ∷ [] → ⊥
 written_tag_is_not_bare portable own tag h =
-    let P : Spelling → Type 0 = λ s. spelled portable s ≡ tag_mark ∷ [] → ⊥ in
+    let P : Spelling → Type 0 = λ s. spelled portable s ≡ exclamation_mark ∷ [] → ⊥ in
     spelling_is P own (directives_in_force own) tag (in_force_found own h)
     (λ e. cc)
     (λ handle prefix c suffix f g whole e.

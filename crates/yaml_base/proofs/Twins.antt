@@ -8,8 +8,9 @@ use Rattle.std.proofs.lemmas.List.Elements.{Contains-append_left, Contains-appen
 use Rattle.std.proofs.lemmas.List.Sums.{sum_by-append}
 use Rattle.yaml_base.specs.Characters.{Text}
 use Rattle.yaml_base.specs.graphs.Meetings.{Graph, children}
-use Rattle.yaml_base.specs.graphs.Unfolding.{Shape, alias_shape, node_shape, Shapes, no_shapes, shapes_and, Placed, alias_placed, node_placed, PlacedAll}
-use Rattle.yaml_base.specs.graphs.Unfolding.{none_placed, placed_and, number_at, numbers_at, HasShape, HaveShapes, Occurrence, alias_occurrence, node_occurrence}
+use Rattle.yaml_base.specs.graphs.Unfolding.{Shape, alias_shape, node_shape, Shapes, no_shapes, shapes_and, Placed, alias_placed, node_placed, PlacedNodes}
+use Rattle.yaml_base.specs.graphs.Unfolding.{none_placed, placed_and, number_at, numbers_at, HasShape, HaveShapes, Occurrence, alias_occurrence}
+use Rattle.yaml_base.specs.graphs.Unfolding.{node_occurrence}
 use Rattle.yaml_base.specs.graphs.Unfolding.{occurrences, occurrences_below, IsReached, child_reached}
 use Rattle.yaml_base.specs.graphs.Isomorphic.{label_at}
 
@@ -30,7 +31,7 @@ abbrev mutual
   first_placed (alias_twin name number other) = alias_placed name number
   first_placed (node_twin anchor number other below) = node_placed anchor number (firsts_placed below)
 
-  pub firsts_placed : Twins → PlacedAll
+  pub firsts_placed : Twins → PlacedNodes
   firsts_placed none_twins = none_placed
   firsts_placed (twins_and before last) = placed_and (firsts_placed before) (first_placed last)
 
@@ -40,7 +41,7 @@ abbrev mutual
   second_placed (alias_twin name number other) = alias_placed name other
   second_placed (node_twin anchor number other below) = node_placed anchor other (seconds_placed below)
 
-  pub seconds_placed : Twins → PlacedAll
+  pub seconds_placed : Twins → PlacedNodes
   seconds_placed none_twins = none_placed
   seconds_placed (twins_and before last) = placed_and (seconds_placed before) (second_placed last)
 
@@ -65,7 +66,7 @@ pub record Joins (first second : Graph) (one other : Placed) : Type 0 where
   pub is_second : second_placed twin ≡ other
   pub fits : TwinFits first second twin
 
-record JoinsAll (first second : Graph) (some others : PlacedAll) : Type 0 where
+record JoinsAll (first second : Graph) (some others : PlacedNodes) : Type 0 where
   twins : Twins
   are_firsts : firsts_placed twins ≡ some
   are_seconds : seconds_placed twins ≡ others
@@ -96,7 +97,7 @@ mutual
         );
       }
 
-  joined_all : (first second : Graph) (shapes : Shapes) (some others : PlacedAll) → HaveShapes false first some shapes
+  joined_all : (first second : Graph) (shapes : Shapes) (some others : PlacedNodes) → HaveShapes false first some shapes
       → HaveShapes false second others shapes → JoinsAll first second some others
   joined_all first second no_shapes none_placed none_placed fit match = record { twins = none_twins; are_firsts = refl; are_seconds = refl; fit = tt }
   joined_all first second no_shapes none_placed (placed_and before last) fit match = absurd match
@@ -108,8 +109,8 @@ mutual
       let one = joined first second shape last latter fit.1 match.1 in
       record {
         twins = twins_and all.twins one.twin;
-        are_firsts = ap (λ (p : PlacedAll). placed_and p (first_placed one.twin)) all.are_firsts ∙ ap (placed_and before) one.is_first;
-        are_seconds = ap (λ (p : PlacedAll). placed_and p (second_placed one.twin)) all.are_seconds ∙ ap (placed_and earlier) one.is_second;
+        are_firsts = ap (λ (p : PlacedNodes). placed_and p (first_placed one.twin)) all.are_firsts ∙ ap (placed_and before) one.is_first;
+        are_seconds = ap (λ (p : PlacedNodes). placed_and p (second_placed one.twin)) all.are_seconds ∙ ap (placed_and earlier) one.is_second;
         fit = (all.fit, one.fits);
       }
 
@@ -218,7 +219,7 @@ mutual
       occurrence_below_reached graph inside below fits.3
       (λ child within. child_reached reached (subst (λ (numbers : List ℕ). Contains numbers child) fits.2 within)) found later
 
-  occurrence_below_reached : (graph : Graph) (shapes : Shapes) (below : PlacedAll) → HaveShapes false graph below shapes
+  occurrence_below_reached : (graph : Graph) (shapes : Shapes) (below : PlacedNodes) → HaveShapes false graph below shapes
       → ((child : ℕ) → Contains (numbers_at below) child → IsReached graph child)
       → (found : Occurrence) → IsIn found (occurrences_below below) → IsReached graph (number_in found)
   occurrence_below_reached graph each none_placed fit reached found within = absurd within

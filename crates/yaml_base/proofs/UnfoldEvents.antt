@@ -9,9 +9,9 @@ use Rattle.yaml_base.specs.Event.{Event, alias, sequence_end, mapping_end}
 use Rattle.yaml_base.specs.Grammar.{Node, alias_node, scalar_node, sequence_node, mapping_node, Nodes, no_nodes, nodes_and, Pairs, no_pairs, pairs_and}
 use Rattle.yaml_base.specs.Grammar.{node_events, nodes_events, pairs_events}
 use Rattle.yaml_base.specs.graphs.Meetings.{Graph, GraphNode, NumberPair, Held, scalar_held, sequence_held, mapping_held, Step, leaves, node_numbered}
-use Rattle.yaml_base.specs.graphs.Meetings.{numbers_held, numbers_in, children, string_tag, sequence_tag, mapping_tag, beginning_of, beginning_events}
-use Rattle.yaml_base.specs.graphs.Meetings.{ending_of, ending_events, anchor_of, step_events}
-use Rattle.yaml_base.specs.graphs.Unfolding.{Placed, alias_placed, node_placed, PlacedAll, none_placed, placed_and, numbers_at, no_shapes, node_shape_of}
+use Rattle.yaml_base.specs.graphs.Meetings.{numbers_held, numbers_in, children, string_tag, sequence_tag, mapping_tag, opening_event_of, opening_events}
+use Rattle.yaml_base.specs.graphs.Meetings.{closing_event_of, closing_events, anchor_of, step_events}
+use Rattle.yaml_base.specs.graphs.Unfolding.{Placed, alias_placed, node_placed, PlacedNodes, none_placed, placed_and, numbers_at, no_shapes, node_shape_of}
 use Rattle.yaml_base.specs.graphs.Unfolding.{nodes_shapes, pairs_shapes, label_of, HasShape, HaveShapes}
 use Rattle.yaml_base.proofs.UnfoldTrees.{placed_steps, below_steps, Fits, AllFit}
 
@@ -36,23 +36,23 @@ abbrev mutual
   node_at graph (alias_placed name number) = alias_node name
   node_at graph (node_placed anchor number below) = node_with anchor (node_numbered graph number) (items_at graph below) (pairs_at graph below)
 
-  pub items_at : Graph → PlacedAll → Nodes
+  pub items_at : Graph → PlacedNodes → Nodes
   items_at graph none_placed = no_nodes
   items_at graph (placed_and before last) = nodes_and (items_at graph before) (node_at graph last)
 
-  pub pairs_at : Graph → PlacedAll → Pairs
+  pub pairs_at : Graph → PlacedNodes → Pairs
   pairs_at graph none_placed = no_pairs
   pairs_at graph (placed_and none_placed last) = no_pairs
   pairs_at graph (placed_and (placed_and before key) value) = pairs_and (pairs_at graph before) (node_at graph key) (node_at graph value)
 
 -- ---- an even number of occurrences makes pairs
 
-abbrev are_pairs : PlacedAll → Bool
+abbrev are_pairs : PlacedNodes → Bool
 are_pairs none_placed = true
 are_pairs (placed_and none_placed last) = false
 are_pairs (placed_and (placed_and before key) value) = are_pairs before
 
-even_pairs : (below : PlacedAll) (half : ℕ) → length (numbers_at below) ≡ half + half → are_pairs below ≡ true
+even_pairs : (below : PlacedNodes) (half : ℕ) → length (numbers_at below) ≡ half + half → are_pairs below ≡ true
 even_pairs none_placed half even = refl
 even_pairs (placed_and none_placed last) half even = absurd (omega (arith, even))
 even_pairs (placed_and (placed_and before key) value) zero even =
@@ -71,35 +71,36 @@ two_each [] = omega arith
 two_each (pair ∷ pairs) = omega (arith, two_each pairs)
 
 -- what a mapping's node has below it
-held_pairs : (below : PlacedAll) (pairs : List NumberPair) → numbers_at below ≡ flat_map (λ (pair : NumberPair). pair.key ∷ pair.value ∷ []) pairs
+held_pairs : (below : PlacedNodes) (pairs : List NumberPair) → numbers_at below ≡ flat_map (λ (pair : NumberPair). pair.key ∷ pair.value ∷ []) pairs
     → are_pairs below ≡ true
 held_pairs below pairs is = even_pairs below (length pairs) (ap length is ∙ two_each pairs)
 
 -- a scalar has nothing below it
-none_held : (below : PlacedAll) → numbers_at below ≡ [] → below ≡ none_placed
+none_held : (below : PlacedNodes) → numbers_at below ≡ [] → below ≡ none_placed
 none_held none_placed is = refl
 none_held (placed_and before last) is = absurd (omega (arith, ap length is, length-append (numbers_at before) (numbers_at (placed_and none_placed last))))
 
 -- ---- its events
 
 -- of a node whose children have these
-holding_events : (anchor : Option Text) (tag : Text) (held : Held) (graph : Graph) (below : PlacedAll) (inside : List Event)
+holding_events : (anchor : Option Text) (tag : Text) (held : Held) (graph : Graph) (below : PlacedNodes) (inside : List Event)
     → numbers_at below ≡ numbers_held held
     → nodes_events (items_at graph below) ≡ inside → (are_pairs below ≡ true → pairs_events (pairs_at graph below) ≡ inside)
     → (below ≡ none_placed → inside ≡ [])
-    → node_events (node_holding anchor tag held (items_at graph below) (pairs_at graph below)) ≡ beginning_of anchor tag held ∷ (inside ++ ending_of held)
+    → node_events (node_holding anchor tag held (items_at graph below)
+    (pairs_at graph below)) ≡ opening_event_of anchor tag held ∷ (inside ++ closing_event_of held)
 holding_events anchor tag (scalar_held value style) graph below inside is items pairs none =
-    ap (λ (events : List Event). beginning_of anchor tag (scalar_held value style) ∷ events) (sym (none (none_held below is)) ∙ sym (append-nil inside))
+    ap (λ (events : List Event). opening_event_of anchor tag (scalar_held value style) ∷ events) (sym (none (none_held below is)) ∙ sym (append-nil inside))
 holding_events anchor tag (sequence_held numbers style) graph below inside is items pairs none =
-    ap (λ (events : List Event). beginning_of anchor tag (sequence_held numbers style) ∷ (events ++ sequence_end ∷ [])) items
+    ap (λ (events : List Event). opening_event_of anchor tag (sequence_held numbers style) ∷ (events ++ sequence_end ∷ [])) items
 holding_events anchor tag (mapping_held numbers style) graph below inside is items pairs none =
-    ap (λ (events : List Event). beginning_of anchor tag (mapping_held numbers style) ∷ (events ++ mapping_end ∷ [])) (pairs (held_pairs below numbers is))
+    ap (λ (events : List Event). opening_event_of anchor tag (mapping_held numbers style) ∷ (events ++ mapping_end ∷ [])) (pairs (held_pairs below numbers is))
 
-with_events : (anchor : Option Text) (graph : Graph) (number : ℕ) (found : Option GraphNode) (node : GraphNode) (below : PlacedAll) (inside : List Event)
+with_events : (anchor : Option Text) (graph : Graph) (number : ℕ) (found : Option GraphNode) (node : GraphNode) (below : PlacedNodes) (inside : List Event)
     → found ≡ Some node
     → numbers_at below ≡ numbers_in found → nodes_events (items_at graph below) ≡ inside
     → (are_pairs below ≡ true → pairs_events (pairs_at graph below) ≡ inside) → (below ≡ none_placed → inside ≡ [])
-    → node_events (node_with anchor found (items_at graph below) (pairs_at graph below)) ≡ beginning_events anchor found ++ (inside ++ ending_events found)
+    → node_events (node_with anchor found (items_at graph below) (pairs_at graph below)) ≡ opening_events anchor found ++ (inside ++ closing_events found)
 with_events anchor graph number None node below inside has is items pairs none = cc
 with_events anchor graph number
     (Some other) node below inside has is items pairs none = holding_events anchor other.tag other.held graph below inside is items pairs none
@@ -108,8 +109,8 @@ with_events anchor graph number
 end_events : (of : Step → List Event) (below : List Step) (end : Step) → flat_map of (below ++ end ∷ []) ≡ flat_map of below ++ of end
 end_events of below end = flat_map-append of below (end ∷ []) ∙ ap (λ (events : List Event). flat_map of below ++ events) (append-nil (of end))
 
-no_steps : (of : Step → List Event) (below : PlacedAll) → below ≡ none_placed → flat_map of (below_steps below) ≡ []
-no_steps of below is = ap (λ (all : PlacedAll). flat_map of (below_steps all)) is
+no_steps : (of : Step → List Event) (below : PlacedNodes) → below ≡ none_placed → flat_map of (below_steps below) ≡ []
+no_steps of below is = ap (λ (all : PlacedNodes). flat_map of (below_steps all)) is
 
 mutual
   pub node_at_events : (graph : Graph) (walk : List Step) (placed : Placed) → Fits (anchor_of walk) graph placed
@@ -118,12 +119,12 @@ mutual
   node_at_events graph walk (node_placed anchor number below) fits =
       with_events anchor graph number (node_numbered graph number) fits.1.node below (flat_map (step_events graph walk) (below_steps below)) fits.1.is fits.2
       (items_at_events graph walk below fits.3) (pairs_at_events graph walk below fits.3) (no_steps (step_events graph walk) below)
-      ∙ ap (λ (told : Option Text). beginning_events told (node_numbered graph number)
-      ++ (flat_map (step_events graph walk) (below_steps below) ++ ending_events (node_numbered graph number))) fits.0
-      ∙ ap (λ (events : List Event). beginning_events (anchor_of walk number) (node_numbered graph number) ++ events)
+      ∙ ap (λ (told : Option Text). opening_events told (node_numbered graph number)
+      ++ (flat_map (step_events graph walk) (below_steps below) ++ closing_events (node_numbered graph number))) fits.0
+      ∙ ap (λ (events : List Event). opening_events (anchor_of walk number) (node_numbered graph number) ++ events)
       (sym (end_events (step_events graph walk) (below_steps below) (leaves number)))
 
-  items_at_events : (graph : Graph) (walk : List Step) (below : PlacedAll) → AllFit (anchor_of walk) graph below
+  items_at_events : (graph : Graph) (walk : List Step) (below : PlacedNodes) → AllFit (anchor_of walk) graph below
       → nodes_events (items_at graph below) ≡ flat_map (step_events graph walk) (below_steps below)
   items_at_events graph walk none_placed fit = refl
   items_at_events graph walk (placed_and before last) fit =
@@ -131,7 +132,7 @@ mutual
       ∙ ap (λ (events : List Event). flat_map (step_events graph walk) (below_steps before) ++ events) (node_at_events graph walk last fit.1)
       ∙ sym (flat_map-append (step_events graph walk) (below_steps before) (placed_steps last))
 
-  pairs_at_events : (graph : Graph) (walk : List Step) (below : PlacedAll) → AllFit (anchor_of walk) graph below → are_pairs below ≡ true
+  pairs_at_events : (graph : Graph) (walk : List Step) (below : PlacedNodes) → AllFit (anchor_of walk) graph below → are_pairs below ≡ true
       → pairs_events (pairs_at graph below) ≡ flat_map (step_events graph walk) (below_steps below)
   pairs_at_events graph walk none_placed fit even = refl
   pairs_at_events graph walk (placed_and none_placed last) fit even = cc
@@ -150,7 +151,7 @@ mutual
 
 -- ---- its shape
 
-holding_shape : (anchor : Option Text) (tag : Text) (held : Held) (node : GraphNode) (graph : Graph) (number : ℕ) (below : PlacedAll)
+holding_shape : (anchor : Option Text) (tag : Text) (held : Held) (node : GraphNode) (graph : Graph) (number : ℕ) (below : PlacedNodes)
     → node_numbered graph number ≡ Some (record { tag = tag; held = held })
     → numbers_at below ≡ children graph number → numbers_at below ≡ numbers_held held → HaveShapes true graph below (nodes_shapes (items_at graph below))
     → (are_pairs below ≡ true → HaveShapes true graph below (pairs_shapes (pairs_at graph below)))
@@ -159,14 +160,14 @@ holding_shape anchor tag (scalar_held value style) node graph number below is al
   refl,
   ap (option_map (label_of true)) is,
   all,
-  subst (λ (occurrences : PlacedAll). HaveShapes true graph occurrences no_shapes)
+  subst (λ (occurrences : PlacedNodes). HaveShapes true graph occurrences no_shapes)
       (sym (none_held below held)) tt,
 )
 holding_shape anchor tag (sequence_held numbers style) node graph number below is all held items pairs = (refl, ap (option_map (label_of true)) is, all, items)
 holding_shape anchor tag (mapping_held numbers style) node graph number below is all held items pairs =
     (refl, ap (option_map (label_of true)) is, all, pairs (held_pairs below numbers held))
 
-with_shape : (anchor : Option Text) (graph : Graph) (number : ℕ) (found : Option GraphNode) (node : GraphNode) (below : PlacedAll)
+with_shape : (anchor : Option Text) (graph : Graph) (number : ℕ) (found : Option GraphNode) (node : GraphNode) (below : PlacedNodes)
     → node_numbered graph number ≡ found → found ≡ Some node → numbers_at below ≡ children graph number
     → numbers_at below ≡ numbers_in found → HaveShapes true graph below (nodes_shapes (items_at graph below))
     → (are_pairs below ≡ true → HaveShapes true graph below (pairs_shapes (pairs_at graph below)))
@@ -183,12 +184,12 @@ mutual
       with_shape anchor graph number (node_numbered graph number) fits.1.node below refl fits.1.is fits.2 fits.2 (items_at_shapes named graph below fits.3)
       (pairs_at_shapes named graph below fits.3)
 
-  items_at_shapes : (named : ℕ → Option Text) (graph : Graph) (below : PlacedAll) → AllFit named graph below
+  items_at_shapes : (named : ℕ → Option Text) (graph : Graph) (below : PlacedNodes) → AllFit named graph below
       → HaveShapes true graph below (nodes_shapes (items_at graph below))
   items_at_shapes named graph none_placed fit = tt
   items_at_shapes named graph (placed_and before last) fit = (items_at_shapes named graph before fit.0, node_at_shape named graph last fit.1)
 
-  pairs_at_shapes : (named : ℕ → Option Text) (graph : Graph) (below : PlacedAll) → AllFit named graph below → are_pairs below ≡ true
+  pairs_at_shapes : (named : ℕ → Option Text) (graph : Graph) (below : PlacedNodes) → AllFit named graph below → are_pairs below ≡ true
       → HaveShapes true graph below (pairs_shapes (pairs_at graph below))
   pairs_at_shapes named graph none_placed fit even = tt
   pairs_at_shapes named graph (placed_and none_placed last) fit even = cc

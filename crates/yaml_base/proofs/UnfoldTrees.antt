@@ -10,7 +10,7 @@ use Rattle.std.proofs.lemmas.List.Folds.{list_any-append}
 use Rattle.yaml_base.specs.Characters.{Text}
 use Rattle.yaml_base.specs.graphs.Meetings.{Graph, GraphNode, Step, enters, leaves, meets_again, node_numbered, numbers_held, numbers_in, children, is_entry_of}
 use Rattle.yaml_base.specs.graphs.Meetings.{steps_from, is_whole}
-use Rattle.yaml_base.specs.graphs.Unfolding.{Placed, alias_placed, node_placed, PlacedAll, none_placed, placed_and, number_at, numbers_at, Occurrence}
+use Rattle.yaml_base.specs.graphs.Unfolding.{Placed, alias_placed, node_placed, PlacedNodes, none_placed, placed_and, number_at, numbers_at, Occurrence}
 use Rattle.yaml_base.specs.graphs.Unfolding.{alias_occurrence, node_occurrence, occurrences, occurrences_below}
 use Rattle.yaml_base.proofs.UnfoldSteps.{from_node, none_added, is_meeting_of}
 
@@ -20,7 +20,7 @@ abbrev mutual
   placed_steps (alias_placed name number) = meets_again number ∷ []
   placed_steps (node_placed anchor number below) = enters number ∷ (below_steps below ++ leaves number ∷ [])
 
-  pub below_steps : PlacedAll → List Step
+  pub below_steps : PlacedNodes → List Step
   below_steps none_placed = []
   below_steps (placed_and before last) = below_steps before ++ placed_steps last
 
@@ -36,7 +36,7 @@ abbrev mutual
   Fits named graph (node_placed anchor number below) =
       (anchor ≡ named number) × HasNode graph number × (numbers_at below ≡ children graph number) × AllFit named graph below
 
-  pub AllFit : (ℕ → Option Text) → Graph → PlacedAll → Type 0
+  pub AllFit : (ℕ → Option Text) → Graph → PlacedNodes → Type 0
   AllFit named graph none_placed = ⊤
   AllFit named graph (placed_and before last) = AllFit named graph before × Fits named graph last
 
@@ -145,8 +145,8 @@ pub record Walks (named : ℕ → Option Text) (graph : Graph) (before after : L
   pub adds : after ≡ before ++ placed_steps placed
 
 -- trees from some nodes, after those that there are
-pub record WalksAll (named : ℕ → Option Text) (graph : Graph) (before after : List Step) (earlier : PlacedAll) (numbers : List ℕ) : Type 0 where
-  pub placed : PlacedAll
+pub record WalksAll (named : ℕ → Option Text) (graph : Graph) (before after : List Step) (earlier : PlacedNodes) (numbers : List ℕ) : Type 0 where
+  pub placed : PlacedNodes
   pub roots : numbers_at placed ≡ numbers_at earlier ++ numbers
   pub fit : AllFit named graph placed
   pub adds : after ≡ before ++ below_steps placed
@@ -154,7 +154,7 @@ pub record WalksAll (named : ℕ → Option Text) (graph : Graph) (before after 
 all_walk : (named : ℕ → Option Text) (graph : Graph) (step : List Step → ℕ → List Step) (room : ℕ)
     → ((from : List Step) (number : ℕ) → unentered (length graph.nodes) from < room → Names (length graph.nodes) number
     → Walks named graph from (step from number) number)
-    → (numbers : List ℕ) (before from : List Step) (earlier : PlacedAll) → from ≡ before ++ below_steps earlier → AllFit named graph earlier
+    → (numbers : List ℕ) (before from : List Step) (earlier : PlacedNodes) → from ≡ before ++ below_steps earlier → AllFit named graph earlier
     → name_nodes (length graph.nodes) numbers ≡ true → unentered (length graph.nodes) from < room
     → WalksAll named graph before (fold step from numbers) earlier numbers
 all_walk named graph step room each [] before from earlier is fit names less =
@@ -227,7 +227,7 @@ only_one : (x y : ℕ) → Contains (x ∷ []) y → x ≡ y
 only_one x y (zero, within, is) = is
 only_one x y (suc k, within, is) = absurd (omega (arith, within))
 
-numbers_met : (below : PlacedAll) (child : ℕ) → Contains (numbers_at below) child → list_any (is_meeting_of child) (below_steps below) ≡ true
+numbers_met : (below : PlacedNodes) (child : ℕ) → Contains (numbers_at below) child → list_any (is_meeting_of child) (below_steps below) ≡ true
 numbers_met none_placed child (k, within, is) = absurd (omega (arith, within))
 numbers_met (placed_and before last) child within =
     elim (Contains-append_cases (numbers_at before) (number_at last ∷ []) child within) as
@@ -262,7 +262,7 @@ mutual
             (below_met named graph below number child fits.3 (sym (none_added (is_entry_of number) (below_steps below) (leaves other) refl) ∙ deeper) within)
       ]
 
-  below_met : (named : ℕ → Option Text) (graph : Graph) (below : PlacedAll) (number child : ℕ) → AllFit named graph below
+  below_met : (named : ℕ → Option Text) (graph : Graph) (below : PlacedNodes) (number child : ℕ) → AllFit named graph below
       → list_any (is_entry_of number) (below_steps below) ≡ true
       → Contains (children graph number) child → list_any (is_meeting_of child) (below_steps below) ≡ true
   below_met named graph none_placed number child fit entered within = cc
@@ -293,7 +293,7 @@ mutual
       ∙ sym (append-nil (filter_map (place_of named) (below_steps below)))
       ∙ sym (filter_map-append (place_of named) (below_steps below) (leaves number ∷ [])))
 
-  places_below_are : (named : ℕ → Option Text) (graph : Graph) (below : PlacedAll) → AllFit named graph below
+  places_below_are : (named : ℕ → Option Text) (graph : Graph) (below : PlacedNodes) → AllFit named graph below
       → occurrences_below below ≡ filter_map (place_of named) (below_steps below)
   places_below_are named graph none_placed fit = refl
   places_below_are named graph (placed_and before last) fit =

@@ -2,16 +2,18 @@
 use Rattle.std.proofs.Common.{◌≡◌, refl, sym, ap, ◌∙◌, map}
 use Rattle.std.specs.Prelude.{Bool, true, false, ◌||◌, ◌&&◌, not, Option, None, Some, List, [], ◌∷◌, ◌==◌, option_map, unwrap_or, if◌then◌else◌}
 use Rattle.yaml_base.specs.Settings.{Encoding, Settings, Effective, effective}
-use Rattle.yaml_base.specs.Cursor.{then_laid}
+use Rattle.yaml_base.specs.Cursor.{render_then}
 use Rattle.yaml_base.specs.Event.{ScalarStyle, any_style, any_layout, TagDirective, DocumentStart, Scalar, Collection, Event}
-use Rattle.yaml_base.specs.Event.{stream_start, stream_end, document_start, document_end, alias, scalar, sequence_start, sequence_end, mapping_start, mapping_end}
+use Rattle.yaml_base.specs.Event.{stream_start, stream_end, document_start, document_end, alias, scalar, sequence_start, sequence_end, mapping_start}
+use Rattle.yaml_base.specs.Event.{mapping_end}
 use Rattle.yaml_base.specs.Refusal.{ends_collection}
 use Rattle.yaml_base.specs.scalars.Analysis.{Allowances}
 use Rattle.yaml_base.specs.scalars.Style.{Choice, chosen}
 use Rattle.yaml_base.specs.Grammar.{Stream, stream_events}
-use Rattle.yaml_base.specs.Layout.{Role, as_item, as_key, Place, is_key, is_undented, deeper, is_simple_scalar, is_simple_collection, Piece, Standing, PieceLaid}
-use Rattle.yaml_base.specs.Layout.{lead_alone, scalar_lead, body_laid, body_at, mark_after, start_piece, document_mark_laid}
-use Rattle.yaml_base.specs.Layout.{closing_mark_laid, laid_if, version_laid, tag_directives_laid, has_directives, is_explicit, first_standing, layout}
+use Rattle.yaml_base.specs.Layout.{Role, as_item, as_key, Place, is_key, is_undented, deeper, is_simple_scalar, is_simple_collection, Piece, Standing}
+use Rattle.yaml_base.specs.Layout.{RenderedPiece}
+use Rattle.yaml_base.specs.Layout.{piece_without_body, scalar_lead, render_body, body_at, open_ended_after, start_piece, render_document_marker}
+use Rattle.yaml_base.specs.Layout.{render_closing_marker, render_if, render_version, render_tag_directives, has_directives, is_explicit, first_standing, layout}
 use Rattle.yaml_base.specs.Steps.{Frame, Stage, at_stream, at_document, at_node, next_place, Stepped, frame_opened, start_step, step, ends_next, Steps}
 use Rattle.yaml_base.specs.Steps.{then_steps, steps, leaf_step}
 use Rattle.yaml_base.specs.Tags.{directives_in_force}
@@ -39,14 +41,14 @@ chosen_canonical allowed asked other empty tag_written plain_implicit quoted_imp
 chosen_canonical allowed asked other empty tag_written plain_implicit quoted_implicit in_flow simple false on = cc
 
 -- a scalar's piece, by its style
-abbrev scalar_by : Effective → List TagDirective → Place → (simple : Bool) → Scalar → Standing → Choice → PieceLaid
+abbrev scalar_by : Effective → List TagDirective → Place → (simple : Bool) → Scalar → Standing → Choice → RenderedPiece
 scalar_by s directives place simple content standing choice =
     let lead = scalar_lead s directives place simple choice content standing.cursor in
     let limit = if simple then None else s.width in
-    let body = body_laid choice.style s limit (deeper s.indent place.column) content.value lead.cursor in
+    let body = render_body choice.style s limit (deeper s.indent place.column) content.value lead.cursor in
     record {
       piece = record { lead = lead.text; body = Some (body_at place choice.style content.value body) };
-      standing = record { cursor = body.cursor; mark = mark_after choice.style content.value standing.mark };
+      standing = record { cursor = body.cursor; open_ended = open_ended_after choice.style content.value standing.open_ended };
     }
 
 abbrev simple_scalar : Effective → List TagDirective → List Frame → Scalar → Bool
@@ -75,9 +77,9 @@ start_unstyled : (s : Effective) → s.canonical ≡ true → (directives : List
     ≡ start_step s directives frames undented simple empty role start standing
 start_unstyled s on directives frames undented simple empty role start standing =
     let place = next_place frames in
-    let laid = start_piece s directives place simple start standing in
+    let rendered = start_piece s directives place simple start standing in
     ap (λ (in_flow : Bool).
-    let made : Stepped = record { laid = laid; stage = at_node directives (frame_opened s place in_flow undented simple role laid ∷ frames) } in
+    let made : Stepped = record { rendered = rendered; stage = at_node directives (frame_opened s place in_flow undented simple role rendered ∷ frames) } in
     made)
     (in_flow_canonical place.in_flow s.canonical _ empty _ on)
 
@@ -100,15 +102,15 @@ always_explicit s first start on =
 abbrev document_by : Effective → DocumentStart → Standing → (explicit : Bool) → Stepped
 document_by s start standing explicit =
     record {
-      laid =
-          lead_alone 0
-          (then_laid
-          (then_laid
-          (then_laid
-          (laid_if (has_directives start && not (standing.mark == 0)) closing_mark_laid standing.cursor)
-          (version_laid start.version))
-          (tag_directives_laid s.portable start.directives))
-          (laid_if explicit (document_mark_laid s.canonical)));
+      rendered =
+          piece_without_body 0
+          (render_then
+          (render_then
+          (render_then
+          (render_if (has_directives start && not (standing.open_ended == 0)) render_closing_marker standing.cursor)
+          (render_version start.version))
+          (render_tag_directives s.portable start.directives))
+          (render_if explicit (render_document_marker s.canonical)));
       stage = at_node (directives_in_force start.directives) [];
     }
 
@@ -168,8 +170,9 @@ steps_unstyled (event ∷ rest) s on follows stage standing =
     let stepped = step s stage event (ends_next rest follows) standing in
     ap (λ (empty : Bool). then_steps (step s stage (unstyled event) empty standing) (steps s follows (map unstyled rest))) (next_ends rest follows)
     ∙ ap (λ (made : Stepped). then_steps made (steps s follows (map unstyled rest))) (step_unstyled s on stage event (ends_next rest follows) standing)
-    ∙ ap (λ (after : Steps). let made : Steps = record { pieces = stepped.laid.piece ∷ after.pieces; standing = after.standing; stage = after.stage } in made)
-    (steps_unstyled rest s on follows stepped.stage stepped.laid.standing)
+    ∙ ap (λ (after : Steps). let made : Steps = record { pieces = stepped.rendered.piece ∷ after.pieces; standing = after.standing; stage = after.stage } in
+    made)
+    (steps_unstyled rest s on follows stepped.stage stepped.rendered.standing)
 
 -- streams that differ in styles alone
 pub layouts_same : (s : Effective) → s.canonical ≡ true → (one two : Stream) → map unstyled (stream_events one) ≡ map unstyled (stream_events two)

@@ -10,7 +10,7 @@ pub record Cursor : Type 0 where
   pub indention : Bool
 
 -- a text, whose line breaks are LF, and the cursor after it
-pub record Laid : Type 0 where
+pub record Rendered : Type 0 where
   pub text : Text
   pub cursor : Cursor
 
@@ -19,12 +19,12 @@ abbrev pub first_cursor : Cursor
 first_cursor = record { column = 0; whitespace = true; indention = true }
 
 -- no text, the cursor as it was
-abbrev pub nothing_laid : Cursor → Laid
-nothing_laid cursor = record { text = []; cursor = cursor }
+abbrev pub render_nothing : Cursor → Rendered
+render_nothing cursor = record { text = []; cursor = cursor }
 
--- a text, and then what is laid at the cursor after it
-abbrev pub then_laid : Laid → (Cursor → Laid) → Laid
-then_laid first next =
+-- a text, and then what is rendered at the cursor after it
+abbrev pub render_then : Rendered → (Cursor → Rendered) → Rendered
+render_then first next =
     let second = next first.cursor in record { text = first.text ++ second.text; cursor = second.cursor }
 
 -- the column after a character that stands at this one: one more, or 0 after a break
@@ -37,14 +37,14 @@ column_after [] column = column
 column_after (character ∷ rest) column = column_after rest (next_column character column)
 
 -- a text by itself: it moves the column and no flag
-abbrev pub text_laid : Text → Cursor → Laid
-text_laid text cursor =
+abbrev pub render_text : Text → Cursor → Rendered
+render_text text cursor =
     record { text = text; cursor = record cursor { column = column_after text cursor.column } }
 
 -- a rendered text with other flags after it
-abbrev pub with_flags : Bool → Bool → Laid → Laid
-with_flags whitespace indention laid =
-    record { text = laid.text; cursor = record { column = laid.cursor.column; whitespace = whitespace; indention = indention } }
+abbrev pub with_flags : Bool → Bool → Rendered → Rendered
+with_flags whitespace indention rendered =
+    record { text = rendered.text; cursor = record { column = rendered.cursor.column; whitespace = whitespace; indention = indention } }
 
 -- a new line at a column breaks the line unless the cursor stands before or at that column, free to go on
 abbrev pub breaks_line : ℕ → Cursor → Bool
@@ -52,7 +52,7 @@ breaks_line at cursor =
     not cursor.indention || nat_lt at cursor.column || (cursor.column == at && not cursor.whitespace)
 
 -- a new line that begins at a column: a break where one is needed, then spaces up to the column
-abbrev pub new_line : ℕ → Cursor → Laid
+abbrev pub new_line : ℕ → Cursor → Rendered
 new_line at cursor =
     record {
       text = if breaks_line at cursor then line_feed ∷ replicate at space else replicate (at - cursor.column) space;
@@ -64,13 +64,13 @@ abbrev pub space_if : Bool → Cursor → Text
 space_if need cursor = if need && not cursor.whitespace then space ∷ [] else []
 
 -- an indicator, a space before it where one is needed, and the flags after it
-abbrev pub indicator : Text → Bool → Bool → Bool → Cursor → Laid
-indicator sign need whitespace indention cursor =
-    with_flags whitespace (cursor.indention && indention) (text_laid (space_if need cursor ++ sign) cursor)
+abbrev pub indicator : Text → Bool → Bool → Bool → Cursor → Rendered
+indicator symbol need whitespace indention cursor =
+    with_flags whitespace (cursor.indention && indention) (render_text (space_if need cursor ++ symbol) cursor)
 
 -- a name, which ends white space and indentation
-abbrev pub name_laid : Text → Cursor → Laid
-name_laid name cursor = with_flags false false (text_laid name cursor)
+abbrev pub render_name : Text → Cursor → Rendered
+render_name name cursor = with_flags false false (render_text name cursor)
 
 -- the column is past the width; no width is never passed
 abbrev pub is_past_width : Option ℕ → Cursor → Bool

@@ -30,7 +30,7 @@ text_of_bytes utf8 bytes = chars bytes
 text_of_bytes utf16_little bytes = text_of_units (units_lower_first bytes)
 text_of_bytes utf16_big bytes = text_of_units (units_upper_first bytes)
 
--- the text of a stream: its mark, if any, is two bytes
+-- the text of a stream: its byte order mark, if any, is two bytes
 unfoldable pub decode : Option Encoding → List ℕ → Text
 decode None bytes = []
 decode (Some utf8) bytes = text_of_bytes utf8 bytes

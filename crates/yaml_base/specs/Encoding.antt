@@ -31,15 +31,15 @@ abbrev pub text_bytes : Encoding → Text → List ℕ
 text_bytes encoding [] = []
 text_bytes encoding (c ∷ rest) = character_bytes encoding c ++ text_bytes encoding rest
 
--- UTF-16 begins with the mark that tells its byte order, UTF-8 has none (RFC 2781, section 3.2)
-abbrev pub mark : Encoding → Text
-mark utf8 = []
-mark _ = byte_order_mark ∷ []
+-- UTF-16 begins with the byte order mark that tells its byte order, UTF-8 has none (RFC 2781, section 3.2)
+abbrev pub bom_text : Encoding → Text
+bom_text utf8 = []
+bom_text _ = byte_order_mark ∷ []
 
 -- a text as a stream of bytes; before its encoding is known a stream is empty
 abbrev pub encode : Option Encoding → Text → List ℕ
 encode None text = []
-encode (Some encoding) text = text_bytes encoding (mark encoding ++ text)
+encode (Some encoding) text = text_bytes encoding (bom_text encoding ++ text)
 
 -- the first `limit` bytes, or all where they are fewer
 abbrev pub cut : ℕ → List ℕ → List ℕ

@@ -1,10 +1,10 @@
--- Indicators: signs of punctuation and words of lines of their own, and what each asks of the cursor and leaves behind
--- (YAML 1.1, section 5.3, for the signs; libyaml's own rules for the rest).
+-- Indicators: punctuation and words of lines of their own, and what each asks of the cursor and leaves behind
+-- (YAML 1.1, section 5.3, for the indicators; libyaml's own rules for the rest).
 use Rattle.std.specs.Prelude.{Bool, true, false, codes}
 use Rattle.yaml_base.specs.Characters.{Text}
-use Rattle.yaml_base.specs.Cursor.{Cursor, Laid, indicator}
+use Rattle.yaml_base.specs.Cursor.{Cursor, Rendered, indicator}
 
--- a sign, whether it needs white space before it, whether it counts as white space itself, and whether indentation
+-- an indicator, whether it needs white space before it, whether it counts as white space itself, and whether indentation
 -- goes on after it
 pub record Indicator : Type 0 where
   pub text : Text
@@ -13,8 +13,8 @@ pub record Indicator : Type 0 where
   pub keeps_indention : Bool
 
 -- an indicator at a cursor
-abbrev pub indicator_laid : Indicator → Cursor → Laid
-indicator_laid sign cursor = indicator sign.text sign.needs_space sign.leaves_space sign.keeps_indention cursor
+abbrev pub render_indicator : Indicator → Cursor → Rendered
+render_indicator symbol cursor = indicator symbol.text symbol.needs_space symbol.leaves_space symbol.keeps_indention cursor
 
 -- a space before it, none after it
 abbrev pub spaced : Text → Indicator
@@ -28,11 +28,11 @@ opening text = record { text = text; needs_space = true; leaves_space = true; ke
 abbrev pub tight : Text → Indicator
 tight text = record { text = text; needs_space = false; leaves_space = false; keeps_indention = false }
 
--- the sign of an entry in a block, which may stand in indentation
+-- the indicator of an entry in a block, which may stand in indentation
 abbrev pub indented : Text → Indicator
 indented text = record { text = text; needs_space = true; leaves_space = false; keeps_indention = true }
 
--- the sign of a key that isn't simple, in flow or in a block
+-- the indicator of a key that isn't simple, in flow or in a block
 abbrev pub key : (in_block : Bool) → Indicator
 key in_block = record { text = codes "?"; needs_space = true; leaves_space = false; keeps_indention = in_block }
 

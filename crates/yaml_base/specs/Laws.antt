@@ -16,15 +16,15 @@ abbrev pub TreeIsFound : Type 0
 TreeIsFound = (stream : Stream) (events : List Event) → stream_events stream ≡ events → tree_of events ≡ Some stream
 
 -- a character of a plain text, before the rest: no `:` before a blank, a break or the end, no blank or break before `#`,
--- and in flow none of the signs of flow collections
+-- and in flow none of the flow indicators
 pub record IsPlainInside (breaks12 flow : Bool) (c : ℕ) (rest : Text) : Type 0 where
   pub no_key : c ≡ 58 → begins_white breaks12 rest ≡ false
   pub no_comment : is_read_white breaks12 c ≡ true → begins_with_hash rest ≡ false
-  pub no_flow_sign : flow ≡ true → is_among (codes ",?:[]{}") c ≡ false
+  pub no_flow_indicator : flow ≡ true → is_among (codes ",?:[]{}") c ≡ false
 
 -- so is each character of a text that reads as plain
-abbrev pub PlainHoldsNoSign : Type 0
-PlainHoldsNoSign =
+abbrev pub PlainHoldsNoIndicator : Type 0
+PlainHoldsNoIndicator =
     (breaks12 flow : Bool) (before : Text) (c : ℕ) (rest value : Text)
     → read_plain breaks12 flow (before ++ c ∷ rest) ≡ Some value → IsPlainInside breaks12 flow c rest
 

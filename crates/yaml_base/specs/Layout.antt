@@ -1,9 +1,9 @@
--- The text of a stream, one piece for each event (libyaml's own rules; YAML 1.1, chapter 7, for the signs).
+-- The text of a stream, one piece for each event (libyaml's own rules; YAML 1.1, chapter 7, for the indicators).
 use Rattle.std.specs.Prelude.{◌≡◌, Bool, true, false, Option, None, Some, List, [], ◌∷◌, ◌==◌, ◌||◌, ◌&&◌, not, length, is_some, pos, if◌then◌else◌}
 use Rattle.std.specs.Ordering.{int_eq}
 use Rattle.yaml_base.specs.Settings.{Effective}
-use Rattle.yaml_base.specs.Cursor.{Cursor, Laid, first_cursor, nothing_laid, then_laid, new_line}
-use Rattle.yaml_base.specs.Indicators.{Indicator, indicator_laid, document_start, document_end, yaml_directive, version_1_1, version_1_2, tag_directive}
+use Rattle.yaml_base.specs.Cursor.{Cursor, Rendered, first_cursor, render_nothing, render_then, new_line}
+use Rattle.yaml_base.specs.Indicators.{Indicator, render_indicator, document_start, document_end, yaml_directive, version_1_1, version_1_2, tag_directive}
 use Rattle.yaml_base.specs.Event.{Version, TagDirective, DocumentStart}
 use Rattle.yaml_base.specs.Percent.{prefix_escaped}
 use Rattle.yaml_base.specs.Tags.{directives_in_force}
@@ -11,49 +11,52 @@ use Rattle.yaml_base.specs.Grammar.{Document, Documents, no_documents, documents
 pub use Rattle.yaml_base.specs.Places.{Role, as_root, as_item, as_key, as_value, Place, is_key, is_in_mapping, is_undented, line_column, deeper, entries_column}
 pub use Rattle.yaml_base.specs.Places.{byte_count, name_count, spelling_count, tag_count, is_short, is_simple_alias, is_simple_scalar}
 pub use Rattle.yaml_base.specs.Places.{is_simple_collection, has_no_nodes, has_no_pairs, is_simple, is_simple_at, flow_break, opening_or_comma}
-pub use Rattle.yaml_base.specs.Places.{key_sign, flow_place_laid, block_place_laid, place_laid}
-pub use Rattle.yaml_base.specs.NodeLayout.{Body, Piece, body_text, piece_text, text_of, bodies_of, Standing, PieceLaid, PiecesLaid, no_pieces, one_piece}
-pub use Rattle.yaml_base.specs.NodeLayout.{then_pieces, lead_alone, anchor_laid, handle_laid, spelling_laid, tag_laid, properties_laid, alias_laid}
-pub use Rattle.yaml_base.specs.NodeLayout.{separation_laid, body_laid, mark_after, choice_of, scalar_lead, body_at, scalar_piece, alias_piece, start_piece}
-pub use Rattle.yaml_base.specs.NodeLayout.{asks_flow, is_written_in_flow, Brackets, square, curly, empty_or_comma, end_laid, end_piece, entry_place}
-pub use Rattle.yaml_base.specs.NodeLayout.{collection_laid, node_laid, nodes_laid, pairs_laid}
+pub use Rattle.yaml_base.specs.Places.{key_indicator, render_flow_place, render_block_place, render_place}
+pub use Rattle.yaml_base.specs.NodeLayout.{Body, Piece, body_text, piece_text, text_of, bodies_of, Standing, RenderedPiece, RenderedPieces, no_pieces}
+pub use Rattle.yaml_base.specs.NodeLayout.{one_piece}
+pub use Rattle.yaml_base.specs.NodeLayout.{then_pieces, piece_without_body, render_anchor, render_handle, render_spelling, render_tag}
+pub use Rattle.yaml_base.specs.NodeLayout.{render_properties, render_alias}
+pub use Rattle.yaml_base.specs.NodeLayout.{render_separation, render_body, open_ended_after, choice_of, scalar_lead, body_at, scalar_piece}
+pub use Rattle.yaml_base.specs.NodeLayout.{alias_piece, start_piece}
+pub use Rattle.yaml_base.specs.NodeLayout.{asks_flow, is_written_in_flow, Brackets, square, curly, empty_or_comma, render_end, end_piece, entry_place}
+pub use Rattle.yaml_base.specs.NodeLayout.{render_collection, render_node, render_nodes, render_pairs}
 
 -- a line of its own
-abbrev pub line_ended : Laid → Laid
-line_ended laid = then_laid laid (new_line 0)
+abbrev pub then_line_end : Rendered → Rendered
+then_line_end rendered = render_then rendered (new_line 0)
 
--- text that is laid only where a test holds
-abbrev pub laid_if : Bool → (Cursor → Laid) → Cursor → Laid
-laid_if true next cursor = next cursor
-laid_if false next cursor = nothing_laid cursor
+-- text that is rendered only where a test holds
+abbrev pub render_if : Bool → (Cursor → Rendered) → Cursor → Rendered
+render_if true next cursor = next cursor
+render_if false next cursor = render_nothing cursor
 
 -- `...` by itself
-abbrev pub closing_mark_laid : Cursor → Laid
-closing_mark_laid cursor = line_ended (indicator_laid document_end cursor)
+abbrev pub render_closing_marker : Cursor → Rendered
+render_closing_marker cursor = then_line_end (render_indicator document_end cursor)
 
 -- a version as `%YAML` names it
 abbrev pub version_word : Version → Indicator
 version_word version = if int_eq version.minor (pos 2) then version_1_2 else version_1_1
 
 -- the `%YAML` line (YAML 1.1, section 7.1.1)
-abbrev pub version_laid : Option Version → Cursor → Laid
-version_laid None cursor = nothing_laid cursor
-version_laid (Some version) cursor =
-    line_ended (then_laid (indicator_laid yaml_directive cursor) (indicator_laid (version_word version)))
+abbrev pub render_version : Option Version → Cursor → Rendered
+render_version None cursor = render_nothing cursor
+render_version (Some version) cursor =
+    then_line_end (render_then (render_indicator yaml_directive cursor) (render_indicator (version_word version)))
 
 -- a `%TAG` line (YAML 1.1, section 7.1.2)
-abbrev pub tag_directive_laid : (portable : Bool) → TagDirective → Cursor → Laid
-tag_directive_laid portable directive cursor =
-    line_ended
-    (then_laid
-    (then_laid (indicator_laid tag_directive cursor) (handle_laid directive.handle))
-    (handle_laid (prefix_escaped portable directive.prefix)))
+abbrev pub render_tag_directive : (portable : Bool) → TagDirective → Cursor → Rendered
+render_tag_directive portable directive cursor =
+    then_line_end
+    (render_then
+    (render_then (render_indicator tag_directive cursor) (render_handle directive.handle))
+    (render_handle (prefix_escaped portable directive.prefix)))
 
 -- the `%TAG` lines, in order
-abbrev pub tag_directives_laid : (portable : Bool) → List TagDirective → Cursor → Laid
-tag_directives_laid portable [] cursor = nothing_laid cursor
-tag_directives_laid portable (directive ∷ rest) cursor =
-    then_laid (tag_directive_laid portable directive cursor) (tag_directives_laid portable rest)
+abbrev pub render_tag_directives : (portable : Bool) → List TagDirective → Cursor → Rendered
+render_tag_directives portable [] cursor = render_nothing cursor
+render_tag_directives portable (directive ∷ rest) cursor =
+    render_then (render_tag_directive portable directive cursor) (render_tag_directives portable rest)
 
 -- a document says its version or gives a handle
 abbrev pub has_directives : DocumentStart → Bool
@@ -64,42 +67,42 @@ abbrev pub is_explicit : (each : Bool) → (first : Bool) → DocumentStart → 
 is_explicit each first start = not start.implicit || not first || each || has_directives start
 
 -- `---` on a new line, and in canonical mode a new line after it (YAML 1.1, section 7.2)
-abbrev pub document_mark_laid : Bool → Cursor → Laid
-document_mark_laid canonical cursor =
-    then_laid (then_laid (new_line 0 cursor) (indicator_laid document_start)) (laid_if canonical (new_line 0))
+abbrev pub render_document_marker : Bool → Cursor → Rendered
+render_document_marker canonical cursor =
+    render_then (render_then (new_line 0 cursor) (render_indicator document_start)) (render_if canonical (new_line 0))
 
 -- directives after a document that wasn't closed are preceded by `...`; in canonical and in portable mode each start is
 -- written
-abbrev pub document_start_laid : Effective → (first : Bool) → DocumentStart → Standing → Laid
-document_start_laid s first start standing =
-    then_laid
-    (then_laid
-    (then_laid
-    (laid_if (has_directives start && not (standing.mark == 0)) closing_mark_laid standing.cursor)
-    (version_laid start.version))
-    (tag_directives_laid s.portable start.directives))
-    (laid_if (is_explicit (s.canonical || s.portable) first start) (document_mark_laid s.canonical))
+abbrev pub render_document_start : Effective → (first : Bool) → DocumentStart → Standing → Rendered
+render_document_start s first start standing =
+    render_then
+    (render_then
+    (render_then
+    (render_if (has_directives start && not (standing.open_ended == 0)) render_closing_marker standing.cursor)
+    (render_version start.version))
+    (render_tag_directives s.portable start.directives))
+    (render_if (is_explicit (s.canonical || s.portable) first start) (render_document_marker s.canonical))
 
 -- a document's start as a piece
-abbrev pub document_start_piece : Effective → (first : Bool) → DocumentStart → Standing → PieceLaid
-document_start_piece s first start standing = lead_alone 0 (document_start_laid s first start standing)
+abbrev pub document_start_piece : Effective → (first : Bool) → DocumentStart → Standing → RenderedPiece
+document_start_piece s first start standing = piece_without_body 0 (render_document_start s first start standing)
 
 -- an implicit end leaves the document open, an explicit one closes it
-abbrev pub document_end_piece : (implicit : Bool) → Standing → PieceLaid
+abbrev pub document_end_piece : (implicit : Bool) → Standing → RenderedPiece
 document_end_piece true standing =
-    lead_alone (if standing.mark == 0 then 1 else standing.mark) (new_line 0 standing.cursor)
-document_end_piece false standing = lead_alone 0 (then_laid (new_line 0 standing.cursor) closing_mark_laid)
+    piece_without_body (if standing.open_ended == 0 then 1 else standing.open_ended) (new_line 0 standing.cursor)
+document_end_piece false standing = piece_without_body 0 (render_then (new_line 0 standing.cursor) render_closing_marker)
 
 -- the root stands in a block, at no indentation
 abbrev pub root_place : Place
 root_place = record { in_flow = false; role = as_root; column = None }
 
 -- a document: its start, its root, its end
-abbrev pub document_laid : Effective → (first : Bool) → Document → Standing → PiecesLaid
-document_laid s first document standing =
+abbrev pub render_document : Effective → (first : Bool) → Document → Standing → RenderedPieces
+render_document s first document standing =
     then_pieces
     (then_pieces (one_piece (document_start_piece s first document.start standing))
-    (node_laid document.root s (directives_in_force document.start.directives) root_place))
+    (render_node document.root s (directives_in_force document.start.directives) root_place))
     (λ after. one_piece (document_end_piece document.end_implicit after))
 
 -- whether the next document is the first
@@ -108,34 +111,34 @@ has_no_documents no_documents = true
 has_no_documents (documents_and before document) = false
 
 -- some documents, in order
-abbrev pub documents_laid : Effective → Documents → Standing → PiecesLaid
-documents_laid s no_documents standing = no_pieces standing
-documents_laid s (documents_and documents document) standing =
-    then_pieces (documents_laid s documents standing) (document_laid s (has_no_documents documents) document)
+abbrev pub render_documents : Effective → Documents → Standing → RenderedPieces
+render_documents s no_documents standing = no_pieces standing
+render_documents s (documents_and documents document) standing =
+    then_pieces (render_documents s documents standing) (render_document s (has_no_documents documents) document)
 
 -- where a stream begins: column 0, nothing open
 abbrev pub first_standing : Standing
-first_standing = record { cursor = first_cursor; mark = 0 }
+first_standing = record { cursor = first_cursor; open_ended = 0 }
 
 -- a stream whose last document keeps its final breaks is closed
-abbrev pub stream_end_piece : Standing → PieceLaid
+abbrev pub stream_end_piece : Standing → RenderedPiece
 stream_end_piece standing =
-    lead_alone standing.mark (laid_if (standing.mark == 2) closing_mark_laid standing.cursor)
+    piece_without_body standing.open_ended (render_if (standing.open_ended == 2) render_closing_marker standing.cursor)
 
 -- a stream's start writes nothing
-abbrev pub stream_start_piece : Standing → PieceLaid
-stream_start_piece standing = lead_alone standing.mark (nothing_laid standing.cursor)
+abbrev pub stream_start_piece : Standing → RenderedPiece
+stream_start_piece standing = piece_without_body standing.open_ended (render_nothing standing.cursor)
 
 -- the pieces of a stream, one for each of its events
-abbrev pub stream_laid : Effective → Stream → PiecesLaid
-stream_laid s stream =
+abbrev pub render_stream : Effective → Stream → RenderedPieces
+render_stream s stream =
     then_pieces
-    (then_pieces (one_piece (stream_start_piece first_standing)) (documents_laid s stream.documents))
+    (then_pieces (one_piece (stream_start_piece first_standing)) (render_documents s stream.documents))
     (λ after. one_piece (stream_end_piece after))
 
 -- the pieces of a stream, one for each event
 abbrev pub layout : Effective → Stream → List Piece
-layout s stream = (stream_laid s stream).pieces
+layout s stream = (render_stream s stream).pieces
 
 -- a layout has one piece for each event
 abbrev pub OnePieceEach : Type 0

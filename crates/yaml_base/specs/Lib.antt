@@ -1,4 +1,5 @@
 pub mod Characters
+pub mod Options
 pub mod Words
 pub mod Settings
 pub mod LineBreaks

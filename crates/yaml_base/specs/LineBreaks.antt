@@ -37,9 +37,9 @@ is_read_break breaks12 c =
     c == line_feed || (not breaks12 && (c == line_separator || c == paragraph_separator))
 
 -- a text without CR and U+0085, whose LF are all its breaks of the setting
-abbrev pub is_laid_text : Text → Bool
-is_laid_text [] = true
-is_laid_text (c ∷ rest) = not (c == carriage_return || c == next_line) && is_laid_text rest
+abbrev pub is_rendered_text : Text → Bool
+is_rendered_text [] = true
+is_rendered_text (c ∷ rest) = not (c == carriage_return || c == next_line) && is_rendered_text rest
 
 -- a line that is empty or begins with at least two spaces
 abbrev pub begins_indented : Text → Bool

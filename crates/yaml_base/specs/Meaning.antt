@@ -42,7 +42,7 @@ body_read s body =
 abbrev pub BodyReads : Effective → Body → Type 0
 BodyReads s body = body_read s body ≡ Some body.value
 
--- each nonempty line of a body after its first begins with at least two spaces, so none is a document's mark
+-- each nonempty line of a body after its first begins with at least two spaces, so none is a document's marker
 abbrev pub BodyIsIndented : Effective → Body → Type 0
 BodyIsIndented s body = is_indented_text (body_written s body) ≡ true
 

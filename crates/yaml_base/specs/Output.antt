@@ -31,14 +31,14 @@ output_of given events =
     let s = settings_for given events in
     cut s.limit (bytes_written s (list_layout s events))
 
--- the ends of documents and of the stream hand out all that is written
-abbrev pub hands_out : Event → Bool
-hands_out (document_end implicit) = true
-hands_out stream_end = true
-hands_out event = false
+-- the ends of documents and of the stream flush all that is written
+abbrev pub flushes : Event → Bool
+flushes (document_end implicit) = true
+flushes stream_end = true
+flushes event = false
 
--- the last of some events hands out all that is written
-abbrev pub hands_out_last : List Event → Bool
-hands_out_last [] = false
-hands_out_last (event ∷ []) = hands_out event
-hands_out_last (event ∷ next ∷ more) = hands_out_last (next ∷ more)
+-- the last of some events flushes all that is written
+abbrev pub last_flushes : List Event → Bool
+last_flushes [] = false
+last_flushes (event ∷ []) = flushes event
+last_flushes (event ∷ next ∷ more) = last_flushes (next ∷ more)

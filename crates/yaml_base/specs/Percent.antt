@@ -28,7 +28,7 @@ character_escaped c = character_written (is_tag_character c) c
 abbrev pub percent_escaped : Text → Text
 percent_escaped text = flat_map character_escaped text
 
--- may stand as itself after a tag's handle: portably not the signs of flow, at which readers end a tag
+-- may stand as itself after a tag's handle: portably not the flow indicators, at which readers end a tag
 abbrev pub is_suffix_character : (portable : Bool) → ℕ → Bool
 is_suffix_character portable c = not (portable && is_among (codes ",[]") c) && is_tag_character c
 

@@ -71,19 +71,19 @@ abbrev pub text_after : Effective → List Event → ℕ → Text
 text_after s events k = text_of (pieces s events k)
 
 -- the last event of a list begins a collection
-abbrev pub begins_last : List Event → Bool
-begins_last [] = false
-begins_last (event ∷ []) = begins_collection event
-begins_last (event ∷ next ∷ rest) = begins_last (next ∷ rest)
+abbrev pub last_begins_collection : List Event → Bool
+last_begins_collection [] = false
+last_begins_collection (event ∷ []) = begins_collection event
+last_begins_collection (event ∷ next ∷ rest) = last_begins_collection (next ∷ rest)
 
 -- the first event of a list ends a collection
-abbrev pub ends_first : List Event → Bool
-ends_first [] = false
-ends_first (event ∷ rest) = ends_collection event
+abbrev pub first_ends_collection : List Event → Bool
+first_ends_collection [] = false
+first_ends_collection (event ∷ rest) = ends_collection event
 
 -- a list begins a collection last, and what follows ends it at once
 abbrev pub closes_at_once : List Event → List Event → Bool
-closes_at_once front rest = begins_last front && ends_first rest
+closes_at_once prefix rest = last_begins_collection prefix && first_ends_collection rest
 
 -- every accepted list that begins with the first so many events, and doesn't at once close a collection that they begin
 -- last, has their pieces: so they can be written before the end is known

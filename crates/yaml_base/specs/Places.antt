@@ -5,8 +5,8 @@ use Rattle.std.specs.Prelude.{if◌then◌else◌}
 use Rattle.std.specs.List.{list_any}
 use Rattle.yaml_base.specs.Characters.{Text, is_break}
 use Rattle.yaml_base.specs.Settings.{Effective}
-use Rattle.yaml_base.specs.Cursor.{Cursor, Laid, nothing_laid, then_laid, new_line, is_past_width}
-use Rattle.yaml_base.specs.Indicators.{indicator_laid, opening, flow_entry, key, flow_value, block_entry, block_value, simple_value}
+use Rattle.yaml_base.specs.Cursor.{Cursor, Rendered, render_nothing, render_then, new_line, is_past_width}
+use Rattle.yaml_base.specs.Indicators.{render_indicator, opening, flow_entry, key, flow_value, block_entry, block_value, simple_value}
 use Rattle.yaml_base.specs.Event.{TagDirective, Scalar, Collection}
 use Rattle.yaml_base.specs.Tags.{Spelling, shorthand, verbatim, spelling}
 use Rattle.yaml_base.specs.Grammar.{Node, alias_node, scalar_node, sequence_node, mapping_node, Nodes, no_nodes, nodes_and, Pairs, no_pairs, pairs_and}
@@ -129,45 +129,45 @@ is_simple_at place canonical directives node = is_key place.role && is_simple ca
 -- What a place puts before its node
 
 -- in flow a new line stands where the line is too long, and always in canonical mode
-abbrev pub flow_break : Effective → Option ℕ → Cursor → Laid
+abbrev pub flow_break : Effective → Option ℕ → Cursor → Rendered
 flow_break s column cursor =
-    if s.canonical || is_past_width s.width cursor then new_line (line_column column) cursor else nothing_laid cursor
+    if s.canonical || is_past_width s.width cursor then new_line (line_column column) cursor else render_nothing cursor
 
 -- the opening bracket before the first entry, a comma before another
-abbrev pub opening_or_comma : Text → Bool → Cursor → Laid
-opening_or_comma bracket true cursor = indicator_laid (opening bracket) cursor
-opening_or_comma bracket false cursor = indicator_laid flow_entry cursor
+abbrev pub opening_or_comma : Text → Bool → Cursor → Rendered
+opening_or_comma bracket true cursor = render_indicator (opening bracket) cursor
+opening_or_comma bracket false cursor = render_indicator flow_entry cursor
 
--- the sign of a key that isn't simple
-abbrev pub key_sign : (simple in_block : Bool) → Cursor → Laid
-key_sign true in_block cursor = nothing_laid cursor
-key_sign false in_block cursor = indicator_laid (key in_block) cursor
+-- the indicator of a key that isn't simple
+abbrev pub key_indicator : (simple in_block : Bool) → Cursor → Rendered
+key_indicator true in_block cursor = render_nothing cursor
+key_indicator false in_block cursor = render_indicator (key in_block) cursor
 
 -- what a place in flow puts before its node (YAML 1.1, sections 10.1.1 Flow Sequences and 10.2.1 Flow Mappings; new lines are libyaml's rule)
-abbrev pub flow_place_laid : Effective → Role → (simple : Bool) → Option ℕ → Cursor → Laid
-flow_place_laid s as_root simple column cursor = nothing_laid cursor
-flow_place_laid s (as_item first) simple column cursor =
-    then_laid (opening_or_comma (codes "[") first cursor) (flow_break s column)
-flow_place_laid s (as_key first) simple column cursor =
-    then_laid (then_laid (opening_or_comma (codes "{") first cursor) (flow_break s column)) (key_sign simple false)
-flow_place_laid s (as_value true) simple column cursor = indicator_laid simple_value cursor
-flow_place_laid s (as_value false) simple column cursor =
-    then_laid (flow_break s column cursor) (indicator_laid flow_value)
+abbrev pub render_flow_place : Effective → Role → (simple : Bool) → Option ℕ → Cursor → Rendered
+render_flow_place s as_root simple column cursor = render_nothing cursor
+render_flow_place s (as_item first) simple column cursor =
+    render_then (opening_or_comma (codes "[") first cursor) (flow_break s column)
+render_flow_place s (as_key first) simple column cursor =
+    render_then (render_then (opening_or_comma (codes "{") first cursor) (flow_break s column)) (key_indicator simple false)
+render_flow_place s (as_value true) simple column cursor = render_indicator simple_value cursor
+render_flow_place s (as_value false) simple column cursor =
+    render_then (flow_break s column cursor) (render_indicator flow_value)
 
 -- what a place in a block puts before its node
 -- (YAML 1.1, sections 10.1.2 Block Sequences and 10.2.2 Block Mappings; new lines are libyaml's rule)
-abbrev pub block_place_laid : Role → (simple : Bool) → Option ℕ → Cursor → Laid
-block_place_laid as_root simple column cursor = nothing_laid cursor
-block_place_laid (as_item first) simple column cursor =
-    then_laid (new_line (line_column column) cursor) (indicator_laid block_entry)
-block_place_laid (as_key first) simple column cursor =
-    then_laid (new_line (line_column column) cursor) (key_sign simple true)
-block_place_laid (as_value true) simple column cursor = indicator_laid simple_value cursor
-block_place_laid (as_value false) simple column cursor =
-    then_laid (new_line (line_column column) cursor) (indicator_laid block_value)
+abbrev pub render_block_place : Role → (simple : Bool) → Option ℕ → Cursor → Rendered
+render_block_place as_root simple column cursor = render_nothing cursor
+render_block_place (as_item first) simple column cursor =
+    render_then (new_line (line_column column) cursor) (render_indicator block_entry)
+render_block_place (as_key first) simple column cursor =
+    render_then (new_line (line_column column) cursor) (key_indicator simple true)
+render_block_place (as_value true) simple column cursor = render_indicator simple_value cursor
+render_block_place (as_value false) simple column cursor =
+    render_then (new_line (line_column column) cursor) (render_indicator block_value)
 
 -- what a place puts before its node
-abbrev pub place_laid : Effective → Place → (simple : Bool) → Cursor → Laid
-place_laid s place simple cursor =
-    if place.in_flow then flow_place_laid s place.role simple place.column cursor
-    else block_place_laid place.role simple place.column cursor
+abbrev pub render_place : Effective → Place → (simple : Bool) → Cursor → Rendered
+render_place s place simple cursor =
+    if place.in_flow then render_flow_place s place.role simple place.column cursor
+    else render_block_place place.role simple place.column cursor

@@ -31,16 +31,16 @@ awaited _ = 0
 abbrev pub is_balanced : List Event → Bool
 is_balanced events = count_by is_start events == count_by is_end events
 
--- the nonempty fronts of a list
-abbrev pub fronts : List Event → List (List Event)
-fronts [] = []
-fronts (event ∷ rest) = (event ∷ []) ∷ map (λ front. event ∷ front) (fronts rest)
+-- the nonempty prefixes of a list
+abbrev pub nonempty_prefixes : List Event → List (List Event)
+nonempty_prefixes [] = []
+nonempty_prefixes (event ∷ rest) = (event ∷ []) ∷ map (λ prefix. event ∷ prefix) (nonempty_prefixes rest)
 
--- the first event of a list is ready where it awaits nothing, more events stand than it awaits, or some front,
+-- the first event of a list is ready where it awaits nothing, more events stand than it awaits, or some prefix,
 -- itself included, has as many starts as ends
 abbrev pub is_ready : Event → List Event → Bool
 is_ready event rest =
-    awaited event == 0 || nat_lt (awaited event) (length (event ∷ rest)) || list_any is_balanced (fronts (event ∷ rest))
+    awaited event == 0 || nat_lt (awaited event) (length (event ∷ rest)) || list_any is_balanced (nonempty_prefixes (event ∷ rest))
 
 -- how many events of a list are ready: those before the first that isn't
 abbrev pub written : List Event → ℕ

@@ -1,5 +1,6 @@
 -- Which event is refused after which list, and with what fault (libyaml's own rules; YAML 1.1, sections 7.1, 8.1 and 8.2, for
 -- directives, anchors and tags).
+pub use Rattle.yaml_base.specs.Options.{some_if}
 use Rattle.std.specs.Prelude.{◌≡◌, ◌↔◌, ℕ, ◌-◌, ◌≤◌, Bool, true, false, Option, None, Some, List, [], ◌∷◌, ◌++◌, ◌||◌, ◌&&◌, not, nat_lt, length, count_by}
 use Rattle.std.specs.Prelude.{is_some, is_none, option_and_then, if◌then◌else◌}
 use Rattle.std.specs.Option.{option_or}
@@ -14,10 +15,6 @@ use Rattle.yaml_base.specs.declared.errors.yaml_error_t.{yaml_error_t}
 use Rattle.yaml_base.specs.declared.errors.yaml_error_t.TheVariants.{ExpectedStreamStart, ExpectedDocumentStart, ExpectedDocumentEnd, ExpectedNode}
 use Rattle.yaml_base.specs.declared.errors.yaml_error_t.TheVariants.{ExpectedNothing, NoTagNorImplicit, TooDeep}
 use Rattle.yaml_base.specs.Event.{scalar_tag, collection_tag}
-
--- a fault where the test holds
-abbrev pub fault_if : Bool → yaml_error_t → Option yaml_error_t
-fault_if wrong fault = if wrong then Some fault else None
 
 -- the refusal of an anchor and of the tag that is written, where there are any
 abbrev pub properties_fault : Option Text → Option Text → Option yaml_error_t
@@ -37,7 +34,7 @@ name_or_tag_fault canonical _ = None
 -- what else an event's own content lacks: a scalar without a tag needs a flag
 abbrev pub content_fault : Bool → Event → Option yaml_error_t
 content_fault canonical (scalar content) =
-    fault_if
+    some_if
     (lacks_tag_and_flags (is_some (scalar_tag canonical content)) content.plain_implicit content.quoted_implicit)
     NoTagNorImplicit
 content_fault canonical (document_start start) =
@@ -54,7 +51,7 @@ expected (after_stream stream) = ExpectedNothing
 
 -- the refusal of an event that may not stand after this partial tree
 abbrev pub place_fault : Partial → Event → Option yaml_error_t
-place_fault partial event = fault_if (is_none (push partial event)) (expected partial)
+place_fault partial event = some_if (is_none (push partial event)) (expected partial)
 
 -- the maximum nesting depth (this library's own bound)
 abbrev pub most_open : ℕ
@@ -80,7 +77,7 @@ open_levels _ = []
 -- the refusal of a collection where too many are open
 abbrev pub depth_fault : Partial → Event → Option yaml_error_t
 depth_fault partial event =
-    fault_if (begins_collection event && not (nat_lt (length (open_levels partial)) most_open)) TooDeep
+    some_if (begins_collection event && not (nat_lt (length (open_levels partial)) most_open)) TooDeep
 
 -- the first fault of an event at a place
 abbrev pub refusal_at : Bool → Partial → Event → Option yaml_error_t
@@ -102,12 +99,12 @@ abbrev pub open_count : List Event → ℕ
 open_count events = count_by begins_collection events - count_by ends_collection events
 
 -- a list is accepted where it is the events of a stream, each event is sound, and no more than `most_open` collections
--- are open after any front of it
+-- are open after any prefix of it
 pub record IsAccepted (canonical : Bool) (events : List Event) : Type 0 where
   pub stream : Stream
   pub is_stream : stream_events stream ≡ events
   pub sound : list_all (is_sound canonical) events ≡ true
-  pub shallow : (front rest : List Event) → front ++ rest ≡ events → open_count front ≤ most_open
+  pub shallow : (prefix rest : List Event) → prefix ++ rest ≡ events → open_count prefix ≤ most_open
 
 -- some accepted list begins with these events
 pub record BeginsAccepted (canonical : Bool) (events : List Event) : Type 0 where

@@ -3,14 +3,14 @@
 use Rattle.std.specs.Prelude.{ℕ, Bool, true, false, Option, List, [], ◌∷◌, ◌++◌, ◌&&◌, not, nat_lt, length, take}
 use Rattle.std.specs.Option.{option_or}
 use Rattle.yaml_base.specs.Settings.{Effective}
-use Rattle.yaml_base.specs.Cursor.{nothing_laid}
+use Rattle.yaml_base.specs.Cursor.{render_nothing}
 use Rattle.yaml_base.specs.Event.{TagDirective, Collection, Event, stream_start, stream_end, document_start, document_end, alias, scalar, sequence_start}
 use Rattle.yaml_base.specs.Event.{sequence_end, mapping_start, mapping_end}
 use Rattle.yaml_base.specs.Tags.{directives_in_force}
-use Rattle.yaml_base.specs.Refusal.{fault_if, name_or_tag_fault, content_fault, most_open, begins_collection, ends_collection}
+use Rattle.yaml_base.specs.Refusal.{some_if, name_or_tag_fault, content_fault, most_open, begins_collection, ends_collection}
 use Rattle.yaml_base.specs.Ready.{written}
-use Rattle.yaml_base.specs.Layout.{Piece, Standing, PieceLaid, Role, as_root, as_item, as_key, as_value, Place, is_key, is_undented, entries_column}
-use Rattle.yaml_base.specs.Layout.{is_simple_alias, is_simple_scalar, is_simple_collection, lead_alone, scalar_piece, alias_piece, start_piece}
+use Rattle.yaml_base.specs.Layout.{Piece, Standing, RenderedPiece, Role, as_root, as_item, as_key, as_value, Place, is_key, is_undented, entries_column}
+use Rattle.yaml_base.specs.Layout.{is_simple_alias, is_simple_scalar, is_simple_collection, piece_without_body, scalar_piece, alias_piece, start_piece}
 use Rattle.yaml_base.specs.Layout.{is_written_in_flow, Brackets, square, curly, end_piece, entry_place, root_place, document_start_piece, document_end_piece}
 use Rattle.yaml_base.specs.Layout.{first_standing, stream_start_piece, stream_end_piece}
 use Rattle.yaml_base.specs.declared.errors.yaml_error_t.TheVariants.{ExpectedStreamStart, ExpectedDocumentStart, ExpectedDocumentEnd, ExpectedNode}
@@ -61,23 +61,23 @@ is_first _ = false
 
 -- an event's piece, and what comes next
 pub record Stepped : Type 0 where
-  pub laid : PieceLaid
+  pub rendered : RenderedPiece
   pub stage : Stage
 
 -- an event out of place writes nothing
 abbrev pub stopped : Standing → Stepped
-stopped standing = record { laid = lead_alone standing.mark (nothing_laid standing.cursor); stage = at_nothing }
+stopped standing = record { rendered = piece_without_body standing.open_ended (render_nothing standing.cursor); stage = at_nothing }
 
 -- an alias or a scalar, which may be a simple key
-abbrev pub leaf_step : List TagDirective → List Frame → (simple : Bool) → PieceLaid → Stepped
-leaf_step directives frames simple laid = record { laid = laid; stage = stage_after directives frames simple }
+abbrev pub leaf_step : List TagDirective → List Frame → (simple : Bool) → RenderedPiece → Stepped
+leaf_step directives frames simple rendered = record { rendered = rendered; stage = stage_after directives frames simple }
 
 -- the frame of a collection whose start is written
 abbrev pub frame_opened :
-    Effective → Place → (in_flow undented simple : Bool) → Role → PieceLaid → Frame
-frame_opened s place in_flow undented simple role laid =
+    Effective → Place → (in_flow undented simple : Bool) → Role → RenderedPiece → Frame
+frame_opened s place in_flow undented simple role rendered =
     record {
-      place = entry_place in_flow role (entries_column in_flow undented s.indent place.column laid.standing.cursor);
+      place = entry_place in_flow role (entries_column in_flow undented s.indent place.column rendered.standing.cursor);
       simple = simple;
     }
 
@@ -86,12 +86,12 @@ abbrev pub start_step :
     Effective → List TagDirective → List Frame → (undented simple empty : Bool) → Role → Collection → Standing → Stepped
 start_step s directives frames undented simple empty role start standing =
     let place = next_place frames in
-    let laid = start_piece s directives place simple start standing in
+    let rendered = start_piece s directives place simple start standing in
     record {
-      laid = laid;
+      rendered = rendered;
       stage =
           at_node directives
-          (frame_opened s place (is_written_in_flow s place start empty) undented simple role laid ∷ frames);
+          (frame_opened s place (is_written_in_flow s place start empty) undented simple role rendered ∷ frames);
     }
 
 -- a collection's end: its piece, and what follows the collection
@@ -99,7 +99,7 @@ abbrev pub end_step : Effective → Brackets → List TagDirective → List Fram
 end_step s brackets directives [] standing = stopped standing
 end_step s brackets directives (frame ∷ outer) standing =
     record {
-      laid =
+      rendered =
           end_piece s brackets frame.place.in_flow (is_first frame.place.role) (next_place outer).column standing;
       stage = stage_after directives outer frame.simple;
     }
@@ -128,16 +128,16 @@ node_step s directives frames _ empty standing = stopped standing
 -- an event at a stage
 abbrev pub step : Effective → Stage → Event → (empty : Bool) → Standing → Stepped
 step s at_stream (stream_start encoding) empty standing =
-    record { laid = stream_start_piece standing; stage = at_document true }
+    record { rendered = stream_start_piece standing; stage = at_document true }
 step s (at_document first) (document_start start) empty standing =
     record {
-      laid = document_start_piece s first start standing;
+      rendered = document_start_piece s first start standing;
       stage = at_node (directives_in_force start.directives) [];
     }
-step s (at_document first) stream_end empty standing = record { laid = stream_end_piece standing; stage = at_nothing }
+step s (at_document first) stream_end empty standing = record { rendered = stream_end_piece standing; stage = at_nothing }
 step s (at_node directives frames) event empty standing = node_step s directives frames event empty standing
 step s at_document_end (document_end implicit) empty standing =
-    record { laid = document_end_piece implicit standing; stage = at_document false }
+    record { rendered = document_end_piece implicit standing; stage = at_document false }
 step s _ event empty standing = stopped standing
 
 -- the next event is a collection's end; where no event follows, as is said
@@ -154,8 +154,8 @@ pub record Steps : Type 0 where
 -- a step, and then the steps from where it leads
 abbrev pub then_steps : Stepped → (Stage → Standing → Steps) → Steps
 then_steps stepped next =
-    let after = next stepped.stage stepped.laid.standing in
-    record { pieces = stepped.laid.piece ∷ after.pieces; standing = after.standing; stage = after.stage }
+    let after = next stepped.stage stepped.rendered.standing in
+    record { pieces = stepped.rendered.piece ∷ after.pieces; standing = after.standing; stage = after.stage }
 
 -- events one after another; follows: a collection's end follows them
 abbrev pub steps : Effective → (follows : Bool) → List Event → Stage → Standing → Steps
@@ -206,9 +206,9 @@ open_frames _ = 0
 abbrev pub stage_refusal : Bool → Stage → Event → Option yaml_error_t
 stage_refusal canonical stage event =
     option_or (name_or_tag_fault canonical event)
-    (option_or (fault_if (not (stage_allows stage event)) (stage_expected stage))
+    (option_or (some_if (not (stage_allows stage event)) (stage_expected stage))
     (option_or (content_fault canonical event)
-    (fault_if (begins_collection event && not (nat_lt (open_frames stage) most_open)) TooDeep)))
+    (some_if (begins_collection event && not (nat_lt (open_frames stage) most_open)) TooDeep)))
 
 -- Lists with events that wait
 

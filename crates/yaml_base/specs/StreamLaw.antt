@@ -6,7 +6,7 @@ use Rattle.yaml_base.specs.Settings.{Encoding, Settings, effective}
 use Rattle.yaml_base.specs.Event.{TagDirective, Event}
 use Rattle.yaml_base.specs.Tags.{Spelling, shorthand, verbatim, spelling, directives_in_force}
 use Rattle.yaml_base.specs.scalars.Analysis.{is_empty}
-use Rattle.yaml_base.specs.scalars.Style.{is_plain, style_asked}
+use Rattle.yaml_base.specs.scalars.Style.{is_plain, requested_style}
 use Rattle.yaml_base.specs.Grammar.{Node, alias_node, scalar_node, sequence_node, mapping_node, Nodes, no_nodes, nodes_and, Pairs, no_pairs, pairs_and}
 use Rattle.yaml_base.specs.Grammar.{Document, tree_of}
 use Rattle.yaml_base.specs.Refusal.{IsAccepted}
@@ -22,64 +22,64 @@ use Rattle.yaml_base.specs.streams.StreamReader.{stream_trees}
 abbrev pub is_written_as_nothing : Bool → Node → Bool
 is_written_as_nothing canonical (scalar_node content) =
     is_empty content.value && not (is_some content.anchor) && not (is_some (scalar_tag canonical content))
-    && content.plain_implicit && is_plain (style_asked canonical content.style)
+    && content.plain_implicit && is_plain (requested_style canonical content.style)
 is_written_as_nothing canonical _ = false
 
 -- the first document has no `---` and its root is written as nothing, so that no reader sees a document
-abbrev pub is_lost : Bool → List Document → Bool
-is_lost canonical [] = false
-is_lost canonical (document ∷ rest) = not (is_explicit canonical true document.start) && is_written_as_nothing canonical document.root
+abbrev pub loses_document : Bool → List Document → Bool
+loses_document canonical [] = false
+loses_document canonical (document ∷ rest) = not (is_explicit canonical true document.start) && is_written_as_nothing canonical document.root
 
--- a sign of flow stands after a tag's handle, where readers end the tag
-abbrev pub has_flow_sign : Spelling → Bool
-has_flow_sign (shorthand handle suffix) = list_any (is_among (codes ",[]")) suffix
-has_flow_sign (verbatim tag) = false
+-- a flow indicator stands after a tag's handle, where readers end the tag
+abbrev pub has_flow_indicator : Spelling → Bool
+has_flow_indicator (shorthand handle suffix) = list_any (is_among (codes ",[]")) suffix
+has_flow_indicator (verbatim tag) = false
 
--- a tag that is written, if one is, has such a sign
-abbrev pub tag_has_flow_sign : List TagDirective → Option Text → Bool
-tag_has_flow_sign directives None = false
-tag_has_flow_sign directives (Some tag) = has_flow_sign (spelling directives tag)
+-- a tag that is written, if one is, has such an indicator
+abbrev pub tag_has_flow_indicator : List TagDirective → Option Text → Bool
+tag_has_flow_indicator directives None = false
+tag_has_flow_indicator directives (Some tag) = has_flow_indicator (spelling directives tag)
 
--- some tag of a tree has such a sign
+-- some tag of a tree has such an indicator
 abbrev mutual
-  pub node_has_flow_sign : Bool → List TagDirective → Node → Bool
-  node_has_flow_sign canonical directives (alias_node name) = false
-  node_has_flow_sign canonical directives (scalar_node content) = tag_has_flow_sign directives (scalar_tag canonical content)
-  node_has_flow_sign canonical directives (sequence_node start items) =
-      tag_has_flow_sign directives (collection_tag canonical start) || nodes_have_flow_sign canonical directives items
-  node_has_flow_sign canonical directives (mapping_node start pairs) =
-      tag_has_flow_sign directives (collection_tag canonical start) || pairs_have_flow_sign canonical directives pairs
+  pub node_has_flow_indicator : Bool → List TagDirective → Node → Bool
+  node_has_flow_indicator canonical directives (alias_node name) = false
+  node_has_flow_indicator canonical directives (scalar_node content) = tag_has_flow_indicator directives (scalar_tag canonical content)
+  node_has_flow_indicator canonical directives (sequence_node start items) =
+      tag_has_flow_indicator directives (collection_tag canonical start) || nodes_have_flow_indicator canonical directives items
+  node_has_flow_indicator canonical directives (mapping_node start pairs) =
+      tag_has_flow_indicator directives (collection_tag canonical start) || pairs_have_flow_indicator canonical directives pairs
 
-  pub nodes_have_flow_sign : Bool → List TagDirective → Nodes → Bool
-  nodes_have_flow_sign canonical directives no_nodes = false
-  nodes_have_flow_sign canonical directives (nodes_and items item) =
-      nodes_have_flow_sign canonical directives items || node_has_flow_sign canonical directives item
+  pub nodes_have_flow_indicator : Bool → List TagDirective → Nodes → Bool
+  nodes_have_flow_indicator canonical directives no_nodes = false
+  nodes_have_flow_indicator canonical directives (nodes_and items item) =
+      nodes_have_flow_indicator canonical directives items || node_has_flow_indicator canonical directives item
 
-  pub pairs_have_flow_sign : Bool → List TagDirective → Pairs → Bool
-  pairs_have_flow_sign canonical directives no_pairs = false
-  pairs_have_flow_sign canonical directives (pairs_and pairs key value) =
-      pairs_have_flow_sign canonical directives pairs || node_has_flow_sign canonical directives key
-      || node_has_flow_sign canonical directives value
+  pub pairs_have_flow_indicator : Bool → List TagDirective → Pairs → Bool
+  pairs_have_flow_indicator canonical directives no_pairs = false
+  pairs_have_flow_indicator canonical directives (pairs_and pairs key value) =
+      pairs_have_flow_indicator canonical directives pairs || node_has_flow_indicator canonical directives key
+      || node_has_flow_indicator canonical directives value
 
--- some tag of a document has such a sign
-abbrev pub document_has_flow_sign : Bool → Document → Bool
-document_has_flow_sign canonical document =
-    node_has_flow_sign canonical (directives_in_force document.start.directives) document.root
+-- some tag of a document has such an indicator
+abbrev pub document_has_flow_indicator : Bool → Document → Bool
+document_has_flow_indicator canonical document =
+    node_has_flow_indicator canonical (directives_in_force document.start.directives) document.root
 
--- no document is lost, and no tag has a sign of flow after its handle
+-- no document is lost, and no tag has a flow indicator after its handle
 abbrev pub are_portable : Bool → List Document → Bool
-are_portable canonical documents = not (is_lost canonical documents) && not (list_any (document_has_flow_sign canonical) documents)
+are_portable canonical documents = not (loses_document canonical documents) && not (list_any (document_has_flow_indicator canonical) documents)
 
 -- what readers of YAML read alike of all that the layout writes: all in portable mode, else all but those two kinds
-abbrev pub is_portable : (portable canonical : Bool) → List Event → Bool
-is_portable portable canonical events =
+abbrev pub reads_alike : (portable canonical : Bool) → List Event → Bool
+reads_alike portable canonical events =
     portable || unwrap_or (option_map (λ stream. are_portable canonical (documents_in_order stream.documents)) (tree_of events)) false
 
 -- under all settings all bytes of an accepted list, uncut, read as documents that agree with it
 abbrev pub StreamReadsBack : Type 0
 StreamReadsBack =
     (given : Settings) (encoding : Option Encoding) (events : List Event) → IsAccepted given.canonical events
-    → list_all has_scalar_texts events ≡ true → is_portable given.portable given.canonical events ≡ true
+    → list_all has_scalar_texts events ≡ true → reads_alike given.portable given.canonical events ≡ true
     → agrees given.canonical events
     (stream_trees given.breaks12 (bytes_written (effective given encoding) (list_layout (effective given encoding) events)))
     ≡ true

@@ -32,19 +32,19 @@ tag_fault [] = Some TagEmpty
 tag_fault (_ ∷ _) = None
 
 -- an integer is this number
-abbrev pub is_the_number : ℕ → ℤ → Bool
-is_the_number n (pos m) = n == m
-is_the_number n (negsuc _) = false
+abbrev pub equals_integer : ℕ → ℤ → Bool
+equals_integer n (pos m) = n == m
+equals_integer n (negsuc _) = false
 
 -- the refusal of a version: it is 1.1 or 1.2 (YAML 1.1, section 7.1.1)
 abbrev pub version_fault : Version → Option yaml_error_t
 version_fault version =
-    if is_the_number 1 version.major && (is_the_number 1 version.minor || is_the_number 2 version.minor) then None
+    if equals_integer 1 version.major && (equals_integer 1 version.minor || equals_integer 2 version.minor) then None
     else Some IncompatibleVersion
 
 -- the sign that begins a tag and stands at both ends of a handle (YAML 1.1, section 7.1.2.2)
-abbrev pub tag_mark : ℕ
-tag_mark = 0x21
+abbrev pub exclamation_mark : ℕ
+exclamation_mark = 0x21
 
 -- the last of a text, at least the given character
 abbrev pub last_from : ℕ → Text → ℕ
@@ -61,8 +61,8 @@ without_last (c ∷ next ∷ rest) = c ∷ without_last (next ∷ rest)
 abbrev pub handle_fault : Text → Option yaml_error_t
 handle_fault [] = Some TagHandleEmpty
 handle_fault (c ∷ rest) =
-    if not (c == tag_mark) then Some TagHandleStart
-    else (if not (last_from c rest == tag_mark) then Some TagHandleEnd
+    if not (c == exclamation_mark) then Some TagHandleStart
+    else (if not (last_from c rest == exclamation_mark) then Some TagHandleEnd
     else (if list_all is_alpha (without_last rest) then None else Some TagHandleAlphabet))
 
 -- the refusal of a prefix: it has at least one character (YAML 1.1, section 7.1.2.1)

@@ -1,7 +1,7 @@
 //! Laws of the definitions, each the contract of a function that does nothing: what they promise together.
 ghost use Rattle.yaml_base.specs.Encoding.{OneText};
 ghost use Rattle.yaml_base.specs.Grammar.{OneTree};
-ghost use Rattle.yaml_base.specs.Laws.{EncodingsAgree, LimitCuts, PlainHoldsNoSign, TreeIsFound};
+ghost use Rattle.yaml_base.specs.Laws.{EncodingsAgree, LimitCuts, PlainHoldsNoIndicator, TreeIsFound};
 ghost use Rattle.yaml_base.specs.Layout.{OnePieceEach};
 ghost use Rattle.yaml_base.specs.Pieces.{PiecesStand};
 ghost use Rattle.yaml_base.specs.Ready.{ReadyStays, WholeStreamIsReady};
@@ -55,8 +55,8 @@ pub fn tree_is_found()
 
 /// A text that reads as a plain scalar holds no `:` before a blank, a break or its end, and no `#` after a blank or a
 /// break; in flow none of `,` `?` `:` `[` `]` `{` `}` (YAML 1.1, section 9.1.3).
-pub fn plain_holds_no_sign()
-    ensures { PlainHoldsNoSign }
+pub fn plain_holds_no_indicator()
+    ensures { PlainHoldsNoIndicator }
 {}
 
 /// Under settings that differ in the limit alone, the output under the smaller limit is the first bytes of the other.

@@ -48,7 +48,7 @@ read_next arena directives records i d event low is =
 
 pub read_all : (arena : List ℕ) (directives : List DirectiveRecord) (records : List EventRecord) (i : ℕ) → length records ≤ i
     → events_from i arena directives (drop i records) ≡ []
-read_all arena directives records i over = at_drop_all (λ (xs : List EventRecord). events_from i arena directives xs) records i over
+read_all arena directives records i overwritten = at_drop_all (λ (xs : List EventRecord). events_from i arena directives xs) records i overwritten
 
 -- the events that were given and those that follow
 pub with_next : (all given next others : List Numbered) → all ≡ given ++ next → next ≡ others → all ≡ given ++ others
@@ -129,10 +129,10 @@ flushed_all : (set : Settings) (all : List Numbered) (records : List EventRecord
     → EndsAt all number → FlushesAfter number before emission after → EmitsRecords set all records emission after
 flushed_all set all records number Done before after whole stood promised none ends h =
     (whole, flushed_last set all number run.Done before after stood promised none ends h)
-flushed_all set all records number (Refused told error) before after whole stood promised none ends h =
-    only_flush set all records told error after whole
-    (flushed_last set all number (run.Refused told error) before after stood promised none ends h)
-flushed_all set all records number (BadEvent told) before after whole stood promised none ends h = absurd h
+flushed_all set all records number (Refused report error) before after whole stood promised none ends h =
+    only_flush set all records report error after whole
+    (flushed_last set all number (run.Refused report error) before after stood promised none ends h)
+flushed_all set all records number (BadEvent report) before after whole stood promised none ends h = absurd h
 flushed_all set all records number NoMemory before after whole stood promised none ends h = absurd h
 
 -- the end of the array
@@ -141,10 +141,10 @@ pub ended_flushed : (arena : List ℕ) (directives : List DirectiveRecord) (reco
     → length records ≤ i → last ≡ Some number → before.error ≡ None → StandsAfter set (events_in has.given) before
     → Promised set (events_in has.given) before → FlushesAfter number before emission after
     → EmitsRecords set (events_from 0 arena directives records) records emission after
-ended_flushed arena directives records first before after i number last set emission has within over is none stood promised h =
+ended_flushed arena directives records first before after i number last set emission has within overwritten is none stood promised h =
     let all = events_from 0 arena directives records in
     let same : has.given ≡ all = with_none all has.given (events_from i arena directives (drop i records)) has.parts
-    (read_all arena directives records i over) in
+    (read_all arena directives records i overwritten) in
     let count : i ≡ length records = omega arith in
     let whole : HasAllRead all records = ap length (sym same) ∙ has.count ∙ count in
     flushed_all set all records number emission before after whole

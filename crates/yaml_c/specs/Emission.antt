@@ -8,7 +8,7 @@ use Rattle.yaml_emitter.specs.State.{State}
 use Rattle.yaml_emitter.specs.StandsAfter.{StandsAfter}
 use Rattle.yaml_tool.specs.Runs.{EmitsAll, FlushFails, FlushesLast, RefusesAt, events_in}
 use Rattle.yaml_tool.specs.declared.answers.run_answer_t.TheVariants as run
-use Rattle.yaml_c.specs.Answers.{over}
+use Rattle.yaml_c.specs.Answers.{overwritten}
 use Rattle.yaml_c.specs.EventRecords.{events_from}
 use Rattle.yaml_c.specs.GivenSettings.{settings_given}
 use Rattle.yaml_c.specs.declared.records.DirectiveRecord.{DirectiveRecord}
@@ -42,10 +42,10 @@ EmitsRecords given all records NoMemory state = ⊤
 -- what the last flush does, with the number that it is told
 abbrev pub FlushesAfter : ℕ → State → Emission → State → Type 0
 FlushesAfter number before Done after = FlushesLast number before run.Done after
-FlushesAfter number before (Refused told error) after = FlushesLast number before (run.Refused told error) after
+FlushesAfter number before (Refused report error) after = FlushesLast number before (run.Refused report error) after
 FlushesAfter number before emission after = ⊥
 
--- ---- what is handed out
+-- ---- what is returned
 
 -- the numbers of the errors: enum yaml_error of the header
 abbrev pub error_number : yaml_error_t → ℕ
@@ -75,22 +75,22 @@ error_number errors.Memory = 21
 pub record EmitResults : Type 0 where
   pub out : List ℕ
   pub status : ℤ
-  pub told : EmitResult
+  pub report : EmitResult
 
 -- the YAML's length, and behind the bytes that the caller has those that fit into the buffer, all or none
 abbrev pub emit_done : (yaml : List ℕ) → (skip : ℕ) → (out : List ℕ) → EmitResults
 emit_done yaml skip out =
-    let told : EmitResult = record { length = length yaml; event = 0; error = 0 } in
+    let report : EmitResult = record { length = length yaml; event = 0; error = 0 } in
     let fresh = drop skip yaml in
-    if nat_le (length fresh) (length out) then record { out = over fresh out; status = pos 0; told = told }
-    else record { out = out; status = pos 4; told = told }
+    if nat_le (length fresh) (length out) then record { out = overwritten fresh out; status = pos 0; report = report }
+    else record { out = out; status = pos 4; report = report }
 
 -- a failure, with the number of an event and of an error where there are any; the buffer stays
 abbrev pub emit_failed : (status event error : ℕ) → (out : List ℕ) → EmitResults
 emit_failed status event error out =
-    record { out = out; status = pos status; told = record { length = 0; event = event; error = error } }
+    record { out = out; status = pos status; report = record { length = 0; event = event; error = error } }
 
--- what is handed out of an emission: 0 where it is done, 4 where its YAML doesn't fit; 1 where an event was refused, 8 where one has
+-- what is returned of an emission: 0 where it is done, 4 where its YAML doesn't fit; 1 where an event was refused, 8 where one has
 -- no reading, 3 where memory ran out
 abbrev pub emit_results : Emission → (yaml : List ℕ) → (skip : ℕ) → (out : List ℕ) → EmitResults
 emit_results Done yaml skip out = emit_done yaml skip out
@@ -101,19 +101,19 @@ emit_results NoMemory yaml skip out = emit_failed 3 0 0 out
 
 -- these results are those of an emission that ended so, with this YAML
 abbrev pub HandsOutEvents : Emission → (yaml : List ℕ) → (skip : ℕ) → (old : List ℕ) → (status : ℤ) → (new : List ℕ) → EmitResult → Type 0
-HandsOutEvents emission yaml skip old status new told =
-    record { out = new; status = status; told = told } ≡ emit_results emission yaml skip old
+HandsOutEvents emission yaml skip old status new report =
+    record { out = new; status = status; report = report } ≡ emit_results emission yaml skip old
 
 -- these results are those of an emitter with these settings that was given the array's events, 9 where there are no such settings
 abbrev pub IsEmissionBy : Option Settings → (all : List Numbered) → (records : List EventRecord) → (skip : ℕ) → (old : List ℕ) → (status : ℤ)
     → (new : List ℕ) → EmitResult → Type 0
-IsEmissionBy None all records skip old status new told = record { out = new; status = status; told = told } ≡ emit_failed 9 0 0 old
-IsEmissionBy (Some given) all records skip old status new told =
+IsEmissionBy None all records skip old status new report = record { out = new; status = status; report = report } ≡ emit_failed 9 0 0 old
+IsEmissionBy (Some given) all records skip old status new report =
     (emission : Emission) × (state : State) × EmitsRecords given all records emission state
-    × HandsOutEvents emission state.page.output skip old status new told
+    × HandsOutEvents emission state.page.output skip old status new report
 
 -- these results are those of the array's events, by the settings that are given
 abbrev pub IsEmission : List EventRecord → List DirectiveRecord → (arena : List ℕ) → EmitterSettings → (old : List ℕ) → (status : ℤ)
     → (new : List ℕ) → EmitResult → Type 0
-IsEmission records directives arena given old status new told =
-    IsEmissionBy (settings_given given) (events_from 0 arena directives records) records given.skip old status new told
+IsEmission records directives arena given old status new report =
+    IsEmissionBy (settings_given given) (events_from 0 arena directives records) records given.skip old status new report

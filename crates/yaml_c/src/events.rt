@@ -102,24 +102,24 @@ fn bytes_after(bytes: &[u8], skip: usize) -> &[u8]
     }
 }
 
-/// Hands out how an emission ended, and of its output what the caller doesn't have.
+/// Returns how an emission ended, and of its output what the caller doesn't have.
 fn hand_out(
     emission: Emission,
     yaml: &[u8],
     skip: usize,
     out: &mut [u8],
-    told: &mut EmitResult,
+    report: &mut EmitResult,
 ) -> i32
-    ensures { HandsOutEvents emission yaml.now skip out.old result out.new told.new }
+    ensures { HandsOutEvents emission yaml.now skip out.old result out.new report.new }
 {
-    *told = EmitResult {
+    *report = EmitResult {
         length: 0,
         event: 0,
         error: 0,
     };
     match emission {
         Emission::Done => {
-            told.length = yaml.len();
+            report.length = yaml.len();
             if copy_out(bytes_after(yaml, skip), out) {
                 DONE
             } else {
@@ -128,12 +128,12 @@ fn hand_out(
         }
         Emission::Refused(_, yaml_error_t::Memory) => NO_MEMORY,
         Emission::Refused(number, error) => {
-            told.event = number;
-            told.error = number_of(error);
+            report.event = number;
+            report.error = number_of(error);
             REFUSED
         }
         Emission::BadEvent(number) => {
-            told.event = number;
+            report.event = number;
             BAD_EVENT
         }
         Emission::NoMemory => NO_MEMORY,
@@ -149,11 +149,11 @@ pub extern "C" fn yaml_emit(
     texts: &[u8],
     settings: &EmitterSettings,
     out: &mut [u8],
-    told: &mut EmitResult,
+    report: &mut EmitResult,
 ) -> i32
-    ensures { IsEmission events.now directives.now texts.now settings.now out.old result out.new told.new }
+    ensures { IsEmission events.now directives.now texts.now settings.now out.old result out.new report.new }
 {
-    *told = EmitResult {
+    *report = EmitResult {
         length: 0,
         event: 0,
         error: 0,
@@ -165,5 +165,5 @@ pub extern "C" fn yaml_emit(
         return NO_MEMORY;
     };
     let emission = emit_records(alloc, &mut emitter, texts, directives, events);
-    hand_out(emission, emitter.output(), settings.skip, out, told)
+    hand_out(emission, emitter.output(), settings.skip, out, report)
 }

@@ -45,7 +45,7 @@ accepted =
       stream = cycle_stream;
       is_stream = refl;
       sound = refl;
-      shallow = λ front rest is. one_open most_open (open_count front) (omega arith) (open_at_most cycle_events front rest is);
+      shallow = λ prefix rest is. one_open most_open (open_count prefix) (omega arith) (open_at_most cycle_events prefix rest is);
     }
 
 row : length (output_of letter_settings cycle_events) ≡ 47

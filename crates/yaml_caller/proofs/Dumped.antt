@@ -9,7 +9,7 @@ use Rattle.yaml_base.specs.graphs.Meetings.{NumberPair, GraphNode, Graph, scalar
 use Rattle.yaml_base.specs.graphs.Dumped.{AreDumped}
 use Rattle.yaml_base.specs.Ready.{held_back}
 use Rattle.yaml_base.specs.Output.{output_of}
-use Rattle.yaml_base.specs.StreamLaw.{is_portable}
+use Rattle.yaml_base.specs.StreamLaw.{reads_alike}
 use Rattle.yaml_base.specs.graphs.Unfolding.{IsDocument}
 use Rattle.yaml_base.specs.declared.errors.yaml_error_t.{yaml_error_t}
 use Rattle.yaml_dump.specs.Dumps.{Dumps, EmitsAll, opening, closing}
@@ -44,8 +44,8 @@ pub none_waits : held_back cycle_events ≡ []
 unfolding decimal_digits
 none_waits = refl
 
--- no document is lost, and no tag has a sign of flow
-pub all_portable : is_portable letter_settings.portable letter_settings.canonical cycle_events ≡ true
+-- no document is lost, and no tag has a flow indicator
+pub all_portable : reads_alike letter_settings.portable letter_settings.canonical cycle_events ≡ true
 unfolding decimal_digits
 all_portable = refl
 

@@ -17,7 +17,7 @@ use Rattle.yaml_base.specs.declared.errors.yaml_error_t.TheVariants.{WriteError,
 use Rattle.yaml_base.proofs.ContentsUnfold.{dumped_stream}
 use Rattle.yaml_base.proofs.GraphRefusals.{refused_so, stream_writable}
 use Rattle.yaml_base.proofs.Twins.{IsIn, in_right}
-use Rattle.yaml_pen.specs.Page.{told}
+use Rattle.yaml_pen.specs.Page.{result_of_error}
 use Rattle.yaml_emitter.specs.State.{State}
 use Rattle.yaml_emitter.specs.StandsAfter.{StandsAfter}
 use Rattle.yaml_emitter.specs.Promises.{Promised, RefusedAt}
@@ -143,20 +143,20 @@ Fails events error state = (error ≡ Memory) ⊎ ((length state.page.output ≡
 pub refused_named : (graph : Graph) (error : yaml_error_t) → IsDocument (bare graph) → IsRefused graph error → (error ≡ TagEmpty) ⊎ (error ≡ TooDeep)
 refused_named graph error is refused =
     let dumped = dumped_stream (bare graph ∷ []) (graph_events graph) (one_dumped graph is) in
-    refused_so dumped.stream refused.front refused.event refused.later error (refused.parts ∙ sym dumped.is)
+    refused_so dumped.stream refused.prefix refused.event refused.later error (refused.parts ∙ sym dumped.is)
     (stream_writable (bare graph) refl refl refused.event
     (subst (λ events. IsIn refused.event events) refused.parts
-    (in_right refused.event refused.front (refused.event ∷ refused.later) (inl refl))))
+    (in_right refused.event refused.prefix (refused.event ∷ refused.later) (inl refl))))
     refused.refusal
 
 refused_in : (events all rest : List Event) (error : yaml_error_t) (state : State) → all ++ rest ≡ events → RefusedAt typed_settings all error state
     → AreRefused events error
 refused_in events all rest error state begins at =
     record {
-      front = at.front;
+      prefix = at.prefix;
       event = at.event;
       later = at.later ++ rest;
-      parts = sym (append_assoc at.front (at.event ∷ at.later) rest) ∙ ap (λ given. given ++ rest) at.parts ∙ begins;
+      parts = sym (append_assoc at.prefix (at.event ∷ at.later) rest) ∙ ap (λ given. given ++ rest) at.parts ∙ begins;
       refusal = at.refusal;
     }
 
@@ -201,22 +201,22 @@ dump_fails graph before after error unopened is nonempty stands (inr emits) =
     ∙ ap (λ events. events ++ stream_end ∷ []) parts)
     fails.promised fails.failed
 
-error_of : (error : yaml_error_t) (state : State) → Err error ≡ told state.error → state.error ≡ Some error
+error_of : (error : yaml_error_t) (state : State) → Err error ≡ result_of_error state.error → state.error ≡ Some error
 error_of error state is = by state.error is
   where
-    by : (given : Option yaml_error_t) → Err error ≡ told given → given ≡ Some error
+    by : (given : Option yaml_error_t) → Err error ≡ result_of_error given → given ≡ Some error
     by None is = cc
     by (Some other) is = cc
 
 -- what closing the stream comes to
 pub close_fails : (graph : Graph) (state : State) (answer : Result (Unit {0}) yaml_error_t) → Promised typed_settings (graph_events graph) state
-    → answer ≡ told state.error → IfErr answer (λ error. Fails (graph_events graph) error state)
+    → answer ≡ result_of_error state.error → IfErr answer (λ error. Fails (graph_events graph) error state)
 close_fails graph state (Ok done) promised is = tt
 close_fails graph state (Err error) promised is =
     why_failed (graph_events graph) (graph_events graph) [] state error (append-nil (graph_events graph)) promised (error_of error state is)
 
 pub close_writes : (graph : Graph) (state : State) (answer : Result (Unit {0}) yaml_error_t) → IsDocument (bare graph)
-    → Promised typed_settings (graph_events graph) state → answer ≡ told state.error
+    → Promised typed_settings (graph_events graph) state → answer ≡ result_of_error state.error
     → OnOk answer ((graphs : List Graph) → AreDumped graphs (graph_events graph) → GraphsRead false graphs state.page.output)
     → OnOk answer (WritesGraph graph state.page.output)
 close_writes graph state (Ok done) document promised is reads =

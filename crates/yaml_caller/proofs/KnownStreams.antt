@@ -8,15 +8,15 @@ use Rattle.yaml_base.specs.Event.{TagDirective, Event, any_style, stream_start, 
 use Rattle.yaml_base.specs.Ready.{held_back}
 use Rattle.yaml_base.specs.Output.{output_of}
 use Rattle.yaml_base.specs.declared.errors.yaml_error_t.{yaml_error_t}
-use Rattle.yaml_pen.specs.Page.{told}
+use Rattle.yaml_pen.specs.Page.{result_of_error}
 use Rattle.yaml_emitter.specs.State.{State}
 use Rattle.yaml_emitter.specs.Promises.{Promised, HasRoom, IsWritten, ends_stream}
 use Rattle.yaml_caller.specs.Letter.{letter_settings, letter_events}
 
-pub told_none : (state : State) → Ok tt ≡ told state.error → state.error ≡ None
+pub told_none : (state : State) → Ok tt ≡ result_of_error state.error → state.error ≡ None
 told_none state is = by state.error is
   where
-    by : (error : _) → Ok tt ≡ told error → error ≡ None
+    by : (error : _) → Ok tt ≡ result_of_error error → error ≡ None
     by None is = refl
     by (Some error) is = cc
 
@@ -34,7 +34,7 @@ written events bytes state ended ready row promised none = (whole letter_setting
 
 -- a whole stream's bytes, where nothing failed
 pub stream_bytes : (events : List Event) (bytes : List ℕ) (answer : Result (Unit {0}) yaml_error_t) (state : State) → ends_stream events ≡ true
-    → held_back events ≡ [] → output_of letter_settings events ≡ bytes → Promised letter_settings events state → answer ≡ told state.error
+    → held_back events ≡ [] → output_of letter_settings events ≡ bytes → Promised letter_settings events state → answer ≡ result_of_error state.error
     → OnOk answer (state.page.output ≡ bytes)
 stream_bytes events bytes (Ok _) state ended ready row promised is = written events bytes state ended ready row promised (told_none state is)
 stream_bytes events bytes (Err error) state ended ready row promised is = tt
@@ -56,6 +56,7 @@ row : output_of letter_settings letter_events ≡ codes "---\n\"a\"\n"
 unfolding encode_utf8
 row = refl
 
-pub letter_bytes : (answer : Result (Unit {0}) yaml_error_t) (state : State) → Promised letter_settings letter_events state → answer ≡ told state.error
+pub letter_bytes : (answer : Result (Unit {0}) yaml_error_t) (state : State) → Promised letter_settings letter_events state
+    → answer ≡ result_of_error state.error
     → OnOk answer (state.page.output ≡ codes "---\n\"a\"\n")
 letter_bytes answer state promised is = stream_bytes letter_events (codes "---\n\"a\"\n") answer state refl refl row promised is

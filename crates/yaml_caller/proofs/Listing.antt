@@ -9,8 +9,9 @@ use Rattle.yaml_base.specs.Settings.{Settings}
 use Rattle.yaml_base.specs.values.TypedValues.{null_tag}
 use Rattle.yaml_emitter.specs.State.{State}
 use Rattle.yaml_writer.specs.Given.{default_settings}
-use Rattle.yaml_writer.specs.Writing.{WriterState, AddsAll, Gave, EndsInnermost, Finishes, StandsTaken, closing, end_event, entered, null_event, opening}
-use Rattle.yaml_writer.specs.Writing.{sequence_event, tag_or, text_event, text_style}
+use Rattle.yaml_writer.specs.Writing.{WriterState, AddsEvents, GaveEvent, EndsInnermost, Finishes, StandsTaken, closing, end_event, with_collection}
+use Rattle.yaml_writer.specs.Writing.{null_event, opening}
+use Rattle.yaml_writer.specs.Writing.{sequence_event, tag_or_default, text_event, text_style}
 use Rattle.yaml_writer.specs.declared.kinds.CollectionKind.{CollectionKind}
 use Rattle.yaml_writer.specs.declared.kinds.CollectionKind.TheVariants.{Mapping, Sequence}
 
@@ -60,7 +61,7 @@ text_is writer text is anchor tag = ap (text_event writer) is ∙ ap₂ (scalar_
 null_is : (writer : WriterState) → writer.anchor ≡ None → writer.tag ≡ None → writer.canonical ≡ false
     → null_event writer ≡ bare_scalar (codes "null") plain
 null_is writer anchor tag canonical =
-    ap₂ (scalar_with (codes "null") plain) anchor (ap₂ (λ (t : Option Text) (c : Bool). tag_or t c null_tag) tag canonical)
+    ap₂ (scalar_with (codes "null") plain) anchor (ap₂ (λ (t : Option Text) (c : Bool). tag_or_default t c null_tag) tag canonical)
 
 -- ---- what is open
 
@@ -82,7 +83,7 @@ only_one (first ∷ outer) kind is = absurd (none_more outer kind (ap rest_of is
 
 -- a sequence alone was open, and was ended
 ended_sequence : (before after : WriterState) → before.levels ≡ Sequence ∷ [] → EndsInnermost before (Ok tt) after
-    → AddsAll before.emitter (sequence_end ∷ []) after.emitter
+    → AddsEvents before.emitter (sequence_end ∷ []) after.emitter
 ended_sequence before after levels (inl none) = absurd (apart (sym none.0 ∙ levels))
   where
     apart : [] ≡ Sequence ∷ [] → ⊥
@@ -93,23 +94,23 @@ ended_sequence before after levels (inr ended) = λ given all sent stands.
 
 -- ---- all
 
-pub list_bytes : (given : Settings) (first begun said noted ended : WriterState) (text : Text) (bytes : List ℕ) → given ≡ default_settings → text ≡ codes "no"
+pub list_bytes : (given : Settings) (first begun parsed noted ended : WriterState) (text : Text) (bytes : List ℕ) → given ≡ default_settings → text ≡ codes "no"
     → StandsTaken given opening [] first.emitter → first.canonical ≡ false → first.levels ≡ [] → (first.anchor ≡ None) × (first.tag ≡ None)
-    → Gave (entered first Sequence) (sequence_event first block) None begun
-    → Gave begun (text_event begun text) None said → Gave said (null_event said) None noted → EndsInnermost noted (Ok tt) ended
+    → GaveEvent (with_collection first Sequence) (sequence_event first block) None begun
+    → GaveEvent begun (text_event begun text) None parsed → GaveEvent parsed (null_event parsed) None noted → EndsInnermost noted (Ok tt) ended
     → Finishes ended.emitter bytes → bytes ≡ codes "---\n- 'no'\n- null\n"
-list_bytes given first begun said noted ended text bytes is_default is_no stands canonical levels bare begins says notes ends finishes =
+list_bytes given first begun parsed noted ended text bytes is_default is_no stands canonical levels bare begins says notes ends finishes =
     let stands_first = subst (λ (g : Settings). StandsTaken g opening [] first.emitter) is_default stands in
     let stands_begun =
     subst (λ (event : Event). StandsTaken default_settings (opening ++ event ∷ []) [] begun.emitter) (sequence_is first bare.0 bare.1)
     (begins.adds default_settings opening [] stands_first) in
-    let stands_said =
-    subst (λ (event : Event). StandsTaken default_settings (after_begin ++ event ∷ []) [] said.emitter)
+    let stands_parsed =
+    subst (λ (event : Event). StandsTaken default_settings (after_begin ++ event ∷ []) [] parsed.emitter)
     (text_is begun text is_no begins.no_anchor begins.no_tag)
     (says.adds default_settings after_begin [] stands_begun) in
     let stands_noted =
     subst (λ (event : Event). StandsTaken default_settings (after_text ++ event ∷ []) [] noted.emitter)
-    (null_is said says.no_anchor says.no_tag (says.canonical ∙ begins.canonical ∙ canonical)) (notes.adds default_settings after_text [] stands_said) in
+    (null_is parsed says.no_anchor says.no_tag (says.canonical ∙ begins.canonical ∙ canonical)) (notes.adds default_settings after_text [] stands_parsed) in
     let one : noted.levels ≡ Sequence ∷ [] = notes.levels ∙ says.levels ∙ begins.levels ∙ ap (λ (kinds : List CollectionKind). kinds ++ Sequence ∷ []) levels in
     let stands_ended : StandsTaken default_settings listed [] ended.emitter =
     ended_sequence noted ended one ends default_settings after_null [] stands_noted in

@@ -12,7 +12,7 @@ use Rattle.yaml_base.specs.Refusal.{IsAccepted, refusal, begins_collection, ends
 use Rattle.yaml_base.specs.Output.{output_of}
 use Rattle.yaml_base.specs.declared.errors.yaml_error_t.{yaml_error_t}
 use Rattle.yaml_base.specs.declared.errors.yaml_error_t.TheVariants.{WriteError, Memory}
-use Rattle.yaml_pen.specs.Page.{told}
+use Rattle.yaml_pen.specs.Page.{result_of_error}
 use Rattle.yaml_emitter.specs.State.{State}
 use Rattle.yaml_emitter.specs.Promises.{Promised, RefusedAt, FillsLimit}
 use Rattle.yaml_caller.specs.Letter.{letter_settings, letter_events}
@@ -35,15 +35,15 @@ none_so : (o : Option yaml_error_t) → is_none o ≡ true → o ≡ None
 none_so None h = refl
 none_so (Some n) h = cc
 
-no_refusal : (before front : List Event) (event : Event) (later : List Event) → unrefused before (front ++ event ∷ later) ≡ true
-    → refusal true (before ++ front) event ≡ None
+no_refusal : (before prefix : List Event) (event : Event) (later : List Event) → unrefused before (prefix ++ event ∷ later) ≡ true
+    → refusal true (before ++ prefix) event ≡ None
 no_refusal before [] event later none =
     ap (λ events. refusal true events event) (append-nil before)
     ∙ none_so (refusal true before event) (and_left (is_none (refusal true before event)) (unrefused (before ++ event ∷ []) later) none)
-no_refusal before (first ∷ front) event later none =
-    ap (λ events. refusal true events event) (sym (append_assoc before (first ∷ []) front))
-    ∙ no_refusal (before ++ first ∷ []) front event later
-    (and_right (is_none (refusal true before first)) (unrefused (before ++ first ∷ []) (front ++ event ∷ later)) none)
+no_refusal before (first ∷ prefix) event later none =
+    ap (λ events. refusal true events event) (sym (append_assoc before (first ∷ []) prefix))
+    ∙ no_refusal (before ++ first ∷ []) prefix event later
+    (and_right (is_none (refusal true before first)) (unrefused (before ++ first ∷ []) (prefix ++ event ∷ later)) none)
 
 -- a whole stream of whose events none is refused, and whose bytes stay below the limit
 pub record Fits (events : List Event) : Type 0 where
@@ -55,9 +55,9 @@ pub record Fits (events : List Event) : Type 0 where
 never_refused : (events all rest : List Event) (error : yaml_error_t) (state : State) → Fits events → all ++ rest ≡ events
     → RefusedAt letter_settings all error state → ⊥
 never_refused events all rest error state fits begins refused =
-    let whole : refused.front ++ refused.event ∷ (refused.later ++ rest) ≡ events =
-    sym (append_assoc refused.front (refused.event ∷ refused.later) rest) ∙ ap (λ given. given ++ rest) refused.parts ∙ begins in
-    let none = no_refusal [] refused.front refused.event (refused.later ++ rest) (ap (unrefused []) whole ∙ fits.none_refused) in
+    let whole : refused.prefix ++ refused.event ∷ (refused.later ++ rest) ≡ events =
+    sym (append_assoc refused.prefix (refused.event ∷ refused.later) rest) ∙ ap (λ given. given ++ rest) refused.parts ∙ begins in
+    let none = no_refusal [] refused.prefix refused.event (refused.later ++ rest) (ap (unrefused []) whole ∙ fits.none_refused) in
     some_none error (sym refused.refusal ∙ none)
   where
     some_none : (e : yaml_error_t) → Some e ≡ None → ⊥
@@ -73,7 +73,7 @@ never_full events all rest state fits begins filled =
     not_so : (n : ℕ) → n < 100 → 100 ≡ n → ⊥
     not_so n less is = omega (arith, less, is)
 
--- where an emitter stands after a front of the stream, its error is want of memory
+-- where an emitter stands after a prefix of the stream, its error is want of memory
 pub only_memory : (events all rest : List Event) (state : State) (error : yaml_error_t) → Fits events → all ++ rest ≡ events
     → Promised letter_settings all state → state.error ≡ Some error → error ≡ Memory
 only_memory events all rest state WriteError fits begins promised is = absurd (never_full events all rest state fits begins (promised.full is))
@@ -81,18 +81,18 @@ only_memory events all rest state Memory fits begins promised is = refl
 only_memory events all rest state error fits begins promised is =
     absurd (never_refused events all rest error state fits begins (promised.refused error is tt))
 
-failed : (error : yaml_error_t) (state : State) → Err error ≡ told state.error → state.error ≡ Some error
+failed : (error : yaml_error_t) (state : State) → Err error ≡ result_of_error state.error → state.error ≡ Some error
 failed error state is = by state.error is
   where
-    by : (given : Option yaml_error_t) → Err error ≡ told given → given ≡ Some error
+    by : (given : Option yaml_error_t) → Err error ≡ result_of_error given → given ≡ Some error
     by None is = cc
     by (Some other) is = cc
 
--- what a call answers after a front of the stream
-pub front_memory : (events all rest : List Event) (state : State) (answer : Result (Unit {0}) yaml_error_t) → Fits events
-    → all ++ rest ≡ events → Promised letter_settings all state → answer ≡ told state.error → IfErr answer (λ error. error ≡ Memory)
-front_memory events all rest state (Ok _) fits begins promised is = tt
-front_memory events all rest state (Err error) fits begins promised is = only_memory events all rest state error fits begins promised (failed error state is)
+-- what a call answers after a prefix of the stream
+pub prefix_memory : (events all rest : List Event) (state : State) (answer : Result (Unit {0}) yaml_error_t) → Fits events
+    → all ++ rest ≡ events → Promised letter_settings all state → answer ≡ result_of_error state.error → IfErr answer (λ error. error ≡ Memory)
+prefix_memory events all rest state (Ok _) fits begins promised is = tt
+prefix_memory events all rest state (Err error) fits begins promised is = only_memory events all rest state error fits begins promised (failed error state is)
 
 -- what is passed on
 pub exit_memory : (error : yaml_error_t) (answer : Result (Unit {0}) yaml_error_t) → error ≡ Memory → IsErr answer × IsErrAnd answer (λ given. given ≡ error)
@@ -101,11 +101,11 @@ exit_memory error (Ok _) memory is = tt
 exit_memory error (Err given) memory is = is.1 ∙ memory
 
 -- no list has more collections open than it begins
-pub open_at_most : (events front rest : List Event) → front ++ rest ≡ events → open_count front ≤ count_by begins_collection events
-open_at_most events front rest is =
-    let total : count_by begins_collection front + count_by begins_collection rest ≡ count_by begins_collection events =
-    sym (sum_by-append (λ x. cond (begins_collection x) 1 0) front rest) ∙ ap (count_by begins_collection) is in
-    bounded (count_by begins_collection front) (count_by ends_collection front) (count_by begins_collection rest) (count_by begins_collection events) total
+pub open_at_most : (events prefix rest : List Event) → prefix ++ rest ≡ events → open_count prefix ≤ count_by begins_collection events
+open_at_most events prefix rest is =
+    let total : count_by begins_collection prefix + count_by begins_collection rest ≡ count_by begins_collection events =
+    sym (sum_by-append (λ x. cond (begins_collection x) 1 0) prefix rest) ∙ ap (count_by begins_collection) is in
+    bounded (count_by begins_collection prefix) (count_by ends_collection prefix) (count_by begins_collection rest) (count_by begins_collection events) total
   where
     bounded : (starts ends others all : ℕ) → starts + others ≡ all → starts - ends ≤ all
     bounded starts ends others all h = omega (arith, h)
@@ -142,7 +142,7 @@ letter_fits =
             stream = letter_stream;
             is_stream = refl;
             sound = refl;
-            shallow = λ front rest is. none_open most_open (open_count front) (open_at_most letter_events front rest is);
+            shallow = λ prefix rest is. none_open most_open (open_count prefix) (open_at_most letter_events prefix rest is);
           };
       room = omega (arith, row);
     }
@@ -150,7 +150,7 @@ letter_fits =
 -- what a call answers that has given so many of the events
 pub call_memory : (count : ℕ) (directives : List TagDirective) (value : Text) (state : State) (answer : Result (Unit {0}) yaml_error_t) → directives ≡ []
     → value ≡ codes "a"
-    → Promised letter_settings (take count (events_of directives value)) state → answer ≡ told state.error → IfErr answer (λ error. error ≡ Memory)
+    → Promised letter_settings (take count (events_of directives value)) state → answer ≡ result_of_error state.error → IfErr answer (λ error. error ≡ Memory)
 call_memory count directives value state answer none letter promised is =
-    front_memory letter_events (take count (events_of directives value)) (drop count (events_of directives value)) state answer letter_fits
+    prefix_memory letter_events (take count (events_of directives value)) (drop count (events_of directives value)) state answer letter_fits
     (take-append-drop count (events_of directives value) ∙ ap (λ given. events_of given value) none ∙ ap (events_of []) letter) promised is

@@ -6,7 +6,7 @@ use Rattle.yaml_base.specs.Event.{TagDirective, Event}
 use Rattle.yaml_base.specs.streams.StreamContent.{agrees}
 use Rattle.yaml_base.specs.streams.StreamReader.{stream_trees}
 use Rattle.yaml_base.specs.declared.errors.yaml_error_t.{yaml_error_t}
-use Rattle.yaml_pen.specs.Page.{told}
+use Rattle.yaml_pen.specs.Page.{result_of_error}
 use Rattle.yaml_emitter.specs.State.{State}
 use Rattle.yaml_emitter.specs.Promises.{Promised}
 use Rattle.yaml_caller.specs.Pair.{pair_with, pair_events, portable_settings, text_scalar}
@@ -23,7 +23,7 @@ pair_promised directives first second key value state none one other promised =
 
 -- the output reads back, where nothing failed
 pub pair_reads : (key value : Text) (answer : Result (Unit {0}) yaml_error_t) (state : State) → Promised portable_settings (pair_events key value) state
-    → answer ≡ told state.error → OnOk answer (agrees false (pair_events key value) (stream_trees false state.page.output) ≡ true)
+    → answer ≡ result_of_error state.error → OnOk answer (agrees false (pair_events key value) (stream_trees false state.page.output) ≡ true)
 pair_reads key value (Ok _) state promised is =
     (whole portable_settings (pair_events key value) state refl refl promised (told_none state is)).reads_back refl
 pair_reads key value (Err error) state promised is = tt

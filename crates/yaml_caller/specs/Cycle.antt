@@ -11,7 +11,7 @@ map_node = record { tag = mapping_tag; held = mapping_held (record { key = 2; va
 abbrev pub key_node : GraphNode
 key_node = record { tag = string_tag; held = scalar_held (codes "k") any_style }
 
--- the document, with neither version nor directives, its marks implicit
+-- the document, with neither version nor directives, its markers implicit
 abbrev pub cycle_graph : Graph
 cycle_graph =
     record {

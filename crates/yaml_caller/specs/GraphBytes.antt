@@ -20,11 +20,11 @@ pub record WritesGraph (graph : Graph) (bytes : List ℕ) : Type 0 where
 
 -- one of some events is refused with this error
 pub record AreRefused (events : List Event) (error : yaml_error_t) : Type 0 where
-  pub front : List Event
+  pub prefix : List Event
   pub event : Event
   pub later : List Event
-  pub parts : front ++ event ∷ later ≡ events
-  pub refusal : refusal true front event ≡ Some error
+  pub parts : prefix ++ event ∷ later ≡ events
+  pub refusal : refusal true prefix event ≡ Some error
 
 -- the graph can't be written: an event of the stream is refused
 abbrev pub IsRefused : Graph → yaml_error_t → Type 0

@@ -8,7 +8,7 @@ use Rattle.yaml_emitter.specs.Given.{nothing_given}
 abbrev pub letter_settings : Settings
 letter_settings = record nothing_given { limit = 100; canonical = true; width = Some (negsuc 0) }
 
--- one document whose root is `a`, all marks implicit
+-- one document whose root is `a`, all markers implicit
 abbrev pub letter_events : List Event
 letter_events =
     stream_start None

@@ -28,6 +28,6 @@ pair_with directives key value =
     ∷ stream_end
     ∷ []
 
--- one document, a block mapping of a key to a value, all marks implicit
+-- one document, a block mapping of a key to a value, all markers implicit
 abbrev pub pair_events : (key value : Text) → List Event
 pair_events key value = pair_with [] (text_scalar key) (text_scalar value)

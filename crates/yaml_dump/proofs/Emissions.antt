@@ -10,9 +10,9 @@ use Rattle.yaml_base.specs.Event.{Event}
 use Rattle.yaml_base.specs.Seen.{seen_event}
 use Rattle.yaml_base.specs.declared.errors.yaml_error_t.{yaml_error_t}
 use Rattle.yaml_base.specs.declared.events.yaml_event_t.{yaml_event_t}
-use Rattle.yaml_pen.specs.Page.{told}
+use Rattle.yaml_pen.specs.Page.{result_of_error}
 use Rattle.yaml_pen.specs.Wrote.{Grows}
-use Rattle.yaml_pen.proofs.Writing.{none_from_told}
+use Rattle.yaml_pen.proofs.Writing.{none_from_result}
 use Rattle.yaml_emitter.specs.State.{State, KeepsSet}
 use Rattle.yaml_emitter.specs.StandsAfter.{StandsAfter}
 use Rattle.yaml_emitter.specs.Promises.{Promised}
@@ -37,8 +37,8 @@ keeps_more before middle after kept more =
       taken = more.taken ∙ kept.taken;
     }
 
--- an error that was told
-pub some_told : (given : Option yaml_error_t) (error : yaml_error_t) → Err error ≡ told given → given ≡ Some error
+-- an error that was returned
+pub some_told : (given : Option yaml_error_t) (error : yaml_error_t) → Err error ≡ result_of_error given → given ≡ Some error
 some_told None error is = cc
 some_told (Some other) error is = cc
 
@@ -91,9 +91,9 @@ emits_nothing given all state stands kept none =
 -- one event
 pub emits_one : (given : Settings) (all : List Event) (event : Event) (before after : State) (answer : Result (Unit {0}) yaml_error_t)
     → before.error ≡ None → StandsAfter given all before → StandsAfter given (all ++ event ∷ []) after → Promised given (all ++ event ∷ []) after
-    → Grows before.page after.page → answer ≡ told after.error → EmitsEach given all (event ∷ []) answer after
+    → Grows before.page after.page → answer ≡ result_of_error after.error → EmitsEach given all (event ∷ []) answer after
 emits_one given all event before after (Ok _) none stood stands kept grew is =
-    record { stands = stands; promised = kept; no_error = none_from_told after.error is }
+    record { stands = stands; promised = kept; no_error = none_from_result after.error is }
 emits_one given all event before after (Err error) none stood stands kept grew is =
     record {
       before = [];

@@ -6,7 +6,7 @@ use Rattle.yaml_base.specs.streams.StreamContent.{DocumentTree}
 use Rattle.yaml_base.specs.graphs.Meetings.{Graph}
 use Rattle.yaml_base.specs.graphs.Unfolding.{content_shape}
 use Rattle.yaml_base.specs.graphs.Dumped.{ContentsUnfold}
-use Rattle.yaml_base.specs.graphs.Isomorphic.{AllSayTheSame}
+use Rattle.yaml_base.specs.graphs.Isomorphic.{AllAreEquivalent}
 use Rattle.yaml_base.proofs.ContentsUnfold.{dumped_stream}
 use Rattle.yaml_base.proofs.SameShapes.{same_shape}
 use Rattle.yaml_base.proofs.SameEvents.{same_canonical_output}
@@ -21,7 +21,7 @@ some_same h = cc
 
 -- graphs that the same contents unfolds
 contents_say : (firsts seconds : List Graph) (contents : List DocumentContent) → ContentsUnfold firsts contents → ContentsUnfold seconds contents
-    → AllSayTheSame firsts seconds
+    → AllAreEquivalent firsts seconds
 contents_say [] [] contents unfolds also = tt
 contents_say [] (second ∷ seconds) [] unfolds also = absurd also
 contents_say [] (second ∷ seconds) (content ∷ contents) unfolds also = absurd unfolds
@@ -38,7 +38,7 @@ contents_say (first ∷ firsts) (second ∷ seconds) (content ∷ contents) unfo
 
 -- graphs that the same trees unfolds
 trees_say : (firsts seconds : List Graph) (documents : List DocumentTree) → TreesUnfold firsts documents → TreesUnfold seconds documents
-    → AllSayTheSame firsts seconds
+    → AllAreEquivalent firsts seconds
 trees_say [] [] documents unfolds also = tt
 trees_say [] (second ∷ seconds) [] unfolds also = absurd also
 trees_say [] (second ∷ seconds) (document ∷ documents) unfolds also = absurd unfolds

@@ -7,7 +7,7 @@ use Rattle.std.proofs.lemmas.Grind.{flat_map-append}
 use Rattle.std.proofs.lemmas.List.{append-nil, map-append}
 use Rattle.yaml_base.specs.Characters.{Text}
 use Rattle.yaml_base.specs.Event.{Event}
-use Rattle.yaml_base.specs.graphs.Meetings.{Graph, Step, enters, node_numbered, beginning_events, step_events}
+use Rattle.yaml_base.specs.graphs.Meetings.{Graph, Step, enters, node_numbered, opening_events, step_events}
 use Rattle.yaml_base.specs.Seen.{seen_event, seen_events}
 use Rattle.yaml_base.specs.declared.events.yaml_event_t.{yaml_event_t}
 use Rattle.yaml_dump.specs.Anchors.{IsNumbered, HasPlaces, anchor_of_place, is_numbered}
@@ -20,9 +20,9 @@ use Rattle.yaml_dump.proofs.AnchorLemmas.{anchor_placed, seen_more}
 -- a node begins with the anchor of its place
 pub entered : (graph : Graph) (walk : List Step) (places : List ℕ) (number : ℕ) (events : List Event) → IsNumbered (length places) (enters number)
     → HasPlaces walk places
-    → events ≡ beginning_events (anchor_of_place (get_or places (number - 1) 0)) (node_numbered graph number) → events ≡ step_events graph walk (enters number)
+    → events ≡ opening_events (anchor_of_place (get_or places (number - 1) 0)) (node_numbered graph number) → events ≡ step_events graph walk (enters number)
 entered graph walk places number events numbered has_places is =
-    is ∙ ap (λ (anchor : Option Text). beginning_events anchor (node_numbered graph number))
+    is ∙ ap (λ (anchor : Option Text). opening_events anchor (node_numbered graph number))
     (ap anchor_of_place (has_places.placed number numbered.first numbered.last) ∙ sym (anchor_placed walk number))
 
 -- one more event

@@ -18,10 +18,11 @@ use Rattle.yaml_base.specs.Grammar.{documents_events, tree_of}
 use Rattle.yaml_base.specs.Event.{scalar_tag, collection_tag}
 use Rattle.yaml_base.specs.reading.Content.{content_tag, node_content, nodes_content, pairs_content, document_content, documents_content}
 use Rattle.yaml_base.specs.graphs.Meetings.{Graph, GraphNode, Held, scalar_held, sequence_held, mapping_held, Step, enters, leaves, meets_again, steps}
-use Rattle.yaml_base.specs.graphs.Meetings.{string_tag, sequence_tag, mapping_tag, beginning_of, beginning_events, ending_of, ending_events, step_events}
+use Rattle.yaml_base.specs.graphs.Meetings.{string_tag, sequence_tag, mapping_tag, opening_event_of, opening_events, closing_event_of, closing_events}
+use Rattle.yaml_base.specs.graphs.Meetings.{step_events}
 use Rattle.yaml_base.specs.graphs.Meetings.{document_event_list}
 use Rattle.yaml_base.specs.graphs.Unfolding.{NodeKind, scalar_kind, sequence_kind, mapping_kind, Shape, alias_shape, node_shape, Shapes, no_shapes, shapes_and}
-use Rattle.yaml_base.specs.graphs.Unfolding.{Unfolds, content_shape, contents_shapes, content_pairs_shapes, tag_told}
+use Rattle.yaml_base.specs.graphs.Unfolding.{Unfolds, content_shape, contents_shapes, content_pairs_shapes, explicit_tag}
 use Rattle.yaml_base.specs.graphs.Dumped.{AreDumped, ContentsUnfold}
 use Rattle.yaml_base.specs.streams.StreamContent.{Tagging, with_tag, without_tag, Tree, alias_tree, scalar_tree, sequence_tree, mapping_tree, Trees, no_trees}
 use Rattle.yaml_base.specs.streams.StreamContent.{trees_and, TreePairs, no_tree_pairs, tree_pairs_and, DocumentTree, is_same_text, tagging_agrees, tree_agrees}
@@ -63,7 +64,7 @@ own_flags own tag true flag is = same_bytes tag
 own_flags own tag false true is = ap (λ text. bytes_eq text tag) (sym (from_bytes tag own (sym is))) ∙ same_bytes tag
 own_flags own tag false false is = same_bytes tag
 
-beginning_keeps : (canonical : Bool) (anchor : Option Text) (tag : Text) (held : Held) → has_kept_tag canonical (beginning_of anchor tag held) ≡ true
+beginning_keeps : (canonical : Bool) (anchor : Option Text) (tag : Text) (held : Held) → has_kept_tag canonical (opening_event_of anchor tag held) ≡ true
 beginning_keeps canonical anchor tag (scalar_held value style) = own_flags string_tag tag canonical (bytes_eq tag string_tag) refl
 beginning_keeps canonical anchor tag (sequence_held items style) = own_flag sequence_tag tag canonical (bytes_eq tag sequence_tag) refl
 beginning_keeps canonical anchor tag (mapping_held pairs style) = own_flag mapping_tag tag canonical (bytes_eq tag mapping_tag) refl
@@ -89,15 +90,15 @@ keep_each canonical events_of each [] = refl
 keep_each canonical events_of each (item ∷ items) =
     keep_both canonical (events_of item) (flat_map events_of items) (each item) (keep_each canonical events_of each items)
 
-beginnings_keep : (canonical : Bool) (anchor : Option Text) (found : Option GraphNode) → all_keep canonical (beginning_events anchor found)
+beginnings_keep : (canonical : Bool) (anchor : Option Text) (found : Option GraphNode) → all_keep canonical (opening_events anchor found)
 beginnings_keep canonical anchor None = refl
 beginnings_keep canonical anchor (Some node) = and_from _ _ (beginning_keeps canonical anchor node.tag node.held) refl
 
-endings_keep : (canonical : Bool) (found : Option GraphNode) → all_keep canonical (ending_events found)
+endings_keep : (canonical : Bool) (found : Option GraphNode) → all_keep canonical (closing_events found)
 endings_keep canonical None = refl
 endings_keep canonical (Some node) = by node.held
   where
-    by : (held : Held) → all_keep canonical (ending_of held)
+    by : (held : Held) → all_keep canonical (closing_event_of held)
     by (scalar_held value style) = refl
     by (sequence_held items style) = refl
     by (mapping_held pairs style) = refl
@@ -146,7 +147,7 @@ scalar_tag_is content (Some tag) (with_tag read) is = sym (from_bytes tag read i
 scalar_tag_is content (Some tag) (without_tag standing) is = absurd (false≢true is)
 
 -- a scalar's tag is told
-tag_told_is : (tag : Option Text) (text : Text) (implicit : Bool) → Some text ≡ tag → Some text ≡ tag_told (content_tag tag implicit)
+tag_told_is : (tag : Option Text) (text : Text) (implicit : Bool) → Some text ≡ tag → Some text ≡ explicit_tag (content_tag tag implicit)
 tag_told_is None text implicit is = cc
 tag_told_is (Some other) text implicit is = is
 
@@ -175,7 +176,7 @@ mutual
       let value_too = and_parts (is_same_text content.anchor anchor && tagging_agrees content written tagging) (bytes_eq content.value value) agree in
       let anchor_too = and_parts (is_same_text content.anchor anchor) (tagging_agrees content written tagging) value_too.0 in
       let kept = same_option (Some (unwrap_or written string_tag)) content.tag (and_parts (keeps_tag written string_tag content.tag) true keep).0 in
-      shapes_same anchor content.anchor (Some (scalar_tag_read tagging)) (tag_told (content_tag content.tag content.quoted_implicit))
+      shapes_same anchor content.anchor (Some (scalar_tag_read tagging)) (explicit_tag (content_tag content.tag content.quoted_implicit))
       (scalar_kind value None) (scalar_kind content.value None) no_shapes no_shapes
       (sym (same_option content.anchor anchor anchor_too.0))
       (ap (λ tag. Some tag) (scalar_tag_is content written tagging anchor_too.1)

@@ -11,7 +11,7 @@ use Rattle.std.proofs.lemmas.List.Folds.{sum_by-replicate}
 use Rattle.std.proofs.lemmas.List.Sums.{sum_by-set}
 use Rattle.yaml_base.specs.graphs.Meetings as meetings
 use Rattle.yaml_base.specs.graphs.Meetings.{Graph, enters, leaves, meets_again, is_entry_of, steps_from, steps, is_whole}
-use Rattle.yaml_dump.specs.WalkState.{WalkState, seen_walker, at_start, with_step, with_visit, with_node, with_meeting, with_child, child_of, with_turn}
+use Rattle.yaml_dump.specs.WalkState.{WalkState, seen_walker, at_start, with_step, push_visit, with_node, with_meeting, with_child, child_of, with_turn}
 use Rattle.yaml_dump.specs.Named.{IsNamed, AreNamed, number_in}
 use Rattle.yaml_dump.specs.WalkSteps.{seen_step}
 use Rattle.yaml_dump.specs.declared.steps.Step.{Step}
@@ -65,7 +65,7 @@ sound_step graph standing step sound enters_none named = record {
 -- ---- a turn without a child
 
 -- without the innermost visit
-sound_outer : (graph : Graph) (standing : WalkState) (visit : Visit) → IsSound graph (with_visit visit standing) → IsSound graph standing
+sound_outer : (graph : Graph) (standing : WalkState) (visit : Visit) → IsSound graph (push_visit visit standing) → IsSound graph standing
 sound_outer graph standing visit sound = record {
   counted = sound.counted;
   flagged = sound.flagged;
@@ -75,18 +75,18 @@ sound_outer graph standing visit sound = record {
 }
 
 -- the innermost visit's node
-visit_named : (graph : Graph) (standing : WalkState) (visit : Visit) → IsSound graph (with_visit visit standing) → IsNamed (length graph.nodes) visit.number
+visit_named : (graph : Graph) (standing : WalkState) (visit : Visit) → IsSound graph (push_visit visit standing) → IsNamed (length graph.nodes) visit.number
 visit_named graph standing visit sound = All-head (λ other. IsNamed (length graph.nodes) other.number) visit standing.visits sound.visits_named
 
 -- its node is left
-stands_left : (graph : Graph) (standing : WalkState) (visit : Visit) → Stands graph (with_visit visit standing) → child_of graph visit ≡ None
+stands_left : (graph : Graph) (standing : WalkState) (visit : Visit) → Stands graph (push_visit visit standing) → child_of graph visit ≡ None
     → Stands graph (with_step (leaves visit.number) standing)
 stands_left graph standing visit stands none =
-    let out : suc (depth_of graph (with_visit visit standing)) ≡ depth_of graph standing = omega (arith, stands.sound.room) in
+    let out : suc (depth_of graph (push_visit visit standing)) ≡ depth_of graph standing = omega (arith, stands.sound.room) in
     record {
       finished =
           sym (ap (λ (depth : ℕ). finish depth graph standing.visits (standing.steps ++ leaves visit.number ∷ [])) out)
-          ∙ sym (finish_left (depth_of graph (with_visit visit standing)) graph visit standing.visits standing.steps none)
+          ∙ sym (finish_left (depth_of graph (push_visit visit standing)) graph visit standing.visits standing.steps none)
           ∙ stands.finished;
       sound = sound_step graph standing (leaves visit.number) (sound_outer graph standing visit stands.sound) (λ number. refl)
           (visit_named graph standing visit stands.sound);
@@ -195,11 +195,11 @@ stands_met graph standing number meets = stands_flagged graph standing number (g
 -- ---- turns
 
 -- a visit's next child is met
-meets_child : (graph : Graph) (standing : WalkState) (visit : Visit) (child : ℕ) → Stands graph (with_visit visit standing) → child_of graph visit ≡ Some child
-    → IsNamed (length graph.nodes) child → Meets graph child (with_visit (record { number = visit.number; met = visit.met + 1 }) standing)
+meets_child : (graph : Graph) (standing : WalkState) (visit : Visit) (child : ℕ) → Stands graph (push_visit visit standing) → child_of graph visit ≡ Some child
+    → IsNamed (length graph.nodes) child → Meets graph child (push_visit (record { number = visit.number; met = visit.met + 1 }) standing)
 meets_child graph standing visit child stands some named =
     let more : suc visit.met ≡ visit.met + 1 = omega arith in
-    let depth = depth_of graph (with_visit visit standing) in
+    let depth = depth_of graph (push_visit visit standing) in
     record {
       finished =
           ap (λ (met : ℕ). finish depth graph (record { number = visit.number; met = met } ∷ standing.visits) (steps_from depth graph standing.steps child))
@@ -219,11 +219,11 @@ meets_child graph standing visit child stands some named =
     }
 
 -- with its next child, or without one
-stands_turned : (graph : Graph) (standing : WalkState) (visit : Visit) (child : Option ℕ) → Stands graph (with_visit visit standing)
+stands_turned : (graph : Graph) (standing : WalkState) (visit : Visit) (child : Option ℕ) → Stands graph (push_visit visit standing)
     → child ≡ child_of graph visit → IfSome child (λ number. IsNamed (length graph.nodes) number) → Stands graph (with_child visit child standing)
 stands_turned graph standing visit None stands is named = stands_left graph standing visit stands (sym is)
 stands_turned graph standing visit (Some child) stands is named =
-    stands_met graph (with_visit (record { number = visit.number; met = visit.met + 1 }) standing) child
+    stands_met graph (push_visit (record { number = visit.number; met = visit.met + 1 }) standing) child
     (meets_child graph standing visit child stands (sym is) named)
 
 -- ---- before the root
@@ -272,7 +272,7 @@ one_more : (visit : Visit) (child : Option ℕ) (standing : WalkState) → lengt
 one_more visit None standing = length_push standing.steps (leaves visit.number)
 one_more visit (Some child) standing = at_flag (get_or standing.entered (child - 1) false)
   where
-    at_flag : (entered : Bool) → length (with_node entered child (with_visit (record { number = visit.number; met = visit.met + 1 }) standing)).steps
+    at_flag : (entered : Bool) → length (with_node entered child (push_visit (record { number = visit.number; met = visit.met + 1 }) standing)).steps
         ≡ length standing.steps + 1
     at_flag true = length_push standing.steps (meets_again child)
     at_flag false = length_push standing.steps (enters child)
@@ -289,13 +289,13 @@ stands_first graph count started met some all is_start is_met =
 
 -- the innermost visit is taken out
 pub stands_popped : {A : Type 0} (graph : Graph) (walker : Walker A) (rest : Vec Visit A) (visit : Visit) → walker.visits.items ≡ rest.items ++ visit ∷ []
-    → Stands graph (seen_walker walker) → Stands graph (with_visit visit (seen_walker (record walker { visits = rest })))
+    → Stands graph (seen_walker walker) → Stands graph (push_visit visit (seen_walker (record walker { visits = rest })))
 stands_popped graph walker rest visit is stands =
     let innermost : reverse walker.visits.items ≡ visit ∷ reverse rest.items = ap reverse is ∙ reverse-append rest.items (visit ∷ []) in
     subst (λ (visits : List Visit). Stands graph (record (seen_walker walker) { visits = visits })) innermost stands
 
 -- a visit's turn keeps it all
-pub stands_behind : (graph : Graph) (visit : Visit) (before after : WalkState) → is_whole graph ≡ true → Stands graph (with_visit visit before)
+pub stands_behind : (graph : Graph) (visit : Visit) (before after : WalkState) → is_whole graph ≡ true → Stands graph (push_visit visit before)
     → after ≡ with_turn graph visit before → Stands graph after
 stands_behind graph visit before after whole stands is =
     let child = child_of graph visit in
@@ -303,7 +303,7 @@ stands_behind graph visit before after whole stands is =
     subst (λ (standing : WalkState). Stands graph standing) (sym is) (stands_turned graph before visit child stands refl named)
 
 -- a visit's turn leaves fewer steps to come
-pub steps_fewer : (graph : Graph) (visit : Visit) (before after : WalkState) → is_whole graph ≡ true → Stands graph (with_visit visit before)
+pub steps_fewer : (graph : Graph) (visit : Visit) (before after : WalkState) → is_whole graph ≡ true → Stands graph (push_visit visit before)
     → after ≡ with_turn graph visit before → length (steps graph) - length after.steps < length (steps graph) - length before.steps
 steps_fewer graph visit before after whole stands is =
     let within = steps_within graph after (stands_behind graph visit before after whole stands is) in
@@ -311,7 +311,7 @@ steps_fewer graph visit before after whole stands is =
     omega (arith, within, more)
 
 -- the innermost visit's node is a node
-pub innermost_named : (graph : Graph) (visit : Visit) (outer : WalkState) → Stands graph (with_visit visit outer) → IsNamed (length graph.nodes) visit.number
+pub innermost_named : (graph : Graph) (visit : Visit) (outer : WalkState) → Stands graph (push_visit visit outer) → IsNamed (length graph.nodes) visit.number
 innermost_named graph visit outer stands = visit_named graph outer visit stands.sound
 
 -- the numbers in a walk's steps

@@ -5,7 +5,7 @@ use Rattle.yaml_base.specs.Event.{Event}
 use Rattle.yaml_base.specs.Output.{encoding_asked, output_of}
 use Rattle.yaml_base.specs.graphs.Meetings.{Graph}
 use Rattle.yaml_base.specs.graphs.Dumped.{AreDumped, GraphsRead}
-use Rattle.yaml_base.specs.graphs.Isomorphic.{AllSayTheSame, AreWrittenAlike}
+use Rattle.yaml_base.specs.graphs.Isomorphic.{AllAreEquivalent, AreWrittenAlike}
 use Rattle.yaml_emitter.specs.Uncut.{IsWhole, IsReadable}
 use Rattle.yaml_dump.specs.GraphTrees.{GraphsReadBack}
 
@@ -13,25 +13,25 @@ use Rattle.yaml_dump.specs.GraphTrees.{GraphsReadBack}
 abbrev pub OneReading : Type 0
 OneReading =
     (breaks12 : Bool) (firsts seconds : List Graph) (bytes : List ℕ) → GraphsRead breaks12 firsts bytes → GraphsRead breaks12 seconds bytes
-    → AllSayTheSame firsts seconds
+    → AllAreEquivalent firsts seconds
 
 -- nor do those in which the reader of whole streams finds graphs
 abbrev pub OneReadingBack : Type 0
 OneReadingBack =
     (breaks12 : Bool) (firsts seconds : List Graph) (bytes : List ℕ) → GraphsReadBack breaks12 firsts bytes → GraphsReadBack breaks12 seconds bytes
-    → AllSayTheSame firsts seconds
+    → AllAreEquivalent firsts seconds
 
 -- under equal settings equal canonical outputs, uncut, come only from documents that say the same
 abbrev pub EqualBytes : Type 0
 EqualBytes =
     (given : Settings) (firsts seconds : List Graph) (first second : List Event) → AreDumped firsts first → AreDumped seconds second
-    → IsWhole given first → IsWhole given second → output_of given first ≡ output_of given second → AllSayTheSame firsts seconds
+    → IsWhole given first → IsWhole given second → output_of given first ≡ output_of given second → AllAreEquivalent firsts seconds
 
 -- so do equal outputs in every mode, of streams that read back
 abbrev pub EqualReadableBytes : Type 0
 EqualReadableBytes =
     (given : Settings) (firsts seconds : List Graph) (first second : List Event) → AreDumped firsts first → AreDumped seconds second
-    → IsReadable given first → IsReadable given second → output_of given first ≡ output_of given second → AllSayTheSame firsts seconds
+    → IsReadable given first → IsReadable given second → output_of given first ≡ output_of given second → AllAreEquivalent firsts seconds
 
 -- and in canonical mode documents that say the same, and end alike, have equal outputs, whatever their styles
 abbrev pub EqualDocuments : Type 0

@@ -9,7 +9,7 @@ use Rattle.yaml_base.specs.graphs.Unfolding.{scalar_kind, sequence_kind, mapping
 use Rattle.yaml_base.specs.graphs.Dumped.{AreDumped}
 use Rattle.yaml_base.specs.streams.StreamContent.{Tagging, with_tag, without_tag, Tree, alias_tree, scalar_tree, sequence_tree, mapping_tree, Trees, no_trees}
 use Rattle.yaml_base.specs.streams.StreamContent.{trees_and, TreePairs, no_tree_pairs, tree_pairs_and, DocumentTree, agrees}
-use Rattle.yaml_base.specs.StreamLaw.{is_portable}
+use Rattle.yaml_base.specs.StreamLaw.{reads_alike}
 use Rattle.yaml_base.specs.streams.StreamReader.{stream_trees}
 use Rattle.yaml_emitter.specs.State.{State}
 
@@ -57,10 +57,10 @@ pub record GraphsReadBack (breaks12 : Bool) (graphs : List Graph) (bytes : List 
   pub unfolds : TreesUnfold graphs documents
 
 -- what the reader of whole streams finds in the output of these events unfolds the graphs of which they are dumps: in portable
--- mode whatever they are, else where no document is lost and no tag has a sign of flow
+-- mode whatever they are, else where no document is lost and no tag has a flow indicator
 abbrev pub ReadsTrees : Settings → List Event → State → Type 0
 ReadsTrees given events after =
-    (graphs : List Graph) → is_portable given.portable given.canonical events ≡ true → AreDumped graphs events
+    (graphs : List Graph) → reads_alike given.portable given.canonical events ≡ true → AreDumped graphs events
     → GraphsReadBack given.breaks12 graphs after.page.output
 
 -- documents that agree with the events of dumped graphs unfold the graphs

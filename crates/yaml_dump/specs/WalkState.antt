@@ -25,13 +25,13 @@ abbrev pub with_step : meetings.Step → WalkState → WalkState
 with_step step standing = record standing { steps = standing.steps ++ step ∷ [] }
 
 -- in a visit, the innermost
-abbrev pub with_visit : Visit → WalkState → WalkState
-with_visit visit standing = record standing { visits = visit ∷ standing.visits }
+abbrev pub push_visit : Visit → WalkState → WalkState
+push_visit visit standing = record standing { visits = visit ∷ standing.visits }
 
 -- behind the meeting of a node that was entered or not
 abbrev pub with_node : Bool → ℕ → WalkState → WalkState
 with_node true number standing = with_step (meets_again number) standing
-with_node false number standing = with_visit (record { number = number; met = 0 })
+with_node false number standing = push_visit (record { number = number; met = 0 })
     (with_step (enters number) (record standing { entered = slice_set standing.entered (number - 1) true }))
 
 -- behind the meeting of a node
@@ -45,7 +45,7 @@ child_of graph visit = slice_get (children graph visit.number) visit.met
 -- a visit goes on with its next child, or its node is left
 abbrev pub with_child : Visit → Option ℕ → WalkState → WalkState
 with_child visit None standing = with_step (leaves visit.number) standing
-with_child visit (Some child) standing = with_meeting child (with_visit (record { number = visit.number; met = visit.met + 1 }) standing)
+with_child visit (Some child) standing = with_meeting child (push_visit (record { number = visit.number; met = visit.met + 1 }) standing)
 
 -- behind a turn of a visit that was taken out
 abbrev pub with_turn : Graph → Visit → WalkState → WalkState

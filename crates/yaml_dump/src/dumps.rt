@@ -7,7 +7,7 @@ ghost use Rattle.yaml_base.specs.graphs.Meetings.{document_event_list};
 ghost use Rattle.yaml_base.specs.Seen.{seen_event};
 ghost use Rattle.yaml_base.specs.Settings.{Settings};
 ghost use Rattle.yaml_base.specs.graphs.Unfolding.{EventsUnfold};
-ghost use Rattle.yaml_pen.specs.Page.{told};
+ghost use Rattle.yaml_pen.specs.Page.{result_of_error};
 ghost use Rattle.yaml_pen.specs.Wrote.{Grows};
 ghost use Rattle.yaml_dump.specs.Dumps.{Dumps, EmitsEach, IsBegun, ReadsGraphs, closing, opening};
 ghost use Rattle.yaml_dump.specs.GraphTrees.{ReadsTrees};
@@ -73,7 +73,7 @@ fn open_if_needed<A: Allocator + Copy>(emitter: &mut yaml_emitter_t<A>) -> Resul
     ensures given { emitter.new.given ≡ emitter.old.given }
     ensures taken { emitter.new.page.taken ≡ emitter.old.page.taken }
     ensures output { emitter.new.has_output ≡ true }
-    ensures answered { result ≡ told emitter.new.error }
+    ensures answered { result ≡ result_of_error emitter.new.error }
 {
     if emitter.is_opened() {
         standing_is_promised();
@@ -118,7 +118,7 @@ pub fn yaml_emitter_dump<A: Allocator + Copy>(
     document: yaml_document_t<A>,
 ) -> Result<(), yaml_error_t>
     requires { emitter.old.has_output ≡ true }
-    ensures failed { IsSome emitter.old.error → (emitter.new ≡ emitter.old) × (result ≡ told emitter.old.error) }
+    ensures failed { IsSome emitter.old.error → (emitter.new ≡ emitter.old) × (result ≡ result_of_error emitter.old.error) }
     ensures dumps { emitter.old.error ≡ None → Dumps (graph_of document) emitter.old result emitter.new }
     ensures unfolds { OnOk result ((length (graph_of document).nodes == 0) ≡ false
         → EventsUnfold (graph_of document) (document_event_list (graph_of document))) }

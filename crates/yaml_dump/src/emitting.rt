@@ -4,7 +4,7 @@ ghost use Rattle.std.specs.Prelude.{◌≡◌, true, None, List, map};
 ghost use Rattle.yaml_base.specs.Event.{Event};
 ghost use Rattle.yaml_base.specs.Seen.{seen_event};
 ghost use Rattle.yaml_base.specs.Settings.{Settings};
-ghost use Rattle.yaml_pen.specs.Page.{told};
+ghost use Rattle.yaml_pen.specs.Page.{result_of_error};
 ghost use Rattle.yaml_pen.specs.Wrote.{Grows};
 ghost use Rattle.yaml_dump.specs.Dumps.{EmitsEach, IsBegun};
 ghost use Rattle.yaml_emitter.specs.StandsAfter.{StandsAfter};
@@ -29,7 +29,7 @@ pub fn emit_each<A: Allocator + Copy>(
     ensures grows { Grows emitter.old.page emitter.new.page }
     ensures set { KeepsSet (record emitter.old { started = emitter.new.started }) emitter.new }
     ensures begun { IsBegun emitter.old emitter.new }
-    ensures answered { result ≡ told emitter.new.error }
+    ensures answered { result ≡ result_of_error emitter.new.error }
     ensures output { emitter.new.has_output ≡ true }
 {
     standing_is_promised();

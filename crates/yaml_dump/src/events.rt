@@ -38,7 +38,7 @@ fn scalar_event<A: Allocator + Copy>(
     style: yaml_scalar_style_t,
 ) -> Result<yaml_event_t<A>, AllocError>
     ensures { IfOk result (λ event. seen_event event
-        ≡ meetings.beginning_of (option_map seen_text anchor) (chars tag.now) (meetings.scalar_held (chars value.now) (seen_scalar_style style))) }
+        ≡ meetings.opening_event_of (option_map seen_text anchor) (chars tag.now) (meetings.scalar_held (chars value.now) (seen_scalar_style style))) }
 {
     let implicit = is_tag(tag, YAML_STR_TAG);
     Ok(yaml_event_t::YAML_SCALAR_EVENT {
@@ -96,13 +96,13 @@ fn mapping_start<A: Allocator + Copy>(
 }
 
 /// The event with which a node begins.
-fn beginning<A: Allocator + Copy>(
+fn opening_event<A: Allocator + Copy>(
     alloc: A,
     anchor: Option<String<A>>,
     node: &yaml_node_t<A>,
 ) -> Result<yaml_event_t<A>, AllocError>
     ensures { IfOk result (λ event. seen_event event
-        ≡ meetings.beginning_of (option_map seen_text anchor) (seen_text node.now.tag) (seen_held node.now.contents)) }
+        ≡ meetings.opening_event_of (option_map seen_text anchor) (seen_text node.now.tag) (seen_held node.now.contents)) }
 {
     let tag = node.tag.as_str();
     match &node.contents {
@@ -115,8 +115,8 @@ fn beginning<A: Allocator + Copy>(
 }
 
 /// The event with which a node ends; a scalar has none.
-fn ending<A: Allocator>(contents: &yaml_node_data_t<A>) -> Option<yaml_event_t<A>>
-    ensures { seen_events_of result ≡ meetings.ending_of (seen_held contents.now) }
+fn closing_event<A: Allocator>(contents: &yaml_node_data_t<A>) -> Option<yaml_event_t<A>>
+    ensures { seen_events_of result ≡ meetings.closing_event_of (seen_held contents.now) }
 {
     match contents {
         yaml_node_data_t::Scalar { .. } => None,
@@ -145,7 +145,7 @@ fn node_of<A: Allocator>(document: &yaml_document_t<A>, number: usize) -> Option
 }
 
 /// The event with which the node of a number begins, if there is that node.
-fn beginning_at<A: Allocator + Copy>(
+fn opening_event_at<A: Allocator + Copy>(
     alloc: A,
     document: &yaml_document_t<A>,
     number: usize,
@@ -153,20 +153,23 @@ fn beginning_at<A: Allocator + Copy>(
 ) -> Result<Option<yaml_event_t<A>>, AllocError>
     requires { number ≤ largest_i32 }
     ensures { IfOk result (λ event. seen_events_of event
-        ≡ meetings.beginning_events (anchor_of_place place) (meetings.node_numbered (graph_of document.now) number)) }
+        ≡ meetings.opening_events (anchor_of_place place) (meetings.node_numbered (graph_of document.now) number)) }
 {
     match node_of(document, number) {
-        Some(node) => Ok(Some(beginning(alloc, anchor_of(alloc, place)?, node)?)),
+        Some(node) => Ok(Some(opening_event(alloc, anchor_of(alloc, place)?, node)?)),
         None => Ok(None),
     }
 }
 
 /// The event with which the node of a number ends, if there is that node and it is a collection.
-fn ending_at<A: Allocator>(document: &yaml_document_t<A>, number: usize) -> Option<yaml_event_t<A>>
+fn closing_event_at<A: Allocator>(
+    document: &yaml_document_t<A>,
+    number: usize,
+) -> Option<yaml_event_t<A>>
     requires { number ≤ largest_i32 }
-    ensures { seen_events_of result ≡ meetings.ending_events (meetings.node_numbered (graph_of document.now) number) }
+    ensures { seen_events_of result ≡ meetings.closing_events (meetings.node_numbered (graph_of document.now) number) }
 {
-    ending(&node_of(document, number)?.contents)
+    closing_event(&node_of(document, number)?.contents)
 }
 
 /// How many nodes there are.
@@ -190,8 +193,8 @@ pub(crate) fn step_event<A: Allocator + Copy>(
         → seen_events_of event ≡ meetings.step_events (graph_of document.now) walk (seen_step step)) }
 {
     match step {
-        Step::Enters(number) => beginning_at(alloc, document, number, places[number - 1]),
-        Step::Leaves(number) => Ok(ending_at(document, number)),
+        Step::Enters(number) => opening_event_at(alloc, document, number, places[number - 1]),
+        Step::Leaves(number) => Ok(closing_event_at(document, number)),
         Step::MeetsAgain(number) => Ok(Some(yaml_event_t::YAML_ALIAS_EVENT {
             anchor: numbered_name(alloc, places[number - 1])?,
         })),

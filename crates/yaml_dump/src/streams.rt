@@ -5,7 +5,7 @@ ghost use Rattle.yaml_base.specs.Event.{Event, stream_start, stream_end};
 ghost use Rattle.yaml_base.specs.graphs.Dumped.{AreDumped, GraphsRead};
 ghost use Rattle.yaml_base.specs.graphs.Meetings.{Graph};
 ghost use Rattle.yaml_base.specs.Settings.{Settings};
-ghost use Rattle.yaml_pen.specs.Page.{told};
+ghost use Rattle.yaml_pen.specs.Page.{result_of_error};
 ghost use Rattle.yaml_pen.specs.Wrote.{Grows};
 ghost use Rattle.yaml_dump.specs.GraphTrees.{ReadsTrees};
 ghost use Rattle.yaml_emitter.specs.Promises.{Promised};
@@ -30,7 +30,7 @@ pub fn yaml_emitter_open<A: Allocator + Copy>(
     ensures grows { Grows emitter.old.page emitter.new.page }
     ensures set { KeepsSet (record emitter.old { started = true; opened = is_ok result }) emitter.new }
     ensures kept { IsSome emitter.old.error → emitter.new ≡ record emitter.old { started = true } }
-    ensures answered { result ≡ told emitter.new.error }
+    ensures answered { result ≡ result_of_error emitter.new.error }
 {
     yaml_emitter_emit(
         emitter,
@@ -64,7 +64,7 @@ pub fn yaml_emitter_close<A: Allocator + Copy>(
     ensures set { emitter.old.closed ≡ false → KeepsSet (record emitter.old { started = true; closed = is_ok result }) emitter.new }
     ensures taken { emitter.new.page.taken ≡ emitter.old.page.taken }
     ensures kept { emitter.old.closed ≡ false → IsSome emitter.old.error → emitter.new ≡ record emitter.old { started = true } }
-    ensures answered { emitter.old.closed ≡ false → result ≡ told emitter.new.error }
+    ensures answered { emitter.old.closed ≡ false → result ≡ result_of_error emitter.new.error }
     ensures graphs { emitter.old.closed ≡ false
         → OnOk result ((given : Settings) (all : List Event) (graphs : List Graph) → StandsAfter given all emitter.old → given.canonical ≡ true
         → AreDumped graphs (all ++ stream_end ∷ []) → GraphsRead given.breaks12 graphs emitter.new.page.output) }

@@ -21,14 +21,14 @@ both_sound canonical first second one other =
 -- ---- how many collections are open
 
 -- after an event that begins a collection or doesn't, and ends one or doesn't
-abbrev pub after_signs : (begins ends : Bool) → ℕ → ℕ
-after_signs true ends now = suc now
-after_signs false true zero = zero
-after_signs false true (suc now) = now
-after_signs false false now = now
+abbrev pub after_atoms : (begins ends : Bool) → ℕ → ℕ
+after_atoms true ends now = suc now
+after_atoms false true zero = zero
+after_atoms false true (suc now) = now
+after_atoms false false now = now
 
 abbrev pub after_event : Event → ℕ → ℕ
-after_event event now = after_signs (begins_collection event) (ends_collection event) now
+after_event event now = after_atoms (begins_collection event) (ends_collection event) now
 
 -- with so many open before some events, no more than the most are open before and after each of them
 abbrev pub Stays : (most now : ℕ) → List Event → Type 0
@@ -39,7 +39,7 @@ stays_now : (most now : ℕ) (events : List Event) → Stays most now events →
 stays_now most now [] h = h
 stays_now most now (event ∷ events) h = h.0
 
-one_more : (begins ends : Bool) (now others_begin others_end most : ℕ) → (after_signs begins ends now + others_begin) - others_end ≤ most
+one_more : (begins ends : Bool) (now others_begin others_end most : ℕ) → (after_atoms begins ends now + others_begin) - others_end ≤ most
     → (now + (cond begins 1 0 + others_begin)) - (cond ends 1 0 + others_end) ≤ most
 one_more true true now b e most h = omega (arith, h)
 one_more true false now b e most h = omega (arith, h)
@@ -47,19 +47,19 @@ one_more false true zero b e most h = omega (arith, h)
 one_more false true (suc now) b e most h = omega (arith, h)
 one_more false false now b e most h = omega (arith, h)
 
-front_stays : (most now : ℕ) (front rest : List Event) → Stays most now (front ++ rest)
-    → (now + count_by begins_collection front) - count_by ends_collection front ≤ most
-front_stays most now [] rest h = let few = stays_now most now rest h in omega (arith, few)
-front_stays most now (event ∷ front) rest h =
-    let begun : count_by begins_collection (event ∷ front) ≡ (0 + cond (begins_collection event) 1 0) + count_by begins_collection front =
-    sum_by-append (λ x. cond (begins_collection x) 1 0) (event ∷ []) front in
-    let ended : count_by ends_collection (event ∷ front) ≡ (0 + cond (ends_collection event) 1 0) + count_by ends_collection front =
-    sum_by-append (λ x. cond (ends_collection x) 1 0) (event ∷ []) front in
-    let more = one_more (begins_collection event) (ends_collection event) now (count_by begins_collection front) (count_by ends_collection front) most
-    (front_stays most (after_event event now) front rest h.1) in
+prefix_stays : (most now : ℕ) (prefix rest : List Event) → Stays most now (prefix ++ rest)
+    → (now + count_by begins_collection prefix) - count_by ends_collection prefix ≤ most
+prefix_stays most now [] rest h = let few = stays_now most now rest h in omega (arith, few)
+prefix_stays most now (event ∷ prefix) rest h =
+    let begun : count_by begins_collection (event ∷ prefix) ≡ (0 + cond (begins_collection event) 1 0) + count_by begins_collection prefix =
+    sum_by-append (λ x. cond (begins_collection x) 1 0) (event ∷ []) prefix in
+    let ended : count_by ends_collection (event ∷ prefix) ≡ (0 + cond (ends_collection event) 1 0) + count_by ends_collection prefix =
+    sum_by-append (λ x. cond (ends_collection x) 1 0) (event ∷ []) prefix in
+    let more = one_more (begins_collection event) (ends_collection event) now (count_by begins_collection prefix) (count_by ends_collection prefix) most
+    (prefix_stays most (after_event event now) prefix rest h.1) in
     omega (arith, begun, ended, more)
 
 -- no prefix leaves more than the most open
-pub few_open : (most : ℕ) (events front rest : List Event) → Stays most 0 events → front ++ rest ≡ events → open_count front ≤ most
-few_open most events front rest stays is =
-    let few = front_stays most 0 front rest (subst (Stays most 0) (sym is) stays) in omega (arith, few)
+pub few_open : (most : ℕ) (events prefix rest : List Event) → Stays most 0 events → prefix ++ rest ≡ events → open_count prefix ≤ most
+few_open most events prefix rest stays is =
+    let few = prefix_stays most 0 prefix rest (subst (Stays most 0) (sym is) stays) in omega (arith, few)

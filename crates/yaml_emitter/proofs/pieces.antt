@@ -1,9 +1,9 @@
 pub mod WritingNames
 pub mod WritingScalars
-pub mod Signs
+pub mod Atoms
 pub mod Defaults
 pub mod WritingPieces
-pub mod SignsWritten
+pub mod AtomsWritten
 pub mod WritingDirectives
 pub mod WritingTags
 pub mod UsualChoices

@@ -1,4 +1,4 @@
-pub mod Fronts
+pub mod WrittenPrefixes
 pub mod Flushing
 pub mod Standing
 pub mod StandingSteps
@@ -10,13 +10,13 @@ pub mod Room
 pub mod StandingFull
 pub mod StandingEnds
 pub mod PromisingRoom
-pub mod HandingOut
+pub mod LastFlushes
 pub mod Emitting
 pub mod StandingSet
 pub mod Promising
 pub mod KeepsSet
 pub mod Growing
-pub mod StandingMarked
+pub mod StandingFlagged
 pub mod Taking
 pub mod KeptDocuments
 pub mod EmitterKept

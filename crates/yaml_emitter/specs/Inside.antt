@@ -18,7 +18,7 @@ state_of e =
       closed = e.closed;
       held = seen_events e.queue.items;
       stage = e.machine.stage;
-      mark = e.machine.mark;
+      open_ended = e.machine.open_ended;
       page = e.machine.page;
       error = e.machine.error;
     }

@@ -5,12 +5,12 @@ pub mod Given
 pub mod Queue
 pub mod Places
 pub mod Reach
-pub mod Signs
+pub mod Atoms
 pub mod Stages
 pub mod InForce
 pub mod Nesting
 pub mod WrittenPieces
-pub mod WrittenSigns
+pub mod WrittenAtoms
 pub mod State
 pub mod MachineInside
 pub mod Inside

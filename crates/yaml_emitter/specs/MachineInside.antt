@@ -2,9 +2,9 @@
 use Rattle.std.specs.Prelude.{◌≡◌, false}
 use Rattle.yaml_emitter.specs.Given.{seen_given, seen_effective}
 use Rattle.yaml_emitter.specs.Stages.{seen_stage}
-use Rattle.yaml_emitter.specs.Signs.{some_handle_breaks}
+use Rattle.yaml_emitter.specs.Atoms.{some_handle_breaks}
 use Rattle.yaml_emitter.specs.State.{MachineState, FitsPage}
-use Rattle.yaml_emitter.specs.WrittenPieces.{seen_mark}
+use Rattle.yaml_emitter.specs.WrittenPieces.{seen_open_ended}
 use Rattle.yaml_emitter.specs.declared.machine.Machine.TheInside.{Inside}
 
 -- what contracts see of a machine
@@ -14,7 +14,7 @@ machine_state m =
       given = seen_given m.given;
       settings = seen_effective m.settings;
       stage = seen_stage m.stage m.directives m.frames;
-      mark = seen_mark m.mark;
+      open_ended = seen_open_ended m.open_ended;
       page = m.pen;
       error = m.error;
     }

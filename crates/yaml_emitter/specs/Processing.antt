@@ -1,9 +1,9 @@
 -- What one event does to a machine.
 use Rattle.std.specs.Prelude.{◌≡◌, Bool, true, false, Option, None, Some, Result, Ok, Err, List, ◌∷◌}
 use Rattle.yaml_base.specs.Settings.{effective}
-use Rattle.yaml_base.specs.Cursor.{Cursor, Laid}
+use Rattle.yaml_base.specs.Cursor.{Cursor, Rendered}
 use Rattle.yaml_base.specs.Event.{Event, stream_start, sequence_start, sequence_end, mapping_start, mapping_end}
-use Rattle.yaml_base.specs.Output.{hands_out}
+use Rattle.yaml_base.specs.Output.{flushes}
 use Rattle.yaml_base.specs.Steps.{Stepped, step, stage_refusal}
 use Rattle.yaml_base.specs.declared.errors.yaml_error_t.{yaml_error_t}
 use Rattle.yaml_base.specs.declared.errors.yaml_error_t.TheVariants.{WriteError, Memory}
@@ -33,9 +33,9 @@ abbrev pub event_stepped : MachineState → Event → (empty : Bool) → Stepped
 event_stepped before event empty = step before.settings before.stage event empty (standing_of before)
 
 -- an event's piece, by the cursor before it
-abbrev pub event_laid : MachineState → Event → (empty : Bool) → Cursor → Laid
-event_laid before event empty =
-    piece_at (λ standing. (step before.settings before.stage event empty standing).laid) before.mark
+abbrev pub render_event : MachineState → Event → (empty : Bool) → Cursor → Rendered
+render_event before event empty =
+    piece_at (λ standing. (step before.settings before.stage event empty standing).rendered) before.open_ended
 
 -- the refusal of an event where it stands
 abbrev pub refusal_now : MachineState → Event → Option yaml_error_t
@@ -45,25 +45,25 @@ refusal_now state event = stage_refusal state.given.canonical state.stage event
 abbrev pub Keeps : MachineState → MachineState → Type 0
 Keeps before after =
     after
-    ≡ record before { settings = after.settings; stage = after.stage; mark = after.mark; page = after.page }
+    ≡ record before { settings = after.settings; stage = after.stage; open_ended = after.open_ended; page = after.page }
 
 -- the stream's start settles what it is written by; any other event writes its piece
 abbrev pub WritesPage : Event → (empty : Bool) → MachineState → MachineState → Type 0
 WritesPage (stream_start encoding) empty before after =
     let settings = effective before.given encoding in
     (after.settings ≡ settings)
-    × (after.page ≡ record before.page { encoding = Some settings.encoding; line_break = settings.line_break; mark_due = false })
+    × (after.page ≡ record before.page { encoding = Some settings.encoding; line_break = settings.line_break; bom_due = false })
 WritesPage event empty before after =
-    (after.settings ≡ before.settings) × Wrote (event_laid before event empty) before.page after.page (Ok tt)
+    (after.settings ≡ before.settings) × Wrote (render_event before event empty) before.page after.page (Ok tt)
 
 -- an event that is written
 pub record WritesEvent (event : Event) (empty : Bool) (before after : MachineState) : Type 0 where
   pub kept : Keeps before after
   pub accepted : refusal_now before event ≡ None
   pub stage : after.stage ≡ (event_stepped before event empty).stage
-  pub mark : after.mark ≡ (event_stepped before event empty).laid.standing.mark
+  pub open_ended : after.open_ended ≡ (event_stepped before event empty).rendered.standing.open_ended
   pub page : WritesPage event empty before after
-  pub handed_out : hands_out event ≡ true → after.page.output ≡ encoded after.page
+  pub flushed_whole : flushes event ≡ true → after.page.output ≡ encoded after.page
 
 -- a prefix of an event's piece is written, all of it where memory is refused after it
 pub record WrotePart (error : yaml_error_t) (event : Event) (empty : Bool) (before after : MachineState) : Type 0 where
@@ -71,7 +71,7 @@ pub record WrotePart (error : yaml_error_t) (event : Event) (empty : Bool) (befo
   pub passed : after.page.error ≡ Some WriteError → error ≡ WriteError
   pub failed : error ≡ WriteError → after.page.error ≡ Some WriteError
   pub answer : Result (Unit {0}) yaml_error_t
-  pub wrote : Wrote (event_laid before event empty) before.page after.page answer
+  pub wrote : Wrote (render_event before event empty) before.page after.page answer
 
 -- what is written of an event that is cut short: nothing, where memory is refused before; or a prefix of its piece
 pub data CutPage (error : yaml_error_t) (event : Event) (empty : Bool) (before after : MachineState) : Type 0 where

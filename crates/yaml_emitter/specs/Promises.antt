@@ -9,10 +9,10 @@ use Rattle.yaml_base.specs.Refusal.{IsAccepted, BeginsAccepted, refusal}
 use Rattle.yaml_base.specs.Ready.{awaited, written, held_back}
 use Rattle.yaml_base.specs.NodeLayout.{bodies_of}
 use Rattle.yaml_base.specs.Pieces.{list_layout, pieces}
-use Rattle.yaml_base.specs.Output.{settings_for, text_written, bytes_written, output_of, hands_out_last}
+use Rattle.yaml_base.specs.Output.{settings_for, text_written, bytes_written, output_of, last_flushes}
 use Rattle.yaml_base.specs.Meaning.{BodyMeans}
 use Rattle.yaml_base.specs.streams.StreamContent.{agrees}
-use Rattle.yaml_base.specs.StreamLaw.{is_portable}
+use Rattle.yaml_base.specs.StreamLaw.{reads_alike}
 use Rattle.yaml_base.specs.streams.StreamReader.{stream_trees}
 use Rattle.yaml_base.specs.reading.Content.{content_of}
 use Rattle.yaml_base.specs.reading.CanonicalReader.{canonical_content}
@@ -44,7 +44,7 @@ most_held [] = 0
 most_held (event ∷ rest) = awaited event
 
 -- the events that aren't ready wait
-pub record HoldsWaiting (all : List Event) (state : State) : Type 0 where
+pub record QueuesUnready (all : List Event) (state : State) : Type 0 where
   pub held : state.held ≡ held_back all
   pub few : length state.held ≤ most_held state.held
   pub starts : begins_with_start state.held ≡ true
@@ -52,39 +52,39 @@ pub record HoldsWaiting (all : List Event) (state : State) : Type 0 where
 -- an event that became ready was refused: those before it begin an accepted list, with it they begin none; the text is
 -- that before it
 pub record RefusedAt (given : Settings) (all : List Event) (error : yaml_error_t) (state : State) : Type 0 where
-  pub front : List Event
+  pub prefix : List Event
   pub event : Event
   pub later : List Event
-  pub parts : front ++ event ∷ later ≡ all
-  pub became_ready : length front < written all
-  pub refusal : refusal given.canonical front event ≡ Some error
-  pub begins : BeginsAccepted given.canonical front
-  pub ends : BeginsAccepted given.canonical (front ++ event ∷ []) → ⊥
-  pub text : HasText given all (length front) state
+  pub parts : prefix ++ event ∷ later ≡ all
+  pub became_ready : length prefix < written all
+  pub refusal : refusal given.canonical prefix event ≡ Some error
+  pub begins : BeginsAccepted given.canonical prefix
+  pub ends : BeginsAccepted given.canonical (prefix ++ event ∷ []) → ⊥
+  pub text : HasText given all (length prefix) state
 
 -- an accepted list begins with these events: the text of the first so many pieces of its layout is a prefix of the text so
 -- far, which is a prefix of that of these events' pieces; the output is a prefix of its bytes, and begins with all bytes of the
 -- documents among the first so many events
-pub record BeginsOutput (given : Settings) (all front : List Event) (count : ℕ) (state : State) : Type 0 where
+pub record BeginsOutput (given : Settings) (all prefix : List Event) (count : ℕ) (state : State) : Type 0 where
   pub later : List Event
-  pub parts : front ++ later ≡ all
+  pub parts : prefix ++ later ≡ all
   pub more : List Event
-  pub accepted : IsAccepted given.canonical (front ++ more)
+  pub accepted : IsAccepted given.canonical (prefix ++ more)
   pub least :
       let s = settings_for given all in
-      IsPrefix (text_written s (take count (list_layout s (front ++ more)))) state.page.text
+      IsPrefix (text_written s (take count (list_layout s (prefix ++ more)))) state.page.text
   pub most :
       let s = settings_for given all in
-      IsPrefix state.page.text (text_written s (take (length front) (list_layout s (front ++ more))))
+      IsPrefix state.page.text (text_written s (take (length prefix) (list_layout s (prefix ++ more))))
   pub output :
       let s = settings_for given all in
-      state.page.output ≡ cut (length state.page.output) (bytes_written s (list_layout s (front ++ more)))
+      state.page.output ≡ cut (length state.page.output) (bytes_written s (list_layout s (prefix ++ more)))
   pub flushed : StaysFlushed given all count state.page.output
 
 -- after an error: the events before the one in work are written whole; of its own piece nothing is, or a prefix
 pub data StopsWriting (given : Settings) (all : List Event) (state : State) : Type 0 where
-  stops_before : (front : List Event) → BeginsOutput given all front (length front) state → StopsWriting given all state
-  stops_within : (front : List Event) (event : Event) → BeginsOutput given all (front ++ event ∷ []) (length front) state → StopsWriting given all state
+  stops_before : (prefix : List Event) → BeginsOutput given all prefix (length prefix) state → StopsWriting given all state
+  stops_within : (prefix : List Event) (event : Event) → BeginsOutput given all (prefix ++ event ∷ []) (length prefix) state → StopsWriting given all state
 
 -- without an error the events that are written are all that are ready
 abbrev pub OutputBegins : Settings → List Event → Option yaml_error_t → State → Type 0
@@ -143,13 +143,13 @@ bytes_so_far given all =
     let s = settings_for given all in
     bytes_of_some (written all) (bytes_written s (pieces s all (written all)))
 
--- all bytes are handed out
+-- all bytes are flushed
 abbrev pub HasAllBytes : Settings → List Event → State → Type 0
 HasAllBytes given all state = state.page.output ≡ bytes_so_far given all
 
 -- an accepted list is written whole, uncut, and means what it says: each scalar reads as its value, canonical bytes read as
 -- the content, and in every mode the bytes read as documents that agree with the list, in portable mode whatever it is, else
--- where no document is lost and no tag has a sign of flow; what stands raw in the text is printable, and no U+2028 or U+2029
+-- where no document is lost and no tag has a flow indicator; what stands raw in the text is printable, and no U+2028 or U+2029
 -- with the line breaks of YAML 1.2; each scalar's text is tidy
 pub record IsWritten (given : Settings) (all : List Event) (state : State) : Type 0 where
   pub text : state.page.text ≡ text_written (settings_for given all) (list_layout (settings_for given all) all)
@@ -157,7 +157,7 @@ pub record IsWritten (given : Settings) (all : List Event) (state : State) : Typ
   pub uncut : IsUncut given all
   pub means : All (BodyMeans (settings_for given all)) (bodies_of (list_layout (settings_for given all) all))
   pub reads : given.canonical ≡ true → canonical_content given.breaks12 state.page.output ≡ content_of all
-  pub reads_back : is_portable given.portable given.canonical all ≡ true
+  pub reads_back : reads_alike given.portable given.canonical all ≡ true
       → agrees given.canonical all (stream_trees given.breaks12 state.page.output) ≡ true
   pub raw : HoldsRaw (settings_for given all) state.page.text
   pub tidy : All (IsTidy (settings_for given all)) (bodies_of (list_layout (settings_for given all) all))
@@ -165,13 +165,13 @@ pub record IsWritten (given : Settings) (all : List Event) (state : State) : Typ
 -- what a caller may rely on wherever an emitter stands
 pub record Promised (given : Settings) (all : List Event) (state : State) : Type 0 where
   pub text : state.error ≡ None → HasText given all (written all) state
-  pub held : state.error ≡ None → HoldsWaiting all state
+  pub held : state.error ≡ None → QueuesUnready all state
   pub dropped : IsSome state.error → state.held ≡ []
   pub refused : (error : yaml_error_t) → state.error ≡ Some error → IsRefusal error → RefusedAt given all error state
   pub output : OutputBegins given all state.error state
   pub within : length state.page.output ≤ given.limit
   pub full : state.error ≡ Some WriteError → FillsLimit given all state
   pub fits : FitsLimit given all → FailsOnlyByMemory state.error
-  pub handed_out : state.error ≡ None → hands_out_last (take (written all) all) ≡ true → HasAllBytes given all state
+  pub flushed_whole : state.error ≡ None → last_flushes (take (written all) all) ≡ true → HasAllBytes given all state
   pub ends : ends_stream all ≡ true → EndsExactly given all state
   pub whole : state.error ≡ None → IsAccepted given.canonical all → IsWritten given all state

@@ -9,11 +9,11 @@ use Rattle.yaml_base.specs.Refusal.{BeginsAccepted, refusal}
 use Rattle.yaml_base.specs.Ready.{written, held_back}
 use Rattle.yaml_base.specs.Layout.{Piece, first_standing}
 use Rattle.yaml_base.specs.Steps.{at_stream, Steps, steps, progress}
-use Rattle.yaml_base.specs.Output.{settings_for, text_written, hands_out_last}
+use Rattle.yaml_base.specs.Output.{settings_for, text_written, last_flushes}
 use Rattle.yaml_base.specs.Meaning.{has_scalar_texts}
 use Rattle.yaml_base.specs.declared.errors.yaml_error_t.{yaml_error_t}
 use Rattle.yaml_base.specs.declared.errors.yaml_error_t.TheVariants.{WriteError, Memory}
-use Rattle.yaml_pen.specs.Page.{Page, new_page, encoded, IsHandedOut}
+use Rattle.yaml_pen.specs.Page.{Page, new_page, encoded, IsFlushedOutput}
 use Rattle.yaml_emitter.specs.StaysFlushed.{StaysFlushed}
 use Rattle.yaml_emitter.specs.State.{MachineState, State, machine_of, standing_of}
 use Rattle.yaml_emitter.specs.Processing.{Processed, closes_at_once}
@@ -22,10 +22,10 @@ use Rattle.yaml_emitter.specs.Queue.{is_head_ready}
 -- a page of a stream that was begun, with its settings, and this text
 pub record IsPage (s : Effective) (page : Page) : Type 0 where
   pub encoding : page.encoding ≡ Some s.encoding
-  pub marked : page.mark_due ≡ false
+  pub bom_written : page.bom_due ≡ false
   pub line_break : page.line_break ≡ s.line_break
   pub limit : page.limit ≡ s.limit
-  pub handed : IsHandedOut (encoded page) page.output page.limit page.error
+  pub sound_output : IsFlushedOutput (encoded page) page.output page.limit page.error
 
 -- before the stream's start a page is new; after it, it holds the text of the pieces; it has this error
 abbrev pub HoldsPiecesWith : Option yaml_error_t → Effective → List Event → List Piece → Page → Type 0
@@ -42,26 +42,26 @@ abbrev pub IsSettled : Effective → List Event → MachineState → Type 0
 IsSettled s [] machine = Unit {0}
 IsSettled s (event ∷ events) machine = machine.settings ≡ s
 
--- the machine after some steps over a front of the events; what was flushed at the ends of its documents is in the output
-pub record HasTaken (given : Settings) (all front : List Event) (taken : Steps) (machine : MachineState) : Type 0 where
+-- the machine after some steps over a prefix of the events; what was flushed at the ends of its documents is in the output
+pub record HasProgress (given : Settings) (all prefix : List Event) (progress : Steps) (machine : MachineState) : Type 0 where
   pub given_kept : machine.given ≡ given
-  pub settled : IsSettled (settings_for given all) front machine
-  pub stands : BeginsAccepted given.canonical front
-  pub stage : machine.stage ≡ taken.stage
-  pub standing : standing_of machine ≡ taken.standing
-  pub page : HoldsPieces (settings_for given all) front taken.pieces machine.page
-  pub handed_out : hands_out_last front ≡ true → machine.page.output ≡ encoded machine.page
-  pub flushed : StaysFlushed given all (length front) machine.page.output
+  pub settled : IsSettled (settings_for given all) prefix machine
+  pub stands : BeginsAccepted given.canonical prefix
+  pub stage : machine.stage ≡ progress.stage
+  pub standing : standing_of machine ≡ progress.standing
+  pub page : HoldsPieces (settings_for given all) prefix progress.pieces machine.page
+  pub flushed_whole : last_flushes prefix ≡ true → machine.page.output ≡ encoded machine.page
+  pub flushed : StaysFlushed given all (length prefix) machine.page.output
 
 -- without an error: the ready events are written, the others held
-pub record StandsWell (given : Settings) (all waiting : List Event) (machine : MachineState) : Type 0 where
-  pub taken : HasTaken given all (take (written all) all) (progress (settings_for given all) all) machine
+pub record StandsWithoutError (given : Settings) (all waiting : List Event) (machine : MachineState) : Type 0 where
+  pub progress : HasProgress given all (take (written all) all) (progress (settings_for given all) all) machine
   pub held : waiting ≡ held_back all
 
 -- all events up to one that became ready, and those given after it
-pub record FailedAt (all front : List Event) (event : Event) (later : List Event) : Type 0 where
-  pub parts : front ++ event ∷ later ≡ all
-  pub became_ready : length front < written all
+pub record FailedAt (all prefix : List Event) (event : Event) (later : List Event) : Type 0 where
+  pub parts : prefix ++ event ∷ later ≡ all
+  pub became_ready : length prefix < written all
 
 -- the last of some events starts a collection that the event after them ends
 abbrev pub closes_last : List Event → List Event → Bool
@@ -71,39 +71,39 @@ closes_last (event ∷ next ∷ more) rest = closes_last (next ∷ more) rest
 
 -- an event was refused: it added no text
 pub record StandsRefused (given : Settings) (all : List Event) (error : yaml_error_t) (machine : MachineState) : Type 0 where
-  pub front : List Event
+  pub prefix : List Event
   pub event : Event
   pub later : List Event
-  pub failed : FailedAt all front event later
-  pub taken : HasTaken given all front (steps (settings_for given all) false front at_stream first_standing) machine
-  pub refusal : refusal given.canonical front event ≡ Some error
+  pub failed : FailedAt all prefix event later
+  pub progress : HasProgress given all prefix (steps (settings_for given all) false prefix at_stream first_standing) machine
+  pub refusal : refusal given.canonical prefix event ≡ Some error
 
 -- what a page holds of an event that was cut short, with the steps of the events before it, and with it: the text of
 -- those before, where memory was refused before it; or that text and a prefix of the event's own piece
-pub data HoldsCut (given : Settings) (s : Effective) (front : List Event) (event : Event) (before with_event : Steps) (error : yaml_error_t)
+pub data HoldsCut (given : Settings) (s : Effective) (prefix : List Event) (event : Event) (before with_event : Steps) (error : yaml_error_t)
     (page : Page) : Type 0 where
-  holds_before : error ≡ Memory → HoldsPieces s front before.pieces page → HoldsCut given s front event before with_event error page
+  holds_before : error ≡ Memory → HoldsPieces s prefix before.pieces page → HoldsCut given s prefix event before with_event error page
   holds_part :
-      BeginsAccepted given.canonical (front ++ event ∷ []) → IsPage s page
+      BeginsAccepted given.canonical (prefix ++ event ∷ []) → IsPage s page
       → (error ≡ WriteError → page.error ≡ Some WriteError)
       → IsPrefix (text_written s before.pieces) page.text
       → IsPrefix page.text (text_written s with_event.pieces)
-      → HoldsCut given s front event before with_event error page
+      → HoldsCut given s prefix event before with_event error page
 
 -- the output's limit was passed, or memory refused, at an event
 pub record StandsCut (given : Settings) (all : List Event) (error : yaml_error_t) (machine : MachineState) : Type 0 where
-  pub front : List Event
+  pub prefix : List Event
   pub event : Event
   pub later : List Event
-  pub failed : FailedAt all front event later
+  pub failed : FailedAt all prefix event later
   pub given_kept : machine.given ≡ given
-  pub stands : BeginsAccepted given.canonical front
+  pub stands : BeginsAccepted given.canonical prefix
   pub page :
       let s = settings_for given all in
-      let before = steps s (closes_last front (event ∷ later)) front at_stream first_standing in
-      let with_event = steps s (closes_at_once event later) (front ++ event ∷ []) at_stream first_standing in
-      HoldsCut given s front event before with_event error machine.page
-  pub flushed : StaysFlushed given all (length front) machine.page.output
+      let before = steps s (closes_last prefix (event ∷ later)) prefix at_stream first_standing in
+      let with_event = steps s (closes_at_once event later) (prefix ++ event ∷ []) at_stream first_standing in
+      HoldsCut given s prefix event before with_event error machine.page
+  pub flushed : StaysFlushed given all (length prefix) machine.page.output
 
 -- the output's limit was passed, or memory refused, by a flush between events: all that were ready were written, more may
 -- have been given since
@@ -116,7 +116,7 @@ pub record StandsUnflushed (given : Settings) (all : List Event) (error : yaml_e
   pub page :
       HoldsPiecesWith (Some error) (settings_for given all) (take (written before) before)
       (progress (settings_for given all) before).pieces machine.page
-  pub handed : IsHandedOut (encoded machine.page) machine.page.output machine.page.limit machine.page.error
+  pub sound_output : IsFlushedOutput (encoded machine.page) machine.page.output machine.page.limit machine.page.error
   pub flushed : StaysFlushed given all (written before) machine.page.output
 
 -- the output's limit was passed, or memory refused, at an event or between two
@@ -131,24 +131,24 @@ StandsFailed given all Memory machine = StandsStopped given all Memory machine
 StandsFailed given all error machine = StandsRefused given all error machine
 
 -- a machine without an error holds what isn't ready; after an error nothing is held
-abbrev pub StandsBy : Settings → List Event → Option yaml_error_t → (held : List Event) → MachineState → Type 0
-StandsBy given all None held machine = StandsWell given all held machine
-StandsBy given all (Some error) held machine = (held ≡ []) × StandsFailed given all error machine
+abbrev pub MachineStands : Settings → List Event → Option yaml_error_t → (held : List Event) → MachineState → Type 0
+MachineStands given all None held machine = StandsWithoutError given all held machine
+MachineStands given all (Some error) held machine = (held ≡ []) × StandsFailed given all error machine
 
 -- an emitter stands after these events, by its error or without one
-abbrev pub StandsSo : Settings → List Event → State → Type 0
-StandsSo given all state = StandsBy given all state.error state.held (machine_of state)
+abbrev pub StateStands : Settings → List Event → State → Type 0
+StateStands given all state = MachineStands given all state.error state.held (machine_of state)
 
 -- the emitter stands after these events, whose texts are those of strings, under these settings
 pub record StandsAfter (given : Settings) (all : List Event) (state : State) : Type 0 where
   pub texts : list_all has_scalar_texts all ≡ true
-  pub so : StandsSo given all state
+  pub so : StateStands given all state
 
--- on the way: a front of the events is written, the others wait
-pub record Reached (given : Settings) (all front rest : List Event) (machine : MachineState) : Type 0 where
-  pub parts : front ++ rest ≡ all
-  pub ready : written all ≡ length front + written rest
-  pub taken : HasTaken given all front (steps (settings_for given all) (closes_last front rest) front at_stream first_standing) machine
+-- on the way: a prefix of the events is written, the others wait
+pub record Reached (given : Settings) (all prefix rest : List Event) (machine : MachineState) : Type 0 where
+  pub parts : prefix ++ rest ≡ all
+  pub ready : written all ≡ length prefix + written rest
+  pub progress : HasProgress given all prefix (steps (settings_for given all) (closes_last prefix rest) prefix at_stream first_standing) machine
 
 -- the first error is kept
 abbrev pub failed_by : yaml_error_t → MachineState → MachineState
@@ -157,19 +157,19 @@ failed_by error machine = record machine { error = Some error }
 -- every list that `before` has reached, `after` reaches with more written
 abbrev pub ReachedOn : (waiting : List Event) → MachineState → (left : List Event) → MachineState → Type 0
 ReachedOn waiting before left after =
-    (given : Settings) (all front : List Event) → Reached given all front waiting before
+    (given : Settings) (all prefix : List Event) → Reached given all prefix waiting before
     → (next : List Event) × Reached given all next left after
 
 -- the first `count` events that waited are written, and the next isn't ready
-pub record WroteFront (waiting : List Event) (count : ℕ) (before after : MachineState) : Type 0 where
+pub record WroteReady (waiting : List Event) (count : ℕ) (before after : MachineState) : Type 0 where
   pub within : count ≤ length waiting
   pub reached : ReachedOn waiting before (drop count waiting) after
   pub ended : is_head_ready (drop count waiting) ≡ false
 
 -- one of them failed, wherever the machine had come
-abbrev pub FailedFront : (waiting : List Event) → (error : yaml_error_t) → (before after : MachineState) → Type 0
-FailedFront waiting error before after =
-    (given : Settings) (all front : List Event) → Reached given all front waiting before → StandsFailed given all error (failed_by error after)
+abbrev pub FailedReady : (waiting : List Event) → (error : yaml_error_t) → (before after : MachineState) → Type 0
+FailedReady waiting error before after =
+    (given : Settings) (all prefix : List Event) → Reached given all prefix waiting before → StandsFailed given all error (failed_by error after)
 
 -- the first event that waits was processed
 pub record ProcessedFirst (waiting : List Event) (before after : MachineState) (answer : Result (Unit {0}) yaml_error_t) : Type 0 where

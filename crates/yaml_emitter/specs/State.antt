@@ -9,8 +9,8 @@ use Rattle.yaml_pen.specs.Page.{Page, new_page, all_taken, IsUntouched, IsReady}
 use Rattle.yaml_emitter.specs.Given.{nothing_given}
 
 -- what was set, and what it came to at the stream's start; whether an event was given, an output set, the stream
--- opened and closed; the events that wait; what may come next; the open mark; the text so far, its cursor, the bytes
--- handed out and how many of them were taken; the first error
+-- opened and closed; the events that wait; what may come next; the open-ended state; the text so far, its cursor, the bytes
+-- flushed and how many of them were taken; the first error
 pub record State : Type 0 where
   pub given : Settings
   pub settings : Effective
@@ -20,17 +20,17 @@ pub record State : Type 0 where
   pub closed : Bool
   pub held : List Event
   pub stage : Stage
-  pub mark : ℕ
+  pub open_ended : ℕ
   pub page : Page
   pub error : Option yaml_error_t
 
 -- what contracts see of the machine that writes an emitter's events: what was set, and what it came to at the stream's start;
--- what may come next; the open mark; the text so far, its cursor and the bytes handed out; the first error
+-- what may come next; the open-ended state; the text so far, its cursor and the bytes flushed; the first error
 pub record MachineState : Type 0 where
   pub given : Settings
   pub settings : Effective
   pub stage : Stage
-  pub mark : ℕ
+  pub open_ended : ℕ
   pub page : Page
   pub error : Option yaml_error_t
 
@@ -41,7 +41,7 @@ machine_of state =
       given = state.given;
       settings = state.settings;
       stage = state.stage;
-      mark = state.mark;
+      open_ended = state.open_ended;
       page = state.page;
       error = state.error;
     }
@@ -53,7 +53,7 @@ new_machine =
       given = nothing_given;
       settings = effective nothing_given None;
       stage = at_stream;
-      mark = 0;
+      open_ended = 0;
       page = new_page largest_usize;
       error = None;
     }
@@ -70,18 +70,18 @@ new_state =
       closed = false;
       held = [];
       stage = at_stream;
-      mark = 0;
+      open_ended = 0;
       page = new_page largest_usize;
       error = None;
     }
 
 -- where writing stands
 abbrev pub standing_of : MachineState → Standing
-standing_of machine = record { cursor = machine.page.cursor; mark = machine.mark }
+standing_of machine = record { cursor = machine.page.cursor; open_ended = machine.open_ended }
 
 -- nothing is written before the stream's start; a page is begun with it
 abbrev pub FitsPage : Stage → Page → Type 0
-FitsPage at_stream page = IsUntouched page × (page.mark_due ≡ false) × (page.output ≡ [])
+FitsPage at_stream page = IsUntouched page × (page.bom_due ≡ false) × (page.output ≡ [])
 FitsPage _ page = IsReady page
 
 -- an emitter whose output is all taken

@@ -5,13 +5,13 @@ use Rattle.yaml_base.specs.Prefix.{IsPrefix}
 use Rattle.yaml_base.specs.Event.{Event, stream_start}
 use Rattle.yaml_base.specs.Grammar.{Document, Documents, documents_and, documents_events}
 use Rattle.yaml_base.specs.Pieces.{pieces}
-use Rattle.yaml_base.specs.Output.{settings_for, bytes_written, hands_out_last}
+use Rattle.yaml_base.specs.Output.{settings_for, bytes_written, last_flushes}
 
 -- of each prefix of the first so many events that ends with the end of a document or of the stream, the bytes of its pieces are
 -- a prefix of the output
 abbrev pub StaysFlushed : Settings → List Event → (count : ℕ) → (output : List ℕ) → Type 0
 StaysFlushed given all count output =
-    (n : ℕ) → n ≤ count → hands_out_last (take n all) ≡ true
+    (n : ℕ) → n ≤ count → last_flushes (take n all) ≡ true
     → IsPrefix (bytes_written (settings_for given all) (pieces (settings_for given all) all n)) output
 
 -- a stream's start and at least one whole document

@@ -10,7 +10,7 @@ use Rattle.yaml_base.specs.reading.Content.{content_of}
 use Rattle.yaml_base.specs.reading.CanonicalReader.{canonical_content}
 use Rattle.yaml_base.specs.Meaning.{has_scalar_texts}
 use Rattle.yaml_base.specs.streams.StreamContent.{DocumentTree, agrees}
-use Rattle.yaml_base.specs.StreamLaw.{is_portable}
+use Rattle.yaml_base.specs.StreamLaw.{reads_alike}
 use Rattle.yaml_base.specs.streams.StreamReader.{stream_trees}
 
 -- the limit is at least the length of all bytes
@@ -39,7 +39,7 @@ OutputTells given first second =
 pub record IsReadable (given : Settings) (events : List Event) : Type 0 where
   pub accepted : IsAccepted given.canonical events
   pub scalars : list_all has_scalar_texts events ≡ true
-  pub portable : is_portable given.portable given.canonical events ≡ true
+  pub portable : reads_alike given.portable given.canonical events ≡ true
   pub uncut : IsUncut given events
 
 -- its output reads as documents that agree with it
@@ -50,7 +50,7 @@ OutputReadsBack given events =
 -- two lists have the same content, as far as it is written: some documents agree with both. They are as many, each with the
 -- same version and directives, and node for node of the same kind, with the same anchor or alias, written tag, value and
 -- entries; a scalar whose tag isn't written stands, plain, quoted or after the bare tag, as the flags of both allow. Not
--- kept are styles, marks of documents, and tags that flags leave out
+-- kept are styles, markers of documents, and tags that flags leave out
 pub record HaveSameContent (canonical : Bool) (first second : List Event) : Type 0 where
   pub documents : List DocumentTree
   pub first_agrees : agrees canonical first (Some documents) ≡ true

@@ -2,7 +2,7 @@
 use Rattle.std.specs.Prelude.{◌≡◌, Bool, true, false, ◌&&◌, not, None, is_some}
 use Rattle.yaml_base.specs.Event.{ScalarStyle, any_style, plain}
 use Rattle.yaml_base.specs.Seen.{seen_scalar_style}
-use Rattle.yaml_base.specs.scalars.Style.{style_asked}
+use Rattle.yaml_base.specs.scalars.Style.{requested_style}
 use Rattle.yaml_scalar.specs.UsualTexts.{IsUsual}
 use Rattle.yaml_emitter.specs.BorrowedTexts.{seen_name}
 use Rattle.yaml_emitter.specs.declared.writing.contents.ScalarContent.{ScalarContent}
@@ -22,6 +22,6 @@ is_asked_plain canonical content =
 pub record StandsPlain (canonical : Bool) (content : ScalarContent) : Type 0 where
   pub readable : canonical ≡ false
   pub implicit : content.plain_implicit ≡ true
-  pub asked : style_asked false (seen_scalar_style content.style) ≡ plain
+  pub asked : requested_style false (seen_scalar_style content.style) ≡ plain
   pub anchor : seen_name content.anchor ≡ None
   pub usual : IsUsual content.value.now

@@ -1,42 +1,44 @@
--- A piece as what is laid at a cursor, and the open mark.
+-- A piece as what is rendered at a cursor, and the open-ended state.
 use Rattle.std.specs.Prelude.{ℕ, Bool, true, false, Option, List}
-use Rattle.yaml_base.specs.Cursor.{Cursor, Laid, then_laid, new_line}
+use Rattle.yaml_base.specs.Cursor.{Cursor, Rendered, render_then, new_line}
 use Rattle.yaml_base.specs.Event.{Version, TagDirective}
-use Rattle.yaml_base.specs.Indicators.{indicator_laid, document_end, tag_directive}
-use Rattle.yaml_base.specs.Layout.{PieceLaid, Standing, piece_text, laid_if, closing_mark_laid, version_laid, tag_directives_laid, document_mark_laid}
-use Rattle.yaml_base.specs.Layout.{handle_laid}
+use Rattle.yaml_base.specs.Indicators.{render_indicator, document_end, tag_directive}
+use Rattle.yaml_base.specs.Layout.{RenderedPiece, Standing, piece_text, render_if, render_closing_marker, render_version, render_tag_directives}
+use Rattle.yaml_base.specs.Layout.{render_document_marker}
+use Rattle.yaml_base.specs.Layout.{render_handle}
 use Rattle.yaml_base.specs.Percent.{prefix_escaped}
 use Rattle.yaml_base.specs.Settings.{Effective}
-use Rattle.yaml_emitter.specs.declared.writing.marks.OpenMark.{OpenMark}
-use Rattle.yaml_emitter.specs.declared.writing.marks.OpenMark.TheVariants.{Closed, ImplicitEnd, KeptBreaks}
+use Rattle.yaml_emitter.specs.declared.writing.open_ended.OpenEnded.{OpenEnded}
+use Rattle.yaml_emitter.specs.declared.writing.open_ended.OpenEnded.TheVariants.{Closed, ImplicitEnd, KeptBreaks}
 
 -- a piece's whole text, and the cursor after it
-abbrev pub laid_of : PieceLaid → Laid
-laid_of laid = record { text = piece_text laid.piece; cursor = laid.standing.cursor }
+abbrev pub rendered_of : RenderedPiece → Rendered
+rendered_of rendered = record { text = piece_text rendered.piece; cursor = rendered.standing.cursor }
 
--- a piece's whole text by the cursor before it, where the open mark is known
-abbrev pub piece_at : (Standing → PieceLaid) → (mark : ℕ) → Cursor → Laid
-piece_at piece mark cursor = laid_of (piece (record { cursor = cursor; mark = mark }))
+-- a piece's whole text by the cursor before it, where the open-ended state is known
+abbrev pub piece_at : (Standing → RenderedPiece) → (open_ended : ℕ) → Cursor → Rendered
+piece_at piece open_ended cursor = rendered_of (piece (record { cursor = cursor; open_ended = open_ended }))
 
--- the open mark as a number
-abbrev pub seen_mark : OpenMark → ℕ
-seen_mark Closed = 0
-seen_mark ImplicitEnd = 1
-seen_mark KeptBreaks = 2
+-- the open-ended state as a number
+abbrev pub seen_open_ended : OpenEnded → ℕ
+seen_open_ended Closed = 0
+seen_open_ended ImplicitEnd = 1
+seen_open_ended KeptBreaks = 2
 
 -- what stands before a document's root, by whether `...` closes the document before and whether `---` is written
-abbrev pub document_head_laid : Effective → (closes : Bool) → Option Version → List TagDirective → (explicit : Bool) → Cursor → Laid
-document_head_laid s closes version directives explicit cursor =
-    then_laid
-    (then_laid (then_laid (laid_if closes closing_mark_laid cursor) (version_laid version)) (tag_directives_laid s.portable directives))
-    (laid_if explicit (document_mark_laid s.canonical))
+abbrev pub render_document_head : Effective → (closes : Bool) → Option Version → List TagDirective → (explicit : Bool) → Cursor → Rendered
+render_document_head s closes version directives explicit cursor =
+    render_then
+    (render_then (render_then (render_if closes render_closing_marker cursor) (render_version version)) (render_tag_directives s.portable directives))
+    (render_if explicit (render_document_marker s.canonical))
 
 -- a document's end: a new line, and `...` on a line of its own where it isn't implicit
-abbrev pub document_end_laid : (implicit : Bool) → Cursor → Laid
-document_end_laid true cursor = new_line 0 cursor
-document_end_laid false cursor = then_laid (then_laid (new_line 0 cursor) (indicator_laid document_end)) (new_line 0)
+abbrev pub render_document_end : (implicit : Bool) → Cursor → Rendered
+render_document_end true cursor = new_line 0 cursor
+render_document_end false cursor = render_then (render_then (new_line 0 cursor) (render_indicator document_end)) (new_line 0)
 
 -- a `%TAG` line without its end
-abbrev pub tag_words_laid : (portable : Bool) → TagDirective → Cursor → Laid
-tag_words_laid portable directive cursor =
-    then_laid (then_laid (indicator_laid tag_directive cursor) (handle_laid directive.handle)) (handle_laid (prefix_escaped portable directive.prefix))
+abbrev pub render_tag_words : (portable : Bool) → TagDirective → Cursor → Rendered
+render_tag_words portable directive cursor =
+    render_then (render_then (render_indicator tag_directive cursor) (render_handle directive.handle))
+    (render_handle (prefix_escaped portable directive.prefix))

@@ -5,17 +5,17 @@ ghost use Rattle.yaml_base.specs.Event.{Event};
 ghost use Rattle.yaml_base.specs.Seen.{seen_event, seen_events};
 ghost use Rattle.yaml_base.specs.Ready.{written};
 ghost use Rattle.yaml_base.specs.Settings.{Settings};
-ghost use Rattle.yaml_pen.specs.Page.{told, output_left};
+ghost use Rattle.yaml_pen.specs.Page.{result_of_error, output_left};
 ghost use Rattle.yaml_pen.specs.Wrote.{Grows};
 ghost use Rattle.yaml_emitter.specs.Promises.{FitsLimit, HasAllBytes, Promised};
 ghost use Rattle.yaml_emitter.specs.Queue.{is_head_ready};
 ghost use Rattle.yaml_emitter.specs.State.{KeepsGiven, KeepsSet, with_all_taken};
-ghost use Rattle.yaml_emitter.specs.StandsAfter.{FailedFront, Reached, StandsAfter, StandsBy, ProcessedFirst, WroteFront};
+ghost use Rattle.yaml_emitter.specs.StandsAfter.{FailedReady, Reached, StandsAfter, MachineStands, ProcessedFirst, WroteReady};
 
 use crate::emitter::yaml_emitter_t;
 use crate::machine::Machine;
 use crate::process::NOT_EMPTY;
-use crate::queue::{closes_at_once, drop_front, first_and_rest, is_next_ready, is_ready_alone};
+use crate::queue::{closes_at_once, drop_written, first_and_rest, is_next_ready, is_ready_alone};
 use std::alloc::Allocator;
 use yaml_base::{yaml_error_t, yaml_event_t};
 
@@ -40,7 +40,7 @@ pub fn yaml_emitter_emit<A: Allocator + Copy>(
         → written (all ++ seen_event event ∷ []) ≡ written all → IsOk result }
     ensures kept { IsSome emitter.old.error → emitter.new ≡ record emitter.old { started = true } }
     ensures set { KeepsSet (record emitter.old { started = true }) emitter.new }
-    ensures answered { result ≡ told emitter.new.error }
+    ensures answered { result ≡ result_of_error emitter.new.error }
     ensures output { emitter.new.has_output ≡ true }
 {
     emitter.started = true;
@@ -51,9 +51,9 @@ pub fn yaml_emitter_emit<A: Allocator + Copy>(
         return emitter.machine.write_alone(&event);
     }
     emitter.queue.push_reserved(event);
-    match write_front(&mut emitter.machine, emitter.queue.as_slice()) {
+    match write_ready(&mut emitter.machine, emitter.queue.as_slice()) {
         Ok(count) => {
-            drop_front(&mut emitter.queue, count);
+            drop_written(&mut emitter.queue, count);
             Ok(())
         }
         Err(error) => {
@@ -85,7 +85,7 @@ pub fn yaml_emitter_flush<A: Allocator + Copy>(
         → emitter.new ≡ emitter.old }
     ensures kept { IsSome emitter.old.error → emitter.new ≡ emitter.old }
     ensures set { KeepsSet emitter.old emitter.new }
-    ensures answered { result ≡ told emitter.new.error }
+    ensures answered { result ≡ result_of_error emitter.new.error }
     ensures output { emitter.new.has_output ≡ true }
 {
     if let Some(error) = emitter.machine.error() {
@@ -121,12 +121,12 @@ impl<A: Allocator + Copy> Machine<A> {
     fn write_alone(&mut self, event: &yaml_event_t<A>) -> Result<(), yaml_error_t>
         requires no_error { self.old.error ≡ None }
         requires ready { is_head_ready (seen_event event.now ∷ []) ≡ true }
-        ensures stands { (given : Settings) (all front : List Event)
-            → Reached given all front (seen_event event.now ∷ []) self.old
-            → StandsBy given all self.new.error [] self.new }
+        ensures stands { (given : Settings) (all prefix : List Event)
+            → Reached given all prefix (seen_event event.now ∷ []) self.old
+            → MachineStands given all self.new.error [] self.new }
         ensures grows { Grows self.old.page self.new.page }
         ensures set { KeepsGiven self.old self.new }
-        ensures answered { result ≡ told self.new.error }
+        ensures answered { result ≡ result_of_error self.new.error }
     {
         match self.process(event, NOT_EMPTY) {
             Ok(()) => Ok(()),
@@ -139,13 +139,13 @@ impl<A: Allocator + Copy> Machine<A> {
 }
 
 /// Writes the events of a queue that are ready, in order up to the first error, and returns how many they are.
-fn write_front<A: Allocator + Copy>(
+fn write_ready<A: Allocator + Copy>(
     machine: &mut Machine<A>,
     waiting: &[yaml_event_t<A>],
 ) -> Result<usize, yaml_error_t>
     requires { machine.old.error ≡ None }
-    ensures written { IfOk result (λ count. WroteFront (seen_events waiting.now) count machine.old machine.new) }
-    ensures failed { IfErr result (λ error. FailedFront (seen_events waiting.now) error machine.old machine.new) }
+    ensures written { IfOk result (λ count. WroteReady (seen_events waiting.now) count machine.old machine.new) }
+    ensures failed { IfErr result (λ error. FailedReady (seen_events waiting.now) error machine.old machine.new) }
     ensures waits { is_head_ready (seen_events waiting.now) ≡ false → IsOk result }
     ensures error { machine.new.error ≡ None }
     ensures grows { Grows machine.old.page machine.new.page }

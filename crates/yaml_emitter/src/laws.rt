@@ -59,7 +59,7 @@ pub fn canonical_output_reads()
 /// no word with the writers finds in them documents that agree with the events, in version, directives, and node for node in
 /// kind, anchor, alias, written tag, value and entries. Where portable mode is off, two kinds of streams are excepted, which
 /// readers of YAML don't read alike: one whose first document is written as nothing at all, an empty plain root without
-/// `---`; and one in which a sign of flow (`,` `[` `]`) stands after a tag's handle, where readers end the tag.
+/// `---`; and one in which a flow indicator (`,` `[` `]`) stands after a tag's handle, where readers end the tag.
 pub fn streams_read_back()
     ensures { StreamReadsBack }
 {}

@@ -11,7 +11,7 @@ use crate::effective::EffectiveSettings;
 use crate::frames::Frames;
 use crate::settings::GivenSettings;
 use crate::stage::Stage;
-use crate::writing::OpenMark;
+use crate::writing::OpenEnded;
 use std::alloc::Allocator;
 use std::marker::Model;
 use yaml_base::{YAML_ANY_ENCODING, yaml_break_t, yaml_encoding_t, yaml_error_t};
@@ -27,7 +27,7 @@ pub(crate) struct Machine<A: Allocator> {
     pub(crate) stage: Stage,
     pub(crate) directives: Directives<A>,
     pub(crate) frames: Frames<A>,
-    pub(crate) mark: OpenMark,
+    pub(crate) open_ended: OpenEnded,
     pub(crate) pen: Pen<A>,
     pub(crate) error: Option<yaml_error_t>,
 }
@@ -62,7 +62,7 @@ impl<A: Allocator + Copy> Machine<A> {
             stage: Stage::Stream,
             directives: Directives::new(alloc),
             frames: Frames::new(alloc),
-            mark: OpenMark::Closed,
+            open_ended: OpenEnded::Closed,
             pen,
             error: None,
         })

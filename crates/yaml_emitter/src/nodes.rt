@@ -163,7 +163,7 @@ impl<A: Allocator + Copy> Machine<A> {
             place,
             simple,
         };
-        self.mark = write_scalar(&mut self.pen, &site, content, tag, self.mark)?;
+        self.open_ended = write_scalar(&mut self.pen, &site, content, tag, self.open_ended)?;
         self.stage = self.frames.advance(simple);
         Ok(())
     }

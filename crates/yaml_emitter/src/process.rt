@@ -12,7 +12,7 @@ ghost use Rattle.yaml_pen.specs.Page.{IsReady, IsUntouched, encoded};
 ghost use Rattle.yaml_pen.specs.Wrote.{Wrote};
 ghost use Rattle.yaml_emitter.specs.NodeEvents as node_events;
 ghost use Rattle.yaml_emitter.specs.Processing.{Processed};
-ghost use Rattle.yaml_emitter.specs.WrittenPieces.{piece_at, seen_mark};
+ghost use Rattle.yaml_emitter.specs.WrittenPieces.{piece_at, seen_open_ended};
 
 use crate::check::check_names;
 use crate::directives::next_directives;
@@ -20,7 +20,7 @@ use crate::effective::EffectiveSettings;
 use crate::machine::Machine;
 use crate::stage::Stage;
 use crate::writing::{
-    OpenMark, StartContent, write_document_end, write_document_start, write_stream_end,
+    OpenEnded, StartContent, write_document_end, write_document_start, write_stream_end,
 };
 use std::alloc::Allocator;
 use std::mem;
@@ -180,10 +180,16 @@ impl<A: Allocator + Copy> Machine<A> {
             directives: own,
             implicit,
         };
-        write_document_start(&mut self.pen, &self.settings, first, &start, self.mark)?;
+        write_document_start(
+            &mut self.pen,
+            &self.settings,
+            first,
+            &start,
+            self.open_ended,
+        )?;
         self.directives = directives;
         self.frames.clear();
-        self.mark = OpenMark::Closed;
+        self.open_ended = OpenEnded::Closed;
         self.stage = Stage::Node;
         Ok(())
     }
@@ -194,7 +200,7 @@ impl<A: Allocator + Copy> Machine<A> {
         ensures { (empty : Bool) → Processed (document_end implicit) empty self.old self.new result }
     {
         flush_document_end(&mut self.pen, &self.settings, implicit)?;
-        self.mark = self.mark.after_document(implicit);
+        self.open_ended = self.open_ended.after_document(implicit);
         self.stage = Stage::Document { first: false };
         Ok(())
     }
@@ -204,7 +210,7 @@ impl<A: Allocator + Copy> Machine<A> {
         requires stage { self.old.stage ≡ at_document first }
         ensures { (empty : Bool) → Processed stream_end empty self.old self.new result }
     {
-        flush_stream_end(&mut self.pen, &self.settings, self.mark)?;
+        flush_stream_end(&mut self.pen, &self.settings, self.open_ended)?;
         self.stage = Stage::Nothing;
         Ok(())
     }
@@ -232,8 +238,8 @@ fn flush_document_end<A: Allocator>(
     implicit: bool,
 ) -> Result<(), yaml_error_t>
     requires { IsReady pen.old }
-    ensures written { (mark : ℕ) → Wrote (piece_at (document_end_piece implicit) mark) pen.old pen.new result }
-    ensures handed_out { OnOk result (pen.new.output ≡ encoded pen.new) }
+    ensures written { (open_ended : ℕ) → Wrote (piece_at (document_end_piece implicit) open_ended) pen.old pen.new result }
+    ensures flushed_whole { OnOk result (pen.new.output ≡ encoded pen.new) }
 {
     write_document_end(pen, settings, implicit)?;
     pen.flush()
@@ -242,13 +248,13 @@ fn flush_document_end<A: Allocator>(
 fn flush_stream_end<A: Allocator>(
     pen: &mut Pen<A>,
     settings: &EffectiveSettings,
-    mark: OpenMark,
+    open_ended: OpenEnded,
 ) -> Result<(), yaml_error_t>
     requires { IsReady pen.old }
-    ensures written { Wrote (piece_at stream_end_piece (seen_mark mark)) pen.old pen.new result }
-    ensures handed_out { OnOk result (pen.new.output ≡ encoded pen.new) }
+    ensures written { Wrote (piece_at stream_end_piece (seen_open_ended open_ended)) pen.old pen.new result }
+    ensures flushed_whole { OnOk result (pen.new.output ≡ encoded pen.new) }
 {
-    write_stream_end(pen, settings, mark)?;
+    write_stream_end(pen, settings, open_ended)?;
     pen.flush()
 }
 
@@ -261,11 +267,11 @@ fn begin_page<A: Allocator>(pen: &mut Pen<A>, encoding: yaml_encoding_t, line_br
         ≡ record pen.old {
           encoding = seen_encoding encoding;
           line_break = unwrap_or (seen_break line_break) line_feed_break;
-          mark_due = false;
+          bom_due = false;
         } }
 {
     pen.begin(encoding, line_break);
-    if pen.is_mark_due() {
+    if pen.is_bom_due() {
         let _ = pen.write_bom();
     }
 }

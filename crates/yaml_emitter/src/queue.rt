@@ -2,7 +2,7 @@
 
 ghost use Rattle.std.specs.Prelude.{◌≡◌, ◌≤◌, ◌==◌, ◌∷◌, [], true, drop, vec_len, vec_capacity, if◌then◌else◌};
 ghost use Rattle.std.specs.List.{list_any};
-ghost use Rattle.yaml_base.specs.Ready.{is_start, is_end, awaited, is_balanced, fronts, is_ready};
+ghost use Rattle.yaml_base.specs.Ready.{is_start, is_end, awaited, is_balanced, nonempty_prefixes, is_ready};
 ghost use Rattle.yaml_base.specs.Seen.{seen_event, seen_events};
 ghost use Rattle.yaml_emitter.specs.Processing as processing;
 ghost use Rattle.yaml_emitter.specs.Processing.{ends_mapping, ends_sequence};
@@ -59,9 +59,9 @@ fn one_if(holds: bool) -> usize
     if holds { 1 } else { 0 }
 }
 
-/// Whether some front of the events has as many starts as ends.
+/// Whether some prefix of the events has as many starts as ends.
 fn closes<A: Allocator>(events: &[yaml_event_t<A>]) -> bool
-    ensures { result ≡ list_any is_balanced (fronts (seen_events events.now)) }
+    ensures { result ≡ list_any is_balanced (nonempty_prefixes (seen_events events.now)) }
 {
     let mut starts = 0usize;
     let mut ended = 0usize;
@@ -144,7 +144,7 @@ pub(crate) fn first_and_rest<A: Allocator>(
 }
 
 /// Drops the first `count` events of a queue. Its capacity stays.
-pub(crate) fn drop_front<A: Allocator>(queue: &mut WaitingEvents<A>, count: usize)
+pub(crate) fn drop_written<A: Allocator>(queue: &mut WaitingEvents<A>, count: usize)
     requires { count ≤ vec_len queue.old }
     ensures rest { seen_events queue.new.items ≡ drop count (seen_events queue.old.items) }
     ensures room { vec_capacity queue.new ≡ vec_capacity queue.old }

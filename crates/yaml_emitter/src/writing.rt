@@ -1,14 +1,14 @@
 //! What events write, put through the pen piece by piece.
+mod atoms;
 mod contents;
 mod directives;
 mod documents;
 mod indicators;
-mod marks;
 mod nodes;
+mod open_ended;
 mod places;
 mod properties;
 mod scalars;
-mod signs;
 mod simple_keys;
 mod site;
 mod spelling;
@@ -21,10 +21,10 @@ pub(crate) use contents::{
 };
 pub(crate) use directives::{StartContent, write_document_start};
 pub(crate) use documents::{write_document_end, write_stream_end};
-pub(crate) use marks::OpenMark;
 pub(crate) use nodes::{
     entries_column, is_written_in_flow, write_alias, write_collection_end, write_collection_start,
 };
+pub(crate) use open_ended::OpenEnded;
 pub(crate) use scalars::write_scalar;
 pub(crate) use simple_keys::{
     is_simple_alias_key, is_simple_collection_key, is_simple_scalar_key, is_simple_usual_key,

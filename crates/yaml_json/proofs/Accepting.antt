@@ -146,16 +146,16 @@ stream_stays canonical in_flow json most fits =
     let fits_whole : 0 + nesting json ≤ most = omega (arith, fits) in
     (few, (few, value_stays json canonical in_flow most 0 closing fits_whole (few, (few, few))))
 
-shallow : (canonical in_flow : Bool) (json : Json) → nesting json ≤ most_open → (front rest : List Event)
-    → front ++ rest ≡ stream_of canonical in_flow json → open_count front ≤ most_open
-shallow canonical in_flow json fits front rest is =
-    few_open most_open (stream_of canonical in_flow json) front rest (stream_stays canonical in_flow json most_open fits) is
+shallow : (canonical in_flow : Bool) (json : Json) → nesting json ≤ most_open → (prefix rest : List Event)
+    → prefix ++ rest ≡ stream_of canonical in_flow json → open_count prefix ≤ most_open
+shallow canonical in_flow json fits prefix rest is =
+    few_open most_open (stream_of canonical in_flow json) prefix rest (stream_stays canonical in_flow json most_open fits) is
 
 -- ---- all
 
--- where no front of it leaves too many collections open
+-- where no prefix of it leaves too many collections open
 pub accepted_where : (canonical in_flow : Bool) (json : Json)
-    → ((front rest : List Event) → front ++ rest ≡ stream_of canonical in_flow json → open_count front ≤ most_open)
+    → ((prefix rest : List Event) → prefix ++ rest ≡ stream_of canonical in_flow json → open_count prefix ≤ most_open)
     → IsAccepted canonical (stream_of canonical in_flow json)
 accepted_where canonical in_flow json few =
     let part : List ℕ × Json = ([], json) in

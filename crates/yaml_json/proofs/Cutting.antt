@@ -7,7 +7,7 @@ use Rattle.json.specs.Word.{is_operator, is_space}
 use Rattle.yaml_json.specs.declared.cuts.Mode.{Mode}
 use Rattle.yaml_json.specs.declared.cuts.Mode.TheVariants.{Before, Within, InString, AfterBackslash, InWord, Behind}
 use Rattle.yaml_json.specs.declared.cuts.Scan.{Scan}
-use Rattle.yaml_json.specs.Texts.{CutsFirst, after_byte, begun_by, cut_before, onto_first, texts_after, texts_in}
+use Rattle.yaml_json.specs.Texts.{CutsFirstText, after_byte, scan_first_byte, cut_before, onto_first, texts_after, texts_in}
 
 -- some bytes before the first of some texts
 abbrev pub all_onto : List ℕ → List (List ℕ) → List (List ℕ)
@@ -33,7 +33,7 @@ pub scan_begins : (text : List ℕ) → Scanned text [] text (record { mode = Be
 scan_begins text = record { parts = refl; texts = refl; few = omega arith; fresh = λ none. refl }
 
 -- how many are levels after a byte
-begun_few : (byte : ℕ) → (begun_by byte).levels ≤ 1
+begun_few : (byte : ℕ) → (scan_first_byte byte).levels ≤ 1
 begun_few byte = grind arith
 
 step_few : (mode : Mode) (levels byte : ℕ) (next : Scan) → after_byte (record { mode = mode; levels = levels }) byte ≡ Some next → next.levels ≤ suc levels
@@ -60,7 +60,7 @@ module _ (text done left : List ℕ) (scan : Scan) (byte : ℕ) (scanned : Scann
       }
 
   -- or begins the next
-  pub scan_cuts : after_byte scan byte ≡ None → CutsFirst text done (byte ∷ left)
+  pub scan_cuts : after_byte scan byte ≡ None → CutsFirstText text done (byte ∷ left)
   scan_cuts is =
       let cut : texts_in text ≡ done ∷ texts_in (byte ∷ left) =
       scanned.texts ∙ ap (λ (found : Option Scan). all_onto done (cut_before byte found (λ next. texts_after next left))) is
@@ -70,12 +70,12 @@ module _ (text done left : List ℕ) (scan : Scan) (byte : ℕ) (scanned : Scann
         shorter = later (length done) refl where
           later : (n : ℕ) → length done ≡ n → length (byte ∷ left) < length text
           later zero none =
-              let some : Some (begun_by byte) ≡ None =
+              let some : Some (scan_first_byte byte) ≡ None =
               sym (ap (λ (mode : Mode). after_byte (record { mode = mode; levels = scan.levels }) byte) (scanned.fresh none)) ∙ is in
               let never : ⊥ = cc in absurd never
           later (suc n) some = omega (arith, some, length-append done (byte ∷ left), ap length scanned.parts)
 
-pub scan_ends : (text done : List ℕ) (scan : Scan) → Scanned text done [] scan → CutsFirst text text []
+pub scan_ends : (text done : List ℕ) (scan : Scan) → Scanned text done [] scan → CutsFirstText text text []
 scan_ends text done scan scanned =
     let whole : done ≡ text = sym (append-nil done) ∙ scanned.parts in
     (append-nil text, inl (refl, scanned.texts ∙ onto_text done [] [] ∙ ap (λ (first : List ℕ). first ∷ []) (append-nil done ∙ whole)))
@@ -109,12 +109,12 @@ module _ (text : List ℕ) (end : ℕ) (scan : Scan) (scanned : Scanned text (ta
         subst (λ (done : List ℕ). Scanned text done (drop (end + 1) text) next) (sym (take_more text end 0 less))
         (scan_goes_on text (take end text) (drop (end + 1) text) scan (get_or text end 0) before_byte next is)
 
-    pub one_cut : after_byte scan (get_or text end 0) ≡ None → CutsFirst text (take end text) (drop end text)
+    pub one_cut : after_byte scan (get_or text end 0) ≡ None → CutsFirstText text (take end text) (drop end text)
     one_cut is =
-        subst (CutsFirst text (take end text)) (sym byte_next)
+        subst (CutsFirstText text (take end text)) (sym byte_next)
         (scan_cuts text (take end text) (drop (end + 1) text) scan (get_or text end 0) before_byte is)
 
-  pub all_scanned : length text ≤ end → CutsFirst text text []
+  pub all_scanned : length text ≤ end → CutsFirstText text text []
   all_scanned most =
       scan_ends text (take end text) scan
       (subst (λ (left : List ℕ). Scanned text (take end text) left scan) (drop_all end text most) scanned)

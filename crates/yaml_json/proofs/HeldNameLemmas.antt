@@ -13,16 +13,16 @@ use Rattle.std.proofs.lemmas.Slice.Eq.{bytes_eq-Decides}
 use Rattle.std.specs.Prelude.{◌⊎◌, ℕ, Bool, true, false, List, [], ◌∷◌, ◌++◌, ◌||◌, bytes_eq, cond, length, not}
 use Rattle.std.specs.List.{list_any}
 use Rattle.yaml_json.specs.HeldNames.{HasNames, HaveNames}
-use Rattle.yaml_json.specs.Names.{IsNew}
+use Rattle.yaml_json.specs.Names.{IsNewName}
 
 -- a name is new exactly where it is none of those
-pub new_among : (names : List (List ℕ)) (name : List ℕ) → list_any (bytes_eq name) names ≡ false → IsNew names name
+pub new_among : (names : List (List ℕ)) (name : List ℕ) → list_any (bytes_eq name) names ≡ false → IsNewName names name
 new_among [] name none = tt
 new_among (other ∷ names) name none =
     let both = or_parts (bytes_eq name other) (list_any (bytes_eq name) names) none in
     (λ same. both_ways (bytes_eq name other) both.0 ((bytes_eq-Decides name other).1 (sym same)), new_among names name both.1)
 
-pub among_new : (names : List (List ℕ)) (name : List ℕ) → list_any (bytes_eq name) names ≡ true → IsNew names name → ⊥
+pub among_new : (names : List (List ℕ)) (name : List ℕ) → list_any (bytes_eq name) names ≡ true → IsNewName names name → ⊥
 among_new [] name some new = cc
 among_new (other ∷ names) name some new = elim (or_cases (bytes_eq name other) (list_any (bytes_eq name) names) some) [
   | inl first ↦ new.0 (sym ((bytes_eq-Decides name other).0 first))
@@ -47,7 +47,8 @@ pub has_more : (set later : BTreeSet (Bor (List ℕ))) (key : Bor (List ℕ)) (n
     → HasNames set names → HasNames later (key.now ∷ names)
 has_more set later key names updates has name =
     let at : Bor (List ℕ) = record { ref_ptr = key.ref_ptr; now = name } in
-    updates.0 at ∙ ap (λ (b : Bool). cond b true (contains_by (λ k. slice_cmp nat_cmp name k.now) set)) (is_eq-slice_cmp key.now name ∙ same_both_ways key.now name)
+    updates.0 at ∙ ap (λ (b : Bool). cond b true (contains_by (λ k. slice_cmp nat_cmp name k.now) set))
+    (is_eq-slice_cmp key.now name ∙ same_both_ways key.now name)
     ∙ ap (λ (b : Bool). cond (bytes_eq name key.now) true b) (has name) ∙ either (bytes_eq name key.now) (list_any (bytes_eq name) names)
 
 -- ---- the last of some sets
@@ -82,8 +83,8 @@ module _ (sets : Sets) (n : ℕ) (many : n ≡ length sets) (set_now later : BTr
   pub have_more : HaveNames (set sets (n - 1) later) ((key.now ∷ names) ∷ levels)
   have_more = (have.0, later, set_last sets have.0 have.1 later n have.2 many, has_more set_now later key names updates has_now, have.4)
 
-  pub added_new : new ≡ true → IsNew names key.now
+  pub added_new : new ≡ true → IsNewName names key.now
   added_new is = new_among names key.now (sym (has_now key.now) ∙ false_from_not (contains_by (name_cmp key) set_now) (sym added ∙ is))
 
-  pub added_again : new ≡ false → IsNew names key.now → ⊥
+  pub added_again : new ≡ false → IsNewName names key.now → ⊥
   added_again is = among_new names key.now (sym (has_now key.now) ∙ true_from_not (contains_by (name_cmp key) set_now) (sym added ∙ is))

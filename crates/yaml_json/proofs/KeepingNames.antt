@@ -5,9 +5,9 @@ use Rattle.std.specs.Prelude.{◌⊎◌, Bool, true, false, List, [], ◌∷◌,
 use Rattle.json.specs.Token.{Token}
 use Rattle.yaml_writer.specs.declared.kinds.CollectionKind.{CollectionKind}
 use Rattle.yaml_writer.specs.declared.kinds.CollectionKind.TheVariants.{Mapping, Sequence}
-use Rattle.yaml_json.specs.HeldNames.{Adds, HaveNames, HoldsNames}
-use Rattle.yaml_json.specs.Names.{IsNew, NamesOnce, all_names_after, inner_names, names_after, outer_names}
-use Rattle.yaml_json.specs.Walk.{FitsNames, HasUniqueNames, IsScalar, Kept, Keeps, KeepsTo, LeavesNames, closer, opener}
+use Rattle.yaml_json.specs.HeldNames.{AddsName, HaveNames, HoldsNames}
+use Rattle.yaml_json.specs.Names.{IsNewName, NamesOnce, all_names_after, inner_names, names_after, outer_names}
+use Rattle.yaml_json.specs.Walk.{FitsNames, HasUniqueNames, IsScalar, KeepsNames, Keeps, KeepsTo, LeavesNames, closer, opener}
 use Rattle.yaml_json.specs.declared.names.Names.{Names}
 use Rattle.yaml_json.proofs.NameLemmas.{names_after_both, once_both}
 
@@ -39,7 +39,7 @@ module _ {A : Type 0} where
   kept_on : (so : List Token) (token : Token) (held later : Names A) → later.are_kept ≡ held.are_kept
       → (later.are_kept ≡ true → NamesOnce (all_names_after [] so) (token ∷ []))
       → (HoldsNames (all_names_after [] so) held → HoldsNames (names_after (all_names_after [] so) token) later)
-      → Kept so held → Kept (so ++ token ∷ []) later
+      → KeepsNames so held → KeepsNames (so ++ token ∷ []) later
   kept_on so token held later same once holds kept is =
       let before = kept (sym same ∙ is) in (
         once_both [] so (token ∷ []) before.0 (once is),
@@ -77,13 +77,13 @@ module _ {A : Type 0} where
 
   module _ (kinds outer : List CollectionKind) (kind : CollectionKind) (is : kinds ≡ outer ++ kind ∷ []) (unique : Bool) (name : List ℕ)
       (held later : Names A) (fits : FitsNames unique kinds held) (same : later.are_kept ≡ held.are_kept) (new : Bool)
-      (adds : (names : List (List ℕ)) → (levels : Taken) → HoldsNames (names ∷ levels) held → Adds names levels name new later) where
-    there : (so : List Token) → Kept so held → held.are_kept ≡ true
+      (adds : (names : List (List ℕ)) → (levels : Taken) → HoldsNames (names ∷ levels) held → AddsName names levels name new later) where
+    there : (so : List Token) → KeepsNames so held → held.are_kept ≡ true
         → all_names_after [] so ≡ inner_names (all_names_after [] so) ∷ outer_names (all_names_after [] so)
     there so kept also = some_level kinds outer kind held (all_names_after [] so) is (fits.1 also) (kept also).1
 
-    added : (so : List Token) → Kept so held → held.are_kept ≡ true
-        → Adds (inner_names (all_names_after [] so)) (outer_names (all_names_after [] so)) name new later
+    added : (so : List Token) → KeepsNames so held → held.are_kept ≡ true
+        → AddsName (inner_names (all_names_after [] so)) (outer_names (all_names_after [] so)) name new later
     added so kept also =
         adds (inner_names (all_names_after [] so)) (outer_names (all_names_after [] so))
         (λ again. subst (HaveNames held.sets.items) (there so kept also) (kept again).1)
@@ -98,8 +98,8 @@ module _ {A : Type 0} where
         )
 
     -- a name that isn't
-    pub name_again : new ≡ false → (so : List Token) → Kept so held
-        → (unique ≡ true) × NamesOnce [] so × (IsNew (inner_names (all_names_after [] so)) name → ⊥)
+    pub name_again : new ≡ false → (so : List Token) → KeepsNames so held
+        → (unique ≡ true) × NamesOnce [] so × (IsNewName (inner_names (all_names_after [] so)) name → ⊥)
     name_again old so kept = elim (cases_Bool held.are_kept) [
       | inl also ↦ (sym fits.0 ∙ also, (kept also).0, ((added so kept also).2 old).1)
       | inr not_kept ↦ absurd (never_kept not_kept)
@@ -113,9 +113,9 @@ module _ {A : Type 0} where
   pub keeps_then : (held between later : Names A) (one other : List Token) → Keeps held one between → Keeps between other later
       → Keeps held (one ++ other) later
   keeps_then held between later one other first second so kept =
-      subst (λ (all : List Token). Kept all later) (append_assoc so one other) (second (so ++ one) (first so kept))
+      subst (λ (all : List Token). KeepsNames all later) (append_assoc so one other) (second (so ++ one) (first so kept))
 
-  pub names_once : (unique : Bool) (kinds : List CollectionKind) (held : Names A) (so : List Token) → FitsNames unique kinds held → Kept so held
+  pub names_once : (unique : Bool) (kinds : List CollectionKind) (held : Names A) (so : List Token) → FitsNames unique kinds held → KeepsNames so held
       → unique ≡ true → NamesOnce [] so
   names_once unique kinds held so fits kept is = (kept (fits.0 ∙ is)).0
 
@@ -123,7 +123,7 @@ module _ {A : Type 0} where
   pub record NamesSoFar (start ahead : List Token) (held : Names A) : Type 0 where
     pub taken : List Token
     pub parts : taken ++ ahead ≡ start
-    pub kept : Kept taken held
+    pub kept : KeepsNames taken held
 
   pub names_begin : (start : List Token) (held : Names A) → HoldsNames [] held → NamesSoFar start start held
   names_begin start held holds = record { taken = []; parts = refl; kept = λ is. (tt, holds is) }

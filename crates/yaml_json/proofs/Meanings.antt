@@ -11,7 +11,8 @@ use Rattle.yaml_base.specs.scalars.Analysis.{Allowances, allowances, is_empty}
 use Rattle.yaml_base.specs.Characters.{Text}
 use Rattle.yaml_base.specs.Event.{Scalar, ScalarStyle, any_style, plain, single_quoted, double_quoted, literal, folded, TagDirective}
 use Rattle.yaml_base.specs.Grammar.{scalar_node, Nodes, no_nodes, nodes_and, Pairs, no_pairs, pairs_and}
-use Rattle.yaml_base.specs.values.JsonNumbers.{JsonNumber, fraction_or, is_json_integer, is_json_number, json_value, means_number, number_meant, value_with}
+use Rattle.yaml_base.specs.values.JsonNumbers.{JsonNumber, fraction_or_default, is_json_integer, is_json_number, json_value, means_number}
+use Rattle.yaml_base.specs.values.JsonNumbers.{number_meant, value_with}
 use Rattle.yaml_base.specs.values.JsonNumbers.{yaml_number}
 use Rattle.yaml_base.specs.Layout.{as_item, as_key, as_value, Place, has_no_nodes, has_no_pairs, is_simple, is_simple_at, is_written_in_flow, entry_place}
 use Rattle.yaml_base.specs.NodeLayout.{choice_of}
@@ -31,7 +32,7 @@ use Rattle.yaml_writer.proofs.PlainNumbers.{written_numbers}
 use Rattle.yaml_writer.specs.NumberParts.{number_in}
 use Rattle.yaml_writer.specs.Writing.{float_tag, number_tag, text_style}
 use Rattle.yaml_json.specs.JsonEvents.{bool_content, collection_in, null_content, number_content, text_content, word_content}
-use Rattle.yaml_json.specs.Means.{Schema, tag_of, scalar_meant, in_order, pairs_in_order, Means, ItemsMean, MembersMean}
+use Rattle.yaml_json.specs.Means.{Schema, canonical_tag, scalar_meant, in_order, pairs_in_order, Means, ItemsMean, MembersMean}
 use Rattle.yaml_json.proofs.NumberBridge.{number_is}
 use Rattle.yaml_json.proofs.Trees.{json_node, items_nodes, members_pairs}
 
@@ -126,12 +127,12 @@ module _ (schema : Schema) (s : Effective) (place : Place) (simple : Bool) where
   tagging_by content canonical = tagging_in (scalar_tag canonical content) (style_by content canonical)
 
   -- with its reading's tag a scalar means what the schema says
-  with_own_tag : (own word : Text) (meant : Resolved) → schema word ≡ meant → own ≡ tag_of meant → scalar_meant schema (with_tag own) word ≡ meant
+  with_own_tag : (own word : Text) (meant : Resolved) → schema word ≡ meant → own ≡ canonical_tag meant → scalar_meant schema (with_tag own) word ≡ meant
   with_own_tag own word meant reads is =
-      ap (λ (found : Resolved). if bytes_eq own (tag_of found) then found else meant_by_nobody) reads
-      ∙ ap (λ (same : Bool). if same then meant else meant_by_nobody) ((bytes_eq-Decides own (tag_of meant)).1 is)
+      ap (λ (found : Resolved). if bytes_eq own (canonical_tag found) then found else meant_by_nobody) reads
+      ∙ ap (λ (same : Bool). if same then meant else meant_by_nobody) ((bytes_eq-Decides own (canonical_tag meant)).1 is)
 
-  word_by : (own word : Text) (meant : Resolved) → schema word ≡ meant → own ≡ tag_of meant → IsPlainWord word → (canonical : Bool)
+  word_by : (own word : Text) (meant : Resolved) → schema word ≡ meant → own ≡ canonical_tag meant → IsPlainWord word → (canonical : Bool)
       → scalar_meant schema (tagging_by (word_content canonical own word) canonical) word ≡ meant
   word_by own word meant reads is plain_there true = with_own_tag own word meant reads is
   word_by own word meant reads is plain_there false =
@@ -140,7 +141,7 @@ module _ (schema : Schema) (s : Effective) (place : Place) (simple : Bool) where
       standing_by : Bool → Stood
       standing_by x = if x then stood_plain else stood_quoted
 
-  pub word_means : (own word : Text) (meant : Resolved) → schema word ≡ meant → own ≡ tag_of meant → IsPlainWord word
+  pub word_means : (own word : Text) (meant : Resolved) → schema word ≡ meant → own ≡ canonical_tag meant → IsPlainWord word
       → scalar_meant schema (tagging_in (scalar_tag s.canonical (word_content s.canonical own word))
       (choice_of s place simple (word_content s.canonical own word)))
       word ≡ meant
@@ -176,12 +177,12 @@ module _ (schema : Schema) (s : Effective) (place : Place) (simple : Bool) where
 -- Values
 
 -- a number's tag is that of its reading
-number_tagged : (parts : JsonNumber) → number_tag parts ≡ tag_of (number_meant parts)
+number_tagged : (parts : JsonNumber) → number_tag parts ≡ canonical_tag (number_meant parts)
 number_tagged parts = by (is_json_integer parts)
   where
     by : (x : Bool) → (if x then int_tag else float_tag)
-        ≡ tag_of (if x then meant_integer (signed parts.negative (digits_value 10 parts.whole)) else meant_decimal
-        (value_with parts (fraction_or (codes "0") parts)))
+        ≡ canonical_tag (if x then meant_integer (signed parts.negative (digits_value 10 parts.whole)) else meant_decimal
+        (value_with parts (fraction_or_default (codes "0") parts)))
     by true = refl
     by false = refl
 

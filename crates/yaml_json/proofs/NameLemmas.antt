@@ -7,7 +7,7 @@ use Rattle.json.specs.Token.{Token}
 use Rattle.json.specs.Json.{Json, null, boolean, number, string, array, object, Items, no_items, item, Members, no_members, member}
 use Rattle.json.specs.Strict.{AreDistinct, HasUniqueKeys, ItemsHaveUniqueKeys, MembersHaveUniqueKeys, keys}
 use Rattle.json.specs.Tree.{json_tokens, items_tokens, members_tokens}
-use Rattle.yaml_json.specs.Names.{IsNew, IsNewIn, NamesOnce, all_names_after, names_after}
+use Rattle.yaml_json.specs.Names.{IsNewName, IsNewNameIn, NamesOnce, all_names_after, names_after}
 
 -- some tokens, and then others
 pub once_both : (levels : List (List (List ℕ))) (first second : List Token) → NamesOnce levels first → NamesOnce (all_names_after levels first) second
@@ -34,7 +34,7 @@ names_after_both levels (token ∷ first) second = names_after_both (names_after
 -- each of these is new to those
 abbrev AreNew : List (List ℕ) → List (List ℕ) → Type 0
 AreNew names [] = ⊤
-AreNew names (name ∷ more) = IsNew names name × AreNew names more
+AreNew names (name ∷ more) = IsNewName names name × AreNew names more
 
 new_to_none : (more : List (List ℕ)) → AreNew [] more
 new_to_none [] = tt
@@ -109,8 +109,12 @@ mutual
   once_members (member name json more) names levels rest once =
       let one = once_value json ((name ∷ names) ∷ levels) (members_tokens more ++ rest)
       (subst (NamesOnce ((name ∷ names) ∷ levels)) (append_assoc (json_tokens json) (members_tokens more) rest) once.1) in
-      let others = once_members more (name ∷ names) levels rest one.1 in
-      ((once.0, new_to_others name names (keys more) others.0), distinct_more name (keys more) (differ_from name names (keys more) others.0) others.1, (one.0, others.2), others.3)
+      let others = once_members more (name ∷ names) levels rest one.1 in (
+        (once.0, new_to_others name names (keys more) others.0),
+        distinct_more name (keys more) (differ_from name names (keys more) others.0) others.1,
+        (one.0, others.2),
+        others.3,
+      )
 
 -- ---- and the other way round
 

@@ -149,8 +149,8 @@ fraction_got (c ∷ text) rest e = by (c == 0x2E) refl e
 
 -- The exponent
 
-abbrev sign_text : Option Bool → Text
-sign_text sign = elim sign as (λ _. Text) [
+abbrev indicator_text : Option Bool → Text
+indicator_text sign = elim sign as (λ _. Text) [
   | None ↦ []
   | Some negative ↦ if negative then codes "-" else codes "+"
 ]
@@ -161,11 +161,11 @@ is_exponent exponent = elim exponent as (λ _. Bool) [
   | Some found ↦ are_digits 10 found.digits
 ]
 
-sign_got : (text : Text) → (sign : Option Bool) × (text ≡ sign_text sign ++ after_sign text)
+sign_got : (text : Text) → (sign : Option Bool) × (text ≡ indicator_text sign ++ after_sign text)
 sign_got [] = (None, refl)
 sign_got (c ∷ text) = by (c == 0x2D) (c == 0x2B) refl refl
   where
-    by : (x y : Bool) → (c == 0x2D) ≡ x → (c == 0x2B) ≡ y → (sign : Option Bool) × ((c ∷ text) ≡ sign_text sign ++ cond (x || y) text (c ∷ text))
+    by : (x y : Bool) → (c == 0x2D) ≡ x → (c == 0x2B) ≡ y → (sign : Option Bool) × ((c ∷ text) ≡ indicator_text sign ++ cond (x || y) text (c ∷ text))
     by true y is other = (Some true, ap (λ (d : ℕ). d ∷ text) (eqb-true c 0x2D is))
     by false true other is = (Some false, ap (λ (d : ℕ). d ∷ text) (eqb-true c 0x2B is))
     by false false one other = (None, refl)
@@ -181,14 +181,14 @@ lettered : (capital : Bool) (c : ℕ) (text rest : Text) → c ≡ (if capital t
 lettered capital c text rest is e =
     let signed = sign_got text in
     let found = digits_got (after_sign text) rest e in
-    let inner = signed.1 ∙ ap (λ (t : Text). sign_text signed.0 ++ t) found.joined ∙ sym (append_assoc (sign_text signed.0) found.digits rest) in
+    let inner = signed.1 ∙ ap (λ (t : Text). indicator_text signed.0 ++ t) found.joined ∙ sym (append_assoc (indicator_text signed.0) found.digits rest) in
     record {
       exponent = Some (record { capital = capital; sign = signed.0; digits = found.digits });
       joined = by capital is signed.0 found.digits inner;
       is = found.are;
     }
   where
-    by : (x : Bool) → c ≡ (if x then 0x45 else 0x65) → (sign : Option Bool) (digits : Text) → text ≡ (sign_text sign ++ digits) ++ rest
+    by : (x : Bool) → c ≡ (if x then 0x45 else 0x65) → (sign : Option Bool) (digits : Text) → text ≡ (indicator_text sign ++ digits) ++ rest
         → (c ∷ text) ≡ exponent_text (Some (record { capital = x; sign = sign; digits = digits })) ++ rest
     by true is sign digits inner = ap (λ (d : ℕ). d ∷ text) is ∙ ap (λ (t : Text). 0x45 ∷ t) inner
     by false is sign digits inner = ap (λ (d : ℕ). d ∷ text) is ∙ ap (λ (t : Text). 0x65 ∷ t) inner

@@ -8,13 +8,13 @@ use Rattle.std.specs.List.{list_all}
 use Rattle.std.specs.Option.{option_or}
 use Rattle.json.specs.Json.{Json}
 use Rattle.json.specs.Tree.{depth as nesting}
-use Rattle.yaml_base.proofs.Completions.{front_begins, pushed-append}
+use Rattle.yaml_base.proofs.Completions.{prefix_is_partial, pushed-append}
 use Rattle.yaml_base.proofs.NoFaults.{is_none_none, neither}
 use Rattle.yaml_base.proofs.Trees.{stream_pushed}
 use Rattle.yaml_base.specs.Event.{Event}
 use Rattle.yaml_base.specs.Grammar.{Partial, Stream, after_stream, before_stream, partial_of, push, pushed}
 use Rattle.yaml_base.specs.Prefix.{IsPrefix}
-use Rattle.yaml_base.specs.Refusal.{IsAccepted, begins_collection, content_fault, depth_fault, expected, fault_if, is_sound, most_open, name_or_tag_fault}
+use Rattle.yaml_base.specs.Refusal.{IsAccepted, begins_collection, content_fault, depth_fault, expected, some_if, is_sound, most_open, name_or_tag_fault}
 use Rattle.yaml_base.specs.Refusal.{open_levels, place_fault, refusal, refusal_at}
 use Rattle.yaml_base.specs.Settings.{Settings}
 use Rattle.yaml_base.specs.declared.errors.yaml_error_t.{yaml_error_t}
@@ -24,7 +24,7 @@ use Rattle.yaml_emitter.specs.State.{State}
 use Rattle.yaml_json.proofs.Accepting.{json_accepted, stream_of, stream_sound}
 use Rattle.yaml_json.proofs.Trees.{json_stream, stream_flat}
 
--- ---- a fault that is told is that of the depth, where there is no other
+-- ---- a fault that is returned is that of the depth, where there is no other
 
 last_fault : (name place content last : Option yaml_error_t) (error : yaml_error_t) → name ≡ None → place ≡ None → content ≡ None
     → option_or name (option_or place (option_or content last)) ≡ Some error → last ≡ Some error
@@ -34,7 +34,7 @@ last_fault name place content last error no_name no_place no_content is =
     ∙ ap (λ (o : Option yaml_error_t). option_or o last) no_content)
     ∙ is
 
-depth_told : (wrong : Bool) (error : yaml_error_t) → fault_if wrong TooDeep ≡ Some error → error ≡ TooDeep
+depth_told : (wrong : Bool) (error : yaml_error_t) → some_if wrong TooDeep ≡ Some error → error ≡ TooDeep
 depth_told true error is = sym (ap (λ (o : Option yaml_error_t). unwrap_or o TooDeep) is)
 depth_told false error is = cc
 
@@ -44,50 +44,50 @@ same_next : (o : Option Partial) → option_and_then (λ next. Some next) o ≡ 
 same_next None = refl
 same_next (Some p) = refl
 
-record Placed (canonical : Bool) (front : List Event) (event : Event) : Type 0 where
+record Placed (canonical : Bool) (prefix : List Event) (event : Event) : Type 0 where
   before : Partial
-  is_before : partial_of front ≡ Some before
+  is_before : partial_of prefix ≡ Some before
   after : Partial
   is_after : push before event ≡ Some after
   in_order : is_sound canonical event ≡ true
 
-module _ (canonical in_flow : Bool) (json : Json) (front later : List Event) (event : Event)
-    (parts : front ++ event ∷ later ≡ stream_of canonical in_flow json) where
+module _ (canonical in_flow : Bool) (json : Json) (prefix later : List Event) (event : Event)
+    (parts : prefix ++ event ∷ later ≡ stream_of canonical in_flow json) where
   abbrev tree : Stream
   tree = json_stream (json ∷ []) canonical in_flow
 
-  pushes : partial_of ((front ++ event ∷ []) ++ later) ≡ Some (after_stream tree)
+  pushes : partial_of ((prefix ++ event ∷ []) ++ later) ≡ Some (after_stream tree)
   pushes =
       let part : List ℕ × Json = ([], json) in
-      ap partial_of (append_assoc front (event ∷ []) later ∙ parts ∙ sym (stream_flat part [] canonical in_flow)) ∙ stream_pushed tree
+      ap partial_of (append_assoc prefix (event ∷ []) later ∙ parts ∙ sym (stream_flat part [] canonical in_flow)) ∙ stream_pushed tree
 
   all_sound : list_all (is_sound canonical) (event ∷ later) ≡ true
   all_sound =
-      (and_parts (list_all (is_sound canonical) front) (list_all (is_sound canonical) (event ∷ later))
-      (sym (list_all-append (is_sound canonical) front (event ∷ later)) ∙ ap (list_all (is_sound canonical)) parts ∙ stream_sound canonical in_flow json)).1
+      (and_parts (list_all (is_sound canonical) prefix) (list_all (is_sound canonical) (event ∷ later))
+      (sym (list_all-append (is_sound canonical) prefix (event ∷ later)) ∙ ap (list_all (is_sound canonical)) parts ∙ stream_sound canonical in_flow json)).1
 
-  placed : Placed canonical front event
+  placed : Placed canonical prefix event
   placed =
-      let with_event = front_begins (front ++ event ∷ []) later (after_stream tree) pushes in
-      let begun = front_begins front (event ∷ []) with_event.0 with_event.1 in
+      let with_event = prefix_is_partial (prefix ++ event ∷ []) later (after_stream tree) pushes in
+      let begun = prefix_is_partial prefix (event ∷ []) with_event.0 with_event.1 in
       record {
         before = begun.0;
         is_before = begun.1;
         after = with_event.0;
         is_after = sym (same_next (push begun.0 event))
             ∙ sym (ap (λ (o : Option Partial). option_and_then (λ q. pushed q (event ∷ [])) o) begun.1)
-            ∙ sym (pushed-append front (event ∷ []) before_stream) ∙ with_event.1;
+            ∙ sym (pushed-append prefix (event ∷ []) before_stream) ∙ with_event.1;
         in_order = (and_parts (is_sound canonical event) (list_all (is_sound canonical) later) all_sound).0;
       }
 
-  pub refused_by_depth : (error : yaml_error_t) → refusal canonical front event ≡ Some error → error ≡ TooDeep
+  pub refused_by_depth : (error : yaml_error_t) → refusal canonical prefix event ≡ Some error → error ≡ TooDeep
   refused_by_depth error refused =
       let p = placed.before in
       let none = neither (name_or_tag_fault canonical event) (content_fault canonical event)
       (is_none_none (option_or (name_or_tag_fault canonical event) (content_fault canonical event)) placed.in_order) in
       let told : refusal_at canonical p event ≡ Some error =
       sym (ap (λ (o : Option Partial). option_and_then (λ partial. refusal_at canonical partial event) o) placed.is_before) ∙ refused in
-      let no_place : place_fault p event ≡ None = ap (λ (o : Option Partial). fault_if (is_none o) (expected p)) placed.is_after in
+      let no_place : place_fault p event ≡ None = ap (λ (o : Option Partial). some_if (is_none o) (expected p)) placed.is_after in
       let last : depth_fault p event ≡ Some error =
       last_fault (name_or_tag_fault canonical event) (place_fault p event) (content_fault canonical event) (depth_fault p event) error
       none.0 no_place none.1 told in
@@ -98,13 +98,13 @@ module _ (canonical in_flow : Bool) (json : Json) (front later : List Event) (ev
 
 module _ (given : Settings) (in_flow : Bool) (json : Json) (all : List Event) (error : yaml_error_t) (state : State)
     (begins : IsPrefix all (stream_of given.canonical in_flow json)) (refused : RefusedAt given all error state) where
-  goes_on : refused.front ++ refused.event ∷ (refused.later ++ begins.rest) ≡ stream_of given.canonical in_flow json
+  goes_on : refused.prefix ++ refused.event ∷ (refused.later ++ begins.rest) ≡ stream_of given.canonical in_flow json
   goes_on =
-      sym (append_assoc refused.front (refused.event ∷ refused.later) begins.rest)
+      sym (append_assoc refused.prefix (refused.event ∷ refused.later) begins.rest)
       ∙ ap (λ (events : List Event). events ++ begins.rest) refused.parts ∙ begins.parts
 
   pub error_is_depth : error ≡ TooDeep
-  error_is_depth = refused_by_depth given.canonical in_flow json refused.front (refused.later ++ begins.rest) refused.event goes_on error refused.refusal
+  error_is_depth = refused_by_depth given.canonical in_flow json refused.prefix (refused.later ++ begins.rest) refused.event goes_on error refused.refusal
 
   not_accepted : IsAccepted given.canonical (stream_of given.canonical in_flow json) → ⊥
   not_accepted accepted =
@@ -113,7 +113,7 @@ module _ (given : Settings) (in_flow : Bool) (json : Json) (all : List Event) (e
         rest = refused.later ++ begins.rest;
         accepted =
             subst (IsAccepted given.canonical)
-            (sym (append_assoc refused.front (refused.event ∷ []) (refused.later ++ begins.rest) ∙ goes_on)) accepted;
+            (sym (append_assoc refused.prefix (refused.event ∷ []) (refused.later ++ begins.rest) ∙ goes_on)) accepted;
       })
 
   -- the value nests deeper than collections may

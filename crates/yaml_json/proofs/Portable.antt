@@ -12,14 +12,14 @@ use Rattle.yaml_base.specs.Characters.{Text}
 use Rattle.yaml_base.specs.Event.{Scalar}
 use Rattle.yaml_base.specs.Grammar.{Document, Documents, no_documents, documents_and, scalar_node, Nodes, no_nodes, nodes_and, Pairs, no_pairs, pairs_and}
 use Rattle.yaml_base.specs.Grammar.{Stream, tree_of}
-use Rattle.yaml_base.specs.values.JsonNumbers.{JsonNumber, exponent_spelled, fraction_or, is_json_integer, is_json_number, minus, yaml_number}
+use Rattle.yaml_base.specs.values.JsonNumbers.{JsonNumber, exponent_spelled, fraction_or_default, is_json_integer, is_json_number, minus, yaml_number}
 use Rattle.yaml_base.specs.Layout.{is_explicit}
 use Rattle.yaml_base.specs.Event.{scalar_tag, collection_tag}
 use Rattle.yaml_base.specs.values.Resolved.{are_digits}
 use Rattle.yaml_base.specs.streams.StreamContent.{documents_in_order}
-use Rattle.yaml_base.specs.StreamLaw.{are_portable, document_has_flow_sign, is_lost, is_portable, is_written_as_nothing, node_has_flow_sign}
-use Rattle.yaml_base.specs.StreamLaw.{nodes_have_flow_sign, pairs_have_flow_sign, tag_has_flow_sign}
-use Rattle.yaml_base.specs.scalars.Style.{is_plain, style_asked}
+use Rattle.yaml_base.specs.StreamLaw.{are_portable, document_has_flow_indicator, loses_document, reads_alike, is_written_as_nothing, node_has_flow_indicator}
+use Rattle.yaml_base.specs.StreamLaw.{nodes_have_flow_indicator, pairs_have_flow_indicator, tag_has_flow_indicator}
+use Rattle.yaml_base.specs.scalars.Style.{is_plain, requested_style}
 use Rattle.yaml_base.specs.Tags.{directives_in_force}
 use Rattle.yaml_base.specs.values.TypedValues.{null_tag, bool_tag, int_tag, bool_text}
 use Rattle.yaml_base.proofs.Trees.{tree_of-stream_events}
@@ -45,13 +45,13 @@ digits_filled false (c ∷ whole) rest h = refl
 number_filled : (parts : JsonNumber) → is_json_number parts ≡ true → is_empty (yaml_number parts) ≡ false
 number_filled parts valid =
     digits_filled parts.negative parts.whole
-    (if is_json_integer parts then [] else codes "." ++ fraction_or (codes "0") parts ++ exponent_spelled parts.exponent)
+    (if is_json_integer parts then [] else codes "." ++ fraction_or_default (codes "0") parts ++ exponent_spelled parts.exponent)
     (whole_digits parts valid)
 
 number_written : (content : Scalar) (canonical : Bool) → is_empty content.value ≡ false → is_written_as_nothing canonical (scalar_node content) ≡ false
 number_written content canonical filled =
     ap (λ (empty : Bool). empty && not (is_some content.anchor) && not (is_some (scalar_tag canonical content)) && content.plain_implicit
-    && is_plain (style_asked canonical content.style)) filled
+    && is_plain (requested_style canonical content.style)) filled
 
 -- a value's root is written as something
 value_written : (json : Json) (canonical in_flow : Bool) → HasNumbers json → is_written_as_nothing canonical (json_node json canonical in_flow) ≡ false
@@ -64,23 +64,23 @@ value_written (string text) canonical in_flow numbers = text_written (chars text
 value_written (array _) canonical in_flow numbers = refl
 value_written (object _) canonical in_flow numbers = refl
 
--- No tag has a sign of flow
+-- No tag has a flow indicator
 
 -- a tag that is written in canonical form alone
-word_unsigned : (tag : Text) → tag_has_flow_sign (directives_in_force []) (Some tag) ≡ false → (canonical : Bool) (word : Text)
-    → node_has_flow_sign canonical (directives_in_force []) (scalar_node (word_content canonical tag word)) ≡ false
+word_unsigned : (tag : Text) → tag_has_flow_indicator (directives_in_force []) (Some tag) ≡ false → (canonical : Bool) (word : Text)
+    → node_has_flow_indicator canonical (directives_in_force []) (scalar_node (word_content canonical tag word)) ≡ false
 word_unsigned tag h true word = h
 word_unsigned tag h false word = refl
 
-text_unsigned : (text : Text) (canonical : Bool) → node_has_flow_sign canonical (directives_in_force []) (scalar_node (text_content text)) ≡ false
+text_unsigned : (text : Text) (canonical : Bool) → node_has_flow_indicator canonical (directives_in_force []) (scalar_node (text_content text)) ≡ false
 text_unsigned text true = refl
 text_unsigned text false = refl
 
-number_unsigned : (x : Bool) → tag_has_flow_sign (directives_in_force []) (Some (if x then int_tag else float_tag)) ≡ false
+number_unsigned : (x : Bool) → tag_has_flow_indicator (directives_in_force []) (Some (if x then int_tag else float_tag)) ≡ false
 number_unsigned true = refl
 number_unsigned false = refl
 
-collection_unsigned : (canonical in_flow : Bool) → tag_has_flow_sign (directives_in_force []) (collection_tag canonical (collection_in in_flow)) ≡ false
+collection_unsigned : (canonical in_flow : Bool) → tag_has_flow_indicator (directives_in_force []) (collection_tag canonical (collection_in in_flow)) ≡ false
 collection_unsigned true in_flow = refl
 collection_unsigned false in_flow = refl
 
@@ -89,40 +89,41 @@ no_more true y h = refl
 no_more false y h = h
 
 mutual
-  value_unsigned : (json : Json) (canonical in_flow : Bool) → node_has_flow_sign canonical (directives_in_force []) (json_node json canonical in_flow) ≡ false
+  value_unsigned : (json : Json) (canonical in_flow : Bool)
+      → node_has_flow_indicator canonical (directives_in_force []) (json_node json canonical in_flow) ≡ false
   value_unsigned null canonical in_flow = word_unsigned null_tag refl canonical (codes "null")
   value_unsigned (boolean flag) canonical in_flow = word_unsigned bool_tag refl canonical (bool_text flag)
   value_unsigned (number text) canonical in_flow =
       word_unsigned (number_tag (number_in text)) (number_unsigned (is_json_integer (number_in text))) canonical (yaml_number (number_in text))
   value_unsigned (string text) canonical in_flow = text_unsigned (chars text) canonical
   value_unsigned (array items) canonical in_flow =
-      or_from (tag_has_flow_sign (directives_in_force []) (collection_tag canonical (collection_in in_flow)))
-      (nodes_have_flow_sign canonical (directives_in_force []) (items_nodes items canonical in_flow no_nodes)) (collection_unsigned canonical in_flow)
+      or_from (tag_has_flow_indicator (directives_in_force []) (collection_tag canonical (collection_in in_flow)))
+      (nodes_have_flow_indicator canonical (directives_in_force []) (items_nodes items canonical in_flow no_nodes)) (collection_unsigned canonical in_flow)
       (items_unsigned items canonical in_flow no_nodes)
   value_unsigned (object members) canonical in_flow =
-      or_from (tag_has_flow_sign (directives_in_force []) (collection_tag canonical (collection_in in_flow)))
-      (pairs_have_flow_sign canonical (directives_in_force []) (members_pairs members canonical in_flow no_pairs)) (collection_unsigned canonical in_flow)
+      or_from (tag_has_flow_indicator (directives_in_force []) (collection_tag canonical (collection_in in_flow)))
+      (pairs_have_flow_indicator canonical (directives_in_force []) (members_pairs members canonical in_flow no_pairs)) (collection_unsigned canonical in_flow)
       (members_unsigned members canonical in_flow no_pairs)
 
   items_unsigned : (items : Items) (canonical in_flow : Bool) (before : Nodes)
-      → nodes_have_flow_sign canonical (directives_in_force []) (items_nodes items canonical in_flow before)
-      ≡ nodes_have_flow_sign canonical (directives_in_force []) before
+      → nodes_have_flow_indicator canonical (directives_in_force []) (items_nodes items canonical in_flow before)
+      ≡ nodes_have_flow_indicator canonical (directives_in_force []) before
   items_unsigned no_items canonical in_flow before = refl
   items_unsigned (item json items) canonical in_flow before =
       items_unsigned items canonical in_flow (nodes_and before (json_node json canonical in_flow))
-      ∙ no_more (nodes_have_flow_sign canonical (directives_in_force []) before)
-      (node_has_flow_sign canonical (directives_in_force []) (json_node json canonical in_flow)) (value_unsigned json canonical in_flow)
+      ∙ no_more (nodes_have_flow_indicator canonical (directives_in_force []) before)
+      (node_has_flow_indicator canonical (directives_in_force []) (json_node json canonical in_flow)) (value_unsigned json canonical in_flow)
 
   members_unsigned : (members : Members) (canonical in_flow : Bool) (before : Pairs)
-      → pairs_have_flow_sign canonical (directives_in_force []) (members_pairs members canonical in_flow before)
-      ≡ pairs_have_flow_sign canonical (directives_in_force []) before
+      → pairs_have_flow_indicator canonical (directives_in_force []) (members_pairs members canonical in_flow before)
+      ≡ pairs_have_flow_indicator canonical (directives_in_force []) before
   members_unsigned no_members canonical in_flow before = refl
   members_unsigned (member key json members) canonical in_flow before =
       let named = scalar_node (text_content (chars key)) in
       members_unsigned members canonical in_flow (pairs_and before named (json_node json canonical in_flow))
-      ∙ no_more (pairs_have_flow_sign canonical (directives_in_force []) before || node_has_flow_sign canonical (directives_in_force []) named)
-      (node_has_flow_sign canonical (directives_in_force []) (json_node json canonical in_flow)) (value_unsigned json canonical in_flow)
-      ∙ no_more (pairs_have_flow_sign canonical (directives_in_force []) before) (node_has_flow_sign canonical (directives_in_force []) named)
+      ∙ no_more (pairs_have_flow_indicator canonical (directives_in_force []) before || node_has_flow_indicator canonical (directives_in_force []) named)
+      (node_has_flow_indicator canonical (directives_in_force []) (json_node json canonical in_flow)) (value_unsigned json canonical in_flow)
+      ∙ no_more (pairs_have_flow_indicator canonical (directives_in_force []) before) (node_has_flow_indicator canonical (directives_in_force []) named)
       (text_unsigned (chars key) canonical)
 
 -- Documents
@@ -140,15 +141,15 @@ documents_are (json ∷ values) canonical in_flow before =
     ∙ append_assoc (documents_in_order before) (document ∷ []) (documents_for values canonical in_flow)
 
 all_unsigned : (values : List Json) (canonical in_flow : Bool)
-    → list_any (document_has_flow_sign canonical) (documents_for values canonical in_flow) ≡ false
+    → list_any (document_has_flow_indicator canonical) (documents_for values canonical in_flow) ≡ false
 all_unsigned [] canonical in_flow = refl
 all_unsigned (json ∷ values) canonical in_flow =
-    or_from (document_has_flow_sign canonical (json_document json canonical in_flow))
-    (list_any (document_has_flow_sign canonical) (documents_for values canonical in_flow)) (value_unsigned json canonical in_flow)
+    or_from (document_has_flow_indicator canonical (json_document json canonical in_flow))
+    (list_any (document_has_flow_indicator canonical) (documents_for values canonical in_flow)) (value_unsigned json canonical in_flow)
     (all_unsigned values canonical in_flow)
 
 first_kept : (json : Json) (values : List Json) (canonical in_flow : Bool) → HasNumbers json
-    → is_lost canonical (documents_for (json ∷ values) canonical in_flow) ≡ false
+    → loses_document canonical (documents_for (json ∷ values) canonical in_flow) ≡ false
 first_kept json values canonical in_flow numbers =
     and_right (not (is_explicit canonical true (json_document json canonical in_flow).start))
     (is_written_as_nothing canonical (json_node json canonical in_flow)) (value_written json canonical in_flow numbers)
@@ -157,15 +158,15 @@ are_read_alike : (json : Json) (values : List Json) (canonical in_flow : Bool) �
     → are_portable canonical (documents_for (json ∷ values) canonical in_flow) ≡ true
 are_read_alike json values canonical in_flow numbers =
     let documents = documents_for (json ∷ values) canonical in_flow in
-    and_from (not (is_lost canonical documents)) (not (list_any (document_has_flow_sign canonical) documents))
-    (not_from_false (is_lost canonical documents) (first_kept json values canonical in_flow numbers))
-    (not_from_false (list_any (document_has_flow_sign canonical) documents) (all_unsigned (json ∷ values) canonical in_flow))
+    and_from (not (loses_document canonical documents)) (not (list_any (document_has_flow_indicator canonical) documents))
+    (not_from_false (loses_document canonical documents) (first_kept json values canonical in_flow numbers))
+    (not_from_false (list_any (document_has_flow_indicator canonical) documents) (all_unsigned (json ∷ values) canonical in_flow))
 
 -- All
 
 -- in portable mode or not
 pub portable_events : (portable canonical in_flow : Bool) (part : List ℕ × Json) (rest : List (List ℕ × Json)) → HasNumbers part.1
-    → is_portable portable canonical (all_events (part ∷ rest) canonical in_flow) ≡ true
+    → reads_alike portable canonical (all_events (part ∷ rest) canonical in_flow) ≡ true
 portable_events true canonical in_flow part rest numbers = refl
 portable_events false canonical in_flow part rest numbers =
     ap (λ (tree : Option Stream). unwrap_or (option_map (λ stream. are_portable canonical (documents_in_order stream.documents)) tree) false) found

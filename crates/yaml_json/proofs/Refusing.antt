@@ -14,9 +14,10 @@ use Rattle.yaml_base.specs.Prefix.{IsPrefix}
 use Rattle.yaml_writer.specs.declared.kinds.CollectionKind.{CollectionKind}
 use Rattle.yaml_writer.specs.declared.kinds.CollectionKind.TheVariants.{Mapping, Sequence}
 use Rattle.yaml_json.specs.Begins.{NoneGoesOn}
-use Rattle.yaml_json.specs.Refused.{BreaksOff, DeniesJson, IsNotJson, NamesTwice, OpensTooDeep, RefusesText, SaysWhy}
-use Rattle.yaml_json.specs.Names.{IsNew, NamesOnce, all_names_after, inner_names}
-use Rattle.yaml_json.specs.Walk.{BeginsNone, HasUniqueNames, IsNotDeep, IsOpener, IsScalar, Refuses, RefusesFirst, RefusesToken, SaysWhat, Stands, WhyStopped}
+use Rattle.yaml_json.specs.Refused.{BreaksOff, DeniesJson, IsNotJson, NamesTwice, OpensTooDeep, RefusesText, ExplainsError}
+use Rattle.yaml_json.specs.Names.{IsNewName, NamesOnce, all_names_after, inner_names}
+use Rattle.yaml_json.specs.Walk.{BeginsNone, HasUniqueNames, IsNotDeep, IsOpener, IsScalar, Refuses, RefusesFirst, RefusesToken, MatchesStop, Stands}
+use Rattle.yaml_json.specs.Walk.{WhyStopped}
 use Rattle.yaml_json.specs.Walk.{opener, unwind}
 use Rattle.yaml_json.specs.declared.error.JsonError.{JsonError}
 use Rattle.yaml_json.specs.declared.error.JsonError.TheVariants as errors
@@ -198,7 +199,7 @@ module _ (depth : ℕ) (unique : Bool) (taken : List Token) (levels outer : List
 -- a name comes again
 pub name_refused : (depth : ℕ) (unique : Bool) (taken : List Token) (levels outer : List CollectionKind) (name : List ℕ) (after : List Token)
     → levels ≡ outer ++ Mapping ∷ [] → Stands depth taken levels → unique ≡ true → NamesOnce [] taken
-    → (IsNew (inner_names (all_names_after [] taken)) name → ⊥) → NamesTwice depth unique (taken ++ Token.key name ∷ after)
+    → (IsNewName (inner_names (all_names_after [] taken)) name → ⊥) → NamesTwice depth unique (taken ++ Token.key name ∷ after)
 name_refused depth unique taken levels outer name after is stands wanted once again =
     record {
       wanted = wanted;
@@ -268,15 +269,15 @@ deep_is_none depth unique all deep json read =
     let fits = value-depth depth all [] json read in
     omega (arith, less, fits)
 
-pub why_no_json : (depth : ℕ) (unique : Bool) (text : List ℕ) (error : JsonError) → SaysWhy depth unique text error → DeniesJson error
+pub why_no_json : (depth : ℕ) (unique : Bool) (text : List ℕ) (error : JsonError) → ExplainsError depth unique text error → DeniesJson error
     → IsNotJson depth text
 why_no_json depth unique text (errors.NotJson line column) why is = broken_is_none depth unique (tokens text) why
 why_no_json depth unique text errors.TooDeep why is = deep_is_none depth unique (tokens text) why
 why_no_json depth unique text (errors.DuplicateName line column) why is = absurd is
 why_no_json depth unique text (errors.Emitter error) why is = absurd is
 
-pub why_told : (depth : ℕ) (unique : Bool) (text : List ℕ) (stop : Stop) (error : JsonError) → SaysWhat stop error
-    → WhyStopped depth unique (tokens text) stop → SaysWhy depth unique text error
+pub why_told : (depth : ℕ) (unique : Bool) (text : List ℕ) (stop : Stop) (error : JsonError) → MatchesStop stop error
+    → WhyStopped depth unique (tokens text) stop → ExplainsError depth unique text error
 why_told depth unique text (stops.NotJson spot) (errors.NotJson line column) same why = why
 why_told depth unique text (stops.NotJson spot) errors.TooDeep same why = absurd same
 why_told depth unique text (stops.NotJson spot) (errors.DuplicateName line column) same why = absurd same

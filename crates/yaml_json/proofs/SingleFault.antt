@@ -24,34 +24,34 @@ either_prefix {A} (x ∷ a) b (y ∷ c) d is = one_more (either_prefix a b c d (
   one_more (inr (r, one, other)) = inr (r, ap₂ (λ (e : A) (l : List A). e ∷ l) first one, other)
 
 -- what begins with a list begins with its prefixes
-begins_too : (front r taken all : List Token) → taken ≡ front ++ r → IsPrefix taken all → IsPrefix front all
-begins_too front r taken all is begins = prefix_then (record { rest = r; parts = sym is }) begins
+begins_too : (prefix r taken all : List Token) → taken ≡ prefix ++ r → IsPrefix taken all → IsPrefix prefix all
+begins_too prefix r taken all is begins = prefix_then (record { rest = r; parts = sym is }) begins
 
 -- ---- a text that breaks off
 
 -- some value begins with the first tokens, and none that is allowed: the text doesn't break off before
-module _ (depth : ℕ) (unique : Bool) (all front later : List Token) (parts : front ++ later ≡ all) (some : BeginsSome front)
-    (none : (json : Json) → IsAllowed depth unique json → IsPrefix front (json_tokens json) → ⊥) (broken : BreaksOff depth unique all) where
-  past : (r : List Token) → broken.taken ≡ front ++ r → ⊥
+module _ (depth : ℕ) (unique : Bool) (all prefix later : List Token) (parts : prefix ++ later ≡ all) (some : BeginsSome prefix)
+    (none : (json : Json) → IsAllowed depth unique json → IsPrefix prefix (json_tokens json) → ⊥) (broken : BreaksOff depth unique all) where
+  past : (r : List Token) → broken.taken ≡ prefix ++ r → ⊥
   past r is =
-      none broken.begins.json broken.begins.allowed (begins_too front r broken.taken (json_tokens broken.begins.json) is broken.begins.begins)
+      none broken.begins.json broken.begins.allowed (begins_too prefix r broken.taken (json_tokens broken.begins.json) is broken.begins.begins)
 
-  within : (r : List Token) → front ≡ broken.taken ++ r → broken.left ≡ r ++ later → ⊥
-  within [] is left = past [] (sym (append-nil broken.taken) ∙ sym is ∙ sym (append-nil front))
+  within : (r : List Token) → prefix ≡ broken.taken ++ r → broken.left ≡ r ++ later → ⊥
+  within [] is left = past [] (sym (append-nil broken.taken) ∙ sym is ∙ sym (append-nil prefix))
   within (token ∷ r) is left =
       subst (NoneGoesOn broken.taken) left broken.breaks (
         some.0,
-        begins_too (broken.taken ++ token ∷ []) r front (json_tokens some.0) (is ∙ sym (append_assoc broken.taken (token ∷ []) r)) some.1,
+        begins_too (broken.taken ++ token ∷ []) r prefix (json_tokens some.0) (is ∙ sym (append_assoc broken.taken (token ∷ []) r)) some.1,
       )
 
-  by_place : ((r : List Token) × (front ≡ broken.taken ++ r) × (broken.left ≡ r ++ later))
-      ⊎ ((r : List Token) × (broken.taken ≡ front ++ r) × (later ≡ r ++ broken.left))
+  by_place : ((r : List Token) × (prefix ≡ broken.taken ++ r) × (broken.left ≡ r ++ later))
+      ⊎ ((r : List Token) × (broken.taken ≡ prefix ++ r) × (later ≡ r ++ broken.left))
       → ⊥
   by_place (inl (r, one, other)) = within r one other
   by_place (inr (r, one, other)) = past r one
 
   goes_on : ⊥
-  goes_on = by_place (either_prefix broken.taken broken.left front later (broken.parts ∙ sym parts))
+  goes_on = by_place (either_prefix broken.taken broken.left prefix later (broken.parts ∙ sym parts))
 
 module _ (depth : ℕ) (unique : Bool) (all : List Token) where
   too_deep : (deep : OpensTooDeep depth unique all) (json : Json) → IsPrefix (deep.taken ++ deep.next ∷ []) (json_tokens json) → nesting json ≤ depth → ⊥

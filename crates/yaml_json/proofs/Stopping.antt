@@ -4,8 +4,8 @@ use Rattle.std.specs.Prelude.{◌⊎◌, Option, None, Some, Err, List, [], ◌�
 use Rattle.yaml_base.specs.Event.{Event}
 use Rattle.yaml_base.specs.declared.errors.yaml_error_t.{yaml_error_t}
 use Rattle.yaml_base.specs.declared.errors.yaml_error_t.TheVariants.{Memory}
-use Rattle.yaml_emitter.proofs.standing.StandingMore.{some_from_told}
-use Rattle.yaml_writer.specs.Writing.{AddsAll, EndsInnermost, Failed, Gave, StandsTaken, WriterState, end_event, entered}
+use Rattle.yaml_emitter.proofs.standing.StandingMore.{some_from_result}
+use Rattle.yaml_writer.specs.Writing.{AddsEvents, EndsInnermost, Failed, GaveEvent, StandsTaken, WriterState, end_event, with_collection}
 use Rattle.yaml_writer.specs.declared.kinds.CollectionKind.{CollectionKind}
 use Rattle.yaml_json.specs.Failing.{FailedAt, FailedWith}
 use Rattle.yaml_json.proofs.WroteLemmas.{adds_then, none_more, same_last}
@@ -23,7 +23,7 @@ pub failed_same : (was now : WriterState) (events same : List Event) (error : ya
 failed_same was now events same error is = subst (λ (e : List Event). FailedWith was e error now) is
 
 -- events were given before
-pub failed_then : (before between after : WriterState) (first second : List Event) (error : yaml_error_t) → AddsAll before.emitter first between.emitter
+pub failed_then : (before between after : WriterState) (first second : List Event) (error : yaml_error_t) → AddsEvents before.emitter first between.emitter
     → FailedWith between second error after → FailedWith before (first ++ second) error after
 failed_then before between after first second error one other =
     record { adds = adds_then before.emitter between.emitter after.emitter first second one other.adds; is_error = other.is_error }
@@ -46,12 +46,12 @@ end_failed outer kind before after error levels (inr end) =
     record {
       adds = λ given all sent stands.
           subst (λ (k : CollectionKind). StandsTaken given (all ++ end_event k ∷ []) sent after.emitter) same.1 (end.adds given all sent stands);
-      is_error = some_from_told after.emitter.error error end.answered;
+      is_error = some_from_result after.emitter.error error end.answered;
     }
 
 -- the start of a collection that failed
 pub start_failed : (kind : CollectionKind) (before after : WriterState) (event same : Event) (error : yaml_error_t) → event ≡ same
-    → Gave (entered before kind) event (Some error) after ⊎ ((error ≡ Memory) × (after ≡ before)) → FailedAt before same error after
+    → GaveEvent (with_collection before kind) event (Some error) after ⊎ ((error ≡ Memory) × (after ≡ before)) → FailedAt before same error after
 start_failed kind before after event same error is (inl gave) = inr (record {
   adds = λ given all sent stands. subst (λ (e : Event). StandsTaken given (all ++ e ∷ []) sent after.emitter) is (gave.adds given all sent stands);
   is_error = gave.error_is;

@@ -4,11 +4,11 @@ use Rattle.std.specs.Prelude.{Bool, true, false, List, [], ◌∷◌, ◌++◌}
 use Rattle.json.specs.Token.{Token}
 use Rattle.yaml_writer.specs.declared.kinds.CollectionKind.{CollectionKind}
 use Rattle.yaml_writer.specs.declared.kinds.CollectionKind.TheVariants.{Mapping, Sequence}
-use Rattle.yaml_json.specs.Walk.{FitsNames, Kept, Refuses, RefusesFirst, RefusesToken, WhyStopped}
+use Rattle.yaml_json.specs.Walk.{FitsNames, KeepsNames, Refuses, RefusesFirst, RefusesToken, WhyStopped}
 use Rattle.yaml_json.specs.declared.values.Spot.{Spot}
 use Rattle.yaml_json.specs.declared.values.Stop.{Stop}
 use Rattle.yaml_json.specs.declared.values.Stop.TheVariants as stops
-use Rattle.yaml_json.specs.HeldNames.{Adds, HoldsNames}
+use Rattle.yaml_json.specs.HeldNames.{AddsName, HoldsNames}
 use Rattle.yaml_json.specs.declared.names.Names.{Names}
 use Rattle.yaml_json.proofs.KeepingNames.{keeps_name, name_again, names_once}
 use Rattle.yaml_json.proofs.Refusing.{IsNoKey, first_refused, key_refused, name_refused, no_member_left}
@@ -61,7 +61,7 @@ module _ {A : Type 0} (depth : ℕ) (unique : Bool) (levels outer : List Collect
 
     module _ (name : List ℕ) (inner : List Token) (first : ahead ≡ Token.key name ∷ inner) (later : Names A)
         (same : later.are_kept ≡ held.are_kept) (new : Bool)
-        (adds : (names : List (List ℕ)) → (more : List (List (List ℕ))) → HoldsNames (names ∷ more) held → Adds names more name new later) where
+        (adds : (names : List (List ℕ)) → (more : List (List (List ℕ))) → HoldsNames (names ∷ more) held → AddsName names more name new later) where
       -- the name comes again
       pub again_stopped : (offset : ℕ) → new ≡ false → Refuses depth unique levels held ahead (stops.NameAgain offset)
       again_stopped offset old so stands kept =

@@ -11,19 +11,20 @@ use Rattle.yaml_base.specs.Event.{Event}
 use Rattle.yaml_base.specs.declared.errors.yaml_error_t.{yaml_error_t}
 use Rattle.yaml_base.specs.declared.errors.yaml_error_t.TheVariants.{Memory}
 use Rattle.yaml_emitter.specs.State.{State}
-use Rattle.yaml_writer.specs.Writing.{AddsAll, EndsInnermost, StandsTaken, WriterState, end_event}
+use Rattle.yaml_writer.specs.Writing.{AddsEvents, EndsInnermost, StandsTaken, WriterState, end_event}
 use Rattle.yaml_writer.specs.declared.kinds.CollectionKind.{CollectionKind}
 use Rattle.yaml_writer.specs.declared.kinds.CollectionKind.TheVariants.{Mapping, Sequence}
 use Rattle.yaml_json.specs.Begins.{BeginsValue}
 use Rattle.yaml_json.specs.Failing.{FailedAt, FailedInValue, FailedWith}
 use Rattle.yaml_json.specs.JsonEvents.{json_events}
 use Rattle.yaml_json.specs.TokenEvents.{token_events, tokens_events}
-use Rattle.yaml_json.specs.Walk.{Began, BeganFirst, BeginFailed, Begins, FailsGiving, FirstFailed, Gives, IsScalar, SoFar, StepFailed, Stands, Stepped, Stood}
-use Rattle.yaml_json.specs.Walk.{Kept, Refuses, WhyStopped, closer, opener}
+use Rattle.yaml_json.specs.Walk.{BeganValue, BeganFirstValue, BeginFailed, Begins, FailsGiving, FirstFailed, Gives, IsScalar, WalkProgress}
+use Rattle.yaml_json.specs.Walk.{StepFailed, Stands, Stepped, Stood}
+use Rattle.yaml_json.specs.Walk.{KeepsNames, Refuses, WhyStopped, closer, opener}
 use Rattle.yaml_json.specs.declared.names.Names.{Names}
 use Rattle.yaml_json.specs.declared.values.Stop.{Stop}
 use Rattle.yaml_json.proofs.KeepingNames.{NamesSoFar}
-use Rattle.yaml_json.specs.Wrote.{Ends, IsBare, Starts, Wrote, WroteEvent, WroteValue, start_event}
+use Rattle.yaml_json.specs.Wrote.{Ends, IsBare, StartsCollection, Wrote, WroteEvent, WroteValue, start_event}
 use Rattle.yaml_json.proofs.Stopping.{end_failed, failed_same, failed_then}
 use Rattle.yaml_json.proofs.TokenLemmas.{some_then, value_given, value_spelled}
 use Rattle.yaml_json.proofs.Walking.{Awaiting, awaiting_item, awaiting_named, awaiting_whole, closed_stands, closes_value, longer, next_stands, value_begins}
@@ -42,10 +43,10 @@ stood_nothing in_flow was bare =
 
 -- the events of one token more
 given_on : (in_flow : Bool) (was now later : WriterState) (so : List Token) (token : Token) (event : Event)
-    → AddsAll was.emitter (tokens_events was.canonical in_flow so) now.emitter → token_events was.canonical in_flow token ≡ event ∷ []
-    → AddsAll now.emitter (event ∷ []) later.emitter → AddsAll was.emitter (tokens_events was.canonical in_flow (so ++ token ∷ [])) later.emitter
+    → AddsEvents was.emitter (tokens_events was.canonical in_flow so) now.emitter → token_events was.canonical in_flow token ≡ event ∷ []
+    → AddsEvents now.emitter (event ∷ []) later.emitter → AddsEvents was.emitter (tokens_events was.canonical in_flow (so ++ token ∷ [])) later.emitter
 given_on in_flow was now later so token event one is other =
-    subst (λ (events : List Event). AddsAll was.emitter events later.emitter)
+    subst (λ (events : List Event). AddsEvents was.emitter events later.emitter)
     (ap (λ (events : List Event). tokens_events was.canonical in_flow so ++ events)
     (sym (append-nil (event ∷ [])) ∙ ap (λ (events : List Event). events ++ []) (sym is))
     ∙ sym (some_then was.canonical in_flow so (token ∷ [])))
@@ -70,7 +71,7 @@ opener_events Sequence canonical in_flow = refl
 opener_events Mapping canonical in_flow = refl
 
 pub gives_start : (in_flow : Bool) (levels : List CollectionKind) (before after : WriterState) (kind : CollectionKind)
-    → Starts in_flow kind before after → Gives in_flow levels before (opener kind ∷ []) (levels ++ kind ∷ []) after
+    → StartsCollection in_flow kind before after → Gives in_flow levels before (opener kind ∷ []) (levels ++ kind ∷ []) after
 gives_start in_flow levels before after kind gave was so stood =
     record {
       adds = given_on in_flow was before after so (opener kind) (start_event in_flow kind) stood.adds (opener_events kind was.canonical in_flow)
@@ -99,7 +100,7 @@ gives_end in_flow outer before after kind ends was so stood =
 -- ---- the writer fails
 
 failed_on : (in_flow : Bool) (was now later : WriterState) (so : List Token) (token : Token) (event : Event) (error : yaml_error_t)
-    → AddsAll was.emitter (tokens_events was.canonical in_flow so) now.emitter → token_events was.canonical in_flow token ≡ event ∷ []
+    → AddsEvents was.emitter (tokens_events was.canonical in_flow so) now.emitter → token_events was.canonical in_flow token ≡ event ∷ []
     → FailedWith now (event ∷ []) error later → FailedWith was (tokens_events was.canonical in_flow (so ++ token ∷ [])) error later
 failed_on in_flow was now later so token event error one is gave =
     record { adds = given_on in_flow was now later so token event one is gave.adds; is_error = gave.is_error }
@@ -134,7 +135,7 @@ module _ (depth : ℕ) (in_flow : Bool) (levels : List CollectionKind) (before a
   -- a scalar
   module _ (token : Token) (event : Bool → Event) (is : IsScalar token)
       (events : (canonical : Bool) → token_events canonical in_flow token ≡ event canonical ∷ []) where
-    pub scalar_began : WroteEvent before (event before.canonical) after → Began depth in_flow token levels before levels after
+    pub scalar_began : WroteEvent before (event before.canonical) after → BeganValue depth in_flow token levels before levels after
     scalar_began wrote = record { begins = inl (is, refl); gives = gives_scalar in_flow levels before after token event events wrote }
 
     pub scalar_failed : (error : yaml_error_t) → FailedAt before (event before.canonical) error after
@@ -148,7 +149,7 @@ module _ (depth : ℕ) (in_flow : Bool) (levels : List CollectionKind) (before a
 
   -- a collection begins
   pub opener_began : (opened : List CollectionKind) (kind : CollectionKind) → length levels < depth → opened ≡ levels ++ kind ∷ []
-      → Starts in_flow kind before after → Began depth in_flow (opener kind) levels before opened after
+      → StartsCollection in_flow kind before after → BeganValue depth in_flow (opener kind) levels before opened after
   opener_began opened kind fits is starts =
       record {
         begins = inr (kind, refl, fits, is);
@@ -224,7 +225,7 @@ step_without_memory depth in_flow ahead levels before now =
 -- an item begins
 module _ (depth : ℕ) (in_flow : Bool) (levels outer : List CollectionKind) (is : levels ≡ outer ++ Sequence ∷ []) (token : Token)
     (isn't : token ≡ Token.end_array → ⊥) (before : WriterState) (ahead after : List Token) (first : ahead ≡ token ∷ after) where
-  pub step_item : (opened : List CollectionKind) (now : WriterState) → Began depth in_flow token levels before opened now
+  pub step_item : (opened : List CollectionKind) (now : WriterState) → BeganValue depth in_flow token levels before opened now
       → Stepped depth in_flow ahead levels before after opened now
   step_item opened now began =
       record {
@@ -280,7 +281,7 @@ module _ (depth : ℕ) (in_flow : Bool) (levels outer : List CollectionKind) (is
 
   module _ (named : WriterState) (gave : Gives in_flow levels before (Token.key key ∷ []) levels named) where
     pub step_member : (after : List Token) (opened : List CollectionKind) (now : WriterState)
-        → BeganFirst depth in_flow inner levels named after opened now → Stepped depth in_flow ahead levels before after opened now
+        → BeganFirstValue depth in_flow inner levels named after opened now → Stepped depth in_flow ahead levels before after opened now
     step_member after opened now began =
         let whole : ahead ≡ Token.key key ∷ began.token ∷ after = first ∙ ap (λ (all : List Token). Token.key key ∷ all) began.first in
         record {
@@ -312,7 +313,7 @@ module _ (depth : ℕ) (in_flow : Bool) (levels outer : List CollectionKind) (is
 module _ (depth : ℕ) (in_flow : Bool) (start : List Token) (was : WriterState) where
   -- the first token of the value was given
   pub first_so_far : (after : List Token) (opened : List CollectionKind) (now : WriterState) → IsBare was
-      → BeganFirst depth in_flow start [] was after opened now → SoFar depth in_flow start was after opened now
+      → BeganFirstValue depth in_flow start [] was after opened now → WalkProgress depth in_flow start was after opened now
   first_so_far after opened now bare began =
       record {
         taken = began.token ∷ [];
@@ -341,10 +342,10 @@ module _ (depth : ℕ) (in_flow : Bool) (start : List Token) (was : WriterState)
       (next_stands depth [] [] failed.failed.opened failed.token failed.after (awaiting_whole depth (failed.token ∷ failed.after)) failed.failed.begins))
       (given_at [] (failed.token ∷ []) [] error was now (stood_nothing in_flow was bare) failed.failed.fails)
 
-  module _ (ahead : List Token) (levels : List CollectionKind) (now : WriterState) (so_far : SoFar depth in_flow start was ahead levels now) where
+  module _ (ahead : List Token) (levels : List CollectionKind) (now : WriterState) (so_far : WalkProgress depth in_flow start was ahead levels now) where
     -- a step was made
     pub steps_on : (after : List Token) (opened : List CollectionKind) (later : WriterState)
-        → Stepped depth in_flow ahead levels now after opened later → SoFar depth in_flow start was after opened later
+        → Stepped depth in_flow ahead levels now after opened later → WalkProgress depth in_flow start was after opened later
     steps_on after opened later step =
         record {
           taken = so_far.taken ++ step.taken;
@@ -366,7 +367,7 @@ module _ (depth : ℕ) (in_flow : Bool) (start : List Token) (was : WriterState)
     step_stopped unique held names stop refuses =
         let same = append_cancel_right names.taken so_far.taken ahead (names.parts ∙ sym so_far.parts) in
         subst (λ (all : List Token). WhyStopped depth unique all stop) so_far.parts
-        (refuses so_far.taken so_far.stands (subst (λ (all : List Token). Kept all held) same names.kept))
+        (refuses so_far.taken so_far.stands (subst (λ (all : List Token). KeepsNames all held) same names.kept))
 
     -- nothing is open: the value was given
     pub all_written : levels ≡ [] → WroteValue depth in_flow start was ahead now
@@ -379,7 +380,7 @@ module _ (depth : ℕ) (in_flow : Bool) (start : List Token) (was : WriterState)
           json = found.0;
           read = found.1;
           wrote = record {
-            adds = subst (λ (events : List Event). AddsAll was.emitter events now.emitter)
+            adds = subst (λ (events : List Event). AddsEvents was.emitter events now.emitter)
                 (ap (tokens_events was.canonical in_flow) same ∙ value_given found.0 was.canonical in_flow) stood.adds;
             canonical = stood.canonical;
             levels = stood.levels_are ∙ append-nil was.levels;

@@ -9,13 +9,13 @@ use Rattle.json.specs.Lex.{tokens}
 use Rattle.json.specs.Tree.{json_tokens}
 use Rattle.yaml_base.specs.Event.{Event}
 use Rattle.yaml_base.specs.declared.errors.yaml_error_t.{yaml_error_t}
-use Rattle.yaml_emitter.proofs.standing.StandingMore.{some_from_told}
-use Rattle.yaml_writer.specs.Writing.{Passed, WriterState}
-use Rattle.yaml_json.specs.Failing.{FailedInText, FailedInTexts, FailedWith, between, started}
+use Rattle.yaml_emitter.proofs.standing.StandingMore.{some_from_result}
+use Rattle.yaml_writer.specs.Writing.{PassedEvents, WriterState}
+use Rattle.yaml_json.specs.Failing.{FailedInText, FailedInTexts, FailedWith, between, events_with_separators}
 use Rattle.yaml_json.specs.JsonEvents.{json_events}
-use Rattle.yaml_json.specs.Refused.{HasNamesOnce, HaveNamesOnce, RefusedAmong, SaysWhy}
+use Rattle.yaml_json.specs.Refused.{HasNamesOnce, HaveNamesOnce, RefusedAmong, ExplainsError}
 use Rattle.yaml_json.specs.Names.{NamesOnce}
-use Rattle.yaml_json.specs.Texts.{CutsFirst, texts_in}
+use Rattle.yaml_json.specs.Texts.{CutsFirstText, texts_in}
 use Rattle.yaml_json.specs.TokenEvents.{tokens_events}
 use Rattle.yaml_json.specs.Wrote.{AreJson, IsBare, ReadsTexts, Wrote, WroteText, WroteTexts, parts_events}
 use Rattle.yaml_json.specs.declared.error.JsonError.{JsonError}
@@ -27,14 +27,16 @@ use Rattle.yaml_json.proofs.YamlOf.{last_reads}
 
 -- the events of some texts, after each of which a document begins, and then those of one more, the last
 ends_with : (canonical in_flow : Bool) (parts : List (List ℕ × Json)) (last : List ℕ × Json)
-    → started canonical in_flow parts ++ json_events canonical in_flow last.1 ≡ parts_events canonical in_flow (parts ++ last ∷ [])
+    → events_with_separators canonical in_flow parts ++ json_events canonical in_flow last.1 ≡ parts_events canonical in_flow (parts ++ last ∷ [])
 ends_with canonical in_flow [] last = refl
 ends_with canonical in_flow (part ∷ []) last =
     ap (λ (events : List Event). events ++ json_events canonical in_flow last.1) (append-nil (json_events canonical in_flow part.1 ++ between))
     ∙ append_assoc (json_events canonical in_flow part.1) between (json_events canonical in_flow last.1)
 ends_with canonical in_flow (part ∷ next ∷ rest) last =
-    append_assoc (json_events canonical in_flow part.1 ++ between) (started canonical in_flow (next ∷ rest)) (json_events canonical in_flow last.1)
-    ∙ append_assoc (json_events canonical in_flow part.1) between (started canonical in_flow (next ∷ rest) ++ json_events canonical in_flow last.1)
+    append_assoc (json_events canonical in_flow part.1 ++ between) (events_with_separators canonical in_flow (next ∷ rest))
+    (json_events canonical in_flow last.1)
+    ∙ append_assoc (json_events canonical in_flow part.1) between
+    (events_with_separators canonical in_flow (next ∷ rest) ++ json_events canonical in_flow last.1)
     ∙ ap (λ (events : List Event). json_events canonical in_flow part.1 ++ (between ++ events)) (ends_with canonical in_flow (next ∷ rest) last)
 
 -- one text more
@@ -62,16 +64,16 @@ more_names unique [] last names more = (more, tt)
 more_names unique (part ∷ parts) last names more = (names.0, more_names unique parts last names.1 more)
 
 -- where a text is the last, and where others follow
-cut_last : {rest first more : List ℕ} → CutsFirst rest first more → more ≡ [] → texts_in rest ≡ first ∷ []
+cut_last : {rest first more : List ℕ} → CutsFirstText rest first more → more ≡ [] → texts_in rest ≡ first ∷ []
 cut_last (joined, inl (none, cut)) is = cut
 cut_last (joined, inr (some, less, cut)) is = absurd (some is)
 
-cut_more : {rest first more : List ℕ} → CutsFirst rest first more → (more ≡ [] → ⊥) → texts_in rest ≡ first ∷ texts_in more
+cut_more : {rest first more : List ℕ} → CutsFirstText rest first more → (more ≡ [] → ⊥) → texts_in rest ≡ first ∷ texts_in more
 cut_more (joined, inl (none, cut)) some = absurd (some none)
 cut_more (joined, inr (isn't, less, cut)) some = cut
 
 -- the first text, and those after it
-cut_some : {rest first more : List ℕ} → CutsFirst rest first more → (later : List (List ℕ)) × (texts_in rest ≡ first ∷ later)
+cut_some : {rest first more : List ℕ} → CutsFirstText rest first more → (later : List (List ℕ)) × (texts_in rest ≡ first ∷ later)
 cut_some {more} (joined, inl (none, cut)) = ([], cut)
 cut_some {more} (joined, inr (isn't, less, cut)) = (texts_in more, cut)
 
@@ -82,13 +84,13 @@ pub record TextsSoFar (depth : ℕ) (in_flow : Bool) (unique : Bool) (text : Lis
   pub cut : map (λ part. part.0) parts ++ texts_in rest ≡ texts_in text
   pub each : AreJson depth parts
   pub names : HaveNamesOnce unique (map (λ part. part.0) parts)
-  pub wrote : Wrote was (started was.canonical in_flow parts) now
+  pub wrote : Wrote was (events_with_separators was.canonical in_flow parts) now
 
 pub texts_begin : (depth : ℕ) (in_flow unique : Bool) (text : List ℕ) (was : WriterState) → IsBare was → TextsSoFar depth in_flow unique text was text was
 texts_begin depth in_flow unique text was bare = record { parts = []; joined = refl; cut = refl; each = tt; names = tt; wrote = wrote_nothing was bare }
 
 -- the next document is begun
-next_begun : (before after : WriterState) (answer : Result (Unit {0}) yaml_error_t) → IsBare before → Passed before between answer after
+next_begun : (before after : WriterState) (answer : Result (Unit {0}) yaml_error_t) → IsBare before → PassedEvents before between answer after
     → Wrote before between after
 next_begun before after answer bare passed =
     record {
@@ -99,7 +101,7 @@ next_begun before after answer bare passed =
     }
 
 module _ (depth : ℕ) (in_flow unique : Bool) (text : List ℕ) (was : WriterState) (rest first more : List ℕ) (now given : WriterState)
-    (cuts : CutsFirst rest first more) (so_far : TextsSoFar depth in_flow unique text was rest now)
+    (cuts : CutsFirstText rest first more) (so_far : TextsSoFar depth in_flow unique text was rest now)
     (named : unique ≡ true → NamesOnce [] (tokens first)) (one : WroteText depth in_flow first now given) where
   -- the next text's events, as the first writer would give them
   events_given : Wrote now (json_events was.canonical in_flow one.json) given
@@ -124,14 +126,14 @@ module _ (depth : ℕ) (in_flow unique : Bool) (text : List ℕ) (was : WriterSt
   names_done : HaveNamesOnce unique (map (λ part. part.0) (so_far.parts ++ (first, one.json) ∷ []))
   names_done = more_names unique so_far.parts (first, one.json) so_far.names (text_names unique first named)
 
-  started_more : started was.canonical in_flow so_far.parts ++ (json_events was.canonical in_flow one.json ++ between)
-      ≡ started was.canonical in_flow (so_far.parts ++ (first, one.json) ∷ [])
+  started_more : events_with_separators was.canonical in_flow so_far.parts ++ (json_events was.canonical in_flow one.json ++ between)
+      ≡ events_with_separators was.canonical in_flow (so_far.parts ++ (first, one.json) ∷ [])
   started_more =
-      ap (λ (events : List Event). started was.canonical in_flow so_far.parts ++ events)
+      ap (λ (events : List Event). events_with_separators was.canonical in_flow so_far.parts ++ events)
       (sym (append-nil (json_events was.canonical in_flow one.json ++ between)))
       ∙ sym (flat_map-append (λ (part : List ℕ × Json). json_events was.canonical in_flow part.1 ++ between) so_far.parts ((first, one.json) ∷ []))
 
-  pub texts_go_on : (answer : Result (Unit {0}) yaml_error_t) (after : WriterState) → (more ≡ [] → ⊥) → Passed given between answer after
+  pub texts_go_on : (answer : Result (Unit {0}) yaml_error_t) (after : WriterState) → (more ≡ [] → ⊥) → PassedEvents given between answer after
       → TextsSoFar depth in_flow unique text was more after
   texts_go_on answer after some passed =
       let next = next_begun given after answer one.wrote.bare passed in
@@ -142,20 +144,21 @@ module _ (depth : ℕ) (in_flow unique : Bool) (text : List ℕ) (was : WriterSt
         cut = cut_now (texts_in more) (cut_more cuts some);
         each = each_done;
         names = names_done;
-        wrote = wrote_same was after (started was.canonical in_flow so_far.parts ++ (events ++ between))
-            (started was.canonical in_flow (so_far.parts ++ (first, one.json) ∷ [])) started_more
-            (wrote_then was now after (started was.canonical in_flow so_far.parts) (events ++ between) so_far.wrote
+        wrote = wrote_same was after (events_with_separators was.canonical in_flow so_far.parts ++ (events ++ between))
+            (events_with_separators was.canonical in_flow (so_far.parts ++ (first, one.json) ∷ [])) started_more
+            (wrote_then was now after (events_with_separators was.canonical in_flow so_far.parts) (events ++ between) so_far.wrote
             (wrote_then now given after events between events_given next));
       }
 
   -- or the writer fails
-  pub next_failed : (after : WriterState) (error : yaml_error_t) → Passed given between (Err error) after → FailedInTexts depth in_flow text was error after
+  pub next_failed : (after : WriterState) (error : yaml_error_t) → PassedEvents given between (Err error) after
+      → FailedInTexts depth in_flow text was error after
   next_failed after error passed =
-      let before = started was.canonical in_flow so_far.parts in
-      let all = started was.canonical in_flow (so_far.parts ++ (first, one.json) ∷ []) in
+      let before = events_with_separators was.canonical in_flow so_far.parts in
+      let all = events_with_separators was.canonical in_flow (so_far.parts ++ (first, one.json) ∷ []) in
       let events = json_events was.canonical in_flow one.json in
       let last : FailedWith given between error after =
-      record { adds = passed.adds; is_error = some_from_told after.emitter.error error passed.answered } in
+      record { adds = passed.adds; is_error = some_from_result after.emitter.error error passed.answered } in
       inr
       (record {
         parts = so_far.parts ++ (first, one.json) ∷ [];
@@ -177,9 +180,10 @@ module _ (depth : ℕ) (in_flow unique : Bool) (text : List ℕ) (was : WriterSt
 
   wrote_done : Wrote was (parts_events was.canonical in_flow (so_far.parts ++ (first, one.json) ∷ [])) given
   wrote_done =
-      wrote_same was given (started was.canonical in_flow so_far.parts ++ json_events was.canonical in_flow one.json)
+      wrote_same was given (events_with_separators was.canonical in_flow so_far.parts ++ json_events was.canonical in_flow one.json)
       (parts_events was.canonical in_flow (so_far.parts ++ (first, one.json) ∷ [])) (ends_with was.canonical in_flow so_far.parts (first, one.json))
-      (wrote_then was now given (started was.canonical in_flow so_far.parts) (json_events was.canonical in_flow one.json) so_far.wrote events_given)
+      (wrote_then was now given (events_with_separators was.canonical in_flow so_far.parts)
+      (json_events was.canonical in_flow one.json) so_far.wrote events_given)
 
   pub texts_done : more ≡ [] → WroteTexts depth in_flow text was given
   texts_done none =
@@ -211,14 +215,14 @@ no_more more empty is h = nil_from_length more (eqb-true (length more) 0 (sym is
 pub is_more : (more : List ℕ) (empty : Bool) → empty ≡ (length more == 0) → empty ≡ false → more ≡ [] → ⊥
 is_more more empty is h none = false≢true (sym h ∙ is ∙ ap (λ (t : List ℕ). length t == 0) none)
 
-pub some_more : (first more rest : List ℕ) (empty : Bool) → CutsFirst rest first more → empty ≡ (length more == 0) → empty ≡ false
+pub some_more : (first more rest : List ℕ) (empty : Bool) → CutsFirstText rest first more → empty ≡ (length more == 0) → empty ≡ false
     → length more < length rest
 some_more first more rest empty (joined, inl (none, cut)) is h = absurd (is_more more empty is h none)
 some_more first more rest empty (joined, inr (some, less, cut)) is h = less
 
 -- Where a text is refused
 pub text_refused : (depth : ℕ) (in_flow unique : Bool) (text : List ℕ) (was : WriterState) (rest first more : List ℕ) (now : WriterState)
-    → CutsFirst rest first more → TextsSoFar depth in_flow unique text was rest now → (error : JsonError) → SaysWhy depth unique first error
+    → CutsFirstText rest first more → TextsSoFar depth in_flow unique text was rest now → (error : JsonError) → ExplainsError depth unique first error
     → RefusedAmong depth unique text error
 text_refused depth in_flow unique text was rest first more now cuts so_far error why =
     let found = cut_some cuts in
@@ -234,7 +238,8 @@ text_refused depth in_flow unique text was rest first more now cuts so_far error
 
 -- Where the writer fails within a text
 pub texts_failed : (depth : ℕ) (in_flow unique : Bool) (text : List ℕ) (was : WriterState) (rest first more : List ℕ) (now later : WriterState)
-    → CutsFirst rest first more → TextsSoFar depth in_flow unique text was rest now → (error : yaml_error_t) → FailedInText depth in_flow first now error later
+    → CutsFirstText rest first more → TextsSoFar depth in_flow unique text was rest now → (error : yaml_error_t)
+    → FailedInText depth in_flow first now error later
     → FailedInTexts depth in_flow text was error later
 texts_failed depth in_flow unique text was rest first more now later cuts so_far error (inl memory) = inl memory
 texts_failed depth in_flow unique text was rest first more now later cuts so_far error (inr (taken, (failed, begins))) =
@@ -249,5 +254,6 @@ texts_failed depth in_flow unique text was rest first more now later cuts so_far
       taken = taken;
       left = failed.left;
       split = failed.parts;
-      gave = failed_then was now later (started was.canonical in_flow so_far.parts) (tokens_events was.canonical in_flow taken) error so_far.wrote.adds gave;
+      gave = failed_then was now later (events_with_separators was.canonical in_flow so_far.parts)
+          (tokens_events was.canonical in_flow taken) error so_far.wrote.adds gave;
     })

@@ -15,7 +15,7 @@ use Rattle.yaml_base.specs.Ready.{awaited, written}
 use Rattle.yaml_base.specs.Refusal.{BeginsAccepted, IsAccepted, begins_collection, ends_collection, most_open, open_count}
 use Rattle.yaml_base.specs.Settings.{Settings}
 use Rattle.yaml_emitter.proofs.standing.StandingPromises.{stands_well}
-use Rattle.yaml_emitter.specs.StandsAfter.{StandsSo}
+use Rattle.yaml_emitter.specs.StandsAfter.{StateStands}
 use Rattle.yaml_emitter.specs.State.{State}
 use Rattle.yaml_writer.specs.Writing.{closing, opening}
 use Rattle.yaml_json.specs.JsonEvents.{json_events}
@@ -40,7 +40,7 @@ few_held all = by_held (drop (written all) all) refl
         let few = awaits_few event in
         omega (arith, ap length is, length-drop (written all) all, short, few)
 
--- ---- no front leaves too many collections open
+-- ---- no prefix leaves too many collections open
 
 -- of two lists that begin another, the shorter begins the longer
 shorter_begins : (shorter longer more rest : List Event) → shorter ++ more ≡ longer ++ rest → length shorter ≤ length longer → IsPrefix shorter longer
@@ -53,50 +53,50 @@ shorter_begins (x ∷ shorter) (y ∷ longer) more rest is fits =
     record { rest = inner.rest; parts = ap₂ (λ (event : Event) (events : List Event). event ∷ events) first inner.parts }
 
 -- one that is written begins an accepted list
-early : (canonical : Bool) (all closes front rest : List Event) → BeginsAccepted canonical (take (written all) all) → front ++ rest ≡ all ++ closes
-    → length front ≤ written all → open_count front ≤ most_open
-early canonical all closes front rest begun is fits =
+early : (canonical : Bool) (all closes prefix rest : List Event) → BeginsAccepted canonical (take (written all) all) → prefix ++ rest ≡ all ++ closes
+    → length prefix ≤ written all → open_count prefix ≤ most_open
+early canonical all closes prefix rest begun is fits =
     let ready = take (written all) all in
     let held = drop (written all) all in
-    let cut : front ++ rest ≡ ready ++ (held ++ closes) =
+    let cut : prefix ++ rest ≡ ready ++ (held ++ closes) =
     is ∙ ap (λ (events : List Event). events ++ closes) (sym (take-append-drop (written all) all)) ∙ append_assoc ready held closes in
     let within = length-take-le (written all) all (written_within all) in
-    let prefix = shorter_begins front ready rest (held ++ closes) cut (omega (arith, fits, within)) in
-    begun.accepted.shallow front (prefix.rest ++ begun.rest)
-    (sym (append_assoc front prefix.rest begun.rest) ∙ ap (λ (events : List Event). events ++ begun.rest) prefix.parts)
+    let begins_before = shorter_begins prefix ready rest (held ++ closes) cut (omega (arith, fits, within)) in
+    begun.accepted.shallow prefix (begins_before.rest ++ begun.rest)
+    (sym (append_assoc prefix begins_before.rest begun.rest) ∙ ap (λ (events : List Event). events ++ begun.rest) begins_before.parts)
 
 -- after any other few events follow, and each ends one collection at most
-late : (canonical in_flow : Bool) (json : Json) (front rest : List Event) → front ++ rest ≡ stream_of canonical in_flow json → length rest ≤ most_open
-    → open_count front ≤ most_open
-late canonical in_flow json front rest is short =
+late : (canonical in_flow : Bool) (json : Json) (prefix rest : List Event) → prefix ++ rest ≡ stream_of canonical in_flow json → length rest ≤ most_open
+    → open_count prefix ≤ most_open
+late canonical in_flow json prefix rest is short =
     let part : List ℕ × Json = ([], json) in
     let tree : Stream = json_stream (json ∷ []) canonical in_flow in
-    let pushes : partial_of (front ++ rest) ≡ Some (after_stream tree) =
+    let pushes : partial_of (prefix ++ rest) ≡ Some (after_stream tree) =
     ap partial_of (is ∙ sym (stream_flat part [] canonical in_flow)) ∙ stream_pushed tree in
-    let all_closed : open_count (front ++ rest) ≡ 0 = open_count-levels (front ++ rest) (after_stream tree) pushes in
-    let begins : count_by begins_collection (front ++ rest) ≡ count_by begins_collection front + count_by begins_collection rest =
-    sum_by-append (λ x. cond (begins_collection x) 1 0) front rest in
-    let ends : count_by ends_collection (front ++ rest) ≡ count_by ends_collection front + count_by ends_collection rest =
-    sum_by-append (λ x. cond (ends_collection x) 1 0) front rest in
+    let all_closed : open_count (prefix ++ rest) ≡ 0 = open_count-levels (prefix ++ rest) (after_stream tree) pushes in
+    let begins : count_by begins_collection (prefix ++ rest) ≡ count_by begins_collection prefix + count_by begins_collection rest =
+    sum_by-append (λ x. cond (begins_collection x) 1 0) prefix rest in
+    let ends : count_by ends_collection (prefix ++ rest) ≡ count_by ends_collection prefix + count_by ends_collection rest =
+    sum_by-append (λ x. cond (ends_collection x) 1 0) prefix rest in
     omega (arith, all_closed, begins, ends, count_by-le-length ends_collection rest, short)
 
 -- ---- all
 
 few_open : (given : Settings) (in_flow : Bool) (json : Json) (all : List Event) (state : State) → all ++ closing ≡ stream_of given.canonical in_flow json
-    → StandsSo given all state → state.error ≡ None → (front rest : List Event) → front ++ rest ≡ stream_of given.canonical in_flow json
-    → open_count front ≤ most_open
-few_open given in_flow json all state closed stands none front rest is =
-    let begun : BeginsAccepted given.canonical (take (written all) all) = (stands_well given all state stands none).taken.stands in
-    let same : front ++ rest ≡ all ++ closing = is ∙ sym closed in
+    → StateStands given all state → state.error ≡ None → (prefix rest : List Event) → prefix ++ rest ≡ stream_of given.canonical in_flow json
+    → open_count prefix ≤ most_open
+few_open given in_flow json all state closed stands none prefix rest is =
+    let begun : BeginsAccepted given.canonical (take (written all) all) = (stands_well given all state stands none).progress.stands in
+    let same : prefix ++ rest ≡ all ++ closing = is ∙ sym closed in
     let held = few_held all in
-    let count : length front + length rest ≡ length all + 2 = sym (length-append front rest) ∙ ap length same ∙ length-append all closing in
-    elim (cases_lt (written all) (length front)) [
-      | inl past ↦ late given.canonical in_flow json front rest is (omega (arith, past, held, count))
-      | inr within ↦ early given.canonical all closing front rest begun same within
+    let count : length prefix + length rest ≡ length all + 2 = sym (length-append prefix rest) ∙ ap length same ∙ length-append all closing in
+    elim (cases_lt (written all) (length prefix)) [
+      | inl past ↦ late given.canonical in_flow json prefix rest is (omega (arith, past, held, count))
+      | inr within ↦ early given.canonical all closing prefix rest begun same within
     ]
 
 pub unfailed_accepted : (given : Settings) (in_flow : Bool) (json : Json) (state : State)
-    → StandsSo given (opening ++ json_events given.canonical in_flow json) state → state.error ≡ None
+    → StateStands given (opening ++ json_events given.canonical in_flow json) state → state.error ≡ None
     → IsAccepted given.canonical (stream_of given.canonical in_flow json)
 unfailed_accepted given in_flow json state stands none =
     accepted_where given.canonical in_flow json

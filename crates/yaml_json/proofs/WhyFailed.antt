@@ -14,7 +14,7 @@ use Rattle.yaml_base.specs.declared.errors.yaml_error_t.TheVariants.{Memory, Wri
 use Rattle.yaml_emitter.proofs.standing.StandingMore.{failed_more}
 use Rattle.yaml_emitter.proofs.standing.StandingPromises.{promises_refusal}
 use Rattle.yaml_emitter.specs.Promises.{IsRefusal, RefusedAt}
-use Rattle.yaml_emitter.specs.StandsAfter.{StandsAfter, StandsSo}
+use Rattle.yaml_emitter.specs.StandsAfter.{StandsAfter, StateStands}
 use Rattle.yaml_emitter.specs.State.{State}
 use Rattle.yaml_writer.proofs.Overflow.{overflowed}
 use Rattle.yaml_writer.specs.Unfinished.{IsUnfinished, PassesLimit}
@@ -36,7 +36,7 @@ which WriteError = inr (inl refl)
 which error = inr (inr tt)
 
 -- where the limit gave out, the bytes pass it, whatever else is given
-overflowed_more : (given : Settings) (more all : List Event) (state : State) → StandsSo given all state → state.error ≡ Some WriteError
+overflowed_more : (given : Settings) (more all : List Event) (state : State) → StateStands given all state → state.error ≡ Some WriteError
     → PassesLimit given (all ++ more)
 overflowed_more given [] all state stands is = subst (PassesLimit given) (sym (append-nil all)) (overflowed given all state stands is)
 overflowed_more given (event ∷ more) all state stands is =

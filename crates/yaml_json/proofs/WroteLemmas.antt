@@ -8,11 +8,12 @@ use Rattle.yaml_emitter.specs.State.{State}
 use Rattle.yaml_writer.proofs.Finishing.{nothing_awaited}
 use Rattle.yaml_writer.proofs.PartLemmas.{number_found}
 use Rattle.yaml_writer.specs.NumberParts.{IsNumber, number_in}
-use Rattle.yaml_writer.specs.Writing.{WriterState, AddsAll, Gave, StandsTaken, awaits_node, end_event, entered, mapping_event, number_event, number_tag}
-use Rattle.yaml_writer.specs.Writing.{sequence_event, tag_or, text_event, text_style, word_event}
+use Rattle.yaml_writer.specs.Writing.{WriterState, AddsEvents, GaveEvent, StandsTaken, awaits_node, end_event, with_collection, mapping_event}
+use Rattle.yaml_writer.specs.Writing.{number_event, number_tag}
+use Rattle.yaml_writer.specs.Writing.{sequence_event, tag_or_default, text_event, text_style, word_event}
 use Rattle.yaml_writer.specs.declared.kinds.CollectionKind.{CollectionKind}
 use Rattle.yaml_json.specs.JsonEvents.{collection_in, number_content, style_of, text_content, word_content}
-use Rattle.yaml_json.specs.Wrote.{Ends, IsBare, Starts, Wrote, WroteEvent, start_event}
+use Rattle.yaml_json.specs.Wrote.{Ends, IsBare, StartsCollection, Wrote, WroteEvent, start_event}
 
 -- no node is awaited
 pub bare_awaits_none : (writer : WriterState) → IsBare writer → awaits_node writer ≡ false
@@ -45,8 +46,8 @@ wrote_nothing writer bare =
     }
 
 -- some events, and then others
-pub adds_then : (before between after : State) (first second : List Event) → AddsAll before first between → AddsAll between second after
-    → AddsAll before (first ++ second) after
+pub adds_then : (before between after : State) (first second : List Event) → AddsEvents before first between → AddsEvents between second after
+    → AddsEvents before (first ++ second) after
 adds_then before between after first second one other = λ given all sent stands.
     subst (λ (events : List Event). StandsTaken given events sent after) (append_assoc all first second)
     (other given (all ++ first) sent (one given all sent stands))
@@ -66,7 +67,7 @@ pub wrote_same : (before after : WriterState) (events same : List Event) → eve
 wrote_same before after events same is = subst (λ (e : List Event). Wrote before e after) is
 
 -- a call that gave one event
-pub wrote_event : (before after : WriterState) (event same : Event) → event ≡ same → Gave before event None after → WroteEvent before same after
+pub wrote_event : (before after : WriterState) (event same : Event) → event ≡ same → GaveEvent before event None after → WroteEvent before same after
 wrote_event before after event same is gave =
     record {
       adds = λ given all sent stands. subst (λ (e : Event). StandsTaken given (all ++ e ∷ []) sent after.emitter) is (gave.adds given all sent stands);
@@ -83,7 +84,7 @@ scalar_by value style anchor tag =
 
 pub word_is : (writer : WriterState) (own word : Text) → IsBare writer → word_event writer own word ≡ scalar (word_content writer.canonical own word)
 word_is writer own word bare =
-    ap₂ (scalar_by word plain) bare.0 (ap (λ (tag : Option Text). tag_or tag writer.canonical own) bare.1)
+    ap₂ (scalar_by word plain) bare.0 (ap (λ (tag : Option Text). tag_or_default tag writer.canonical own) bare.1)
 
 pub text_is : (writer : WriterState) (text : Text) → IsBare writer → text_event writer text ≡ scalar (text_content text)
 text_is writer text bare = ap₂ (scalar_by text (text_style text)) bare.0 bare.1
@@ -133,7 +134,7 @@ same_last (first ∷ outer) (next ∷ others) kind other is =
 
 -- a collection that was begun is the innermost, and its end is of its kind
 pub ended : (outer : List CollectionKind) (kind : CollectionKind) (before after : WriterState) → before.levels ≡ outer ++ kind ∷ [] → IsBare before
-    → Ends before after → (AddsAll before.emitter (end_event kind ∷ []) after.emitter) × (after.canonical ≡ before.canonical) × (after.levels ≡ outer)
+    → Ends before after → (AddsEvents before.emitter (end_event kind ∷ []) after.emitter) × (after.canonical ≡ before.canonical) × (after.levels ≡ outer)
     × IsBare after
 ended outer kind before after levels bare (inl none) = absurd (none_more outer kind (sym levels ∙ none.0))
 ended outer kind before after levels bare (inr end) =
@@ -147,5 +148,5 @@ ended outer kind before after levels bare (inr end) =
 
 -- a collection was begun
 pub starts_with : (in_flow : Bool) (kind : CollectionKind) (before after : WriterState) (event : Event) → event ≡ start_event in_flow kind
-    → Gave (entered before kind) event None after → Starts in_flow kind before after
-starts_with in_flow kind before after event is = subst (λ (e : Event). Gave (entered before kind) e None after) is
+    → GaveEvent (with_collection before kind) event None after → StartsCollection in_flow kind before after
+starts_with in_flow kind before after event is = subst (λ (e : Event). GaveEvent (with_collection before kind) e None after) is

@@ -11,7 +11,7 @@ use Rattle.yaml_base.specs.declared.errors.yaml_error_t.{yaml_error_t}
 use Rattle.yaml_base.specs.declared.errors.yaml_error_t.TheVariants.{TooDeep, WriteError, Memory}
 use Rattle.yaml_emitter.specs.Uncut.{IsUncut}
 use Rattle.yaml_writer.specs.Unfinished.{PassesLimit}
-use Rattle.yaml_writer.specs.Writing.{AddsAll, WriterState, closing, opening, plain_start}
+use Rattle.yaml_writer.specs.Writing.{AddsEvents, WriterState, closing, opening, plain_start}
 use Rattle.yaml_json.specs.Begins.{BeginsValue}
 use Rattle.yaml_json.specs.JsonEvents.{json_events}
 use Rattle.yaml_json.specs.TokenEvents.{tokens_events}
@@ -43,7 +43,7 @@ writers_error (errors.Emitter error) = Some error
 
 -- these events were given to the emitter, which has this error now
 pub record FailedWith (was : WriterState) (events : List Event) (error : yaml_error_t) (now : WriterState) : Type 0 where
-  pub adds : AddsAll was.emitter events now.emitter
+  pub adds : AddsEvents was.emitter events now.emitter
   pub is_error : now.emitter.error ≡ Some error
 
 -- an allocation failed, or this event was given to the emitter, which has this error now
@@ -71,8 +71,8 @@ abbrev pub between : List Event
 between = document_end true ∷ plain_start ∷ []
 
 -- the events of some texts, after each of which a document begins
-abbrev pub started : (canonical in_flow : Bool) → List (List ℕ × Json) → List Event
-started canonical in_flow parts = flat_map (λ part. json_events canonical in_flow part.1 ++ between) parts
+abbrev pub events_with_separators : (canonical in_flow : Bool) → List (List ℕ × Json) → List Event
+events_with_separators canonical in_flow parts = flat_map (λ part. json_events canonical in_flow part.1 ++ between) parts
 
 -- the first of the texts in a text are JSON nested at most `depth` deep, and their events were given to the emitter, with a document
 -- begun after each, and then those of the first tokens of the next text; it has this error now
@@ -85,7 +85,7 @@ pub record FailedAmong (depth : ℕ) (in_flow : Bool) (text : List ℕ) (was : W
   pub taken : List Token
   pub left : List Token
   pub split : taken ++ left ≡ tokens next
-  pub gave : FailedWith was (started was.canonical in_flow parts ++ tokens_events was.canonical in_flow taken) error now
+  pub gave : FailedWith was (events_with_separators was.canonical in_flow parts ++ tokens_events was.canonical in_flow taken) error now
 
 -- an allocation failed, or that
 abbrev pub FailedInTexts : (depth : ℕ) → (in_flow : Bool) → (text : List ℕ) → WriterState → yaml_error_t → WriterState → Type 0

@@ -5,7 +5,7 @@ use Rattle.std.specs.BTreeSet.{BTreeSet, contains_by}
 use Rattle.std.specs.Cmp.Lexicographic.{slice_cmp}
 use Rattle.std.specs.Ordering.{nat_cmp}
 use Rattle.std.specs.List.{list_any}
-use Rattle.yaml_json.specs.Names.{IsNew}
+use Rattle.yaml_json.specs.Names.{IsNewName}
 use Rattle.yaml_json.specs.declared.names.Names.{Names}
 
 -- a set has these names, and no others
@@ -23,8 +23,8 @@ abbrev pub HoldsNames : {A : Type 0} → List (List (List ℕ)) → Names A → 
 HoldsNames levels held = held.are_kept ≡ true → HaveNames held.sets.items levels
 
 -- a name is added to those of the innermost; it is new to them, or it isn't
-abbrev pub Adds : {A : Type 0} → List (List ℕ) → List (List (List ℕ)) → List ℕ → Bool → Names A → Type 0
-Adds names levels name new held =
+abbrev pub AddsName : {A : Type 0} → List (List ℕ) → List (List (List ℕ)) → List ℕ → Bool → Names A → Type 0
+AddsName names levels name new held =
     HoldsNames ((name ∷ names) ∷ levels) held
-    × (new ≡ true → held.are_kept ≡ true → IsNew names name)
-    × (new ≡ false → (held.are_kept ≡ true) × (IsNew names name → ⊥))
+    × (new ≡ true → held.are_kept ≡ true → IsNewName names name)
+    × (new ≡ false → (held.are_kept ≡ true) × (IsNewName names name → ⊥))

@@ -18,24 +18,24 @@ abbrev pub Schema : Type 0
 Schema = Text → Resolved
 
 -- the tag of a reading
-abbrev pub tag_of : Resolved → Text
-tag_of meant_null = codes "tag:yaml.org,2002:null"
-tag_of (meant_boolean flag) = codes "tag:yaml.org,2002:bool"
-tag_of (meant_integer integer) = codes "tag:yaml.org,2002:int"
-tag_of (meant_decimal decimal) = codes "tag:yaml.org,2002:float"
-tag_of (meant_infinity negative) = codes "tag:yaml.org,2002:float"
-tag_of meant_nan = codes "tag:yaml.org,2002:float"
-tag_of meant_timestamp = codes "tag:yaml.org,2002:timestamp"
-tag_of meant_merge = codes "tag:yaml.org,2002:merge"
-tag_of meant_value = codes "tag:yaml.org,2002:value"
-tag_of meant_text = codes "tag:yaml.org,2002:str"
-tag_of meant_by_nobody = []
+abbrev pub canonical_tag : Resolved → Text
+canonical_tag meant_null = codes "tag:yaml.org,2002:null"
+canonical_tag (meant_boolean flag) = codes "tag:yaml.org,2002:bool"
+canonical_tag (meant_integer integer) = codes "tag:yaml.org,2002:int"
+canonical_tag (meant_decimal decimal) = codes "tag:yaml.org,2002:float"
+canonical_tag (meant_infinity negative) = codes "tag:yaml.org,2002:float"
+canonical_tag meant_nan = codes "tag:yaml.org,2002:float"
+canonical_tag meant_timestamp = codes "tag:yaml.org,2002:timestamp"
+canonical_tag meant_merge = codes "tag:yaml.org,2002:merge"
+canonical_tag meant_value = codes "tag:yaml.org,2002:value"
+canonical_tag meant_text = codes "tag:yaml.org,2002:str"
+canonical_tag meant_by_nobody = []
 
 -- what a scalar means: plain, what the schema says; in quotes, a text; with a tag, what the schema says, where it has that tag
 abbrev pub scalar_meant : Schema → Tagging → Text → Resolved
 scalar_meant schema (without_tag stood_plain) value = schema value
 scalar_meant schema (without_tag _) value = meant_text
-scalar_meant schema (with_tag tag) value = if bytes_eq tag (tag_of (schema value)) then schema value else meant_by_nobody
+scalar_meant schema (with_tag tag) value = if bytes_eq tag (canonical_tag (schema value)) then schema value else meant_by_nobody
 
 -- trees and pairs of trees, in order
 abbrev pub in_order : Trees → List Tree

@@ -3,9 +3,9 @@ use Rattle.std.specs.Prelude.{◌≢◌, ⊤, ℕ, List, [], ◌∷◌}
 use Rattle.json.specs.Token.{Token}
 
 -- a name is none of these
-abbrev pub IsNew : List (List ℕ) → List ℕ → Type 0
-IsNew [] name = ⊤
-IsNew (other ∷ names) name = (other ≢ name) × IsNew names name
+abbrev pub IsNewName : List (List ℕ) → List ℕ → Type 0
+IsNewName [] name = ⊤
+IsNewName (other ∷ names) name = (other ≢ name) × IsNewName names name
 
 -- the names of the innermost of some arrays and objects that are open, the innermost first; and those of the others
 abbrev pub inner_names : List (List (List ℕ)) → List (List ℕ)
@@ -30,22 +30,22 @@ names_after levels Token.null = levels
 names_after levels Token.bad = levels
 
 -- the token is no name that its object has
-abbrev pub IsNewIn : List (List (List ℕ)) → Token → Type 0
-IsNewIn levels Token.begin_object = ⊤
-IsNewIn levels Token.end_object = ⊤
-IsNewIn levels Token.begin_array = ⊤
-IsNewIn levels Token.end_array = ⊤
-IsNewIn levels (Token.key name) = IsNew (inner_names levels) name
-IsNewIn levels (Token.string text) = ⊤
-IsNewIn levels (Token.number text) = ⊤
-IsNewIn levels (Token.boolean flag) = ⊤
-IsNewIn levels Token.null = ⊤
-IsNewIn levels Token.bad = ⊤
+abbrev pub IsNewNameIn : List (List (List ℕ)) → Token → Type 0
+IsNewNameIn levels Token.begin_object = ⊤
+IsNewNameIn levels Token.end_object = ⊤
+IsNewNameIn levels Token.begin_array = ⊤
+IsNewNameIn levels Token.end_array = ⊤
+IsNewNameIn levels (Token.key name) = IsNewName (inner_names levels) name
+IsNewNameIn levels (Token.string text) = ⊤
+IsNewNameIn levels (Token.number text) = ⊤
+IsNewNameIn levels (Token.boolean flag) = ⊤
+IsNewNameIn levels Token.null = ⊤
+IsNewNameIn levels Token.bad = ⊤
 
 -- no name comes twice
 abbrev pub NamesOnce : List (List (List ℕ)) → List Token → Type 0
 NamesOnce levels [] = ⊤
-NamesOnce levels (token ∷ more) = IsNewIn levels token × NamesOnce (names_after levels token) more
+NamesOnce levels (token ∷ more) = IsNewNameIn levels token × NamesOnce (names_after levels token) more
 
 -- the names of the arrays and objects that are open after some tokens
 abbrev pub all_names_after : List (List (List ℕ)) → List Token → List (List (List ℕ))

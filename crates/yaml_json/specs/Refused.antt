@@ -91,11 +91,11 @@ abbrev pub IsNotJson : (depth : ℕ) → (text : List ℕ) → Type 0
 IsNotJson depth text = IsNoValue depth (tokens text)
 
 -- what an error says of the text: that it breaks off, that it opens too many arrays and objects, that a name comes twice
-abbrev pub SaysWhy : (depth : ℕ) → (unique : Bool) → (text : List ℕ) → JsonError → Type 0
-SaysWhy depth unique text (errors.NotJson line column) = BreaksOff depth unique (tokens text)
-SaysWhy depth unique text errors.TooDeep = OpensTooDeep depth unique (tokens text)
-SaysWhy depth unique text (errors.DuplicateName line column) = NamesTwice depth unique (tokens text)
-SaysWhy depth unique text (errors.Emitter error) = Unit {0}
+abbrev pub ExplainsError : (depth : ℕ) → (unique : Bool) → (text : List ℕ) → JsonError → Type 0
+ExplainsError depth unique text (errors.NotJson line column) = BreaksOff depth unique (tokens text)
+ExplainsError depth unique text errors.TooDeep = OpensTooDeep depth unique (tokens text)
+ExplainsError depth unique text (errors.DuplicateName line column) = NamesTwice depth unique (tokens text)
+ExplainsError depth unique text (errors.Emitter error) = Unit {0}
 
 -- where names are to come once, no object of the text has one twice
 abbrev pub HasNamesOnce : (unique : Bool) → (text : List ℕ) → Type 0
@@ -114,4 +114,4 @@ pub record RefusedAmong (depth : ℕ) (unique : Bool) (text : List ℕ) (error :
   pub cut : map (λ part. part.0) parts ++ next ∷ later ≡ texts_in text
   pub each : AreJson depth parts
   pub names : HaveNamesOnce unique (map (λ part. part.0) parts)
-  pub why : SaysWhy depth unique next error
+  pub why : ExplainsError depth unique next error

@@ -20,37 +20,37 @@ abbrev scan_at : Mode → ℕ → Scan
 scan_at mode levels = record { mode = mode; levels = levels }
 
 -- a text begins, or a blank stands before it
-abbrev pub begun_by : ℕ → Scan
-begun_by byte =
+abbrev pub scan_first_byte : ℕ → Scan
+scan_first_byte byte =
     if is_space byte then scan_at Before 0
     else (if byte == ascii.quote then scan_at InString 0
     else (if is_opener byte then scan_at Within 1
     else (if is_operator byte then scan_at Behind 0 else scan_at InWord 0)))
 
 -- within an array or an object, until all that is open is closed
-abbrev pub within_by : ℕ → ℕ → Scan
-within_by levels byte =
+abbrev pub scan_within : ℕ → ℕ → Scan
+scan_within levels byte =
     if byte == ascii.quote then scan_at InString levels
     else (if is_opener byte then scan_at Within (suc levels)
     else (if is_closer byte then (if nat_le levels 1 then scan_at Behind 0 else scan_at Within (levels - 1)) else scan_at Within levels))
 
 -- within a string, until the quote that isn't escaped
-abbrev pub in_string_by : ℕ → ℕ → Scan
-in_string_by levels byte =
+abbrev pub scan_in_string : ℕ → ℕ → Scan
+scan_in_string levels byte =
     if byte == ascii.backslash then scan_at AfterBackslash levels
     else (if byte == ascii.quote then (if levels == 0 then scan_at Behind 0 else scan_at Within levels) else scan_at InString levels)
 
 -- after a byte of the same text, with the blanks after it; none where the byte begins the next text
-abbrev by_mode : Mode → ℕ → ℕ → Option Scan
-by_mode Before levels byte = Some (begun_by byte)
-by_mode Within levels byte = Some (within_by levels byte)
-by_mode InString levels byte = Some (in_string_by levels byte)
-by_mode AfterBackslash levels byte = Some (scan_at InString levels)
-by_mode InWord levels byte = if is_space byte then Some (scan_at Behind 0) else (if is_operator byte then None else Some (scan_at InWord levels))
-by_mode Behind levels byte = if is_space byte || is_inner_byte byte then Some (scan_at Behind levels) else None
+abbrev scan_by_mode : Mode → ℕ → ℕ → Option Scan
+scan_by_mode Before levels byte = Some (scan_first_byte byte)
+scan_by_mode Within levels byte = Some (scan_within levels byte)
+scan_by_mode InString levels byte = Some (scan_in_string levels byte)
+scan_by_mode AfterBackslash levels byte = Some (scan_at InString levels)
+scan_by_mode InWord levels byte = if is_space byte then Some (scan_at Behind 0) else (if is_operator byte then None else Some (scan_at InWord levels))
+scan_by_mode Behind levels byte = if is_space byte || is_inner_byte byte then Some (scan_at Behind levels) else None
 
 abbrev pub after_byte : Scan → ℕ → Option Scan
-after_byte scan byte = by_mode scan.mode scan.levels byte
+after_byte scan byte = scan_by_mode scan.mode scan.levels byte
 
 -- a byte before the first of some texts
 abbrev pub onto_first : ℕ → List (List ℕ) → List (List ℕ)
@@ -59,7 +59,7 @@ onto_first byte (text ∷ texts) = (byte ∷ text) ∷ texts
 
 -- the byte goes on with the text, or begins the next one; then come more
 abbrev pub cut_before : ℕ → Option Scan → (Scan → List (List ℕ)) → List (List ℕ)
-cut_before byte None more = [] ∷ onto_first byte (more (begun_by byte))
+cut_before byte None more = [] ∷ onto_first byte (more (scan_first_byte byte))
 cut_before byte (Some scan) more = onto_first byte (more scan)
 
 -- what is left of a text, and the texts after it
@@ -72,8 +72,8 @@ abbrev pub texts_in : List ℕ → List (List ℕ)
 texts_in text = texts_after (scan_at Before 0) text
 
 -- this is the first of the texts, and these are the others, of which there may be none
-abbrev pub CutsFirst : (text first more : List ℕ) → Type 0
-CutsFirst text first more =
+abbrev pub CutsFirstText : (text first more : List ℕ) → Type 0
+CutsFirstText text first more =
     (first ++ more ≡ text)
     × (((more ≡ []) × (texts_in text ≡ first ∷ []))
     ⊎ ((more ≡ [] → ⊥) × (length more < length text) × (texts_in text ≡ first ∷ texts_in more)))

@@ -5,7 +5,7 @@ use Rattle.json.specs.Json.{skip_value}
 use Rattle.json.specs.Reads.{skip_items, skip_members}
 use Rattle.yaml_base.specs.declared.errors.yaml_error_t.{yaml_error_t}
 use Rattle.yaml_base.specs.declared.errors.yaml_error_t.TheVariants.{Memory}
-use Rattle.yaml_writer.specs.Writing.{AddsAll, WriterState}
+use Rattle.yaml_writer.specs.Writing.{AddsEvents, WriterState}
 use Rattle.yaml_writer.specs.declared.kinds.CollectionKind.{CollectionKind}
 use Rattle.yaml_writer.specs.declared.kinds.CollectionKind.TheVariants.{Mapping, Sequence}
 use Rattle.yaml_json.specs.Begins.{BeginsValue}
@@ -81,7 +81,7 @@ Begins depth levels token now =
 
 -- the events of these tokens were given, and these collections are open within those that were
 pub record Stood (in_flow : Bool) (was : WriterState) (taken : List Token) (levels : List CollectionKind) (now : WriterState) : Type 0 where
-  pub adds : AddsAll was.emitter (tokens_events was.canonical in_flow taken) now.emitter
+  pub adds : AddsEvents was.emitter (tokens_events was.canonical in_flow taken) now.emitter
   pub canonical : now.canonical ≡ was.canonical
   pub levels_are : now.levels ≡ was.levels ++ levels
   pub bare : IsBare now
@@ -101,8 +101,8 @@ FailsGiving in_flow levels before taken error after =
 -- ---- the names
 
 -- where names are kept, none comes twice among these tokens, and those of the arrays and objects that are open are kept
-abbrev pub Kept : {A : Type 0} → List Token → Names A → Type 0
-Kept so held = held.are_kept ≡ true → NamesOnce [] so × HaveNames held.sets.items (all_names_after [] so)
+abbrev pub KeepsNames : {A : Type 0} → List Token → Names A → Type 0
+KeepsNames so held = held.are_kept ≡ true → NamesOnce [] so × HaveNames held.sets.items (all_names_after [] so)
 
 -- as many levels have names as are open
 abbrev pub FitsNames : {A : Type 0} → (unique : Bool) → List CollectionKind → Names A → Type 0
@@ -110,7 +110,7 @@ FitsNames unique levels held = (held.are_kept ≡ unique) × (held.are_kept ≡ 
 
 -- wherever they were kept, they are after these tokens more
 abbrev pub Keeps : {A : Type 0} → Names A → List Token → Names A → Type 0
-Keeps held taken later = (so : List Token) → Kept so held → Kept (so ++ taken) later
+Keeps held taken later = (so : List Token) → KeepsNames so held → KeepsNames (so ++ taken) later
 
 -- names are kept after some of the tokens that were ahead
 pub record KeepsTo {A : Type 0} (held : Names A) (ahead after : List Token) (later : Names A) : Type 0 where
@@ -131,7 +131,7 @@ HasUniqueNames unique before after = unique ≡ true → (taken : List Token) ×
 -- ---- one token
 
 -- the token was given, with which a value begins
-pub record Began (depth : ℕ) (in_flow : Bool) (token : Token) (levels : List CollectionKind) (before : WriterState) (opened : List CollectionKind)
+pub record BeganValue (depth : ℕ) (in_flow : Bool) (token : Token) (levels : List CollectionKind) (before : WriterState) (opened : List CollectionKind)
     (after : WriterState) : Type 0 where
   pub begins : Begins depth levels token opened
   pub gives : Gives in_flow levels before (token ∷ []) opened after
@@ -153,11 +153,11 @@ RefusesToken depth levels token (stops.Failed error) = Unit {0}
 -- ---- the first token of a value
 
 -- the first of these tokens was given, with which a value begins
-pub record BeganFirst (depth : ℕ) (in_flow : Bool) (ahead : List Token) (levels : List CollectionKind) (before : WriterState) (after : List Token)
+pub record BeganFirstValue (depth : ℕ) (in_flow : Bool) (ahead : List Token) (levels : List CollectionKind) (before : WriterState) (after : List Token)
     (opened : List CollectionKind) (now : WriterState) : Type 0 where
   pub token : Token
   pub first : ahead ≡ token ∷ after
-  pub began : Began depth in_flow token levels before opened now
+  pub began : BeganValue depth in_flow token levels before opened now
 
 -- the writer failed at the first of these tokens, with which a value begins
 pub record FirstFailed (depth : ℕ) (in_flow : Bool) (ahead : List Token) (levels : List CollectionKind) (before : WriterState) (error : yaml_error_t)
@@ -214,12 +214,12 @@ WhyStopped depth unique all (stops.Failed error) = Unit {0}
 -- wherever the walk stood with these collections open, these names taken and these tokens ahead, the text stops it
 abbrev pub Refuses : {A : Type 0} → (depth : ℕ) → (unique : Bool) → List CollectionKind → Names A → List Token → Stop → Type 0
 Refuses depth unique levels held ahead stop =
-    (so : List Token) → Stands depth so levels → Kept so held → WhyStopped depth unique (so ++ ahead) stop
+    (so : List Token) → Stands depth so levels → KeepsNames so held → WhyStopped depth unique (so ++ ahead) stop
 
 -- ---- the whole walk
 
 -- where the walk stands
-pub record SoFar (depth : ℕ) (in_flow : Bool) (start : List Token) (was : WriterState) (ahead : List Token) (levels : List CollectionKind)
+pub record WalkProgress (depth : ℕ) (in_flow : Bool) (start : List Token) (was : WriterState) (ahead : List Token) (levels : List CollectionKind)
     (now : WriterState) : Type 0 where
   pub taken : List Token
   pub parts : taken ++ ahead ≡ start
@@ -229,9 +229,9 @@ pub record SoFar (depth : ℕ) (in_flow : Bool) (start : List Token) (was : Writ
 -- ---- what a caller is returned
 
 -- the error says what the stop does
-abbrev pub SaysWhat : Stop → JsonError → Type 0
-SaysWhat (stops.NotJson spot) (errors.NotJson line column) = Unit {0}
-SaysWhat stops.TooDeep errors.TooDeep = Unit {0}
-SaysWhat (stops.NameAgain offset) (errors.DuplicateName line column) = Unit {0}
-SaysWhat (stops.Failed error) (errors.Emitter told) = Unit {0}
-SaysWhat _ _ = ⊥
+abbrev pub MatchesStop : Stop → JsonError → Type 0
+MatchesStop (stops.NotJson spot) (errors.NotJson line column) = Unit {0}
+MatchesStop stops.TooDeep errors.TooDeep = Unit {0}
+MatchesStop (stops.NameAgain offset) (errors.DuplicateName line column) = Unit {0}
+MatchesStop (stops.Failed error) (errors.Emitter told) = Unit {0}
+MatchesStop _ _ = ⊥

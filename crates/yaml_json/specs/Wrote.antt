@@ -5,7 +5,7 @@ use Rattle.json.specs.Lex.{tokens}
 use Rattle.json.specs.Json.{Json, value}
 use Rattle.yaml_base.specs.Event.{Event, document_end, mapping_start, sequence_start}
 use Rattle.yaml_base.specs.Settings.{Settings}
-use Rattle.yaml_writer.specs.Writing.{AddsAll, EndsInnermost, Finishes, Gave, IsStream, StandsTaken, WriterState, closing, entered, opening}
+use Rattle.yaml_writer.specs.Writing.{AddsEvents, EndsInnermost, Finishes, GaveEvent, IsStream, StandsTaken, WriterState, closing, with_collection, opening}
 use Rattle.yaml_writer.specs.Writing.{plain_start}
 use Rattle.yaml_writer.specs.declared.kinds.CollectionKind.{CollectionKind}
 use Rattle.yaml_writer.specs.declared.kinds.CollectionKind.TheVariants.{Mapping, Sequence}
@@ -19,7 +19,7 @@ IsBare writer = (writer.anchor ≡ None) × (writer.tag ≡ None)
 
 -- these events were given, wherever the writer's emitter stood; the next node has no anchor and no tag
 pub record Wrote (before : WriterState) (events : List Event) (after : WriterState) : Type 0 where
-  pub adds : AddsAll before.emitter events after.emitter
+  pub adds : AddsEvents before.emitter events after.emitter
   pub canonical : after.canonical ≡ before.canonical
   pub levels : after.levels ≡ before.levels
   pub bare : IsBare after
@@ -34,8 +34,8 @@ start_event in_flow Sequence = sequence_start (collection_in in_flow)
 start_event in_flow Mapping = mapping_start (collection_in in_flow)
 
 -- a collection was begun
-abbrev pub Starts : (in_flow : Bool) → CollectionKind → WriterState → WriterState → Type 0
-Starts in_flow kind before after = Gave (entered before kind) (start_event in_flow kind) None after
+abbrev pub StartsCollection : (in_flow : Bool) → CollectionKind → WriterState → WriterState → Type 0
+StartsCollection in_flow kind before after = GaveEvent (with_collection before kind) (start_event in_flow kind) None after
 
 -- the innermost collection was ended
 abbrev pub Ends : WriterState → WriterState → Type 0

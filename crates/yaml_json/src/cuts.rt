@@ -2,7 +2,7 @@
 ghost use Rattle.std.specs.Prelude.{◌≡◌, ◌+◌, ◌<◌, ◌^◌, ◌++◌, ◌||◌, ◌==◌};
 ghost use Rattle.json.specs.Ascii as ascii;
 ghost use Rattle.json.specs.Word.{is_operator, is_space};
-ghost use Rattle.yaml_json.specs.Texts.{CutsFirst, after_byte, begun_by, in_string_by, is_closer, is_inner_byte, is_opener, within_by};
+ghost use Rattle.yaml_json.specs.Texts.{CutsFirstText, after_byte, scan_first_byte, scan_in_string, is_closer, is_inner_byte, is_opener, scan_within};
 
 /// What a scan has before it.
 #[derive(Clone, Copy, PartialEq, Eq, Debug)]
@@ -46,7 +46,7 @@ fn closes(byte: u8) -> bool
     (byte == b'}') | (byte == b']')
 }
 
-fn is_sign(byte: u8) -> bool
+fn is_plus_or_minus(byte: u8) -> bool
     ensures { result ≡ is_operator byte }
 {
     (byte == b'{')
@@ -66,7 +66,7 @@ fn is_inner(byte: u8) -> bool
 
 /// The scan after the first byte of a text, or after a blank before it.
 fn begun(byte: u8) -> Scan
-    ensures { result ≡ begun_by byte }
+    ensures { result ≡ scan_first_byte byte }
 {
     if is_blank(byte) {
         Scan {
@@ -83,7 +83,7 @@ fn begun(byte: u8) -> Scan
             mode: Mode::Within,
             levels: 1,
         }
-    } else if is_sign(byte) {
+    } else if is_plus_or_minus(byte) {
         Scan {
             mode: Mode::Behind,
             levels: 0,
@@ -99,7 +99,7 @@ fn begun(byte: u8) -> Scan
 /// The scan after a byte of an array or an object.
 fn within(levels: usize, byte: u8) -> Scan
     requires { levels + 1 < 2 ^ 64 }
-    ensures { result ≡ within_by levels byte }
+    ensures { result ≡ scan_within levels byte }
 {
     if byte == b'"' {
         Scan {
@@ -133,7 +133,7 @@ fn within(levels: usize, byte: u8) -> Scan
 
 /// The scan after a byte of a string.
 fn in_string(levels: usize, byte: u8) -> Scan
-    ensures { result ≡ in_string_by levels byte }
+    ensures { result ≡ scan_in_string levels byte }
 {
     if byte == b'\\' {
         Scan {
@@ -177,7 +177,7 @@ fn step(scan: Scan, byte: u8) -> Option<Scan>
                     mode: Mode::Behind,
                     levels: 0,
                 })
-            } else if is_sign(byte) {
+            } else if is_plus_or_minus(byte) {
                 None
             } else {
                 Some(scan)
@@ -195,7 +195,7 @@ fn step(scan: Scan, byte: u8) -> Option<Scan>
 
 /// The first JSON text of a text, with the blanks after it, and what follows it.
 pub(crate) fn first_cut(text: &str) -> (&str, &str)
-    ensures { CutsFirst text.now result.0.now result.1.now }
+    ensures { CutsFirstText text.now result.0.now result.1.now }
 {
     let bytes = text.as_bytes();
     let mut scan = Scan {

@@ -1,6 +1,6 @@
 //! The names in the objects that are open.
 ghost use Rattle.std.specs.Prelude.{◌≡◌, ◌∷◌, ◌+◌, ◌-◌, [], List, ℕ, IfOk, OnOk, length, true};
-ghost use Rattle.yaml_json.specs.HeldNames.{Adds, HoldsNames};
+ghost use Rattle.yaml_json.specs.HeldNames.{AddsName, HoldsNames};
 ghost use Rattle.yaml_json.specs.Names.{outer_names};
 
 use std::alloc::{AllocError, Allocator};
@@ -59,7 +59,7 @@ impl<'a, A: Allocator + Copy> Names<'a, A> {
     pub(crate) fn add(&mut self, name: &'a str) -> Result<bool, AllocError>
         ensures kept { OnOk result (self.new.are_kept ≡ self.old.are_kept) }
         ensures adds { IfOk result (λ new. (names : List (List ℕ)) → (levels : List (List (List ℕ))) → HoldsNames (names ∷ levels) self.old
-            → Adds names levels name.now new self.new) }
+            → AddsName names levels name.now new self.new) }
         ensures as_long { OnOk result (length self.new.sets.items ≡ length self.old.sets.items) }
     {
         if !self.are_kept {

@@ -6,7 +6,7 @@ fn is_blank(byte: u8) -> bool {
 }
 
 /// The first byte from an offset on that is no blank; the text's end where there is none.
-fn past_blanks(bytes: &[u8], from: usize) -> usize {
+fn skip_blanks(bytes: &[u8], from: usize) -> usize {
     let mut at = from;
     for byte in bytes.iter().skip(from) {
         if !is_blank(*byte) {
@@ -18,7 +18,7 @@ fn past_blanks(bytes: &[u8], from: usize) -> usize {
 }
 
 /// What follows the string that begins at an offset.
-fn past_string(bytes: &[u8], from: usize) -> usize {
+fn skip_string(bytes: &[u8], from: usize) -> usize {
     let mut at = from.saturating_add(1);
     let mut is_escaped = false;
     for byte in bytes.iter().skip(at) {
@@ -55,7 +55,7 @@ pub(crate) fn offset_of(text: &str, start: usize, spot: Spot) -> usize {
     match spot {
         Spot::At(offset) => start.saturating_add(offset),
         Spot::PastString(offset) => {
-            past_blanks(bytes, past_string(bytes, start.saturating_add(offset)))
+            skip_blanks(bytes, skip_string(bytes, start.saturating_add(offset)))
         }
         Spot::PastValue(offset) => comma_before(bytes, start.saturating_add(offset)),
     }

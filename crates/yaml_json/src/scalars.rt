@@ -7,7 +7,7 @@ ghost use Rattle.yaml_writer.specs.Writing.{EndsInnermost};
 ghost use Rattle.yaml_json.specs.Failing.{FailedAt, failure};
 ghost use Rattle.yaml_json.specs.JsonEvents.{bool_content, null_content, number_content, style_of, text_content};
 ghost use Rattle.yaml_json.specs.Refused.{RefusesText};
-ghost use Rattle.yaml_json.specs.Wrote.{Ends, IsBare, Starts, WroteEvent, start_event};
+ghost use Rattle.yaml_json.specs.Wrote.{Ends, IsBare, StartsCollection, WroteEvent, start_event};
 
 use crate::values::{Spot, Stop};
 use std::alloc::Allocator;
@@ -107,7 +107,7 @@ pub(crate) fn start<A: Allocator + Copy>(
     in_flow: bool,
 ) -> Result<(), Stop>
     requires { IsBare writer.old }
-    ensures started { OnOk result (Starts in_flow kind writer.old writer.new) }
+    ensures started { OnOk result (StartsCollection in_flow kind writer.old writer.new) }
     ensures failed { RefusesText result → ⊥ }
     ensures stopped { IfSome (failure result) (λ error. FailedAt writer.old (start_event in_flow kind) error writer.new) }
 {

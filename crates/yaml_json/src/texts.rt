@@ -4,8 +4,8 @@ ghost use Rattle.yaml_writer.specs.Given.{seen_settings};
 ghost use Rattle.yaml_json.specs.Failing.{FailedInText, FailsBy, failure, failure_of, writers_error};
 ghost use Rattle.json.specs.Lex.{tokens};
 ghost use Rattle.yaml_json.specs.Names.{NamesOnce};
-ghost use Rattle.yaml_json.specs.Refused.{DeniesJson, HasNamesOnce, IsNotJson, SaysWhy};
-ghost use Rattle.yaml_json.specs.Walk.{SaysWhat, WhyStopped};
+ghost use Rattle.yaml_json.specs.Refused.{DeniesJson, HasNamesOnce, IsNotJson, ExplainsError};
+ghost use Rattle.yaml_json.specs.Walk.{MatchesStop, WhyStopped};
 ghost use Rattle.yaml_json.specs.Wrote.{IsBare, IsYamlOf, WroteText};
 
 use crate::error::JsonError;
@@ -18,7 +18,7 @@ use yaml_writer::{Writer, yaml_error_t};
 
 /// What a stop is for a caller: `offset` bytes of the text stand before the part in which it came.
 pub(crate) fn error_of(text: &str, offset: usize, stop: Stop) -> JsonError
-    ensures says { SaysWhat stop result }
+    ensures says { MatchesStop stop result }
     ensures by_writer { writers_error result ≡ failure_of stop }
 {
     match stop {
@@ -78,7 +78,7 @@ pub fn write_json<A: Allocator + Copy>(
     ensures written { OnOk result (WroteText settings.depth settings.flow text.now writer.old writer.new) }
     ensures refused { IfErr result (λ error. DeniesJson error → IsNotJson settings.depth text.now) }
     ensures names { OnOk result (HasNamesOnce settings.unique_names text.now) }
-    ensures why { IfErr result (SaysWhy settings.depth settings.unique_names text.now) }
+    ensures why { IfErr result (ExplainsError settings.depth settings.unique_names text.now) }
     ensures failed { IfErr result (λ error. IfSome (writers_error error)
         (λ code. FailedInText settings.depth settings.flow text.now writer.old code writer.new)) }
 {
@@ -104,7 +104,7 @@ pub fn yaml_from_json<A: Allocator + Copy>(
     ensures stream { IfOk result (λ bytes. IsYamlOf (seen_settings settings.writer) settings.flow settings.depth text.now bytes.items) }
     ensures refused { IfErr result (λ error. DeniesJson error → IsNotJson settings.depth text.now) }
     ensures names { OnOk result (HasNamesOnce settings.unique_names text.now) }
-    ensures why { IfErr result (SaysWhy settings.depth settings.unique_names text.now) }
+    ensures why { IfErr result (ExplainsError settings.depth settings.unique_names text.now) }
     ensures failed { IfErr result (λ error. IfSome (writers_error error)
         (FailsBy (seen_settings settings.writer) settings.flow settings.depth text.now)) }
 {

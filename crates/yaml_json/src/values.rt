@@ -5,9 +5,10 @@ ghost use Rattle.json.specs.Reads.{token_of};
 ghost use Rattle.yaml_writer.specs.Writing.{EndsInnermost};
 ghost use Rattle.yaml_json.specs.Failing.{FailedInValue, failure};
 ghost use Rattle.yaml_json.specs.Refused.{RefusesText};
-ghost use Rattle.yaml_json.specs.Walk.{BeganFirst, BeginFailed, Began, FirstFailed, IsInnermost, Refuses, RefusesFirst, RefusesToken, StepFailed, Stepped};
+ghost use Rattle.yaml_json.specs.Walk.{BeganFirstValue, BeginFailed, BeganValue, FirstFailed, IsInnermost, Refuses, RefusesFirst, RefusesToken};
+ghost use Rattle.yaml_json.specs.Walk.{StepFailed, Stepped};
 ghost use Rattle.yaml_json.specs.Names.{NamesOnce};
-ghost use Rattle.yaml_json.specs.Nests.{IsNest};
+ghost use Rattle.yaml_json.specs.Nests.{IsNesting};
 ghost use Rattle.yaml_json.specs.Walk.{HasUniqueNames, Keeps, KeepsTo, LeavesNames, WhyStopped, opener};
 ghost use Rattle.yaml_json.specs.Wrote.{Ends, IsBare, WroteDocument, WroteValue};
 
@@ -58,9 +59,9 @@ fn begin<'a, A: Allocator + Copy>(
     settings: &JsonSettings,
 ) -> Result<(), Stop>
     requires bare { IsBare writer.old }
-    requires fits { IsNest settings.now.depth settings.now.unique_names nest.old }
-    ensures began { OnOk result (Began settings.now.depth settings.now.flow (opener kind) nest.old.kinds.items writer.old nest.new.kinds.items writer.new) }
-    ensures fits { OnOk result (IsNest settings.now.depth settings.now.unique_names nest.new) }
+    requires fits { IsNesting settings.now.depth settings.now.unique_names nest.old }
+    ensures began { OnOk result (BeganValue settings.now.depth settings.now.flow (opener kind) nest.old.kinds.items writer.old nest.new.kinds.items writer.new) }
+    ensures fits { OnOk result (IsNesting settings.now.depth settings.now.unique_names nest.new) }
     ensures names { OnOk result (Keeps nest.old.names (opener kind ∷ []) nest.new.names) }
     ensures refused { IfErr result (RefusesToken settings.now.depth nest.old.kinds.items (opener kind)) }
     ensures stopped { IfSome (failure result) (λ error. BeginFailed settings.now.depth settings.now.flow (opener kind) nest.old.kinds.items writer.old error
@@ -87,10 +88,10 @@ fn write_token<'a, A: Allocator + Copy>(
     settings: &JsonSettings,
 ) -> Result<(), Stop>
     requires bare { IsBare writer.old }
-    requires fits { IsNest settings.now.depth settings.now.unique_names nest.old }
+    requires fits { IsNesting settings.now.depth settings.now.unique_names nest.old }
     requires good { token ≢ Token.Bad → IsPrintable (token_of token) }
-    ensures began { OnOk result (Began settings.now.depth settings.now.flow (token_of token.entry) nest.old.kinds.items writer.old nest.new.kinds.items writer.new) }
-    ensures fits { OnOk result (IsNest settings.now.depth settings.now.unique_names nest.new) }
+    ensures began { OnOk result (BeganValue settings.now.depth settings.now.flow (token_of token.entry) nest.old.kinds.items writer.old nest.new.kinds.items writer.new) }
+    ensures fits { OnOk result (IsNesting settings.now.depth settings.now.unique_names nest.new) }
     ensures names { OnOk result (Keeps nest.old.names (token_of token.entry ∷ []) nest.new.names) }
     ensures refused { IfErr result (RefusesToken settings.now.depth nest.old.kinds.items (token_of token.entry)) }
     ensures stopped { IfSome (failure result) (λ error. BeginFailed settings.now.depth settings.now.flow (token_of token.entry) nest.old.kinds.items writer.old error
@@ -116,10 +117,10 @@ fn write_first<'a, A: Allocator + Copy>(
     settings: &JsonSettings,
 ) -> Result<(), Stop>
     requires bare { IsBare writer.old }
-    requires fits { IsNest settings.now.depth settings.now.unique_names nest.old }
-    ensures began { OnOk result (BeganFirst settings.now.depth settings.now.flow reader.old nest.old.kinds.items writer.old reader.new nest.new.kinds.items
+    requires fits { IsNesting settings.now.depth settings.now.unique_names nest.old }
+    ensures began { OnOk result (BeganFirstValue settings.now.depth settings.now.flow reader.old nest.old.kinds.items writer.old reader.new nest.new.kinds.items
         writer.new) }
-    ensures fits { OnOk result (IsNest settings.now.depth settings.now.unique_names nest.new) }
+    ensures fits { OnOk result (IsNesting settings.now.depth settings.now.unique_names nest.new) }
     ensures names { OnOk result (KeepsTo nest.old.names reader.old reader.new nest.new.names) }
     ensures refused { IfErr result (RefusesFirst settings.now.depth nest.old.kinds.items reader.old) }
     ensures stopped { IfSome (failure result) (λ error. FirstFailed settings.now.depth settings.now.flow reader.old nest.old.kinds.items writer.old error
@@ -157,11 +158,11 @@ fn write_item<'a, A: Allocator + Copy>(
     settings: &JsonSettings,
 ) -> Result<(), Stop>
     requires bare { IsBare writer.old }
-    requires fits { IsNest settings.now.depth settings.now.unique_names nest.old }
+    requires fits { IsNesting settings.now.depth settings.now.unique_names nest.old }
     requires innermost { IsInnermost CollectionKind.Sequence nest.old.kinds.items }
     ensures stepped { OnOk result (Stepped settings.now.depth settings.now.flow reader.old nest.old.kinds.items writer.old reader.new nest.new.kinds.items
         writer.new) }
-    ensures fits { OnOk result (IsNest settings.now.depth settings.now.unique_names nest.new) }
+    ensures fits { OnOk result (IsNesting settings.now.depth settings.now.unique_names nest.new) }
     ensures names { OnOk result (KeepsTo nest.old.names reader.old reader.new nest.new.names) }
     ensures refused { IfErr result (Refuses settings.now.depth settings.now.unique_names nest.old.kinds.items nest.old.names reader.old) }
     ensures stopped { IfSome (failure result) (λ error. StepFailed settings.now.depth settings.now.flow reader.old nest.old.kinds.items writer.old error
@@ -185,11 +186,11 @@ fn write_member<'a, A: Allocator + Copy>(
     settings: &JsonSettings,
 ) -> Result<(), Stop>
     requires bare { IsBare writer.old }
-    requires fits { IsNest settings.now.depth settings.now.unique_names nest.old }
+    requires fits { IsNesting settings.now.depth settings.now.unique_names nest.old }
     requires innermost { IsInnermost CollectionKind.Mapping nest.old.kinds.items }
     ensures stepped { OnOk result (Stepped settings.now.depth settings.now.flow reader.old nest.old.kinds.items writer.old reader.new nest.new.kinds.items
         writer.new) }
-    ensures fits { OnOk result (IsNest settings.now.depth settings.now.unique_names nest.new) }
+    ensures fits { OnOk result (IsNesting settings.now.depth settings.now.unique_names nest.new) }
     ensures names { OnOk result (KeepsTo nest.old.names reader.old reader.new nest.new.names) }
     ensures refused { IfErr result (Refuses settings.now.depth settings.now.unique_names nest.old.kinds.items nest.old.names reader.old) }
     ensures stopped { IfSome (failure result) (λ error. StepFailed settings.now.depth settings.now.flow reader.old nest.old.kinds.items writer.old error
@@ -227,11 +228,11 @@ fn write_next<'a, A: Allocator + Copy>(
     settings: &JsonSettings,
 ) -> Result<(), Stop>
     requires bare { IsBare writer.old }
-    requires fits { IsNest settings.now.depth settings.now.unique_names nest.old }
+    requires fits { IsNesting settings.now.depth settings.now.unique_names nest.old }
     requires innermost { IsInnermost kind nest.old.kinds.items }
     ensures stepped { OnOk result (Stepped settings.now.depth settings.now.flow reader.old nest.old.kinds.items writer.old reader.new nest.new.kinds.items
         writer.new) }
-    ensures fits { OnOk result (IsNest settings.now.depth settings.now.unique_names nest.new) }
+    ensures fits { OnOk result (IsNesting settings.now.depth settings.now.unique_names nest.new) }
     ensures names { OnOk result (KeepsTo nest.old.names reader.old reader.new nest.new.names) }
     ensures refused { IfErr result (Refuses settings.now.depth settings.now.unique_names nest.old.kinds.items nest.old.names reader.old) }
     ensures stopped { IfSome (failure result) (λ error. StepFailed settings.now.depth settings.now.flow reader.old nest.old.kinds.items writer.old error

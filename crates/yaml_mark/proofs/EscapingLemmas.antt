@@ -15,10 +15,10 @@ use Rattle.std.specs.List.{list_all, list_any, position_or_len, prefix_len}
 use Rattle.std.specs.Str.{IsAscii, IsCharBoundary, chars}
 use lib.Utf8.{encode, encodes}
 use Rattle.yaml_base.specs.Characters.{Text, hex_digit, is_among, is_break, space}
-use Rattle.yaml_base.specs.Cursor.{Cursor, Laid, text_laid, then_laid, name_laid, indicator, space_if, column_after}
-use Rattle.yaml_base.specs.Indicators.{Indicator, indicator_laid}
+use Rattle.yaml_base.specs.Cursor.{Cursor, Rendered, render_text, render_then, render_name, indicator, space_if, column_after}
+use Rattle.yaml_base.specs.Indicators.{Indicator, render_indicator}
 use Rattle.yaml_base.specs.Percent.{is_tag_character, byte_escaped, character_written, percent_escaped, is_suffix_character, suffix_escaped, prefix_escaped}
-use Rattle.yaml_base.specs.Tags.{tag_mark}
+use Rattle.yaml_base.specs.Tags.{exclamation_mark}
 use Rattle.yaml_base.specs.declared.errors.yaml_error_t.{yaml_error_t}
 use Rattle.yaml_pen.specs.Page.{Page}
 use Rattle.yaml_pen.specs.Wrote.{Wrote}
@@ -102,9 +102,9 @@ written_rest f bytes n h =
     ∙ flat_map-append f (take (n + 1) bytes) (drop (n + 1) bytes)
     ∙ ap (λ x. x ++ flat_map f (drop (n + 1) bytes)) (written_more f bytes n h)
 
-abbrev with_column : ℕ → Text → Text → Bool → Laid
-with_column column front text indention =
-    record { text = front ++ text; cursor = record { column = column_after text (column_after front column); whitespace = false; indention = indention } }
+abbrev with_column : ℕ → Text → Text → Bool → Rendered
+with_column column head text indention =
+    record { text = head ++ text; cursor = record { column = column_after text (column_after head column); whitespace = false; indention = indention } }
 
 content_by : (separated indention : Bool) (column : ℕ) (text : Text)
     → with_column column (cond separated (space ∷ []) [] ++ []) text (indention && false)
@@ -118,10 +118,10 @@ content_by true false column text = refl
 content_by false true column text = refl
 content_by false false column text = refl
 
--- an indicator without a sign, and then a name's text
-pub content_laid : (need : Bool) (text : Text) (cursor : Cursor)
-    → then_laid (indicator [] need false false cursor) (text_laid text) ≡ name_laid (space_if need cursor ++ text) cursor
-content_laid need text cursor = content_by (need && not cursor.whitespace) cursor.indention cursor.column text
+-- an indicator without an indicator, and then a name's text
+pub render_content : (need : Bool) (text : Text) (cursor : Cursor)
+    → render_then (indicator [] need false false cursor) (render_text text) ≡ render_name (space_if need cursor ++ text) cursor
+render_content need text cursor = content_by (need && not cursor.whitespace) cursor.indention cursor.column text
 
 -- the three characters of a percent form
 pub form_is : (byte high low : ℕ) → byte < 256 → high ≡ hex_digit (byte / 16) → low ≡ hex_digit (byte % 16) → (0x25 ∷ high ∷ []) ++ low ∷ [] ≡ byte_escaped byte
@@ -131,8 +131,8 @@ form_is byte high low h e f =
 
 -- A text after a space where one is needed.
 
-abbrev pub content : Bool → Text → Cursor → Laid
-content need text cursor = name_laid (space_if need cursor ++ text) cursor
+abbrev pub content : Bool → Text → Cursor → Rendered
+content need text cursor = render_name (space_if need cursor ++ text) cursor
 
 pub content_cut : {before after : Page} {error : yaml_error_t} (need : Bool) (text : Text)
     → Wrote (indicator [] need false false) before after (Err error) → Wrote (content need text) before after (Err error)
@@ -140,43 +140,43 @@ content_cut {before} need text wrote =
     wrote_cut (content need text) text (sym (ap (λ t. t ++ text) (append-nil (space_if need before.cursor)))) wrote
 
 pub content_whole : {before between after : Page} {answer : Result (Unit {0}) yaml_error_t} (need : Bool) (text : Text)
-    → Wrote (indicator [] need false false) before between (Ok tt) → Wrote (text_laid text) between after answer
+    → Wrote (indicator [] need false false) before between (Ok tt) → Wrote (render_text text) between after answer
     → Wrote (content need text) before after answer
-content_whole {before} need text one two = wrote_as (content need text) (content_laid need text before.cursor) (wrote_then one two)
+content_whole {before} need text one two = wrote_as (content need text) (render_content need text before.cursor) (wrote_then one two)
 
--- an indicator without a sign
-pub no_sign : {sign other : Indicator} {before after : Page} {answer : Result (Unit {0}) yaml_error_t} → sign ≡ other
-    → Wrote (indicator_laid sign) before after answer → Wrote (indicator_laid other) before after answer
-no_sign {sign} {other} {before} {after} {answer} is wrote = subst (λ (s : Indicator). Wrote (indicator_laid s) before after answer) is wrote
+-- an indicator without an indicator
+pub no_indicator : {symbol other : Indicator} {before after : Page} {answer : Result (Unit {0}) yaml_error_t} → symbol ≡ other
+    → Wrote (render_indicator symbol) before after answer → Wrote (render_indicator other) before after answer
+no_indicator {symbol} {other} {before} {after} {answer} is wrote = subst (λ (s : Indicator). Wrote (render_indicator s) before after answer) is wrote
 
 -- Bytes, one after another.
 
 module _ (f : ℕ → Text) where
   -- one more is written, or fails
   pub bytes_more : {before between after : Page} (bytes : List ℕ) (n : ℕ) → n < length bytes
-      → Wrote (text_laid (flat_map f (take n bytes))) before between (Ok tt)
-      → Wrote (text_laid (f (get_or bytes n 0))) between after (Ok tt)
-      → Wrote (text_laid (flat_map f (take (n + 1) bytes))) before after (Ok tt)
+      → Wrote (render_text (flat_map f (take n bytes))) before between (Ok tt)
+      → Wrote (render_text (f (get_or bytes n 0))) between after (Ok tt)
+      → Wrote (render_text (flat_map f (take (n + 1) bytes))) before after (Ok tt)
   bytes_more {before} {between} {after} bytes n h one two =
-      subst (λ (t : Text). Wrote (text_laid t) before after (Ok tt)) (sym (written_more f bytes n h)) (wrote_text_then one two)
+      subst (λ (t : Text). Wrote (render_text t) before after (Ok tt)) (sym (written_more f bytes n h)) (wrote_text_then one two)
 
   pub bytes_failed : {before between after : Page} {error : yaml_error_t} (bytes : List ℕ) (n : ℕ) → n < length bytes
-      → Wrote (text_laid (flat_map f (take n bytes))) before between (Ok tt)
-      → Wrote (text_laid (f (get_or bytes n 0))) between after (Err error)
-      → Wrote (text_laid (flat_map f bytes)) before after (Err error)
+      → Wrote (render_text (flat_map f (take n bytes))) before between (Ok tt)
+      → Wrote (render_text (f (get_or bytes n 0))) between after (Err error)
+      → Wrote (render_text (flat_map f bytes)) before after (Err error)
   bytes_failed bytes n h one two =
-      wrote_cut (text_laid (flat_map f bytes)) (flat_map f (drop (n + 1) bytes)) (written_rest f bytes n h) (wrote_text_then one two)
+      wrote_cut (render_text (flat_map f bytes)) (flat_map f (drop (n + 1) bytes)) (written_rest f bytes n h) (wrote_text_then one two)
 
   pub bytes_whole : {before after : Page} (bytes : List ℕ) (n : ℕ) → length bytes ≤ n
-      → Wrote (text_laid (flat_map f (take n bytes))) before after (Ok tt)
-      → Wrote (text_laid (flat_map f bytes)) before after (Ok tt)
+      → Wrote (render_text (flat_map f (take n bytes))) before after (Ok tt)
+      → Wrote (render_text (flat_map f bytes)) before after (Ok tt)
   bytes_whole {before} {after} bytes n h one =
-      subst (λ (t : List ℕ). Wrote (text_laid (flat_map f t)) before after (Ok tt)) (take_all n bytes h) one
+      subst (λ (t : List ℕ). Wrote (render_text (flat_map f t)) before after (Ok tt)) (take_all n bytes h) one
 
   -- bytes that are the same
   pub same_bytes : {given bytes : List ℕ} {before after : Page} {answer : Result (Unit {0}) yaml_error_t} → given ≡ bytes
-      → Wrote (text_laid (flat_map f given)) before after answer → Wrote (text_laid (flat_map f bytes)) before after answer
-  same_bytes {given} {bytes} {before} {after} {answer} is wrote = subst (λ (l : List ℕ). Wrote (text_laid (flat_map f l)) before after answer) is wrote
+      → Wrote (render_text (flat_map f given)) before after answer → Wrote (render_text (flat_map f bytes)) before after answer
+  same_bytes {given} {bytes} {before} {after} {answer} is wrote = subst (λ (l : List ℕ). Wrote (render_text (flat_map f l)) before after answer) is wrote
 
 -- Runs of bytes that stand as themselves, and of those that don't.
 
@@ -275,9 +275,9 @@ module _ (portable : Bool) where
 
   pub run_cut : (bytes run others : List ℕ) (n : ℕ) → IsUtf8 bytes → n ≡ run_end bytes → run ≡ take n bytes → others ≡ drop n bytes
       → IsRunCut bytes run others
-  run_cut bytes run others n u e front back =
+  run_cut bytes run others n u e head back =
       let end = run_end bytes in
-      let is : chars run ≡ take end bytes = ap chars (front ∙ ap (λ k. take k bytes) e) ∙ chars-IsAscii (take end bytes) (run_ascii bytes) in
+      let is : chars run ≡ take end bytes = ap chars (head ∙ ap (λ k. take k bytes) e) ∙ chars-IsAscii (take end bytes) (run_ascii bytes) in
       let behind : others ≡ drop end bytes = back ∙ ap (λ k. drop k bytes) e in
       record {
         parts = run_first bytes u ∙ ap (λ x. x ++ suffix_escaped portable (chars (drop end bytes))) (sym is)
@@ -293,9 +293,9 @@ module _ (portable : Bool) where
 
   pub forms_cut : (bytes escaped behind : List ℕ) (n : ℕ) → IsUtf8 bytes → n ≡ next_run bytes → escaped ≡ take n bytes → behind ≡ drop n bytes
       → IsFormsCut bytes escaped behind
-  forms_cut bytes escaped behind n u e front back =
+  forms_cut bytes escaped behind n u e head back =
       let end = next_run bytes in
-      let is : escaped ≡ take end bytes = front ∙ ap (λ k. take k bytes) e in
+      let is : escaped ≡ take end bytes = head ∙ ap (λ k. take k bytes) e in
       let rest : behind ≡ drop end bytes = back ∙ ap (λ k. drop k bytes) e in
       record {
         parts = forms_first bytes u ∙ ap (λ x. flat_map byte_escaped x ++ suffix_escaped portable (chars (drop end bytes))) (sym is)
@@ -322,29 +322,30 @@ module _ (portable : Bool) where
 -- A prefix by its bytes.
 
 -- a prefix is written as a tag is, portably too where no `!` begins it
-pub prefix_unmarked : (bytes : List ℕ) → IsUtf8 bytes → ((rest : List ℕ) → bytes ≢ tag_mark ∷ rest)
+pub prefix_unmarked : (bytes : List ℕ) → IsUtf8 bytes → ((rest : List ℕ) → bytes ≢ exclamation_mark ∷ rest)
     → prefix_escaped true (chars bytes) ≡ percent_escaped (chars bytes)
 prefix_unmarked bytes u h = by (chars bytes) (encodes-chars bytes u)
   where
-    other : (c : ℕ) (text : Text) → encodes (c ∷ text) ≡ bytes → (c == tag_mark) ≡ false
+    other : (c : ℕ) (text : Text) → encodes (c ∷ text) ≡ bytes → (c == exclamation_mark) ≡ false
     other c text e =
-        ne_eqb c tag_mark (λ same. h (encodes text)
-        (sym e ∙ ap (λ x. encode x ++ encodes text) same ∙ ap (λ x. x ++ encodes text) (encode_ascii tag_mark (lit< tt))))
+        ne_eqb c exclamation_mark (λ same. h (encodes text)
+        (sym e ∙ ap (λ x. encode x ++ encodes text) same ∙ ap (λ x. x ++ encodes text) (encode_ascii exclamation_mark (lit< tt))))
 
     by : (text : Text) → encodes text ≡ bytes → prefix_escaped true text ≡ percent_escaped text
     by [] e = refl
     by (c ∷ text) e = rw (other c text e) refl
 
 -- and where one does, the `!` stands raw
-pub prefix_marked : (bytes rest : List ℕ) → IsUtf8 bytes → bytes ≡ tag_mark ∷ rest → prefix_escaped true (chars bytes) ≡ tag_mark ∷ percent_escaped (chars rest)
+pub prefix_marked : (bytes rest : List ℕ) → IsUtf8 bytes → bytes ≡ exclamation_mark ∷ rest
+    → prefix_escaped true (chars bytes) ≡ exclamation_mark ∷ percent_escaped (chars rest)
 prefix_marked bytes rest u e =
-    ap (prefix_escaped true) (chars_past_char bytes rest tag_mark u (e ∙ ap (λ x. x ++ rest) (sym (encode_ascii tag_mark (lit< tt)))))
+    ap (prefix_escaped true) (chars_past_char bytes rest exclamation_mark u (e ∙ ap (λ x. x ++ rest) (sym (encode_ascii exclamation_mark (lit< tt)))))
 
 -- so it is by what stands after a `!` that begins it
 pub prefix_answer : (bytes : List ℕ) (portable : Bool) (answer : Option (Bor (List ℕ))) → portable ≡ true → IsUtf8 bytes
-    → MatchOption answer ((rest : List ℕ) → bytes ≢ tag_mark ∷ rest) (λ rest. bytes ≡ tag_mark ∷ rest.now)
+    → MatchOption answer ((rest : List ℕ) → bytes ≢ exclamation_mark ∷ rest) (λ rest. bytes ≡ exclamation_mark ∷ rest.now)
     → MatchOption answer (prefix_escaped portable (chars bytes) ≡ percent_escaped (chars bytes))
-    (λ rest. (bytes ≡ tag_mark ∷ rest.now) × (prefix_escaped portable (chars bytes) ≡ tag_mark ∷ percent_escaped (chars rest.now)))
+    (λ rest. (bytes ≡ exclamation_mark ∷ rest.now) × (prefix_escaped portable (chars bytes) ≡ exclamation_mark ∷ percent_escaped (chars rest.now)))
 prefix_answer bytes portable None e u h = ap (λ b. prefix_escaped b (chars bytes)) e ∙ prefix_unmarked bytes u h
 prefix_answer bytes portable (Some rest) e u h = (h, ap (λ b. prefix_escaped b (chars bytes)) e ∙ prefix_marked bytes rest.now u h)
 
@@ -360,22 +361,23 @@ prefix_run portable bytes u e =
     }
 
 -- with one that run follows the `!`
-pub marked_run : (portable : Bool) (bytes rest : List ℕ) → IsUtf8 bytes → bytes ≡ tag_mark ∷ rest
-    → prefix_escaped portable (chars bytes) ≡ tag_mark ∷ percent_escaped (chars rest) → IsPrefixRun portable bytes (1 + prefix_len is_tag_character rest)
+pub marked_run : (portable : Bool) (bytes rest : List ℕ) → IsUtf8 bytes → bytes ≡ exclamation_mark ∷ rest
+    → prefix_escaped portable (chars bytes) ≡ exclamation_mark ∷ percent_escaped (chars rest)
+    → IsPrefixRun portable bytes (1 + prefix_len is_tag_character rest)
 marked_run portable bytes rest u e is =
     let n = prefix_len is_tag_character rest in
     let more : 1 + n ≡ suc n = omega arith in
-    let run : take (1 + n) bytes ≡ tag_mark ∷ take n rest = ap (take (1 + n)) e ∙ ap (λ k. take k (tag_mark ∷ rest)) more in
-    let behind : drop (1 + n) bytes ≡ drop n rest = ap (drop (1 + n)) e ∙ ap (λ k. drop k (tag_mark ∷ rest)) more in
+    let run : take (1 + n) bytes ≡ exclamation_mark ∷ take n rest = ap (take (1 + n)) e ∙ ap (λ k. take k (exclamation_mark ∷ rest)) more in
+    let behind : drop (1 + n) bytes ≡ drop n rest = ap (drop (1 + n)) e ∙ ap (λ k. drop k (exclamation_mark ∷ rest)) more in
     let ascii : IsAscii (take (1 + n) bytes) =
-    subst (λ (l : List ℕ). IsAscii l) (sym run) (IsAscii-cons tag_mark (take n rest) (lit< tt) (run_ascii false rest)) in
+    subst (λ (l : List ℕ). IsAscii l) (sym run) (IsAscii-cons exclamation_mark (take n rest) (lit< tt) (run_ascii false rest)) in
     let within : 1 + n ≤ length bytes = omega (arith, ap (λ (l : List ℕ). length l) e, prefix_len-le-length is_tag_character rest) in
-    let is_rest = IsUtf8-past_char bytes rest tag_mark u (e ∙ ap (λ x. x ++ rest) (sym (encode_ascii tag_mark (lit< tt)))) in
+    let is_rest = IsUtf8-past_char bytes rest exclamation_mark u (e ∙ ap (λ x. x ++ rest) (sym (encode_ascii exclamation_mark (lit< tt)))) in
     record {
       boundary = IsCharBoundary-from_take bytes (1 + n) u within (IsUtf8-from_ascii _ ascii);
       run = ascii;
       unbroken = ap (list_any is_break) run ∙ run_unbroken false rest;
-      written = is ∙ ap (λ x. tag_mark ∷ x) (run_first false rest is_rest)
+      written = is ∙ ap (λ x. exclamation_mark ∷ x) (run_first false rest is_rest)
           ∙ ap (λ x. x ++ percent_escaped (chars (drop n rest))) (sym run)
           ∙ ap (λ x. take (1 + n) bytes ++ percent_escaped (chars x)) (sym behind);
     }
@@ -383,12 +385,12 @@ marked_run portable bytes rest u e is =
 -- a prefix is its run and the rest
 pub prefix_parts : {portable : Bool} {prefix run rest : List ℕ} {n : ℕ} → IsPrefixRun portable prefix n → run ≡ take n prefix → rest ≡ drop n prefix
     → chars run ++ percent_escaped (chars rest) ≡ prefix_escaped portable (chars prefix)
-prefix_parts {portable} {prefix} {run} {rest} {n} is front back =
-    ap (λ x. x ++ percent_escaped (chars rest)) (ap chars front ∙ chars-IsAscii (take n prefix) is.run)
+prefix_parts {portable} {prefix} {run} {rest} {n} is head back =
+    ap (λ x. x ++ percent_escaped (chars rest)) (ap chars head ∙ chars-IsAscii (take n prefix) is.run)
     ∙ ap (λ x. take n prefix ++ percent_escaped (chars x)) back
     ∙ sym is.written
 
 pub prefix_unbroken : {portable : Bool} {prefix run : List ℕ} {n : ℕ} → IsPrefixRun portable prefix n → run ≡ take n prefix
     → list_any is_break (chars run) ≡ false
-prefix_unbroken {portable} {prefix} {run} {n} is front =
-    ap (λ x. list_any is_break (chars x)) front ∙ ap (list_any is_break) (chars-IsAscii (take n prefix) is.run) ∙ is.unbroken
+prefix_unbroken {portable} {prefix} {run} {n} is head =
+    ap (λ x. list_any is_break (chars x)) head ∙ ap (list_any is_break) (chars-IsAscii (take n prefix) is.run) ∙ is.unbroken

@@ -13,8 +13,8 @@ use Rattle.std.specs.Option.{option_or}
 use Rattle.std.specs.Str.{chars}
 use lib.Utf8.{encode, encodes}
 use Rattle.yaml_base.specs.Characters.{Text, is_alpha}
-use Rattle.yaml_base.specs.Tags.{name_fault, handle_fault, prefix_fault, tag_mark, last_from, without_last}
-use Rattle.yaml_base.proofs.TagForms.{last-append, without_last-append, front_and_last}
+use Rattle.yaml_base.specs.Tags.{name_fault, handle_fault, prefix_fault, exclamation_mark, last_from, without_last}
+use Rattle.yaml_base.proofs.TagForms.{last-append, without_last-append, prefix_and_last}
 use Rattle.yaml_base.specs.declared.errors.yaml_error_t.TheVariants.{TagHandleEmpty, TagHandleStart, TagHandleEnd, TagHandleAlphabet, TagPrefixEmpty}
 use Rattle.yaml_base.specs.declared.errors.yaml_error_t.{yaml_error_t}
 
@@ -52,15 +52,16 @@ good_name bytes a b u n h = let first = characters_begin bytes u n in good (char
 pub empty_handle : (bytes : List ℕ) → (length bytes == 0) ≡ true → Some TagHandleEmpty ≡ handle_fault (chars bytes)
 empty_handle bytes h = rw (no_characters bytes h) refl
 
-started : (c : ℕ) (rest : Text) → (c == tag_mark) ≡ false → Some TagHandleStart ≡ handle_fault (c ∷ rest)
+started : (c : ℕ) (rest : Text) → (c == exclamation_mark) ≡ false → Some TagHandleStart ≡ handle_fault (c ∷ rest)
 started c rest h = rw h refl
 
-begins_otherwise : (bytes : List ℕ) (c : ℕ) (rest : Text) → encodes (c ∷ rest) ≡ bytes → ((more : List ℕ) → bytes ≢ tag_mark ∷ more) → (c == tag_mark) ≡ false
+begins_otherwise : (bytes : List ℕ) (c : ℕ) (rest : Text) → encodes (c ∷ rest) ≡ bytes → ((more : List ℕ) → bytes ≢ exclamation_mark ∷ more)
+    → (c == exclamation_mark) ≡ false
 begins_otherwise bytes c rest e h =
-    ne_eqb c tag_mark (λ same. h (encodes rest)
-    (sym e ∙ ap (λ x. encode x ++ encodes rest) same ∙ ap (λ x. x ++ encodes rest) (encode_ascii tag_mark (lit< tt))))
+    ne_eqb c exclamation_mark (λ same. h (encodes rest)
+    (sym e ∙ ap (λ x. encode x ++ encodes rest) same ∙ ap (λ x. x ++ encodes rest) (encode_ascii exclamation_mark (lit< tt))))
 
-pub no_start : (bytes : List ℕ) → IsUtf8 bytes → (length bytes == 0) ≡ false → ((more : List ℕ) → bytes ≢ tag_mark ∷ more)
+pub no_start : (bytes : List ℕ) → IsUtf8 bytes → (length bytes == 0) ≡ false → ((more : List ℕ) → bytes ≢ exclamation_mark ∷ more)
     → Some TagHandleStart ≡ handle_fault (chars bytes)
 no_start bytes u n h =
     let first = characters_begin bytes u n in
@@ -68,64 +69,66 @@ no_start bytes u n h =
     started first.0 first.1 (begins_otherwise bytes first.0 first.1 e h) ∙ ap handle_fault (sym first.2)
 
 -- `!` and a rest
-mark_and : (bytes rest : List ℕ) → IsUtf8 bytes → bytes ≡ tag_mark ∷ rest → (chars bytes ≡ tag_mark ∷ chars rest) × IsUtf8 rest
-mark_and bytes rest u e =
-    let split : bytes ≡ encode tag_mark ++ rest = e ∙ ap (λ x. x ++ rest) (sym (encode_ascii tag_mark (lit< tt))) in
-    (chars_past_char bytes rest tag_mark u split, IsUtf8-past_char bytes rest tag_mark u split)
+exclamation_and : (bytes rest : List ℕ) → IsUtf8 bytes → bytes ≡ exclamation_mark ∷ rest → (chars bytes ≡ exclamation_mark ∷ chars rest) × IsUtf8 rest
+exclamation_and bytes rest u e =
+    let split : bytes ≡ encode exclamation_mark ++ rest = e ∙ ap (λ x. x ++ rest) (sym (encode_ascii exclamation_mark (lit< tt))) in
+    (chars_past_char bytes rest exclamation_mark u split, IsUtf8-past_char bytes rest exclamation_mark u split)
 
-pub mark_alone : (bytes rest : List ℕ) → IsUtf8 bytes → bytes ≡ tag_mark ∷ rest → (length rest == 0) ≡ true → None ≡ handle_fault (chars bytes)
-mark_alone bytes rest u e h =
-    ap handle_fault (sym ((mark_and bytes rest u e).0 ∙ ap (λ x. tag_mark ∷ x) (no_characters rest h)))
+pub exclamation_alone : (bytes rest : List ℕ) → IsUtf8 bytes → bytes ≡ exclamation_mark ∷ rest → (length rest == 0) ≡ true → None ≡ handle_fault (chars bytes)
+exclamation_alone bytes rest u e h =
+    ap handle_fault (sym ((exclamation_and bytes rest u e).0 ∙ ap (λ x. exclamation_mark ∷ x) (no_characters rest h)))
 
-ends_otherwise : (bytes : List ℕ) (c : ℕ) (more : Text) → encodes (c ∷ more) ≡ bytes → ((front : List ℕ) → bytes ≢ front ++ tag_mark ∷ [])
-    → (last_from tag_mark (c ∷ more) == tag_mark) ≡ false
+ends_otherwise : (bytes : List ℕ) (c : ℕ) (more : Text) → encodes (c ∷ more) ≡ bytes → ((head : List ℕ) → bytes ≢ head ++ exclamation_mark ∷ [])
+    → (last_from exclamation_mark (c ∷ more) == exclamation_mark) ≡ false
 ends_otherwise bytes c more e h =
     ne_eqb _ _
     (λ same. h (encodes (without_last (c ∷ more)))
     (sym e
-    ∙ ap encodes (front_and_last tag_mark c more)
-    ∙ encodes-append (without_last (c ∷ more)) (last_from tag_mark (c ∷ more) ∷ [])
+    ∙ ap encodes (prefix_and_last exclamation_mark c more)
+    ∙ encodes-append (without_last (c ∷ more)) (last_from exclamation_mark (c ∷ more) ∷ [])
     ∙ ap (λ x. encodes (without_last (c ∷ more)) ++ (encode x ++ [])) same
-    ∙ ap (λ x. encodes (without_last (c ∷ more)) ++ (x ++ [])) (encode_ascii tag_mark (lit< tt))))
+    ∙ ap (λ x. encodes (without_last (c ∷ more)) ++ (x ++ [])) (encode_ascii exclamation_mark (lit< tt))))
 
-ended : (c : ℕ) (more : Text) → (last_from tag_mark (c ∷ more) == tag_mark) ≡ false → Some TagHandleEnd ≡ handle_fault (tag_mark ∷ c ∷ more)
+ended : (c : ℕ) (more : Text) → (last_from exclamation_mark (c ∷ more) == exclamation_mark) ≡ false
+    → Some TagHandleEnd ≡ handle_fault (exclamation_mark ∷ c ∷ more)
 ended c more h = rw h refl
 
-pub no_end : (bytes rest : List ℕ) → IsUtf8 bytes → bytes ≡ tag_mark ∷ rest → (length rest == 0) ≡ false → ((front : List ℕ) → rest ≢ front ++ tag_mark ∷ [])
+pub no_end : (bytes rest : List ℕ) → IsUtf8 bytes → bytes ≡ exclamation_mark ∷ rest → (length rest == 0) ≡ false
+    → ((head : List ℕ) → rest ≢ head ++ exclamation_mark ∷ [])
     → Some TagHandleEnd ≡ handle_fault (chars bytes)
 no_end bytes rest u e n h =
-    let whole = mark_and bytes rest u e in
+    let whole = exclamation_and bytes rest u e in
     let first = characters_begin rest whole.1 n in
     let spelled : encodes (first.0 ∷ first.1) ≡ rest = ap encodes (sym first.2) ∙ encodes-chars rest whole.1 in
     ended first.0 first.1 (ends_otherwise rest first.0 first.1 spelled h)
-    ∙ ap handle_fault (ap (λ x. tag_mark ∷ x) (sym first.2) ∙ sym whole.0)
+    ∙ ap handle_fault (ap (λ x. exclamation_mark ∷ x) (sym first.2) ∙ sym whole.0)
 
-one_mark : chars (tag_mark ∷ []) ≡ tag_mark ∷ []
+one_exclamation : chars (exclamation_mark ∷ []) ≡ exclamation_mark ∷ []
 unfolding chars
-one_mark = refl
+one_exclamation = refl
 
-front_is_text : (front : List ℕ) → IsUtf8 (front ++ tag_mark ∷ []) → IsUtf8 front
-front_is_text front u =
-    let inside : length front < length (front ++ tag_mark ∷ []) = omega (arith, length-append front (tag_mark ∷ [])) in
-    let byte : get_or (front ++ tag_mark ∷ []) (length front) 0 < 128 = grind (arith, common_steps) in
+prefix_is_text : (head : List ℕ) → IsUtf8 (head ++ exclamation_mark ∷ []) → IsUtf8 head
+prefix_is_text head u =
+    let inside : length head < length (head ++ exclamation_mark ∷ []) = omega (arith, length-append head (exclamation_mark ∷ [])) in
+    let byte : get_or (head ++ exclamation_mark ∷ []) (length head) 0 < 128 = grind (arith, common_steps) in
     let P : List ℕ → Type 0 = λ x. IsUtf8 x in
-    subst P (take-append_seam front (tag_mark ∷ []))
-    (IsUtf8-take (front ++ tag_mark ∷ []) (length front) u
-    (IsCharBoundary-before_ascii (front ++ tag_mark ∷ []) (length front) inside byte))
+    subst P (take-append_seam head (exclamation_mark ∷ []))
+    (IsUtf8-take (head ++ exclamation_mark ∷ []) (length head) u
+    (IsCharBoundary-before_ascii (head ++ exclamation_mark ∷ []) (length head) inside byte))
 
 between : (middle : Text) (kept : Bool) → list_all is_alpha middle ≡ kept
-    → cond kept None (Some TagHandleAlphabet) ≡ handle_fault (tag_mark ∷ (middle ++ tag_mark ∷ []))
-between middle kept h = rw (last-append tag_mark middle tag_mark, without_last-append middle tag_mark, h) refl
+    → cond kept None (Some TagHandleAlphabet) ≡ handle_fault (exclamation_mark ∷ (middle ++ exclamation_mark ∷ []))
+between middle kept h = rw (last-append exclamation_mark middle exclamation_mark, without_last-append middle exclamation_mark, h) refl
 
-pub both_marks : (bytes rest middle : List ℕ) (kept : Bool) → IsUtf8 bytes → bytes ≡ tag_mark ∷ rest → rest ≡ middle ++ tag_mark ∷ []
+pub both_exclamations : (bytes rest middle : List ℕ) (kept : Bool) → IsUtf8 bytes → bytes ≡ exclamation_mark ∷ rest → rest ≡ middle ++ exclamation_mark ∷ []
     → list_all is_alpha (chars middle) ≡ kept → cond kept None (Some TagHandleAlphabet) ≡ handle_fault (chars bytes)
-both_marks bytes rest middle kept u e f h =
-    let whole = mark_and bytes rest u e in
+both_exclamations bytes rest middle kept u e f h =
+    let whole = exclamation_and bytes rest u e in
     let P : List ℕ → Type 0 = λ x. IsUtf8 x in
-    let cut : chars rest ≡ chars middle ++ tag_mark ∷ [] =
-    ap chars f ∙ chars-append middle (tag_mark ∷ []) (front_is_text middle (subst P f whole.1)) ∙ ap (λ x. chars middle ++ x) one_mark
+    let cut : chars rest ≡ chars middle ++ exclamation_mark ∷ [] =
+    ap chars f ∙ chars-append middle (exclamation_mark ∷ []) (prefix_is_text middle (subst P f whole.1)) ∙ ap (λ x. chars middle ++ x) one_exclamation
     in
-    between (chars middle) kept h ∙ ap handle_fault (ap (λ x. tag_mark ∷ x) (sym cut) ∙ sym whole.0)
+    between (chars middle) kept h ∙ ap handle_fault (ap (λ x. exclamation_mark ∷ x) (sym cut) ∙ sym whole.0)
 
 -- Prefixes.
 

@@ -31,35 +31,35 @@ pub goes_on : (prefix tag : List ℕ) (r : Bool) → length prefix < length tag 
 goes_on prefix tag r h e = rw (lt-ltb (length prefix) (length tag) h) e
 
 -- a text begins with another and goes on
-abbrev GoesOn : List ℕ → List ℕ → Type 0
-GoesOn prefix text = (rest : List ℕ) × (0 < length rest) × (text ≡ prefix ++ rest)
+abbrev ContinuesScript : List ℕ → List ℕ → Type 0
+ContinuesScript prefix text = (rest : List ℕ) × (0 < length rest) × (text ≡ prefix ++ rest)
 
-by_bytes : (prefix tag : List ℕ) → Decides (begins_and_is_shorter prefix tag) (GoesOn prefix tag)
+by_bytes : (prefix tag : List ℕ) → Decides (begins_and_is_shorter prefix tag) (ContinuesScript prefix tag)
 by_bytes prefix tag = (
   (λ h.
       let both = and_parts (nat_lt (length prefix) (length tag)) (bytes_eq prefix (take (length prefix) tag)) h in
       let shorter : length prefix < length tag = ltb-true _ _ both.0 in
-      let front : prefix ≡ take (length prefix) tag = (bytes_eq-Decides prefix (take (length prefix) tag)).0 both.1 in (
+      let head : prefix ≡ take (length prefix) tag = (bytes_eq-Decides prefix (take (length prefix) tag)).0 both.1 in (
         drop (length prefix) tag,
         omega (arith, length-drop (length prefix) tag),
-        sym (take-append-drop (length prefix) tag) ∙ ap (λ x. x ++ drop (length prefix) tag) (sym front),
+        sym (take-append-drop (length prefix) tag) ∙ ap (λ x. x ++ drop (length prefix) tag) (sym head),
       )),
   (λ h.
       let shorter : length prefix < length tag = omega (arith, ap length h.2, length-append prefix h.0) in
-      let front : prefix ≡ take (length prefix) tag =
+      let head : prefix ≡ take (length prefix) tag =
       sym (take-append_seam prefix h.0) ∙ ap (take (length prefix)) (sym h.2)
       in
-      and_from _ _ (lt-ltb _ _ shorter) ((bytes_eq-Decides prefix (take (length prefix) tag)).1 front)),
+      and_from _ _ (lt-ltb _ _ shorter) ((bytes_eq-Decides prefix (take (length prefix) tag)).1 head)),
 )
 
 -- what follows a text in a text is one
-text_past : (front : Text) (rest : List ℕ) → IsUtf8 (encodes front ++ rest) → IsUtf8 rest
+text_past : (head : Text) (rest : List ℕ) → IsUtf8 (encodes head ++ rest) → IsUtf8 rest
 text_past [] rest u = u
-text_past (c ∷ front) rest u =
-    text_past front rest (IsUtf8-past_char ((encode c ++ encodes front) ++ rest) (encodes front ++ rest) c u (append_assoc (encode c) (encodes front) rest))
+text_past (c ∷ head) rest u =
+    text_past head rest (IsUtf8-past_char ((encode c ++ encodes head) ++ rest) (encodes head ++ rest) c u (append_assoc (encode c) (encodes head) rest))
 
-text_behind : (prefix rest : List ℕ) → IsUtf8 prefix → IsUtf8 (prefix ++ rest) → IsUtf8 rest
-text_behind prefix rest u v =
+text_after_quote : (prefix rest : List ℕ) → IsUtf8 prefix → IsUtf8 (prefix ++ rest) → IsUtf8 rest
+text_after_quote prefix rest u v =
     let P : List ℕ → Type 0 = λ x. IsUtf8 (x ++ rest) in
     text_past (chars prefix) rest (subst P (sym (encodes-chars prefix u)) v)
 
@@ -91,7 +91,7 @@ whole_text : (prefix text : List ℕ) (rest : Text) → IsUtf8 prefix → IsUtf8
 whole_text prefix text rest u v e =
     sym (encodes-chars text v) ∙ ap encodes (sym e) ∙ encodes-append (chars prefix) rest ∙ ap (λ x. x ++ encodes rest) (encodes-chars prefix u)
 
-by_characters : (prefix tag : List ℕ) → IsUtf8 prefix → IsUtf8 tag → Decides (is_some (behind (chars prefix) (chars tag))) (GoesOn prefix tag)
+by_characters : (prefix tag : List ℕ) → IsUtf8 prefix → IsUtf8 tag → Decides (is_some (behind (chars prefix) (chars tag))) (ContinuesScript prefix tag)
 by_characters prefix tag u v = (
   (λ h.
       let found = some_behind (behind (chars prefix) (chars tag)) h in
@@ -103,7 +103,7 @@ by_characters prefix tag u v = (
   (λ h.
       let P : List ℕ → Type 0 = λ x. IsUtf8 x in
       let Q : Text → Type 0 = λ x. is_some (behind (chars prefix) x) ≡ true in
-      let text = text_behind prefix h.0 u (subst P h.2 v) in
+      let text = text_after_quote prefix h.0 u (subst P h.2 v) in
       let split : chars tag ≡ chars prefix ++ chars h.0 = ap chars h.2 ∙ chars-append prefix h.0 u in
       subst Q (sym split) (behind_nonempty (chars prefix) (chars h.0) (characters_too h.0 text h.1))),
 )

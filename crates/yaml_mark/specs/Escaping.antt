@@ -4,17 +4,17 @@ use Rattle.std.specs.Str.{IsAscii, IsCharBoundary}
 use Rattle.std.specs.List.{list_any}
 use Rattle.yaml_base.specs.Characters.{is_break}
 use Rattle.yaml_base.specs.Percent.{is_suffix_character, percent_escaped, prefix_escaped}
-use Rattle.yaml_mark.specs.declared.writing.FlowSigns.{FlowSigns}
-use Rattle.yaml_mark.specs.declared.writing.FlowSigns.TheVariants.{Raw, Escaped}
+use Rattle.yaml_mark.specs.declared.writing.FlowIndicators.{FlowIndicators}
+use Rattle.yaml_mark.specs.declared.writing.FlowIndicators.TheVariants.{Raw, Escaped}
 
--- signs of flow are escaped in portable mode
-abbrev pub are_escaped : FlowSigns → Bool
+-- flow indicators are escaped in portable mode
+abbrev pub are_escaped : FlowIndicators → Bool
 are_escaped Raw = false
 are_escaped Escaped = true
 
 -- a byte of a text's UTF-8 stands as itself
-abbrev pub stands : FlowSigns → ℕ → Bool
-stands signs byte = is_suffix_character (are_escaped signs) byte
+abbrev pub stays_raw : FlowIndicators → ℕ → Bool
+stays_raw indicators byte = is_suffix_character (are_escaped indicators) byte
 
 -- so many bytes of a prefix stand as themselves, and the rest is written as a tag is
 pub record IsPrefixRun (portable : Bool) (prefix : List ℕ) (size : ℕ) : Type 0 where

@@ -7,7 +7,7 @@ use Rattle.yaml_base.specs.Event.{TagDirective}
 use Rattle.yaml_base.specs.Percent.{percent_escaped, suffix_escaped, prefix_escaped}
 use Rattle.yaml_base.specs.Tags.{directives_fault, directives_in_force, spelling, spelled}
 use Rattle.yaml_base.specs.reading.ReadPercent.{percent_read}
-use Rattle.yaml_base.specs.reading.ReadTags.{name_said}
+use Rattle.yaml_base.specs.reading.ReadTags.{name_parsed}
 use Rattle.yaml_base.specs.reading.CanonicalReader.{tag_read}
 
 -- decoding undoes escaping
@@ -22,9 +22,9 @@ EscapedSuffixReads portable text = all_scalars text ≡ true → percent_read (s
 abbrev pub EscapedPrefixReads : (portable : Bool) → Text → Type 0
 EscapedPrefixReads portable text = all_scalars text ≡ true → percent_read (prefix_escaped portable text) ≡ Some text
 
--- in portable mode no sign of flow stands after a handle
-abbrev pub PortableSuffixHoldsNoFlowSign : Text → Type 0
-PortableSuffixHoldsNoFlowSign text = list_any (is_among (codes ",[]")) (suffix_escaped true text) ≡ false
+-- in portable mode no flow indicator stands after a handle
+abbrev pub PortableSuffixHoldsNoFlowIndicator : Text → Type 0
+PortableSuffixHoldsNoFlowIndicator text = list_any (is_among (codes ",[]")) (suffix_escaped true text) ≡ false
 
 -- a tag as a document with these directives writes it
 abbrev pub written_tag : (portable : Bool) → List TagDirective → Text → Text
@@ -33,7 +33,7 @@ written_tag portable own tag = spelled portable (spelling (directives_in_force o
 -- a written tag is read as the tag
 abbrev pub WrittenTagReads : (portable : Bool) → List TagDirective → Text → Type 0
 WrittenTagReads portable own tag =
-    directives_fault own ≡ None → all_scalars tag ≡ true → tag_read own (written_tag portable own tag) ≡ Some (name_said tag)
+    directives_fault own ≡ None → all_scalars tag ≡ true → tag_read own (written_tag portable own tag) ≡ Some (name_parsed tag)
 
 -- escaped text has nothing that could end it, or that has a meaning in a tag
 abbrev pub EscapedTextSeparatesNothing : Text → Type 0

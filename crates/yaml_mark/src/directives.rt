@@ -130,10 +130,10 @@ fn first_prefix<A: Allocator>(directives: &[yaml_tag_directive_t<A>], tag: &str)
 {
     directives
         .iter()
-        .position(|directive| goes_on_from(tag, directive.prefix.as_str()))
+        .position(|directive| extends_prefix(tag, directive.prefix.as_str()))
 }
 
-fn goes_on_from(tag: &str, prefix: &str) -> bool
+fn extends_prefix(tag: &str, prefix: &str) -> bool
     ensures { result ≡ begins_and_is_shorter prefix.now tag.now }
 {
     prefix.len() < tag.len() && tag.starts_with(prefix)

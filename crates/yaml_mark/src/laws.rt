@@ -2,7 +2,8 @@
 ghost use Rattle.std.specs.Prelude.{Bool, List};
 ghost use Rattle.yaml_base.specs.Event.{TagDirective};
 ghost use Rattle.yaml_base.specs.Characters.{Text};
-ghost use Rattle.yaml_mark.specs.Laws.{EscapedTextReads, EscapedSuffixReads, EscapedPrefixReads, PortableSuffixHoldsNoFlowSign, EscapedTextSeparatesNothing};
+ghost use Rattle.yaml_mark.specs.Laws.{EscapedTextReads, EscapedSuffixReads, EscapedPrefixReads, PortableSuffixHoldsNoFlowIndicator};
+ghost use Rattle.yaml_mark.specs.Laws.{EscapedTextSeparatesNothing};
 ghost use Rattle.yaml_mark.specs.Laws.{WrittenTagReads, WrittenTagIsOneWord, WrittenTagIsNotBare};
 
 /// A text whose characters were escaped by percent forms, in a tag, after a handle or in a prefix, is decoded as itself.
@@ -12,9 +13,9 @@ pub fn escaped_text_reads()
     ensures prefix { (portable : Bool) (text : Text) → EscapedPrefixReads portable text }
 {}
 
-/// In portable mode no sign of flow, at which readers end a tag, stands after a handle.
-pub fn portable_suffix_holds_no_flow_sign()
-    ensures { (text : Text) → PortableSuffixHoldsNoFlowSign text }
+/// In portable mode no flow indicator, at which readers end a tag, stands after a handle.
+pub fn portable_suffix_holds_no_flow_indicator()
+    ensures { (text : Text) → PortableSuffixHoldsNoFlowIndicator text }
 {}
 
 /// The written form of a tag, read with the document's directives and the defaults, is the tag, where the directives

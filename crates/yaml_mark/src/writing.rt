@@ -2,88 +2,88 @@
 ghost use Rattle.std.specs.Prelude.{◌≡◌, [], ◌∷◌, ◌++◌, true, false, chars, flat_map, MatchOption};
 ghost use Rattle.std.specs.List.{list_any, position_or_len, prefix_len};
 ghost use Rattle.yaml_base.specs.Characters.{is_break};
-ghost use Rattle.yaml_base.specs.Cursor.{indicator, name_laid, space_if, text_laid};
-ghost use Rattle.yaml_base.specs.Layout.{handle_laid};
+ghost use Rattle.yaml_base.specs.Cursor.{indicator, render_name, space_if, render_text};
+ghost use Rattle.yaml_base.specs.Layout.{render_handle};
 ghost use Rattle.yaml_base.specs.Percent as percent;
-ghost use Rattle.yaml_base.specs.Tags.{tag_mark};
+ghost use Rattle.yaml_base.specs.Tags.{exclamation_mark};
 ghost use Rattle.yaml_pen.specs.Page.{IsReady};
 ghost use Rattle.yaml_pen.specs.Wrote.{Wrote};
-ghost use Rattle.yaml_mark.specs.Escaping.{IsPrefixRun, are_escaped, stands};
+ghost use Rattle.yaml_mark.specs.Escaping.{IsPrefixRun, are_escaped, stays_raw};
 
 use std::alloc::Allocator;
 use yaml_base::{hex_digit, yaml_error_t};
 use yaml_pen::{Indicator, Pen};
 
-/// What becomes of the signs of flow `,` `[` `]` in a tag.
+/// What becomes of the flow indicators `,` `[` `]` in a tag.
 #[derive(Clone, Copy)]
-enum FlowSigns {
+enum FlowIndicators {
     /// They stand as themselves.
     Raw,
     /// They are escaped, since readers end a tag at them.
     Escaped,
 }
 
-/// Writes the name of an anchor or of an alias. `WriteError` and `Memory` as the pen tells them.
+/// Writes the name of an anchor or of an alias. `WriteError` and `Memory` as the pen returns them.
 pub fn write_anchor<A: Allocator>(pen: &mut Pen<A>, anchor: &str) -> Result<(), yaml_error_t>
     requires ready { IsReady pen.old }
     requires no_break { list_any is_break (chars anchor.now) ≡ false }
-    ensures { Wrote (name_laid (chars anchor.now)) pen.old pen.new result }
+    ensures { Wrote (render_name (chars anchor.now)) pen.old pen.new result }
 {
     pen.put_indicator(&Indicator::tight(anchor))
 }
 
 /// Writes a tag's handle, or the bare tag, and a space before it where none stands there. `WriteError` and `Memory` as
-/// the pen tells them.
+/// the pen returns them.
 pub fn write_tag_handle<A: Allocator>(pen: &mut Pen<A>, handle: &str) -> Result<(), yaml_error_t>
     requires ready { IsReady pen.old }
     requires no_break { list_any is_break (chars handle.now) ≡ false }
-    ensures { Wrote (handle_laid (chars handle.now)) pen.old pen.new result }
+    ensures { Wrote (render_handle (chars handle.now)) pen.old pen.new result }
 {
     pen.put_indicator(&Indicator::spaced(handle))
 }
 
 /// Writes a tag: what may not stand in one is escaped by percent forms. A space comes before it where one is asked for
-/// and none stands there. `WriteError` and `Memory` as the pen tells them.
+/// and none stands there. `WriteError` and `Memory` as the pen returns them.
 pub fn write_tag_content<A: Allocator>(
     pen: &mut Pen<A>,
     content: &str,
     need_whitespace: bool,
 ) -> Result<(), yaml_error_t>
     requires ready { IsReady pen.old }
-    ensures { Wrote (λ cursor. name_laid (space_if need_whitespace cursor ++ percent.percent_escaped (chars content.now)) cursor) pen.old pen.new result }
+    ensures { Wrote (λ cursor. render_name (space_if need_whitespace cursor ++ percent.percent_escaped (chars content.now)) cursor) pen.old pen.new result }
 {
     begin_tag(pen, need_whitespace)?;
-    write_escaped(pen, content, FlowSigns::Raw)
+    write_escaped(pen, content, FlowIndicators::Raw)
 }
 
-/// Writes what stands after a tag's handle, escaped as a tag is; `portable` escapes the signs of flow `,` `[` `]` too,
-/// at which readers end a tag. `WriteError` and `Memory` as the pen tells them.
+/// Writes what stands after a tag's handle, escaped as a tag is; `portable` escapes the flow indicators `,` `[` `]` too,
+/// at which readers end a tag. `WriteError` and `Memory` as the pen returns them.
 pub fn write_tag_suffix<A: Allocator>(
     pen: &mut Pen<A>,
     suffix: &str,
     portable: bool,
 ) -> Result<(), yaml_error_t>
     requires ready { IsReady pen.old }
-    ensures { Wrote (name_laid (percent.suffix_escaped portable (chars suffix.now))) pen.old pen.new result }
+    ensures { Wrote (render_name (percent.suffix_escaped portable (chars suffix.now))) pen.old pen.new result }
 {
     begin_tight(pen)?;
-    write_escaped(pen, suffix, flow_signs(portable))
+    write_escaped(pen, suffix, flow_indicators(portable))
 }
 
 /// Writes the prefix of a directive, escaped as a tag is, and a space before it where none stands there; `portable`
-/// leaves a `!` that begins it, by which readers know a local prefix. `WriteError` and `Memory` as the pen tells them.
+/// leaves a `!` that begins it, by which readers know a local prefix. `WriteError` and `Memory` as the pen returns them.
 pub fn write_tag_prefix<A: Allocator>(
     pen: &mut Pen<A>,
     prefix: &str,
     portable: bool,
 ) -> Result<(), yaml_error_t>
     requires ready { IsReady pen.old }
-    ensures { Wrote (handle_laid (percent.prefix_escaped portable (chars prefix.now))) pen.old pen.new result }
+    ensures { Wrote (render_handle (percent.prefix_escaped portable (chars prefix.now))) pen.old pen.new result }
 {
     begin_spaced(pen)?;
     let (run, rest) = prefix.split_at(prefix_run_length(prefix, portable));
     pen.write_run(run)?;
-    write_escaped(pen, rest, FlowSigns::Raw)
+    write_escaped(pen, rest, FlowIndicators::Raw)
 }
 
 // What stands before a tag: a space where one is asked for and none stands there.
@@ -114,13 +114,13 @@ fn begin_tight<A: Allocator>(pen: &mut Pen<A>) -> Result<(), yaml_error_t>
     pen.put_indicator(&Indicator::tight(""))
 }
 
-fn flow_signs(portable: bool) -> FlowSigns
+fn flow_indicators(portable: bool) -> FlowIndicators
     ensures { are_escaped result ≡ portable }
 {
     if portable {
-        FlowSigns::Escaped
+        FlowIndicators::Escaped
     } else {
-        FlowSigns::Raw
+        FlowIndicators::Raw
     }
 }
 
@@ -128,20 +128,20 @@ fn flow_signs(portable: bool) -> FlowSigns
 fn prefix_run_length(prefix: &str, portable: bool) -> usize
     ensures { IsPrefixRun portable prefix.now result }
 {
-    match after_raw_mark(prefix, portable) {
+    match after_raw_exclamation(prefix, portable) {
         Some(rest) => {
-            let mark = prefix.len() - rest.len();
-            mark + run_length(rest, FlowSigns::Raw)
+            let exclamation = prefix.len() - rest.len();
+            exclamation + run_length(rest, FlowIndicators::Raw)
         }
-        None => run_length(prefix, FlowSigns::Raw),
+        None => run_length(prefix, FlowIndicators::Raw),
     }
 }
 
 // What follows the `!` of a prefix whose `!` stands raw.
-fn after_raw_mark(prefix: &str, portable: bool) -> Option<&str>
+fn after_raw_exclamation(prefix: &str, portable: bool) -> Option<&str>
     ensures { MatchOption result (percent.prefix_escaped portable (chars prefix.now) ≡ percent.percent_escaped (chars prefix.now))
-        (λ rest. (prefix.now ≡ tag_mark ∷ rest.now)
-        × (percent.prefix_escaped portable (chars prefix.now) ≡ tag_mark ∷ percent.percent_escaped (chars rest.now))) }
+        (λ rest. (prefix.now ≡ exclamation_mark ∷ rest.now)
+        × (percent.prefix_escaped portable (chars prefix.now) ≡ exclamation_mark ∷ percent.percent_escaped (chars rest.now))) }
 {
     if portable {
         prefix.strip_prefix('!')
@@ -154,17 +154,17 @@ fn after_raw_mark(prefix: &str, portable: bool) -> Option<&str>
 fn write_escaped<A: Allocator>(
     pen: &mut Pen<A>,
     text: &str,
-    signs: FlowSigns,
+    indicators: FlowIndicators,
 ) -> Result<(), yaml_error_t>
     requires ready { IsReady pen.old }
-    ensures { Wrote (text_laid (percent.suffix_escaped (are_escaped signs) (chars text.now))) pen.old pen.new result }
+    ensures { Wrote (render_text (percent.suffix_escaped (are_escaped indicators) (chars text.now))) pen.old pen.new result }
 {
     pen.write_nothing()?;
     let mut rest = text;
     while !rest.is_empty() {
-        let (run, others) = rest.split_at(run_length(rest, signs));
+        let (run, others) = rest.split_at(run_length(rest, indicators));
         pen.write_run(run)?;
-        let (escaped, behind) = others.split_at(escaped_length(others, signs));
+        let (escaped, behind) = others.split_at(escaped_length(others, indicators));
         write_forms(pen, escaped)?;
         rest = behind;
     }
@@ -174,7 +174,7 @@ fn write_escaped<A: Allocator>(
 // The percent forms of a text's bytes.
 fn write_forms<A: Allocator>(pen: &mut Pen<A>, text: &str) -> Result<(), yaml_error_t>
     requires ready { IsReady pen.old }
-    ensures { Wrote (text_laid (flat_map percent.byte_escaped text.now)) pen.old pen.new result }
+    ensures { Wrote (render_text (flat_map percent.byte_escaped text.now)) pen.old pen.new result }
 {
     pen.write_nothing()?;
     let bytes = text.as_bytes();
@@ -187,7 +187,7 @@ fn write_forms<A: Allocator>(pen: &mut Pen<A>, text: &str) -> Result<(), yaml_er
 // The percent form of a byte.
 fn write_form<A: Allocator>(pen: &mut Pen<A>, byte: u8) -> Result<(), yaml_error_t>
     requires ready { IsReady pen.old }
-    ensures { Wrote (text_laid (percent.byte_escaped byte)) pen.old pen.new result }
+    ensures { Wrote (render_text (percent.byte_escaped byte)) pen.old pen.new result }
 {
     pen.put(b'%')?;
     pen.put(hex_digit(byte / 16))?;
@@ -195,31 +195,31 @@ fn write_form<A: Allocator>(pen: &mut Pen<A>, byte: u8) -> Result<(), yaml_error
 }
 
 // How many of the first bytes stand as themselves.
-fn run_length(text: &str, signs: FlowSigns) -> usize
-    ensures { result ≡ prefix_len (stands signs) text.now }
+fn run_length(text: &str, indicators: FlowIndicators) -> usize
+    ensures { result ≡ prefix_len (stays_raw indicators) text.now }
 {
     text.as_bytes()
         .iter()
-        .take_while(|byte| stands(**byte, signs))
+        .take_while(|byte| stays_raw(**byte, indicators))
         .count()
 }
 
 // How many of the first bytes are escaped.
-fn escaped_length(text: &str, signs: FlowSigns) -> usize
-    ensures { result ≡ position_or_len (stands signs) text.now }
+fn escaped_length(text: &str, indicators: FlowIndicators) -> usize
+    ensures { result ≡ position_or_len (stays_raw indicators) text.now }
 {
     text.as_bytes()
         .iter()
-        .take_while(|byte| !stands(**byte, signs))
+        .take_while(|byte| !stays_raw(**byte, indicators))
         .count()
 }
 
-fn stands(byte: u8, signs: FlowSigns) -> bool
-    ensures value { result ≡ stands signs byte }
+fn stays_raw(byte: u8, indicators: FlowIndicators) -> bool
+    ensures value { result ≡ stays_raw indicators byte }
 {
-    match signs {
-        FlowSigns::Raw => is_tag_character(byte),
-        FlowSigns::Escaped => is_tag_character(byte) && !matches!(byte, b',' | b'[' | b']'),
+    match indicators {
+        FlowIndicators::Raw => is_tag_character(byte),
+        FlowIndicators::Escaped => is_tag_character(byte) && !matches!(byte, b',' | b'[' | b']'),
     }
 }
 

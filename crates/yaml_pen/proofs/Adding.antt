@@ -4,7 +4,7 @@ use Rattle.std.specs.Str.{all_scalars}
 use Rattle.std.proofs.lemmas.Bool.{and_parts, and_from}
 use Rattle.yaml_base.specs.Characters.{Text}
 use Rattle.yaml_base.specs.Settings.{Encoding}
-use Rattle.yaml_base.specs.Encoding.{character_bytes, text_bytes, encode, mark}
+use Rattle.yaml_base.specs.Encoding.{character_bytes, text_bytes, encode, bom_text}
 use Rattle.yaml_base.specs.Decode.{decode}
 use Rattle.yaml_base.proofs.Decoding.{decode-encode}
 
@@ -15,7 +15,7 @@ text_bytes-append e (x ∷ xs) ys =
 
 pub encode-append : (e : Encoding) (xs ys : Text) → encode (Some e) (xs ++ ys) ≡ encode (Some e) xs ++ text_bytes e ys
 encode-append e xs ys =
-    ap (text_bytes e) (sym (append_assoc (mark e) xs ys)) ∙ text_bytes-append e (mark e ++ xs) ys
+    ap (text_bytes e) (sym (append_assoc (bom_text e) xs ys)) ∙ text_bytes-append e (bom_text e ++ xs) ys
 
 pub all_scalars-append : (xs ys : Text) → all_scalars xs ≡ true → all_scalars ys ≡ true → all_scalars (xs ++ ys) ≡ true
 all_scalars-append [] ys p q = q

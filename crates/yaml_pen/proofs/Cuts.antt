@@ -6,13 +6,13 @@ use Rattle.std.specs.Char.{len_utf8}
 use Rattle.std.specs.Str.{IsCharBoundary, chars, encode_utf8_all}
 
 -- its characters are those of both parts
-pub chars-cut : (bytes front back : List ℕ) (place : ℕ) → IsUtf8 bytes → IsCharBoundary bytes place → front ≡ take place bytes → back ≡ drop place bytes
-    → chars bytes ≡ chars front ++ chars back
-chars-cut bytes front back place is boundary in_front behind =
+pub chars-cut : (bytes prefix back : List ℕ) (place : ℕ) → IsUtf8 bytes → IsCharBoundary bytes place → prefix ≡ take place bytes → back ≡ drop place bytes
+    → chars bytes ≡ chars prefix ++ chars back
+chars-cut bytes prefix back place is boundary in_prefix behind =
     ap chars (sym (take-append-drop place bytes))
     ∙ chars-append (take place bytes) (drop place bytes) (IsUtf8-take bytes place is boundary)
-    ∙ ap (λ l. chars l ++ chars (drop place bytes)) (sym in_front)
-    ∙ ap (λ l. chars front ++ chars l) (sym behind)
+    ∙ ap (λ l. chars l ++ chars (drop place bytes)) (sym in_prefix)
+    ∙ ap (λ l. chars prefix ++ chars l) (sym behind)
 
 -- the last place where it may be cut before a bound is behind its first character
 pub cut-forward : (bytes : List ℕ) (place bound : ℕ) → IsUtf8 bytes → 4 ≤ bound → bound < length bytes

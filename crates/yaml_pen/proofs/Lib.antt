@@ -3,7 +3,7 @@ pub mod Adding
 pub mod Starting
 pub mod Writing
 pub mod Composing
-pub mod Fronts
+pub mod WrittenPrefixes
 pub mod Cuts
 pub mod NewLines
 pub mod CharacterStarts

@@ -1,4 +1,4 @@
--- What is handed out of a buffer is added to the output.
+-- What is flushed of a buffer is added to the output.
 use Rattle.std.proofs.Common.{◌≡◌, sym, ◌∙◌, ap, subst, ℕ, ◌≤◌, ◌+◌, ◌-◌, Result, Ok, Err, List, ◌++◌, length, take, append_assoc, arith}
 use Rattle.std.proofs.Math.Seq.{take-append-add}
 use Rattle.std.proofs.lemmas.List.{length-append}
@@ -7,15 +7,15 @@ use Rattle.yaml_base.specs.Prefix.{IsPrefix}
 use Rattle.yaml_base.specs.declared.errors.yaml_error_t.{yaml_error_t}
 use Rattle.yaml_base.specs.declared.errors.yaml_error_t.TheVariants.{WriteError, Memory}
 use Rattle.yaml_base.proofs.Prefixes.{prefix_same, prefix_cut}
-use Rattle.yaml_pen.specs.Outlet.{HandsOut, whole_output}
+use Rattle.yaml_pen.specs.Outlet.{FlushesBuffer, whole_output}
 
-pub hands_out_grows : (buffer before after : List ℕ) (limit : ℕ) (answer : Result (Unit {0}) yaml_error_t) → length before ≤ limit
-    → HandsOut buffer before after limit answer → IsPrefix before after
-hands_out_grows buffer before after limit (Ok _) within h = record { rest = buffer; parts = sym h.1 }
-hands_out_grows buffer before after limit (Err WriteError) within h = subst (λ (output : List ℕ). IsPrefix before output) (sym h.1)
+pub last_flushes_grows : (buffer before after : List ℕ) (limit : ℕ) (answer : Result (Unit {0}) yaml_error_t) → length before ≤ limit
+    → FlushesBuffer buffer before after limit answer → IsPrefix before after
+last_flushes_grows buffer before after limit (Ok _) within h = record { rest = buffer; parts = sym h.1 }
+last_flushes_grows buffer before after limit (Err WriteError) within h = subst (λ (output : List ℕ). IsPrefix before output) (sym h.1)
     (prefix_cut limit before buffer within)
-hands_out_grows buffer before after limit (Err Memory) within h = prefix_same before after (sym h)
-hands_out_grows buffer before after limit (Err error) within h = absurd h
+last_flushes_grows buffer before after limit (Err Memory) within h = prefix_same before after (sym h)
+last_flushes_grows buffer before after limit (Err error) within h = absurd h
 
 -- how long an output is
 pub whole_length : (taken left : List ℕ) → length (whole_output taken left) ≡ length taken + length left
@@ -34,8 +34,8 @@ whole_take taken left count limit counted within =
 
 -- what was taken counts for the limit
 pub hands_on : (buffer taken before after : List ℕ) (count limit : ℕ) (answer : Result (Unit {0}) yaml_error_t) → count ≡ length taken
-    → length (whole_output taken before) ≤ limit → HandsOut buffer before after (limit - count) answer
-    → HandsOut buffer (whole_output taken before) (whole_output taken after) limit answer
+    → length (whole_output taken before) ≤ limit → FlushesBuffer buffer before after (limit - count) answer
+    → FlushesBuffer buffer (whole_output taken before) (whole_output taken after) limit answer
 hands_on buffer taken before after count limit (Ok _) counted within h =
     let room = whole_length taken before in
     (omega (arith, counted, within, room, h.0, whole_length taken after), ap (whole_output taken) h.1 ∙ whole_append taken before buffer)

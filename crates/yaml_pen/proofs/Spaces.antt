@@ -5,7 +5,7 @@ use Rattle.std.proofs.lemmas.Str.Ascii.{IsAscii-from_all}
 use Rattle.std.specs.List.{list_any}
 use Rattle.std.specs.Str.{IsAscii}
 use Rattle.yaml_base.specs.Characters.{is_break, line_feed, space}
-use Rattle.yaml_base.specs.Cursor.{text_laid}
+use Rattle.yaml_base.specs.Cursor.{render_text}
 use Rattle.yaml_base.specs.LineBreaks.{with_breaks_written}
 use Rattle.yaml_base.specs.Settings.{LineBreak, line_feed_break}
 use Rattle.yaml_pen.specs.Page.{Page}
@@ -26,7 +26,7 @@ line_start_ascii count zero = omega arith
 line_start_ascii count (suc i) = spaces_ascii count i
 
 pub line_start_names : (count : ℕ) (page : Page) → page.line_break ≡ line_feed_break
-    → Names (line_feed ∷ replicate count space) (text_laid (line_feed ∷ replicate count space)) page
+    → Names (line_feed ∷ replicate count space) (render_text (line_feed ∷ replicate count space)) page
 line_start_names count page is =
     record {
       text = ap (λ (b : LineBreak). with_breaks_written b (line_feed ∷ replicate count space)) is

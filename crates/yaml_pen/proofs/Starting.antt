@@ -10,7 +10,7 @@ use Rattle.yaml_base.specs.Cursor.{column_after}
 use Rattle.yaml_base.specs.Seen.{seen_encoding, seen_break}
 use Rattle.yaml_base.specs.declared.encodings.yaml_encoding_t.{yaml_encoding_t}
 use Rattle.yaml_base.specs.declared.encodings.yaml_break_t.{yaml_break_t}
-use Rattle.yaml_pen.specs.Page.{Page, IsHandedOut, has_mark}
+use Rattle.yaml_pen.specs.Page.{Page, IsFlushedOutput, has_bom}
 use Rattle.yaml_pen.specs.Outlet.{Bytes, IsSound}
 use Rattle.yaml_pen.specs.Pen.{page_of, IsPen}
 use Rattle.yaml_base.specs.Decode.{decode}
@@ -25,8 +25,8 @@ decode-nil (Some utf16_big) = refl
 pub decode-empty : (encoding : Option Encoding) (bytes : List ℕ) → bytes ≡ [] → decode encoding bytes ≡ []
 decode-empty encoding bytes e = ap (decode encoding) e ∙ decode-nil encoding
 
--- before its mark a stream is empty
-nothing_begun : (encoding : Option Encoding) → (if has_mark encoding then [] else encode encoding []) ≡ []
+-- before its byte order mark a stream is empty
+nothing_begun : (encoding : Option Encoding) → (if has_bom encoding then [] else encode encoding []) ≡ []
 nothing_begun None = refl
 nothing_begun (Some utf8) = refl
 nothing_begun (Some utf16_little) = refl
@@ -34,32 +34,32 @@ nothing_begun (Some utf16_big) = refl
 
 -- a pen without bytes is a pen in any encoding
 pub IsPen-begun : (encoding old : yaml_encoding_t) (line_break : yaml_break_t) (bytes : Bytes) (whitespace indention : Bool) (column : ℕ) (due : Bool)
-    → bytes.all ≡ [] → bytes.error ≡ None → due ≡ has_mark (seen_encoding encoding)
-    → IsHandedOut bytes.all bytes.output bytes.limit bytes.error
+    → bytes.all ≡ [] → bytes.error ≡ None → due ≡ has_bom (seen_encoding encoding)
+    → IsFlushedOutput bytes.all bytes.output bytes.limit bytes.error
     → column ≡ min (column_after (decode (seen_encoding old) bytes.all) 0) 4294967295
     → IsPen (page_of encoding due line_break bytes whitespace indention) bytes.all column
-IsPen-begun encoding old line_break bytes whitespace indention column due empty unfailed is_due handed stored =
+IsPen-begun encoding old line_break bytes whitespace indention column due empty unfailed is_due sound_output stored =
     let text = decode-empty (seen_encoding encoding) bytes.all empty in
     let before = decode-empty (seen_encoding old) bytes.all empty in
     record {
       bytes = empty ∙ sym (ap (λ d. if d then [] else encode (seen_encoding encoding) (decode (seen_encoding encoding) bytes.all)) is_due
-          ∙ ap (λ t. if has_mark (seen_encoding encoding) then [] else encode (seen_encoding encoding) t) text
+          ∙ ap (λ t. if has_bom (seen_encoding encoding) then [] else encode (seen_encoding encoding) t) text
           ∙ nothing_begun (seen_encoding encoding));
       scalars = ap all_scalars text;
       column = stored ∙ ap (λ t. min (column_after t 0) 4294967295) (before ∙ sym text);
-      handed = handed;
+      sound_output = sound_output;
       unfailed = λ _. unfailed;
       marks = λ due. sym is_due ∙ due;
     }
 
 -- its page differs from that before by the settings alone
 pub page-begun : (encoding old : yaml_encoding_t) (line_break old_break : yaml_break_t) (bytes : Bytes) (whitespace indention due old_due : Bool) (page : Page)
-    → bytes.all ≡ [] → due ≡ has_mark (seen_encoding encoding)
+    → bytes.all ≡ [] → due ≡ has_bom (seen_encoding encoding)
     → page_of old old_due old_break bytes whitespace indention ≡ page
     → page_of encoding due line_break bytes whitespace indention
     ≡ record page {
       encoding = seen_encoding encoding;
-      mark_due = has_mark (seen_encoding encoding);
+      bom_due = has_bom (seen_encoding encoding);
       line_break = unwrap_or (seen_break line_break) line_feed_break;
     }
 page-begun encoding old line_break old_break bytes whitespace indention due old_due page empty is_due viewed =
@@ -67,12 +67,12 @@ page-begun encoding old line_break old_break bytes whitespace indention due old_
     decode-empty (seen_encoding encoding) bytes.all empty ∙ sym (decode-empty (seen_encoding old) bytes.all empty) in
     let changed : Page → Page = λ (p : Page). record p {
       encoding = seen_encoding encoding;
-      mark_due = has_mark (seen_encoding encoding);
+      bom_due = has_bom (seen_encoding encoding);
       line_break = unwrap_or (seen_break line_break) line_feed_break;
     } in
     ap (λ t. record {
       encoding = seen_encoding encoding;
-      mark_due = due;
+      bom_due = due;
       line_break = unwrap_or (seen_break line_break) line_feed_break;
       limit = bytes.limit;
       text = t;
@@ -83,29 +83,29 @@ page-begun encoding old line_break old_break bytes whitespace indention due old_
     }) text
     ∙ ap (λ d. record (page_of old old_due old_break bytes whitespace indention) {
       encoding = seen_encoding encoding;
-      mark_due = d;
+      bom_due = d;
       line_break = unwrap_or (seen_break line_break) line_feed_break;
     }) is_due
     ∙ ap changed viewed
 
--- a mark is the bytes of a stream without text
-mark-encoded : (e : Encoding) → has_mark (Some e) ≡ true → encode (Some e) [] ≡ character_bytes e byte_order_mark
-mark-encoded utf8 marks = absurd (false≢true marks)
-mark-encoded utf16_little _ = refl
-mark-encoded utf16_big _ = refl
+-- a byte order mark is the bytes of a stream without text
+bom-encoded : (e : Encoding) → has_bom (Some e) ≡ true → encode (Some e) [] ≡ character_bytes e byte_order_mark
+bom-encoded utf8 marks = absurd (false≢true marks)
+bom-encoded utf16_little _ = refl
+bom-encoded utf16_big _ = refl
 
-mark-decoded : (e : Encoding) → has_mark (Some e) ≡ true → decode (Some e) (character_bytes e byte_order_mark) ≡ []
+bom-decoded : (e : Encoding) → has_bom (Some e) ≡ true → decode (Some e) (character_bytes e byte_order_mark) ≡ []
 unfolding decode
-mark-decoded utf8 marks = absurd (false≢true marks)
-mark-decoded utf16_little _ = refl
-mark-decoded utf16_big _ = refl
+bom-decoded utf8 marks = absurd (false≢true marks)
+bom-decoded utf16_little _ = refl
+bom-decoded utf16_big _ = refl
 
--- the page after the mark, of a text
+-- the page after the byte order mark, of a text
 abbrev page_with : yaml_encoding_t → yaml_break_t → Bytes → Text → Bool → Bool → Page
 page_with encoding line_break bytes text whitespace indention =
     record {
       encoding = seen_encoding encoding;
-      mark_due = false;
+      bom_due = false;
       line_break = unwrap_or (seen_break line_break) line_feed_break;
       limit = bytes.limit;
       text = text;
@@ -115,44 +115,46 @@ page_with encoding line_break bytes text whitespace indention =
       error = bytes.error;
     }
 
--- a pen is one after its mark
-pub IsPen-marked : (e : Encoding) (encoding : yaml_encoding_t) (line_break : yaml_break_t) (bytes after : Bytes) (whitespace indention due : Bool) (column : ℕ)
+-- a pen is one after its byte order mark
+pub IsPen-bom_written : (e : Encoding) (encoding : yaml_encoding_t) (line_break : yaml_break_t) (bytes after : Bytes) (whitespace indention due : Bool)
+    (column : ℕ)
     → IsPen (page_of encoding due line_break bytes whitespace indention) bytes.all column → due ≡ true
     → seen_encoding encoding ≡ Some e
     → after ≡ record bytes { all = character_bytes e byte_order_mark } → IsSound after
     → IsPen (page_of encoding false line_break after whitespace indention) after.all column
-IsPen-marked e encoding line_break bytes after whitespace indention due column pen is_due seen is sound =
+IsPen-bom_written e encoding line_break bytes after whitespace indention due column pen is_due seen is sound =
     let empty : bytes.all ≡ [] = pen.bytes ∙ ap (λ d. if d then [] else encode (seen_encoding encoding) (decode (seen_encoding encoding) bytes.all)) is_due in
-    let marks : has_mark (Some e) ≡ true = ap has_mark (sym seen) ∙ pen.marks is_due in
+    let marks : has_bom (Some e) ≡ true = ap has_bom (sym seen) ∙ pen.marks is_due in
     let all : after.all ≡ character_bytes e byte_order_mark = ap (λ (b : Bytes). b.all) is in
-    let text : decode (seen_encoding encoding) after.all ≡ [] = ap (λ s. decode s after.all) seen ∙ ap (decode (Some e)) all ∙ mark-decoded e marks in
+    let text : decode (seen_encoding encoding) after.all ≡ [] = ap (λ s. decode s after.all) seen ∙ ap (decode (Some e)) all ∙ bom-decoded e marks in
     record {
-      bytes = all ∙ sym (mark-encoded e marks) ∙ ap (λ s. encode s []) (sym seen) ∙ ap (encode (seen_encoding encoding)) (sym text);
+      bytes = all ∙ sym (bom-encoded e marks) ∙ ap (λ s. encode s []) (sym seen) ∙ ap (encode (seen_encoding encoding)) (sym text);
       scalars = ap all_scalars text;
       column = pen.column ∙ ap (λ t. min (column_after t 0) 4294967295) (decode-empty (seen_encoding encoding) bytes.all empty ∙ sym text);
-      handed = sound;
+      sound_output = sound;
       unfailed = λ h. absurd (false≢true h);
       marks = λ h. absurd (false≢true h);
     }
 
-pub page-marked : (e : Encoding) (encoding : yaml_encoding_t) (line_break : yaml_break_t) (bytes after : Bytes) (whitespace indention due : Bool) (column : ℕ)
+pub page-bom_written : (e : Encoding) (encoding : yaml_encoding_t) (line_break : yaml_break_t) (bytes after : Bytes) (whitespace indention due : Bool)
+    (column : ℕ)
     (page : Page)
     → IsPen (page_of encoding due line_break bytes whitespace indention) bytes.all column → due ≡ true
     → seen_encoding encoding ≡ Some e
     → after ≡ record bytes { all = character_bytes e byte_order_mark }
     → page_of encoding due line_break bytes whitespace indention ≡ page
-    → page_of encoding false line_break after whitespace indention ≡ record page { mark_due = false }
-page-marked e encoding line_break bytes after whitespace indention due column page pen is_due seen is viewed =
+    → page_of encoding false line_break after whitespace indention ≡ record page { bom_due = false }
+page-bom_written e encoding line_break bytes after whitespace indention due column page pen is_due seen is viewed =
     let empty : bytes.all ≡ [] = pen.bytes ∙ ap (λ d. if d then [] else encode (seen_encoding encoding) (decode (seen_encoding encoding) bytes.all)) is_due in
-    let marks : has_mark (Some e) ≡ true = ap has_mark (sym seen) ∙ pen.marks is_due in
+    let marks : has_bom (Some e) ≡ true = ap has_bom (sym seen) ∙ pen.marks is_due in
     let all : after.all ≡ character_bytes e byte_order_mark = ap (λ (b : Bytes). b.all) is in
     let text : decode (seen_encoding encoding) after.all ≡ decode (seen_encoding encoding) bytes.all =
-    ap (λ s. decode s after.all) seen ∙ ap (decode (Some e)) all ∙ mark-decoded e marks ∙ sym (decode-empty (seen_encoding encoding) bytes.all empty) in
-    let unmarked : Page → Page = λ (p : Page). record p { mark_due = false } in
+    ap (λ s. decode s after.all) seen ∙ ap (decode (Some e)) all ∙ bom-decoded e marks ∙ sym (decode-empty (seen_encoding encoding) bytes.all empty) in
+    let no_bom : Page → Page = λ (p : Page). record p { bom_due = false } in
     ap (λ (b : Bytes). page_with encoding line_break b (decode (seen_encoding encoding) after.all) whitespace indention) is
     ∙ ap (λ t. page_with encoding line_break bytes t whitespace indention) text
-    ∙ ap unmarked viewed
+    ∙ ap no_bom viewed
 
-pub some_encoding : (encoding : Option Encoding) → has_mark encoding ≡ true → (e : Encoding) × (encoding ≡ Some e)
+pub some_encoding : (encoding : Option Encoding) → has_bom encoding ≡ true → (e : Encoding) × (encoding ≡ Some e)
 some_encoding None marks = absurd (false≢true marks)
 some_encoding (Some e) marks = (e, refl)

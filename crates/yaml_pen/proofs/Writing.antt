@@ -10,13 +10,13 @@ use Rattle.yaml_base.specs.Characters.{Text, is_break, line_feed}
 use Rattle.yaml_base.specs.Settings.{Encoding, utf8, utf16_little, utf16_big, LineBreak, carriage_return_break, line_feed_break, both_break}
 use Rattle.yaml_base.specs.Encoding.{encode, character_bytes, text_bytes}
 use Rattle.yaml_base.specs.LineBreaks.{break_text, with_breaks_written}
-use Rattle.yaml_base.specs.Cursor.{Cursor, Laid, column_after, next_column, text_laid}
+use Rattle.yaml_base.specs.Cursor.{Cursor, Rendered, column_after, next_column, render_text}
 use Rattle.yaml_base.specs.Prefix.{IsPrefix}
 use Rattle.yaml_base.specs.Seen.{seen_encoding, seen_break}
 use Rattle.yaml_base.specs.declared.encodings.yaml_encoding_t.{yaml_encoding_t}
 use Rattle.yaml_base.specs.declared.encodings.yaml_break_t.{yaml_break_t}
 use Rattle.yaml_base.specs.declared.errors.yaml_error_t.{yaml_error_t}
-use Rattle.yaml_pen.specs.Page.{Page, IsReady, IsHandedOut, has_mark, told}
+use Rattle.yaml_pen.specs.Page.{Page, IsReady, IsFlushedOutput, has_bom, result_of_error}
 use Rattle.yaml_pen.specs.Wrote.{Wrote, named_text}
 use Rattle.yaml_pen.specs.Outlet.{Bytes, IsSound, Appended}
 use Rattle.yaml_pen.specs.Pen.{page_of, IsPen}
@@ -29,17 +29,17 @@ column_after-append (x ∷ xs) ys column = column_after-append xs ys (next_colum
 
 -- a layout names a text at a page: the text that it puts at the cursor, with the page's line breaks, and the
 -- cursor after it
-pub record Names (raw : Text) (lay : Cursor → Laid) (page : Page) : Type 0 where
-  pub text : named_text lay page ≡ raw
-  pub cursor : (lay page.cursor).cursor ≡ record page.cursor { column = column_after raw page.cursor.column }
+pub record Names (raw : Text) (render : Cursor → Rendered) (page : Page) : Type 0 where
+  pub text : named_text render page ≡ raw
+  pub cursor : (render page.cursor).cursor ≡ record page.cursor { column = column_after raw page.cursor.column }
 
 -- a call that answered Ok left no error
-pub none_from_told : (error : Option yaml_error_t) → Ok tt ≡ told error → error ≡ None
-none_from_told None e = refl
-none_from_told (Some error) e = cc
+pub none_from_result : (error : Option yaml_error_t) → Ok tt ≡ result_of_error error → error ≡ None
+none_from_result None e = refl
+none_from_result (Some error) e = cc
 
 -- bytes grew by those of a text, and nothing failed
-pub record Adds (e : Encoding) (raw : Text) (before after : Bytes) : Type 0 where
+pub record AddsEvent (e : Encoding) (raw : Text) (before after : Bytes) : Type 0 where
   pub all : after.all ≡ before.all ++ text_bytes e raw
   pub no_error : before.error ≡ None
   pub unfailed : after.error ≡ None
@@ -48,10 +48,10 @@ pub record Adds (e : Encoding) (raw : Text) (before after : Bytes) : Type 0 wher
   pub output : IsPrefix before.output after.output
   pub sound : IsSound after
 
-pub Adds-appended : (e : Encoding) (raw : Text) (bytes : List ℕ) (before after : Bytes)
-    → Appended bytes before after (Ok tt) → bytes ≡ text_bytes e raw → Adds e raw before after
-Adds-appended e raw bytes before after appended is =
-    let none = none_from_told after.error appended.answered in
+pub AddsEvent-appended : (e : Encoding) (raw : Text) (bytes : List ℕ) (before after : Bytes)
+    → Appended bytes before after (Ok tt) → bytes ≡ text_bytes e raw → AddsEvent e raw before after
+AddsEvent-appended e raw bytes before after appended is =
+    let none = none_from_result after.error appended.answered in
     record {
       all = (appended.whole none).1 ∙ ap (λ l. before.all ++ l) is;
       no_error = (appended.whole none).0;
@@ -59,7 +59,7 @@ Adds-appended e raw bytes before after appended is =
       limit = appended.limit;
       taken = appended.taken;
       output = appended.output;
-      sound = appended.handed;
+      sound = appended.sound_output;
     }
 
 -- the text of a pen's bytes, in an encoding that is known
@@ -81,7 +81,7 @@ bytes_of_text e encoding bytes due not_due seen are =
     ∙ sym (ap (λ d. if d then [] else encode (seen_encoding encoding) (decode (seen_encoding encoding) bytes.all)) not_due)
 
 text_added : (e : Encoding) (encoding : yaml_encoding_t) (raw : Text) (before after : Bytes)
-    → AreText (Some e) before.all → all_scalars raw ≡ true → seen_encoding encoding ≡ Some e → Adds e raw before after
+    → AreText (Some e) before.all → all_scalars raw ≡ true → seen_encoding encoding ≡ Some e → AddsEvent e raw before after
     → decode (seen_encoding encoding) after.all ≡ decode (seen_encoding encoding) before.all ++ raw
 text_added e encoding raw before after are scalars seen adds =
     ap (λ s. decode s after.all) seen ∙ ap (decode (Some e)) adds.all ∙ decode-grown e before.all raw are scalars
@@ -90,7 +90,7 @@ text_added e encoding raw before after are scalars seen adds =
 pub IsPen-added : (e : Encoding) (raw : Text) (encoding : yaml_encoding_t) (line_break : yaml_break_t) (before after : Bytes) (whitespace indention due : Bool)
     (column stored : ℕ)
     → IsPen (page_of encoding due line_break before whitespace indention) before.all column → due ≡ false → seen_encoding encoding ≡ Some e
-    → all_scalars raw ≡ true → Adds e raw before after
+    → all_scalars raw ≡ true → AddsEvent e raw before after
     → stored ≡ min (column_after raw (column_after (decode (seen_encoding encoding) before.all) 0)) 4294967295
     → IsPen (page_of encoding due line_break after whitespace indention) after.all stored
 IsPen-added e raw encoding line_break before after whitespace indention due column stored pen not_due seen scalars adds is_column =
@@ -102,31 +102,31 @@ IsPen-added e raw encoding line_break before after whitespace indention due colu
       scalars = ap (λ s. all_scalars (decode s after.all)) seen ∙ ap (λ l. all_scalars (decode (Some e) l)) adds.all ∙ grown.scalars;
       column = is_column ∙ ap (λ n. min n 4294967295)
           (sym (column_after-append (decode (seen_encoding encoding) before.all) raw 0) ∙ ap (λ t. column_after t 0) (sym text));
-      handed = adds.sound;
+      sound_output = adds.sound;
       unfailed = λ _. adds.unfailed;
       marks = λ h. pen.marks h;
     }
 
 -- it writes the text
 Wrote-page : (e : Encoding) (raw : Text) (encoding : yaml_encoding_t) (line_break : yaml_break_t) (before after : Bytes) (whitespace indention due : Bool)
-    (column : ℕ) (lay : Cursor → Laid)
+    (column : ℕ) (render : Cursor → Rendered)
     → IsPen (page_of encoding due line_break before whitespace indention) before.all column
     → seen_encoding encoding ≡ Some e
-    → all_scalars raw ≡ true → Adds e raw before after
+    → all_scalars raw ≡ true → AddsEvent e raw before after
     → IsReady (page_of encoding due line_break before whitespace indention)
-    → Names raw lay (page_of encoding due line_break before whitespace indention)
-    → Wrote lay (page_of encoding due line_break before whitespace indention) (page_of encoding due line_break after whitespace indention) (Ok tt)
-Wrote-page e raw encoding line_break before after whitespace indention due column lay pen seen scalars adds ready names =
-    let are = are_text e encoding line_break before whitespace indention due column pen ready.marked seen in
+    → Names raw render (page_of encoding due line_break before whitespace indention)
+    → Wrote render (page_of encoding due line_break before whitespace indention) (page_of encoding due line_break after whitespace indention) (Ok tt)
+Wrote-page e raw encoding line_break before after whitespace indention due column render pen seen scalars adds ready names =
+    let are = are_text e encoding line_break before whitespace indention due column pen ready.bom_written seen in
     let grown = subst (AreText (Some e)) (sym adds.all) (AreText-grown e before.all raw are scalars) in
     let text = text_added e encoding raw before after are scalars seen adds in
     let bytes = grown.encoded ∙ sym (ap (λ s. encode s (decode s after.all)) seen) in
     record {
-      answered = sym (ap told adds.unfailed);
-      ready = record { begun = ready.begun; marked = ready.marked };
+      answered = sym (ap result_of_error adds.unfailed);
+      ready = record { begun = ready.begun; bom_written = ready.bom_written };
       settings = record { encoding = refl; line_break = refl; limit = adds.limit; taken = adds.taken };
-      handed = subst (λ (b : List ℕ). IsHandedOut b after.output after.limit after.error) bytes adds.sound;
-      grew = record { front = raw; rest = []; parts = names.text ∙ sym (append-nil raw); grown = text };
+      sound_output = subst (λ (b : List ℕ). IsFlushedOutput b after.output after.limit after.error) bytes adds.sound;
+      grew = record { prefix = raw; rest = []; parts = names.text ∙ sym (append-nil raw); grown = text };
       output = adds.output;
       all = λ _. record {
         no_error = adds.no_error;
@@ -139,16 +139,16 @@ Wrote-page e raw encoding line_break before after whitespace indention due colum
     }
 
 pub Wrote-added : (e : Encoding) (raw : Text) (encoding : yaml_encoding_t) (line_break : yaml_break_t) (before after : Bytes) (whitespace indention due : Bool)
-    (column : ℕ) (page : Page) (lay : Cursor → Laid)
+    (column : ℕ) (page : Page) (render : Cursor → Rendered)
     → IsPen (page_of encoding due line_break before whitespace indention) before.all column
     → seen_encoding encoding ≡ Some e
-    → all_scalars raw ≡ true → Adds e raw before after
+    → all_scalars raw ≡ true → AddsEvent e raw before after
     → page_of encoding due line_break before whitespace indention ≡ page
-    → IsReady page → Names raw lay page
-    → Wrote lay page (page_of encoding due line_break after whitespace indention) (Ok tt)
-Wrote-added e raw encoding line_break before after whitespace indention due column page lay pen seen scalars adds viewed =
-    let P : Page → Type 0 = λ p. IsReady p → Names raw lay p → Wrote lay p (page_of encoding due line_break after whitespace indention) (Ok tt) in
-    subst P viewed (Wrote-page e raw encoding line_break before after whitespace indention due column lay pen seen scalars adds)
+    → IsReady page → Names raw render page
+    → Wrote render page (page_of encoding due line_break after whitespace indention) (Ok tt)
+Wrote-added e raw encoding line_break before after whitespace indention due column page render pen seen scalars adds viewed =
+    let P : Page → Type 0 = λ p. IsReady p → Names raw render p → Wrote render p (page_of encoding due line_break after whitespace indention) (Ok tt) in
+    subst P viewed (Wrote-page e raw encoding line_break before after whitespace indention due column render pen seen scalars adds)
 
 pub known_encoding : (encoding : Option Encoding) → IsSome encoding → (e : Encoding) × (encoding ≡ Some e)
 known_encoding None some = absurd (false≢true some)
@@ -161,7 +161,7 @@ pub scalar-text : (c : ℕ) → IsScalar c → all_scalars (c ∷ []) ≡ true
 scalar-text c scalar = and_from _ _ scalar refl
 
 -- a character other than LF names itself
-pub Names-character : (c : ℕ) (page : Page) → (c == line_feed) ≡ false → Names (c ∷ []) (text_laid (c ∷ [])) page
+pub Names-character : (c : ℕ) (page : Page) → (c == line_feed) ≡ false → Names (c ∷ []) (render_text (c ∷ [])) page
 Names-character c page other =
     record {
       text = ap (λ b. (if b then break_text page.line_break else c ∷ []) ++ []) other;
@@ -186,19 +186,19 @@ break-column line_feed_break column = refl
 break-column both_break column = refl
 
 -- LF names the break of the setting
-pub Names-break : (page : Page) → Names (break_text page.line_break) (text_laid (line_feed ∷ [])) page
+pub Names-break : (page : Page) → Names (break_text page.line_break) (render_text (line_feed ∷ [])) page
 Names-break page =
     record {
       text = append-nil (break_text page.line_break);
       cursor = ap (λ (n : ℕ). let c : Cursor = record page.cursor { column = n } in c) (sym (break-column page.line_break page.cursor.column));
     }
 
--- an encoding without a mark is UTF-8
-pub unmarked : (encoding : Option Encoding) → IsSome encoding → has_mark encoding ≡ false → encoding ≡ Some utf8
-unmarked None some no_mark = absurd (false≢true some)
-unmarked (Some utf8) some no_mark = refl
-unmarked (Some utf16_little) some no_mark = cc
-unmarked (Some utf16_big) some no_mark = cc
+-- an encoding without a byte order mark is UTF-8
+pub no_bom : (encoding : Option Encoding) → IsSome encoding → has_bom encoding ≡ false → encoding ≡ Some utf8
+no_bom None some no_exclamation = absurd (false≢true some)
+no_bom (Some utf8) some no_exclamation = refl
+no_bom (Some utf16_little) some no_exclamation = cc
+no_bom (Some utf16_big) some no_exclamation = cc
 
 encodes-bytes : (text : Text) → encode_utf8_all text ≡ text_bytes utf8 text
 encodes-bytes [] = refl
@@ -220,7 +220,7 @@ unbroken-written setting (c ∷ rest) none =
     ∙ ap (λ l. c ∷ l) (unbroken-written setting rest p.1)
 
 -- characters without a break name themselves
-pub Names-run : (text : Text) (page : Page) → list_any is_break text ≡ false → Names text (text_laid text) page
+pub Names-run : (text : Text) (page : Page) → list_any is_break text ≡ false → Names text (render_text text) page
 Names-run text page none = record { text = unbroken-written page.line_break text none; cursor = refl }
 
 -- each of them takes a column

@@ -5,5 +5,5 @@ use Rattle.yaml_pen.specs.declared.pen.indicators.Indicator.{Indicator}
 
 -- an indicator, as the definitions have it
 abbrev pub seen_indicator : Indicator → seen.Indicator
-seen_indicator sign =
-    record { text = chars sign.text.now; needs_space = sign.needs_space; leaves_space = sign.leaves_space; keeps_indention = sign.keeps_indention }
+seen_indicator row =
+    record { text = chars row.text.now; needs_space = row.needs_space; leaves_space = row.leaves_space; keeps_indention = row.keeps_indention }

@@ -1,12 +1,12 @@
--- The bytes behind a pen: those handed out, and those in the buffer.
+-- The bytes behind a pen: those flushed, and those in the buffer.
 use Rattle.std.specs.Prelude.{◌≡◌, ℕ, ◌<◌, ◌≤◌, Option, None, Some, Result, Ok, Err, List, ◌++◌, IsSome, length, take}
 use Rattle.yaml_base.specs.Encoding.{cut}
 use Rattle.yaml_base.specs.Prefix.{IsPrefix}
 use Rattle.yaml_base.specs.declared.errors.yaml_error_t.{yaml_error_t}
 use Rattle.yaml_base.specs.declared.errors.yaml_error_t.TheVariants.{WriteError, Memory}
-use Rattle.yaml_pen.specs.Page.{IsHandedOut, told}
+use Rattle.yaml_pen.specs.Page.{IsFlushedOutput, result_of_error}
 
--- all bytes so far, those handed out, how many of these the caller has taken, the limit and the first error
+-- all bytes so far, those flushed, how many of these the caller has taken, the limit and the first error
 pub record Bytes : Type 0 where
   pub all : List ℕ
   pub output : List ℕ
@@ -24,40 +24,40 @@ bytes_of kept buffer taken left limit error =
     let output = whole_output taken left in
     record { all = take kept output ++ buffer; output = output; taken = length taken; limit = limit; error = error }
 
--- what is handed out of the bytes is sound
+-- what is flushed of the bytes is sound
 abbrev pub IsSound : Bytes → Type 0
-IsSound bytes = IsHandedOut bytes.all bytes.output bytes.limit bytes.error
+IsSound bytes = IsFlushedOutput bytes.all bytes.output bytes.limit bytes.error
 
 -- an output that was kept up to a place, and a buffer of what follows; without an error all is kept; what is taken is counted
 pub record IsOutlet (kept count : ℕ) (buffer taken left : List ℕ) (limit : ℕ) (error : Option yaml_error_t) : Type 0 where
   pub within : kept ≤ length (whole_output taken left)
   pub whole : error ≡ None → kept ≡ length (whole_output taken left)
-  pub handed : IsHandedOut (take kept (whole_output taken left) ++ buffer) (whole_output taken left) limit error
+  pub sound_output : IsFlushedOutput (take kept (whole_output taken left) ++ buffer) (whole_output taken left) limit error
   pub counted : count ≡ length taken
 
 -- a buffer is appended to an output whole, or up to the limit, or not at all
-abbrev pub HandsOut : List ℕ → List ℕ → List ℕ → ℕ → Result (Unit {0}) yaml_error_t → Type 0
-HandsOut buffer before after limit (Ok _) = (length after ≤ limit) × (after ≡ before ++ buffer)
-HandsOut buffer before after limit (Err WriteError) = (limit < length (before ++ buffer)) × (after ≡ cut limit (before ++ buffer))
-HandsOut buffer before after limit (Err Memory) = after ≡ before
-HandsOut buffer before after limit (Err _) = ⊥
+abbrev pub FlushesBuffer : List ℕ → List ℕ → List ℕ → ℕ → Result (Unit {0}) yaml_error_t → Type 0
+FlushesBuffer buffer before after limit (Ok _) = (length after ≤ limit) × (after ≡ before ++ buffer)
+FlushesBuffer buffer before after limit (Err WriteError) = (limit < length (before ++ buffer)) × (after ≡ cut limit (before ++ buffer))
+FlushesBuffer buffer before after limit (Err Memory) = after ≡ before
+FlushesBuffer buffer before after limit (Err _) = ⊥
 
--- a flush: all bytes are handed out, or those that the limit leaves, or none more
+-- a flush: all bytes are flushed, or those that the limit leaves, or none more
 pub record Emptied (before after : Bytes) (answer : Result (Unit {0}) yaml_error_t) : Type 0 where
-  pub answered : answer ≡ told after.error
+  pub answered : answer ≡ result_of_error after.error
   pub kept : after ≡ record before { output = after.output; error = after.error }
-  pub handed : IsSound after
+  pub sound_output : IsSound after
   pub all : after.error ≡ None → (before.error ≡ None) × (after.output ≡ after.all)
   pub nothing : before.error ≡ None → after.error ≡ Some Memory → after.output ≡ before.output
   pub stopped : IsSome before.error → after ≡ before
 
 -- bytes are appended whole, or a flush failed
 pub record Appended (bytes : List ℕ) (before after : Bytes) (answer : Result (Unit {0}) yaml_error_t) : Type 0 where
-  pub answered : answer ≡ told after.error
+  pub answered : answer ≡ result_of_error after.error
   pub limit : after.limit ≡ before.limit
   pub taken : after.taken ≡ before.taken
   pub output : IsPrefix before.output after.output
-  pub handed : IsSound after
+  pub sound_output : IsSound after
   pub whole : after.error ≡ None → (before.error ≡ None) × (after.all ≡ before.all ++ bytes)
   pub none : IsSome after.error → after.all ≡ before.all
   pub stopped : IsSome before.error → after ≡ before

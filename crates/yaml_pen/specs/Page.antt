@@ -8,16 +8,16 @@ use Rattle.yaml_base.specs.Encoding.{encode, cut}
 use Rattle.yaml_base.specs.declared.errors.yaml_error_t.{yaml_error_t}
 use Rattle.yaml_base.specs.declared.errors.yaml_error_t.TheVariants.{WriteError, Memory}
 
--- the most bytes that the buffer holds before they are handed out
+-- the most bytes that the buffer holds before they are flushed
 abbrev pub buffer_size : ℕ
 buffer_size = 16384
 
 -- the settings (no encoding before the stream is begun), whether the byte order mark still has to be
--- written, the text so far without the mark, the cursor after it (its column unbounded), the bytes
--- handed out, how many of them, from the first on, the caller has taken, and the first error
+-- written, the text so far without the byte order mark, the cursor after it (its column unbounded), the bytes
+-- flushed, how many of them, from the first on, the caller has taken, and the first error
 pub record Page : Type 0 where
   pub encoding : Option Encoding
-  pub mark_due : Bool
+  pub bom_due : Bool
   pub line_break : LineBreak
   pub limit : ℕ
   pub text : Text
@@ -38,35 +38,35 @@ output_left page = drop page.taken page.output
 abbrev pub all_taken : Page → Page
 all_taken page = record page { taken = length page.output }
 
--- UTF-16 begins with a mark
-abbrev pub has_mark : Option Encoding → Bool
-has_mark None = false
-has_mark (Some utf8) = false
-has_mark (Some _) = true
+-- UTF-16 begins with a byte order mark
+abbrev pub has_bom : Option Encoding → Bool
+has_bom None = false
+has_bom (Some utf8) = false
+has_bom (Some _) = true
 
--- the bytes written so far: none before the mark is
+-- the bytes written so far: none before the byte order mark is
 abbrev pub written_bytes : Page → List ℕ
-written_bytes page = if page.mark_due then [] else encoded page
+written_bytes page = if page.bom_due then [] else encoded page
 
 -- no byte is written and nothing failed
 pub record IsUntouched (page : Page) : Type 0 where
   pub no_bytes : written_bytes page ≡ []
   pub no_error : page.error ≡ None
 
--- begun, with the mark that its encoding asks for
+-- begun, with the byte order mark that its encoding asks for
 pub record IsReady (page : Page) : Type 0 where
   pub begun : IsSome page.encoding
-  pub marked : page.mark_due ≡ false
+  pub bom_written : page.bom_due ≡ false
 
--- how a call tells the pen's error
-abbrev pub told : Option yaml_error_t → Result (Unit {0}) yaml_error_t
-told None = Ok tt
-told (Some error) = Err error
+-- what a call returns for the pen's error
+abbrev pub result_of_error : Option yaml_error_t → Result (Unit {0}) yaml_error_t
+result_of_error None = Ok tt
+result_of_error (Some error) = Err error
 
--- what is handed out of these bytes: a beginning within the limit; after the limit was passed all that it
+-- what is flushed of these bytes: a beginning within the limit; after the limit was passed all that it
 -- leaves; a pen fails by its limit and by memory alone
-pub record IsHandedOut (bytes : List ℕ) (output : List ℕ) (limit : ℕ) (error : Option yaml_error_t) : Type 0 where
-  pub beginning : output ≡ cut (length output) bytes
+pub record IsFlushedOutput (bytes : List ℕ) (output : List ℕ) (limit : ℕ) (error : Option yaml_error_t) : Type 0 where
+  pub opening_event : output ≡ cut (length output) bytes
   pub within : length output ≤ limit
   pub full : error ≡ Some WriteError → (limit < length bytes) × (output ≡ cut limit bytes)
   pub named : (error ≡ None) ⊎ (error ≡ Some WriteError) ⊎ (error ≡ Some Memory)
@@ -76,7 +76,7 @@ abbrev pub new_page : ℕ → Page
 new_page limit =
     record {
       encoding = None;
-      mark_due = false;
+      bom_due = false;
       line_break = line_feed_break;
       limit = limit;
       text = [];

@@ -6,17 +6,17 @@ use Rattle.yaml_base.specs.Settings.{line_feed_break}
 use Rattle.yaml_base.specs.Seen.{seen_encoding, seen_break}
 use Rattle.yaml_base.specs.declared.encodings.yaml_encoding_t.{yaml_encoding_t}
 use Rattle.yaml_base.specs.declared.encodings.yaml_break_t.{yaml_break_t}
-use Rattle.yaml_pen.specs.Page.{Page, IsHandedOut, written_bytes, has_mark}
+use Rattle.yaml_pen.specs.Page.{Page, IsFlushedOutput, written_bytes, has_bom}
 use Rattle.yaml_pen.specs.Outlet.{Bytes}
 use Rattle.yaml_base.specs.Decode.{decode}
 
 -- the page of a pen's fields: the text is that of the bytes, and the column is that of the text
 abbrev pub page_of : yaml_encoding_t → Bool → yaml_break_t → Bytes → Bool → Bool → Page
-page_of encoding mark_due line_break bytes whitespace indention =
+page_of encoding bom_due line_break bytes whitespace indention =
     let text = decode (seen_encoding encoding) bytes.all in
     record {
       encoding = seen_encoding encoding;
-      mark_due = mark_due;
+      bom_due = bom_due;
       line_break = unwrap_or (seen_break line_break) line_feed_break;
       limit = bytes.limit;
       text = text;
@@ -27,11 +27,11 @@ page_of encoding mark_due line_break bytes whitespace indention =
     }
 
 -- the bytes are those of the page's text, the pen's column is the cursor's up to a bound; only UTF-16 has a
--- mark, before which nothing failed
+-- byte order mark, before which nothing failed
 pub record IsPen (page : Page) (all : List ℕ) (stored : ℕ) : Type 0 where
   pub bytes : all ≡ written_bytes page
   pub scalars : all_scalars page.text ≡ true
   pub column : stored ≡ min page.cursor.column 4294967295
-  pub handed : IsHandedOut all page.output page.limit page.error
-  pub unfailed : page.mark_due ≡ true → page.error ≡ None
-  pub marks : page.mark_due ≡ true → has_mark page.encoding ≡ true
+  pub sound_output : IsFlushedOutput all page.output page.limit page.error
+  pub unfailed : page.bom_due ≡ true → page.error ≡ None
+  pub marks : page.bom_due ≡ true → has_bom page.encoding ≡ true

@@ -2,11 +2,11 @@
 use Rattle.std.specs.Prelude.{◌≡◌, None, Some, Result, ◌++◌, IsSome}
 use Rattle.yaml_base.specs.Characters.{Text}
 use Rattle.yaml_base.specs.LineBreaks.{with_breaks_written}
-use Rattle.yaml_base.specs.Cursor.{Cursor, Laid}
+use Rattle.yaml_base.specs.Cursor.{Cursor, Rendered}
 use Rattle.yaml_base.specs.Prefix.{IsPrefix}
 use Rattle.yaml_base.specs.declared.errors.yaml_error_t.{yaml_error_t}
 use Rattle.yaml_base.specs.declared.errors.yaml_error_t.TheVariants.{Memory}
-use Rattle.yaml_pen.specs.Page.{Page, encoded, told, IsReady, IsHandedOut}
+use Rattle.yaml_pen.specs.Page.{Page, encoded, result_of_error, IsReady, IsFlushedOutput}
 
 -- the settings of a page stay, and what the caller has taken
 pub record KeepsSettings (before after : Page) : Type 0 where
@@ -16,11 +16,11 @@ pub record KeepsSettings (before after : Page) : Type 0 where
   pub taken : after.taken ≡ before.taken
 
 -- a text grew by a prefix of what was named
-pub record Grew (before named after : Text) : Type 0 where
-  pub front : Text
+pub record AppendsPrefixOf (before named after : Text) : Type 0 where
+  pub prefix : Text
   pub rest : Text
-  pub parts : named ≡ front ++ rest
-  pub grown : after ≡ before ++ front
+  pub parts : named ≡ prefix ++ rest
+  pub grown : after ≡ before ++ prefix
 
 -- nothing that was written is lost: the text before is a prefix of the text after, the output before of the output after
 pub record Grows (before after : Page) : Type 0 where
@@ -28,36 +28,36 @@ pub record Grows (before after : Page) : Type 0 where
   pub output : IsPrefix before.output after.output
 
 -- what a layout puts at a page's cursor, with the page's line breaks
-abbrev pub named_text : (Cursor → Laid) → Page → Text
-named_text lay page = with_breaks_written page.line_break (lay page.cursor).text
+abbrev pub named_text : (Cursor → Rendered) → Page → Text
+named_text render page = with_breaks_written page.line_break (render page.cursor).text
 
 -- all of what a layout puts at the cursor is written, and the cursor is the one that it names
-pub record WroteAll (lay : Cursor → Laid) (before after : Page) : Type 0 where
+pub record WroteAll (render : Cursor → Rendered) (before after : Page) : Type 0 where
   pub no_error : before.error ≡ None
-  pub text : after.text ≡ before.text ++ named_text lay before
-  pub cursor : after.cursor ≡ (lay before.cursor).cursor
+  pub text : after.text ≡ before.text ++ named_text render before
+  pub cursor : after.cursor ≡ (render before.cursor).cursor
 
 -- a call that writes what a layout puts at the cursor, or fails on the way: the answer tells the pen's
 -- error; settings stay; the text grows by a prefix of the named text, by all of it where there is no error;
 -- the output grows too; a pen that failed before keeps all but its cursor; the output is a prefix of the bytes
-pub record Wrote (lay : Cursor → Laid) (before after : Page) (answer : Result (Unit {0}) yaml_error_t) : Type 0 where
-  pub answered : answer ≡ told after.error
+pub record Wrote (render : Cursor → Rendered) (before after : Page) (answer : Result (Unit {0}) yaml_error_t) : Type 0 where
+  pub answered : answer ≡ result_of_error after.error
   pub ready : IsReady after
   pub settings : KeepsSettings before after
-  pub handed : IsHandedOut (encoded after) after.output after.limit after.error
-  pub grew : Grew before.text (named_text lay before) after.text
+  pub sound_output : IsFlushedOutput (encoded after) after.output after.limit after.error
+  pub grew : AppendsPrefixOf before.text (named_text render before) after.text
   pub output : IsPrefix before.output after.output
-  pub all : after.error ≡ None → WroteAll lay before after
+  pub all : after.error ≡ None → WroteAll render before after
   pub stopped : IsSome before.error → after ≡ record before { cursor = after.cursor }
 
 -- a flush: only output and error change, and the output only grows; after Ok it is all bytes of the text so far;
 -- after the limit's error their first bytes up to the limit; where memory is refused, the output is as it was;
 -- a pen that failed before stays as it is
 pub record Flushed (before after : Page) (answer : Result (Unit {0}) yaml_error_t) : Type 0 where
-  pub answered : answer ≡ told after.error
+  pub answered : answer ≡ result_of_error after.error
   pub kept : after ≡ record before { output = after.output; error = after.error }
   pub output : IsPrefix before.output after.output
-  pub handed : IsHandedOut (encoded after) after.output after.limit after.error
+  pub sound_output : IsFlushedOutput (encoded after) after.output after.limit after.error
   pub all : after.error ≡ None → (before.error ≡ None) × (after.output ≡ encoded after)
   pub nothing : before.error ≡ None → after.error ≡ Some Memory → after.output ≡ before.output
   pub stopped : IsSome before.error → after ≡ before

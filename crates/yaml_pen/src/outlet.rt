@@ -2,7 +2,7 @@
 ghost use Rattle.std.specs.Prelude.{◌≡◌, ◌≤◌, [], ◌∷◌, ◌+◌, length, drop, IfOk};
 ghost use Rattle.yaml_base.specs.Prefix.{IsPrefix};
 ghost use Rattle.yaml_pen.specs.Page.{buffer_size};
-ghost use Rattle.yaml_pen.specs.Outlet.{Appended, Emptied, HandsOut, IsSound, whole_output};
+ghost use Rattle.yaml_pen.specs.Outlet.{Appended, Emptied, FlushesBuffer, IsSound, whole_output};
 
 use crate::taken::TakenBytes;
 use arrayvec::ArrayVec;
@@ -89,7 +89,7 @@ impl<A: Allocator> Outlet<A> {
         if self.buffer.is_empty() {
             return Ok(());
         }
-        let answer = hand_on(
+        let answer = flush_after_taken(
             self.buffer.as_slice(),
             &mut self.output,
             &self.taken,
@@ -183,7 +183,7 @@ impl<A: Allocator> Outlet<A> {
 }
 
 // The limit counts what is taken, too.
-fn hand_on<A: Allocator>(
+fn flush_after_taken<A: Allocator>(
     buffer: &[u8],
     output: &mut Vec<u8, A>,
     taken: &TakenBytes,
@@ -192,20 +192,20 @@ fn hand_on<A: Allocator>(
 ) -> Result<(), yaml_error_t>
     requires within { length (whole_output taken.now.bytes output.old.items) ≤ limit }
     requires counted { taken_count ≡ length taken.now.bytes }
-    ensures handed { HandsOut buffer.now (whole_output taken.now.bytes output.old.items) (whole_output taken.now.bytes output.new.items) limit result }
+    ensures sound_output { FlushesBuffer buffer.now (whole_output taken.now.bytes output.old.items) (whole_output taken.now.bytes output.new.items) limit result }
     ensures longer { length (whole_output taken.now.bytes output.new.items) ≡ taken_count + length output.new.items }
 {
-    hand_out(buffer, output, limit - taken_count)
+    flush_buffer(buffer, output, limit - taken_count)
 }
 
 // The limit cuts at any byte. All memory is reserved before a byte is appended.
-fn hand_out<A: Allocator>(
+fn flush_buffer<A: Allocator>(
     buffer: &[u8],
     output: &mut Vec<u8, A>,
     limit: usize,
 ) -> Result<(), yaml_error_t>
     requires { length output.old.items ≤ limit }
-    ensures { HandsOut buffer.now output.old.items output.new.items limit result }
+    ensures { FlushesBuffer buffer.now output.old.items output.new.items limit result }
 {
     let room = limit - output.len();
     if buffer.len() <= room {

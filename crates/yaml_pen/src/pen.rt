@@ -2,7 +2,7 @@
 ghost use Rattle.std.specs.Prelude.{◌≡◌, pos, false, true, min, IsOk, IsSome, IfOk, IfErr, None, unwrap_or};
 ghost use Rattle.yaml_base.specs.Settings.{line_feed_break, largest_i32};
 ghost use Rattle.yaml_base.specs.Seen.{seen_encoding, seen_break};
-ghost use Rattle.yaml_pen.specs.Page.{IsUntouched, IsHandedOut, encoded, has_mark, new_page, output_left, all_taken};
+ghost use Rattle.yaml_pen.specs.Page.{IsUntouched, IsFlushedOutput, encoded, has_bom, new_page, output_left, all_taken};
 ghost use Rattle.yaml_pen.specs.Wrote.{Flushed};
 
 use crate::encoded::encoded_character;
@@ -24,7 +24,7 @@ pub use indicators::Indicator;
 pub struct Pen<A: Allocator> {
     outlet: Outlet<A>,
     encoding: yaml_encoding_t,
-    mark_due: bool,
+    bom_due: bool,
     line_break: yaml_break_t,
     column: u32,
     whitespace: bool,
@@ -37,9 +37,9 @@ impl<A: Allocator> Model for Pen<A> {
 
     ghost Value = { Page };
 
-    ghost view = { λ p. page_of p.encoding p.mark_due p.line_break p.outlet p.whitespace p.indention };
+    ghost view = { λ p. page_of p.encoding p.bom_due p.line_break p.outlet p.whitespace p.indention };
 
-    ghost invariant = { λ p. IsPen (page_of p.encoding p.mark_due p.line_break p.outlet p.whitespace p.indention) p.outlet.all p.column };
+    ghost invariant = { λ p. IsPen (page_of p.encoding p.bom_due p.line_break p.outlet p.whitespace p.indention) p.outlet.all p.column };
 }
 
 impl<A: Allocator> Pen<A> {
@@ -56,7 +56,7 @@ impl<A: Allocator> Pen<A> {
         Ok(Pen {
             outlet,
             encoding: yaml_encoding_t::YAML_ANY_ENCODING,
-            mark_due: false,
+            bom_due: false,
             line_break: yaml_break_t::YAML_ANY_BREAK,
             column: 0,
             whitespace: true,
@@ -79,39 +79,39 @@ impl<A: Allocator> Pen<A> {
         requires line_break { IsSome (seen_break line_break) }
         ensures { self.new ≡ record self.old {
           encoding = seen_encoding encoding;
-          mark_due = has_mark (seen_encoding encoding);
+          bom_due = has_bom (seen_encoding encoding);
           line_break = unwrap_or (seen_break line_break) line_feed_break;
         } }
     {
         self.encoding = encoding;
-        self.mark_due = has_mark(encoding);
+        self.bom_due = has_bom(encoding);
         self.line_break = line_break;
     }
 
     /// Whether the byte order mark still has to be written.
-    pub fn is_mark_due(&self) -> bool
-        ensures { result ≡ self.now.mark_due }
+    pub fn is_bom_due(&self) -> bool
+        ensures { result ≡ self.now.bom_due }
     {
-        self.mark_due
+        self.bom_due
     }
 
     /// Writes the byte order mark, which UTF-16 begins with (RFC 2781, section 3.2); right after `begin`,
     /// and in UTF-16 alone. Always returns `Ok`.
     pub fn write_bom(&mut self) -> Result<(), yaml_error_t>
-        requires { self.old.mark_due ≡ true }
+        requires { self.old.bom_due ≡ true }
         ensures ok { IsOk result }
-        ensures page { self.new ≡ record self.old { mark_due = false } }
+        ensures page { self.new ≡ record self.old { bom_due = false } }
     {
-        let mark = encoded_character(self.encoding, '\u{FEFF}');
-        self.outlet.begin(mark.as_slice());
-        self.mark_due = false;
+        let bom = encoded_character(self.encoding, '\u{FEFF}');
+        self.outlet.begin(bom.as_slice());
+        self.bom_due = false;
         Ok(())
     }
 
     /// Flushes all that is written. If it passes the limit, the output is filled up to the limit; if memory
     /// is refused, the output stays as it was. Needs no memory if all is flushed.
     pub fn flush(&mut self) -> Result<(), yaml_error_t>
-        requires { self.old.mark_due ≡ false }
+        requires { self.old.bom_due ≡ false }
         ensures flushed { Flushed self.old self.new result }
         ensures empty { self.old.error ≡ None → self.old.output ≡ encoded self.old → self.new ≡ self.old }
     {
@@ -122,7 +122,7 @@ impl<A: Allocator> Pen<A> {
     pub fn output(&self) -> &[u8]
         ensures value { result.now ≡ output_left self.now }
         ensures untaken { self.now.taken ≡ 0 → result.now ≡ self.now.output }
-        ensures handed { IsHandedOut (encoded self.now) self.now.output self.now.limit self.now.error }
+        ensures sound_output { IsFlushedOutput (encoded self.now) self.now.output self.now.limit self.now.error }
     {
         self.outlet.output()
     }
@@ -142,7 +142,7 @@ impl<A: Allocator> Pen<A> {
     /// The first error.
     pub fn error(&self) -> Option<yaml_error_t>
         ensures value { result ≡ self.now.error }
-        ensures handed { IsHandedOut (encoded self.now) self.now.output self.now.limit self.now.error }
+        ensures sound_output { IsFlushedOutput (encoded self.now) self.now.output self.now.limit self.now.error }
     {
         self.outlet.error()
     }
@@ -183,8 +183,8 @@ impl<A: Allocator> Pen<A> {
     }
 }
 
-fn has_mark(encoding: yaml_encoding_t) -> bool
-    ensures { result ≡ has_mark (seen_encoding encoding) }
+fn has_bom(encoding: yaml_encoding_t) -> bool
+    ensures { result ≡ has_bom (seen_encoding encoding) }
 {
     matches!(
         encoding,

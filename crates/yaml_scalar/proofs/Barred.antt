@@ -62,7 +62,7 @@ record Quiet (charset : Charset) (c : ℕ) : Type 0 where
   pub tabbed : (c == tab) ≡ false
   pub nul : (c == 0) ≡ false
   pub hash : (c == 35) ≡ false
-  pub sign : is_among (codes ",?:[]{}") c ≡ false
+  pub symbol : is_among (codes ",?:[]{}") c ≡ false
 
 quiet_parts : (charset : Charset) (c : ℕ) → is_quiet charset c ≡ true → Quiet charset c
 quiet_parts charset c h =
@@ -71,7 +71,7 @@ quiet_parts charset c h =
     let r = or_parts (is_special charset c || is_break c || c == tab) (c == 0) q.0 in
     let s = or_parts (is_special charset c || is_break c) (c == tab) r.0 in
     let t = or_parts (is_special charset c) (is_break c) s.0 in
-    record { special = t.0; broken = t.1; tabbed = s.1; nul = r.1; hash = q.1; sign = p.1 }
+    record { special = t.0; broken = t.1; tabbed = s.1; nul = r.1; hash = q.1; symbol = p.1 }
 
 no_colon : (a b c rest : Bool) → (a || (b || (c || rest))) ≡ false → c ≡ false
 no_colon true b c rest h = cc
@@ -89,14 +89,14 @@ quiet_bars : (charset : Charset) (c : ℕ) (rest : Text) → Quiet charset c →
     → (is_space c && begins_with (λ d. d == 35) rest) ≡ false → (is_space c && begins_with is_break rest) ≡ false
     → barred_by charset c rest ≡ none_barred
 quiet_bars charset c rest quiet ends hash breaks =
-    let colon : (c == 58) ≡ false = no_colon (c == 44) (c == 63) (c == 58) _ quiet.sign in
+    let colon : (c == 58) ≡ false = no_colon (c == 44) (c == 63) (c == 58) _ quiet.symbol in
     let key : is_key_or_comment c rest
     ≡ false = or_from _ _ (and_left _ (ends_word rest) colon)
     (gap_before (c == space) (c == tab) (is_break c) (c == 0) _ quiet.tabbed quiet.broken quiet.nul hash) in
     let plain : (is_special charset c || is_break c || (is_space c && is_empty rest) || is_key_or_comment c rest) ≡ false =
     or_from _ _ (or_from _ _ (or_from _ _ quiet.special quiet.broken) ends) key in
     let trailing : (is_special charset c || is_trailing_space c rest) ≡ false = or_from _ _ quiet.special breaks in
-    same quiet.broken (or_from _ _ plain quiet.sign) (or_from _ _ plain refl)
+    same quiet.broken (or_from _ _ plain quiet.symbol) (or_from _ _ plain refl)
     (or_from _ _ trailing (and_left _ (begins_with is_space rest) quiet.broken)) (or_from _ _ trailing ends)
 
 -- before another one it bars nothing; and before any it does so only where it is a space
@@ -112,18 +112,18 @@ quiet_last_by charset c rest quiet false e =
     quiet_bars charset c rest quiet (and_left _ (is_empty rest) e) (and_left _ (begins_with (λ d. d == 35) rest) e) (and_left _ (begins_with is_break rest) e)
 
 -- so a run of them bars what its last space does
-pub quiet_run : (charset : Charset) (front rest : Text) → list_all (is_quiet charset) front ≡ true
-    → barred_in charset (front ++ rest) ≡ either (barred_by_space charset (last_from 0 front) rest) (barred_in charset rest)
+pub quiet_run : (charset : Charset) (prefix rest : Text) → list_all (is_quiet charset) prefix ≡ true
+    → barred_in charset (prefix ++ rest) ≡ either (barred_by_space charset (last_from 0 prefix) rest) (barred_in charset rest)
 quiet_run charset [] rest h = refl
 quiet_run charset (c ∷ []) rest h =
     let p = and_parts (is_quiet charset c) _ h in
     ap (λ (b : Barred). either b (barred_in charset rest)) (quiet_last_by charset c rest (quiet_parts charset c p.0) (is_space c) refl)
-quiet_run charset (c ∷ d ∷ front) rest h =
-    let p = and_parts (is_quiet charset c) (list_all (is_quiet charset) (d ∷ front)) h in
-    let q = and_parts (is_quiet charset d) (list_all (is_quiet charset) front) p.1 in
-    ap (λ (b : Barred). either b (barred_in charset (d ∷ (front ++ rest))))
-    (quiet_next charset c d (front ++ rest) (quiet_parts charset c p.0) (quiet_parts charset d q.0))
-    ∙ quiet_run charset (d ∷ front) rest p.1
+quiet_run charset (c ∷ d ∷ prefix) rest h =
+    let p = and_parts (is_quiet charset c) (list_all (is_quiet charset) (d ∷ prefix)) h in
+    let q = and_parts (is_quiet charset d) (list_all (is_quiet charset) prefix) p.1 in
+    ap (λ (b : Barred). either b (barred_in charset (d ∷ (prefix ++ rest))))
+    (quiet_next charset c d (prefix ++ rest) (quiet_parts charset c p.0) (quiet_parts charset d q.0))
+    ∙ quiet_run charset (d ∷ prefix) rest p.1
 
 -- where all styles are barred only breaks matter
 pub all_barred : (found more : Barred) → found.flow_plain ≡ true → found.block_plain ≡ true → found.single_quoted ≡ true → found.block ≡ true

@@ -14,7 +14,7 @@ use lib.Utf8.{scalar, scalars, encode, encodes, next, scalar_cases}
 use Rattle.yaml_base.specs.Characters.{Text, is_among, is_break, is_printable}
 use Rattle.yaml_scalar.specs.Barred.{is_quiet}
 use Rattle.yaml_scalar.specs.declared.classes.TheConstants.{CLASSES}
-use Rattle.yaml_scalar.specs.ByteClasses.{IsFreeRun, Tells, four_are_free, is_free}
+use Rattle.yaml_scalar.specs.ByteClasses.{IsFreeRun, ImpliesTest, four_are_free, is_free}
 use Rattle.yaml_scalar.specs.WholeRuns.{IsRun, last_from, stays_in_line, stays_where}
 
 -- one byte more, and four
@@ -61,7 +61,7 @@ run_boundary {classes} {text} {size} is = (
   ],
 )
 
-all_pass : (classes : ℕ) (test : ℕ → Bool) → Tells classes test → (text : Text) → scalars text ≡ true → list_all (is_free classes) (encodes text) ≡ true
+all_pass : (classes : ℕ) (test : ℕ → Bool) → ImpliesTest classes test → (text : Text) → scalars text ≡ true → list_all (is_free classes) (encodes text) ≡ true
     → list_all test text ≡ true
 all_pass classes test tells [] s h = refl
 all_pass classes test tells (c ∷ rest) s h =
@@ -70,14 +70,15 @@ all_pass classes test tells (c ∷ rest) s h =
     and_from _ _ (tells c p.0 q.0) (all_pass classes test tells rest p.1 q.1)
 
 -- the characters of such a run pass
-pub free_passes : {classes : ℕ} {test : ℕ → Bool} {text : List ℕ} {size : ℕ} → Tells classes test → IsUtf8 text → IsFreeRun classes text size
+pub free_passes : {classes : ℕ} {test : ℕ → Bool} {text : List ℕ} {size : ℕ} → ImpliesTest classes test → IsUtf8 text → IsFreeRun classes text size
     → list_all test (chars (take size text)) ≡ true
 free_passes {classes} {test} {text} {size} tells is_text free =
     let u = IsUtf8-take text size is_text (run_boundary free) in
     ap (list_all test) (sym (chars_from_encodes u.0 (take size text) u u.1.1))
     ∙ all_pass classes test tells u.0 u.1.0 (ap (list_all (is_free classes)) u.1.1 ∙ free.all)
 
-pub free_run : {classes : ℕ} {test : ℕ → Bool} {before : ℕ} {text : List ℕ} {size last : ℕ} → Tells classes test → IsUtf8 text → IsFreeRun classes text size
+pub free_run : {classes : ℕ} {test : ℕ → Bool} {before : ℕ} {text : List ℕ} {size last : ℕ} → ImpliesTest classes test → IsUtf8 text
+    → IsFreeRun classes text size
     → last ≡ last_from before (chars (take size text)) → IsRun test before text size last
 free_run tells is_text free last_is = record { boundary = run_boundary free; all = free_passes tells is_text free; last_is = last_is }
 
@@ -191,7 +192,8 @@ whole_free {classes} {size} {text} is = elim (cases_lt size (length text)) [
 ]
 
 -- and its characters are those that pass a test, where a byte of ASCII is of no class exactly where it passes, and nothing past ASCII does
-free_exactly : (classes : ℕ) (test : ℕ → Bool) → agree_below (is_free classes) test 128 ≡ true → agree_below (λ k. is_free classes (k + 192)) (λ k. false) 64 ≡ true
+free_exactly : (classes : ℕ) (test : ℕ → Bool) → agree_below (is_free classes) test 128 ≡ true
+    → agree_below (λ k. is_free classes (k + 192)) (λ k. false) 64 ≡ true
     → ((c : ℕ) → test c ≡ true → c < 128) → (c : ℕ) → scalar c ≡ true → list_all (is_free classes) (encode c) ≡ test c
 free_exactly classes test computed none ascii c s = elim (cases_lt c 128) [
   | inl low ↦ ap (list_all (is_free classes)) (encode_ascii c low) ∙ and-true (is_free classes c) ∙ agree_below_at (is_free classes) test 128 c computed low
@@ -218,7 +220,7 @@ free_characters classes test {text} computed none ascii is_text =
 
 -- a test by what it says of ASCII and of what is past it
 pub tells_by : (classes : ℕ) (test : ℕ → Bool) → agree_below (λ b. not (is_free classes b) || test b) (λ b. true) 128 ≡ true
-    → ((c : ℕ) → 128 ≤ c → scalar c ≡ true → list_all (is_free classes) (encode c) ≡ true → test c ≡ true) → Tells classes test
+    → ((c : ℕ) → 128 ≤ c → scalar c ≡ true → list_all (is_free classes) (encode c) ≡ true → test c ≡ true) → ImpliesTest classes test
 tells_by classes test computed past c s free = elim (cases_lt c 128) [
   | inl low ↦ ascii_tells classes test computed c low free
   | inr wide ↦ past c wide s free
@@ -231,8 +233,8 @@ and-false false = refl
 other_than : (c k : ℕ) → 128 ≤ c → k < 128 → (c == k) ≡ false
 other_than c k wide below = grind (arith, nat_tests)
 
-other_than_signs : (c : ℕ) → 128 ≤ c → is_among (codes ",?:[]{}") c ≡ false
-other_than_signs c wide =
+other_than_indicators : (c : ℕ) → 128 ≤ c → is_among (codes ",?:[]{}") c ≡ false
+other_than_indicators c wide =
     let differs : (k : ℕ) → k < 128 → (c == k) ≡ false = λ k below. other_than c k wide below in
     rw (
       differs 44 (omega arith),
@@ -246,7 +248,7 @@ other_than_signs c wide =
 
 -- The tests of the runs of a line,
 pub line_tells : (classes : ℕ) (folds quotes : Bool) → agree_below (λ b. not (is_free classes b) || stays_in_line folds quotes b) (λ b. true) 128 ≡ true
-    → is_free classes 0xC2 ≡ false → is_free classes 0xE2 ≡ false → Tells classes (stays_in_line folds quotes)
+    → is_free classes 0xC2 ≡ false → is_free classes 0xE2 ≡ false → ImpliesTest classes (stays_in_line folds quotes)
 line_tells classes folds quotes computed two three =
     tells_by classes (stays_in_line folds quotes) computed
     (λ c wide s free. let broken = wide_no_break c wide (wide_unbroken classes c two three free) in
@@ -256,7 +258,7 @@ line_tells classes folds quotes computed two three =
 
 -- of those between double quotes,
 pub unicode_tells : (classes : ℕ) (folds : Bool) → agree_below (λ b. not (is_free classes b) || stays_where true folds b) (λ b. true) 128 ≡ true
-    → is_free classes 0xC2 ≡ false → is_free classes 0xE2 ≡ false → is_free classes 0xEF ≡ false → Tells classes (stays_where true folds)
+    → is_free classes 0xC2 ≡ false → is_free classes 0xE2 ≡ false → is_free classes 0xEF ≡ false → ImpliesTest classes (stays_where true folds)
 unicode_tells classes folds computed two three four =
     tells_by classes (stays_where true folds) computed
     (λ c wide s free. let broken = wide_no_break c wide (wide_unbroken classes c two three free) in
@@ -267,7 +269,7 @@ unicode_tells classes folds computed two three four =
     rw (printed, broken, spaced, quoted, escaped))
 
 pub ascii_only_tells : (classes : ℕ) (test : ℕ → Bool) → agree_below (λ b. not (is_free classes b) || test b) (λ b. true) 128 ≡ true
-    → agree_below (λ k. is_free classes (k + 192)) (λ k. false) 64 ≡ true → Tells classes test
+    → agree_below (λ k. is_free classes (k + 192)) (λ k. false) 64 ≡ true → ImpliesTest classes test
 ascii_only_tells classes test computed none =
     tells_by classes test computed (λ c wide s free. absurd (wide_never classes c none wide s free))
 
@@ -275,7 +277,7 @@ ascii_only_tells classes test computed none =
 pub quiet_tells : (classes : ℕ) (breaks12 : Bool)
     → agree_below (λ b. not (is_free classes b) || is_quiet (record { unicode = true; breaks12 = breaks12 }) b) (λ b. true) 128 ≡ true
     → is_free classes 0xC2 ≡ false → is_free classes 0xE2 ≡ false → is_free classes 0xEF ≡ false
-    → Tells classes (is_quiet (record { unicode = true; breaks12 = breaks12 }))
+    → ImpliesTest classes (is_quiet (record { unicode = true; breaks12 = breaks12 }))
 quiet_tells classes breaks12 computed two three four =
     tells_by classes (is_quiet (record { unicode = true; breaks12 = breaks12 })) computed
     (λ c wide s free. let no_break = wide_unbroken classes c two three free in
@@ -284,5 +286,5 @@ quiet_tells classes breaks12 computed two three four =
     let tabbed : (c == 9) ≡ false = grind (arith, nat_tests) in
     let nul : (c == 0) ≡ false = grind (arith, nat_tests) in
     let hash : (c == 35) ≡ false = grind (arith, nat_tests) in
-    let signed = other_than_signs c wide in
+    let signed = other_than_indicators c wide in
     rw (printed, broken, no_break.line_separator, no_break.paragraph_separator, and-false breaks12, tabbed, nul, hash, signed))

@@ -5,7 +5,7 @@ use Rattle.std.specs.Prelude.{Bool, true, false, [], ◌∷◌, ◌||◌, ◌&&�
 use Rattle.yaml_base.specs.scalars.Analysis.{Allowances, Charset, allowances, begins_unlike_plain, is_empty}
 use Rattle.yaml_base.specs.Characters.{Text}
 use Rattle.yaml_base.specs.Event.{ScalarStyle, any_style, plain, single_quoted, double_quoted, literal, folded}
-use Rattle.yaml_base.specs.scalars.Style.{Choice, chosen, fits_plain, is_plain, style_asked, style_fitting, style_quoted}
+use Rattle.yaml_base.specs.scalars.Style.{Choice, chosen, fits_plain, is_plain, requested_style, fitting_style, quoted_style}
 use Rattle.yaml_scalar.specs.Barred.{Barred, all_styles, allowed_by, barred_in}
 use Rattle.yaml_scalar.specs.ScalarData.{ChooseAlike}
 use Rattle.yaml_scalar.proofs.Barred.{or_none}
@@ -17,9 +17,9 @@ allowed_whole charset (c ∷ rest) = refl
 
 -- where nothing else fits double quotes do
 none_fits : (allowed : Allowances) (plain_fits block_fits : Bool) (asked : ScalarStyle) → plain_fits ≡ false → allowed.single_quoted ≡ false
-    → block_fits ≡ false → style_fitting allowed plain_fits block_fits asked ≡ double_quoted
+    → block_fits ≡ false → fitting_style allowed plain_fits block_fits asked ≡ double_quoted
 none_fits allowed plain_fits block_fits plain p s b =
-    ap (λ (x : Bool). if x then plain else style_quoted allowed) p ∙ ap (λ (x : Bool). if x then single_quoted else double_quoted) s
+    ap (λ (x : Bool). if x then plain else quoted_style allowed) p ∙ ap (λ (x : Bool). if x then single_quoted else double_quoted) s
 none_fits allowed plain_fits block_fits single_quoted p s b = ap (λ (x : Bool). if x then single_quoted else double_quoted) s
 none_fits allowed plain_fits block_fits literal p s b = ap (λ (x : Bool). if x then literal else double_quoted) b
 none_fits allowed plain_fits block_fits folded p s b = ap (λ (x : Bool). if x then folded else double_quoted) b
@@ -37,7 +37,7 @@ nothing_allowed : (allowed : Allowances) → allowed.flow_plain ≡ false → al
 nothing_allowed allowed f p s b asked empty tag_written plain_implicit quoted_implicit flow simple_key canonical =
     ap (λ (style : ScalarStyle). let c : Choice = record { style = style; bare = not tag_written && not quoted_implicit && not (is_plain style) } in c)
     (none_fits allowed (fits_plain allowed empty tag_written plain_implicit flow simple_key) (allowed.block && not flow && not simple_key)
-    (style_asked (canonical || (simple_key && allowed.multiline)) asked)
+    (requested_style (canonical || (simple_key && allowed.multiline)) asked)
     (neither_plain flow allowed.flow_plain allowed.block_plain (not (empty && (flow || simple_key))) (tag_written || plain_implicit) f p)
     s (ap (λ x. x && not flow && not simple_key) b))
 

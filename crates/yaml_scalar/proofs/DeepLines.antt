@@ -75,10 +75,10 @@ module _ (breaks12 : Bool) where
   -- Deep lines
 
   -- characters that break no line, before deep lines
-  pub deep_unbroken : (count : ℕ) (front text : Text) → Unbroken breaks12 front → has_deep_lines breaks12 count text ≡ true
-      → has_deep_lines breaks12 count (front ++ text) ≡ true
+  pub deep_unbroken : (count : ℕ) (prefix text : Text) → Unbroken breaks12 prefix → has_deep_lines breaks12 count text ≡ true
+      → has_deep_lines breaks12 count (prefix ++ text) ≡ true
   deep_unbroken count [] text h k = k
-  deep_unbroken count (c ∷ front) text h k = and_from _ _ (or_left _ _ (ap not h.0)) (deep_unbroken count front text h.1 k)
+  deep_unbroken count (c ∷ prefix) text h k = and_from _ _ (or_left _ _ (ap not h.0)) (deep_unbroken count prefix text h.1 k)
 
   -- spaces break no line
   pub spaces_unbroken : (n : ℕ) → Unbroken breaks12 (replicate n space)
@@ -101,13 +101,13 @@ module _ (breaks12 : Bool) where
   even_other c text h k = rw h k
 
   -- ink before such a text
-  pub even_ink : (count : ℕ) (front text : Text) → AllInk breaks12 front → IsEven count text → IsEven count (front ++ text)
+  pub even_ink : (count : ℕ) (prefix text : Text) → AllInk breaks12 prefix → IsEven count text → IsEven count (prefix ++ text)
   even_ink count [] text h k = k
-  even_ink count (c ∷ front) text h k =
-      let more = even_ink count front text h.1 k in
+  even_ink count (c ∷ prefix) text h k =
+      let more = even_ink count prefix text h.1 k in
       record {
         deep = and_from _ _ (or_left _ _ (ap not (h.0).no_break)) more.deep;
-        even = even_other c (front ++ text) (h.0).no_space more.even;
+        even = even_other c (prefix ++ text) (h.0).no_space more.even;
       }
 
   -- a space, where no break follows

@@ -8,16 +8,18 @@ use Rattle.std.specs.Prelude.{if◌then◌else◌}
 use Rattle.std.specs.Str.{all_scalars}
 use Rattle.yaml_base.specs.Characters.{Text, carriage_return, is_blank, is_break, is_printable, is_space, line_feed, line_separator, next_line}
 use Rattle.yaml_base.specs.Characters.{paragraph_separator, space}
-use Rattle.yaml_base.specs.Cursor.{Cursor, Laid, breaks_line, column_after, is_past_width, text_laid, then_laid}
+use Rattle.yaml_base.specs.Cursor.{Cursor, Rendered, breaks_line, column_after, is_past_width, render_text, render_then}
 use Rattle.yaml_base.specs.scalars.DoubleQuoted.{backslash, character_text, double_fold, double_inside, double_quoted_body, escape_text, is_other, may_fold}
-use Rattle.yaml_base.specs.scalars.DoubleQuoted.{needs_escape, quote, quote_laid, space_kept}
-use Rattle.yaml_base.specs.LineBreaks.{is_indented_text, is_laid_text, is_read_break, with_breaks_written, with_line_breaks_read}
+use Rattle.yaml_base.specs.scalars.DoubleQuoted.{needs_escape, quote, render_quote, space_kept}
+use Rattle.yaml_base.specs.LineBreaks.{is_indented_text, is_rendered_text, is_read_break, with_breaks_written, with_line_breaks_read}
 use Rattle.yaml_base.specs.Settings.{LineBreak}
-use Rattle.yaml_base.specs.reading.ReadDouble.{QuotedReading, between, double_quoted_front, quoted_from, read_double, value_alone, with_unit}
-use Rattle.yaml_base.specs.reading.ReadFolding.{FoldUnit, Front, folding_read, front_of, front_read, itself, literal_blank, literal_break, unit_before}
-use Rattle.yaml_base.proofs.BreakLaws.{breaks-round, indented-written, laid-append}
+use Rattle.yaml_base.specs.reading.ReadDouble.{QuotedReading, between, double_quoted_prefix, quoted_from, read_double, value_alone, with_unit}
+use Rattle.yaml_base.specs.reading.ReadFolding.{FoldUnit, FoldState, folding_read, fold_state_of, fold_state_text, itself, literal_blank}
+use Rattle.yaml_base.specs.reading.ReadFolding.{literal_break, prepend_unit}
+use Rattle.yaml_base.proofs.BreakLaws.{breaks-round, indented-written, rendered-append}
 use Rattle.yaml_scalar.proofs.EscapesRead.{escape-reads}
-use Rattle.yaml_scalar.proofs.Unbroken.{character-long, character-unbroken, is_unbroken, unbroken-column, unbroken-indented, unbroken-laid, unbroken-replicate}
+use Rattle.yaml_scalar.proofs.Unbroken.{character-long, character-unbroken, is_unbroken, unbroken-column, unbroken-indented, unbroken-rendered}
+use Rattle.yaml_scalar.proofs.Unbroken.{unbroken-replicate}
 use Rattle.yaml_scalar.proofs.Unbroken.{unescaped}
 
 -- a printable character other than a space is no blank
@@ -64,56 +66,56 @@ pub space-text : (unicode : Bool) → character_text unicode space ≡ space ∷
 space-text true = refl
 space-text false = refl
 
--- what a text between the quotes is seen as from its front, up to the closing quote
-record SeenAs (breaks12 : Bool) (text tail : Text) (front : Front) : Type 0 where
+-- what a text between the quotes is seen as from its start, up to the closing quote
+record SeenAs (breaks12 : Bool) (text tail : Text) (prefix : FoldState) : Type 0 where
   pub units : List FoldUnit
   pub are : quoted_from breaks12 between (text ++ quote ∷ tail) ≡ Some (record { units = units; rest = tail })
-  pub front_is : front_of units ≡ front
+  pub prefix_is : fold_state_of units ≡ prefix
 
 -- a character that is no blank or break before such a text
-abbrev front_at : Text → Front
-front_at value = record { blanks = []; breaks = []; rest = value }
+abbrev fold_state_at : Text → FoldState
+fold_state_at value = record { blanks = []; breaks = []; rest = value }
 
-seen-nothing : (breaks12 : Bool) (tail : Text) → SeenAs breaks12 [] tail (front_at [])
-seen-nothing breaks12 tail = record { units = []; are = refl; front_is = refl }
+seen-nothing : (breaks12 : Bool) (tail : Text) → SeenAs breaks12 [] tail (fold_state_at [])
+seen-nothing breaks12 tail = record { units = []; are = refl; prefix_is = refl }
 
 -- one more unit before what is seen
-seen-more : (breaks12 : Bool) (written text tail : Text) (unit : FoldUnit) (front : Front)
+seen-more : (breaks12 : Bool) (written text tail : Text) (unit : FoldUnit) (prefix : FoldState)
     → ((rest : Text) → quoted_from breaks12 between (written ++ rest) ≡ with_unit unit (quoted_from breaks12 between rest))
-    → SeenAs breaks12 text tail front → SeenAs breaks12 (written ++ text) tail (unit_before unit front)
-seen-more breaks12 written text tail unit front reads seen = record {
+    → SeenAs breaks12 text tail prefix → SeenAs breaks12 (written ++ text) tail (prepend_unit unit prefix)
+seen-more breaks12 written text tail unit prefix reads seen = record {
   units = unit ∷ seen.units;
   are = rw (append_assoc written text (quote ∷ tail), reads (text ++ quote ∷ tail), seen.are);
-  front_is = ap (unit_before unit) seen.front_is;
+  prefix_is = ap (prepend_unit unit) seen.prefix_is;
 }
 
 -- spaces before it
-abbrev blanks_ahead : ℕ → Front → Front
-blanks_ahead zero front = front
-blanks_ahead (suc n) front = unit_before (literal_blank space) (blanks_ahead n front)
+abbrev blanks_ahead : ℕ → FoldState → FoldState
+blanks_ahead zero prefix = prefix
+blanks_ahead (suc n) prefix = prepend_unit (literal_blank space) (blanks_ahead n prefix)
 
-seen-blanks : (breaks12 : Bool) (n : ℕ) (text tail : Text) (front : Front)
-    → SeenAs breaks12 text tail front → SeenAs breaks12 (replicate n space ++ text) tail (blanks_ahead n front)
-seen-blanks breaks12 zero text tail front seen = seen
-seen-blanks breaks12 (suc n) text tail front seen =
-    seen-more breaks12 (space ∷ []) (replicate n space ++ text) tail (literal_blank space) (blanks_ahead n front)
+seen-blanks : (breaks12 : Bool) (n : ℕ) (text tail : Text) (prefix : FoldState)
+    → SeenAs breaks12 text tail prefix → SeenAs breaks12 (replicate n space ++ text) tail (blanks_ahead n prefix)
+seen-blanks breaks12 zero text tail prefix seen = seen
+seen-blanks breaks12 (suc n) text tail prefix seen =
+    seen-more breaks12 (space ∷ []) (replicate n space ++ text) tail (literal_blank space) (blanks_ahead n prefix)
     (λ rest. refl)
-    (seen-blanks breaks12 n text tail front seen)
+    (seen-blanks breaks12 n text tail prefix seen)
 
--- spaces before a front without blanks and breaks are blanks, and a break before them drops them
+-- spaces before a fold state without blanks and breaks are blanks, and a break before them drops them
 blanks-dropped : (n : ℕ) (value : Text)
-    → ((blanks_ahead n (front_at value)).breaks ≡ []) × ((blanks_ahead n (front_at value)).rest ≡ value)
+    → ((blanks_ahead n (fold_state_at value)).breaks ≡ []) × ((blanks_ahead n (fold_state_at value)).rest ≡ value)
 blanks-dropped zero value = (refl, refl)
 blanks-dropped (suc n) value = blanks-dropped n value
 
 fold-read : (n : ℕ) (value : Text)
-    → front_read (unit_before (literal_break line_feed) (blanks_ahead n (front_at value))) ≡ space ∷ value
+    → fold_state_text (prepend_unit (literal_break line_feed) (blanks_ahead n (fold_state_at value))) ≡ space ∷ value
 fold-read n value = let p = blanks-dropped n value in rw (p.0, p.1)
 
--- a blank before a front without breaks is kept
+-- a blank before a fold state without breaks is kept
 blank-kept : (c : ℕ) (blanks breaks rest : Text) → breaks ≡ []
-    → front_read (unit_before (literal_blank c) (record { blanks = blanks; breaks = breaks; rest = rest }))
-    ≡ c ∷ front_read (record { blanks = blanks; breaks = breaks; rest = rest })
+    → fold_state_text (prepend_unit (literal_blank c) (record { blanks = blanks; breaks = breaks; rest = rest }))
+    ≡ c ∷ fold_state_text (record { blanks = blanks; breaks = breaks; rest = rest })
 blank-kept c blanks breaks rest e = rw e
 
 -- a fold stands behind a character that is no space
@@ -136,24 +138,24 @@ fits-breaks indent before cursor h (inr le) =
     let k : indent + 1 ≤ cursor.column = rw h at le in
     or_left _ _ (or_right (not cursor.indention) _ (lt-ltb indent cursor.column (omega arith)))
 
--- what is laid between the quotes for a value, after a character or at the start
+-- what is rendered between the quotes for a value, after a character or at the start
 record Inside (breaks12 : Bool) (tail : Text) (before : Option ℕ) (value text : Text) : Type 0 where
-  pub front : Front
-  pub seen : SeenAs breaks12 text tail front
-  pub value_is : front_read front ≡ value
-  pub no_breaks : is_other before ≡ false → front.breaks ≡ []
-  pub kept : is_other before ≡ false → SeenAs breaks12 (space_kept value ++ text) tail (front_at value)
-  pub laid : is_laid_text text ≡ true
+  pub prefix : FoldState
+  pub seen : SeenAs breaks12 text tail prefix
+  pub value_is : fold_state_text prefix ≡ value
+  pub no_breaks : is_other before ≡ false → prefix.breaks ≡ []
+  pub kept : is_other before ≡ false → SeenAs breaks12 (space_kept value ++ text) tail (fold_state_at value)
+  pub rendered : is_rendered_text text ≡ true
   pub indented : is_indented_text (text ++ quote ∷ []) ≡ true
 
 inside-nothing : (breaks12 : Bool) (tail : Text) (before : Option ℕ) → Inside breaks12 tail before [] []
 inside-nothing breaks12 tail before = record {
-  front = front_at [];
+  prefix = fold_state_at [];
   seen = seen-nothing breaks12 tail;
   value_is = refl;
   no_breaks = λ h. refl;
   kept = λ h. seen-nothing breaks12 tail;
-  laid = refl;
+  rendered = refl;
   indented = refl;
 }
 
@@ -162,18 +164,18 @@ inside-other : (breaks12 unicode : Bool) (tail : Text) (before : Option ℕ) (c 
     → scalar c ≡ true → is_space c ≡ false
     → Inside breaks12 tail (Some c) rest text → Inside breaks12 tail before (c ∷ rest) (character_text unicode c ++ text)
 inside-other breaks12 unicode tail before c rest text h s ih =
-    let more = seen-more breaks12 (character_text unicode c) text tail (itself c) ih.front
+    let more = seen-more breaks12 (character_text unicode c) text tail (itself c) ih.prefix
     (λ after. character-reads breaks12 unicode c after h s) ih.seen in
-    let seen : SeenAs breaks12 (character_text unicode c ++ text) tail (front_at (c ∷ rest)) =
-    subst (λ (v : Text). SeenAs breaks12 (character_text unicode c ++ text) tail (front_at (c ∷ v))) ih.value_is more in
+    let seen : SeenAs breaks12 (character_text unicode c ++ text) tail (fold_state_at (c ∷ rest)) =
+    subst (λ (v : Text). SeenAs breaks12 (character_text unicode c ++ text) tail (fold_state_at (c ∷ v))) ih.value_is more in
     let no = character-unbroken unicode c in
     record {
-      front = front_at (c ∷ rest);
+      prefix = fold_state_at (c ∷ rest);
       seen = seen;
       value_is = refl;
       no_breaks = λ k. refl;
       kept = λ k. rw s seen;
-      laid = laid-append (character_text unicode c) text (unbroken-laid (character_text unicode c) no) ih.laid;
+      rendered = rendered-append (character_text unicode c) text (unbroken-rendered (character_text unicode c) no) ih.rendered;
       indented = rw (append_assoc (character_text unicode c) text (quote ∷ []))
           (unbroken-indented (character_text unicode c) (text ++ quote ∷ []) no ih.indented);
     }
@@ -182,13 +184,13 @@ inside-other breaks12 unicode tail before c rest text h s ih =
 inside-space : (breaks12 : Bool) (tail : Text) (before : Option ℕ) (rest text : Text)
     → Inside breaks12 tail (Some space) rest text → Inside breaks12 tail before (space ∷ rest) (space ∷ text)
 inside-space breaks12 tail before rest text ih = record {
-  front = unit_before (literal_blank space) ih.front;
-  seen = seen-more breaks12 (space ∷ []) text tail (literal_blank space) ih.front (λ after. refl) ih.seen;
-  value_is = blank-kept space ih.front.blanks ih.front.breaks ih.front.rest (ih.no_breaks refl) ∙ ap (λ v. space ∷ v) ih.value_is;
+  prefix = prepend_unit (literal_blank space) ih.prefix;
+  seen = seen-more breaks12 (space ∷ []) text tail (literal_blank space) ih.prefix (λ after. refl) ih.seen;
+  value_is = blank-kept space ih.prefix.blanks ih.prefix.breaks ih.prefix.rest (ih.no_breaks refl) ∙ ap (λ v. space ∷ v) ih.value_is;
   no_breaks = λ k. ih.no_breaks refl;
-  kept = λ k. subst (λ (v : Text). SeenAs breaks12 (backslash ∷ space ∷ text) tail (front_at (space ∷ v))) ih.value_is
-      (seen-more breaks12 (backslash ∷ space ∷ []) text tail (itself space) ih.front (λ after. refl) ih.seen);
-  laid = ih.laid;
+  kept = λ k. subst (λ (v : Text). SeenAs breaks12 (backslash ∷ space ∷ text) tail (fold_state_at (space ∷ v))) ih.value_is
+      (seen-more breaks12 (backslash ∷ space ∷ []) text tail (itself space) ih.prefix (λ after. refl) ih.seen);
+  rendered = ih.rendered;
   indented = ih.indented;
 }
 
@@ -218,14 +220,15 @@ inside-fold breaks12 tail before indent rest text wide other ih =
     let regroup : (line_feed ∷ spaces ++ kept) ++ text ≡ line_feed ∷ (spaces ++ (kept ++ text)) = ap (λ t. line_feed ∷ t) (append_assoc spaces kept text) in
     let no_kept = kept-unbroken rest in
     subst (λ (t : Text). Inside breaks12 tail before (space ∷ rest) t) (sym regroup) (record {
-      front = unit_before (literal_break line_feed) (blanks_ahead indent (front_at rest));
-      seen = seen-more breaks12 (line_feed ∷ []) (spaces ++ (kept ++ text)) tail (literal_break line_feed) (blanks_ahead indent (front_at rest))
+      prefix = prepend_unit (literal_break line_feed) (blanks_ahead indent (fold_state_at rest));
+      seen = seen-more breaks12 (line_feed ∷ []) (spaces ++ (kept ++ text)) tail (literal_break line_feed) (blanks_ahead indent (fold_state_at rest))
           (λ after. refl)
-          (seen-blanks breaks12 indent (kept ++ text) tail (front_at rest) (ih.kept refl));
+          (seen-blanks breaks12 indent (kept ++ text) tail (fold_state_at rest) (ih.kept refl));
       value_is = fold-read indent rest;
       no_breaks = λ k. absurd (true≢false (sym other ∙ k));
       kept = λ k. absurd (true≢false (sym other ∙ k));
-      laid = laid-append spaces (kept ++ text) (unbroken-laid spaces (unbroken-replicate indent)) (laid-append kept text (unbroken-laid kept no_kept) ih.laid);
+      rendered = rendered-append spaces (kept ++ text) (unbroken-rendered spaces (unbroken-replicate indent))
+          (rendered-append kept text (unbroken-rendered kept no_kept) ih.rendered);
       indented = rw (append_assoc spaces (kept ++ text) (quote ∷ []), append_assoc kept text (quote ∷ []))
           (fold-indented indent (kept ++ (text ++ quote ∷ [])) wide (unbroken-indented kept (text ++ quote ∷ []) no_kept ih.indented));
     })
@@ -243,7 +246,7 @@ margin-small before = go (is_other before)
 
 -- the cursor behind a character's text
 pub fits-character : (unicode : Bool) (indent : ℕ) (before : Option ℕ) (c : ℕ) (cursor : Cursor) → Fits indent before cursor
-    → Fits indent (Some c) (text_laid (character_text unicode c) cursor).cursor
+    → Fits indent (Some c) (render_text (character_text unicode c) cursor).cursor
 fits-character unicode indent before c cursor (inl e) = inl e
 fits-character unicode indent before c cursor (inr le) =
     let e = unbroken-column (character_text unicode c) cursor.column (character-unbroken unicode c) in
@@ -257,10 +260,10 @@ module _ (breaks12 unicode : Bool) (limit : Option ℕ) (indent : ℕ) (wide : 2
   Follows c rest =
       (next : Cursor) → Fits indent (Some c) next → Inside breaks12 tail (Some c) rest (double_inside unicode limit indent (Some c) rest next).text
 
-  -- a character, laid so, and what follows it
-  abbrev Goes : (before : Option ℕ) (rest : Text) → Laid → ℕ → Type 0
-  Goes before rest laid c =
-      Follows c rest → Inside breaks12 tail before (c ∷ rest) (then_laid laid (double_inside unicode limit indent (Some c) rest)).text
+  -- a character, rendered so, and what follows it
+  abbrev Goes : (before : Option ℕ) (rest : Text) → Rendered → ℕ → Type 0
+  Goes before rest rendered c =
+      Follows c rest → Inside breaks12 tail before (c ∷ rest) (render_then rendered (double_inside unicode limit indent (Some c) rest)).text
 
   space-folded : (before : Option ℕ) (rest : Text) (cursor : Cursor) → is_other before ≡ true → breaks_line indent cursor ≡ true
       → Goes before rest (double_fold indent rest cursor) space
@@ -270,16 +273,16 @@ module _ (breaks12 unicode : Bool) (limit : Option ℕ) (indent : ℕ) (wide : 2
       rw breaks (inside-fold breaks12 tail before indent rest _ wide other (ih next fits))
 
   space-stays : (before : Option ℕ) (rest : Text) (cursor : Cursor) → Fits indent before cursor
-      → Goes before rest (text_laid (character_text unicode space) cursor) space
+      → Goes before rest (render_text (character_text unicode space) cursor) space
   space-stays before rest cursor fits ih =
-      let next = ih (text_laid (character_text unicode space) cursor).cursor (fits-character unicode indent before space cursor fits) in
+      let next = ih (render_text (character_text unicode space) cursor).cursor (fits-character unicode indent before space cursor fits) in
       rw (space-text unicode) (inside-space breaks12 tail before rest _ (rw (space-text unicode) at next))
 
   -- one character and what follows it
   step : (before : Option ℕ) (c : ℕ) (rest : Text) (cursor : Cursor) (folds spaced : Bool)
       → (is_space c && may_fold before rest && is_past_width limit cursor) ≡ folds → is_space c ≡ spaced
       → scalar c ≡ true → Fits indent before cursor
-      → Goes before rest (if folds then double_fold indent rest cursor else text_laid (character_text unicode c) cursor) c
+      → Goes before rest (if folds then double_fold indent rest cursor else render_text (character_text unicode c) cursor) c
   step before c rest cursor true spaced is is_s h fits ih =
       let p : ((is_space c && may_fold before rest) ≡ true) × (is_past_width limit cursor ≡ true) = and_parts _ _ is in
       let q : (is_space c ≡ true) × (may_fold before rest ≡ true) = and_parts _ _ p.0 in
@@ -289,7 +292,7 @@ module _ (breaks12 unicode : Bool) (limit : Option ℕ) (indent : ℕ) (wide : 2
       subst (Goes before rest (double_fold indent rest cursor)) (sym e) (space-folded before rest cursor other breaks) ih
   step before c rest cursor false true is is_s h fits ih =
       let e : c ≡ space = eqb-true c space is_s in
-      subst (λ (k : ℕ). Goes before rest (text_laid (character_text unicode k) cursor) k) (sym e) (space-stays before rest cursor fits) ih
+      subst (λ (k : ℕ). Goes before rest (render_text (character_text unicode k) cursor) k) (sym e) (space-stays before rest cursor fits) ih
   step before c rest cursor false false is is_s h fits ih =
       inside-other breaks12 unicode tail before c rest _ h is_s (ih _ (fits-character unicode indent before c cursor fits))
 
@@ -303,7 +306,7 @@ module _ (breaks12 unicode : Bool) (limit : Option ℕ) (indent : ℕ) (wide : 2
 
 -- the cursor behind the opening quote
 abbrev pub quoted_cursor : Cursor → Cursor
-quoted_cursor cursor = (quote_laid cursor).cursor
+quoted_cursor cursor = (render_quote cursor).cursor
 
 body-inside : (breaks12 unicode : Bool) (limit : Option ℕ) (indent : ℕ) (value : Text) (cursor : Cursor) (tail : Text)
     → 2 ≤ indent → all_scalars value ≡ true
@@ -314,24 +317,24 @@ body-inside breaks12 unicode limit indent value cursor tail wide h =
 abbrev reading_before : (rest value : Text) → Option QuotedReading
 reading_before rest value = Some (record { value = value; rest = rest })
 
--- a body at the front of a text reads as the value, and what follows its closing quote is the rest
-pub double-front : (breaks12 unicode : Bool) (limit : Option ℕ) (indent : ℕ) (value : Text) (cursor : Cursor) (rest : Text)
+-- a body at the start of a text reads as the value, and what follows its closing quote is the rest
+pub double-prefix : (breaks12 unicode : Bool) (limit : Option ℕ) (indent : ℕ) (value : Text) (cursor : Cursor) (rest : Text)
     → 2 ≤ indent → all_scalars value ≡ true
-    → double_quoted_front breaks12 ((double_quoted_body unicode limit indent value cursor).text ++ rest)
+    → double_quoted_prefix breaks12 ((double_quoted_body unicode limit indent value cursor).text ++ rest)
     ≡ Some (record { value = value; rest = rest })
-double-front breaks12 unicode limit indent value cursor rest wide h =
+double-prefix breaks12 unicode limit indent value cursor rest wide h =
     let inside = body-inside breaks12 unicode limit indent value cursor rest wide h in
     let text = (double_inside unicode limit indent None value (quoted_cursor cursor)).text in
-    let same : folding_read inside.seen.units ≡ value = ap front_read inside.seen.front_is ∙ inside.value_is in
+    let same : folding_read inside.seen.units ≡ value = ap fold_state_text inside.seen.prefix_is ∙ inside.value_is in
     rw (append_assoc text (quote ∷ []) rest, inside.seen.are) (ap (reading_before rest) same)
 
 -- a body holds neither CR nor U+0085
-pub double-laid : (unicode : Bool) (limit : Option ℕ) (indent : ℕ) (value : Text) (cursor : Cursor)
+pub double-rendered : (unicode : Bool) (limit : Option ℕ) (indent : ℕ) (value : Text) (cursor : Cursor)
     → 2 ≤ indent → all_scalars value ≡ true
-    → is_laid_text (double_quoted_body unicode limit indent value cursor).text ≡ true
-double-laid unicode limit indent value cursor wide h =
+    → is_rendered_text (double_quoted_body unicode limit indent value cursor).text ≡ true
+double-rendered unicode limit indent value cursor wide h =
     let inside = body-inside false unicode limit indent value cursor [] wide h in
-    laid-append (double_inside unicode limit indent None value (quoted_cursor cursor)).text (quote ∷ []) inside.laid refl
+    rendered-append (double_inside unicode limit indent None value (quoted_cursor cursor)).text (quote ∷ []) inside.rendered refl
 
 -- a body, however its line breaks are written, reads as the value
 pub double-reads : (breaks12 unicode : Bool) (limit : Option ℕ) (indent : ℕ) (value : Text) (cursor : Cursor) (setting : LineBreak)
@@ -341,9 +344,9 @@ pub double-reads : (breaks12 unicode : Bool) (limit : Option ℕ) (indent : ℕ)
     ≡ Some value
 double-reads breaks12 unicode limit indent value cursor setting wide h =
     let body = (double_quoted_body unicode limit indent value cursor).text in
-    let front = double-front breaks12 unicode limit indent value cursor [] wide h in
-    ap (read_double breaks12) (breaks-round setting body (double-laid unicode limit indent value cursor wide h))
-    ∙ ap value_alone (subst (λ (t : Text). double_quoted_front breaks12 t ≡ reading_before [] value) (append-nil body) front)
+    let prefix = double-prefix breaks12 unicode limit indent value cursor [] wide h in
+    ap (read_double breaks12) (breaks-round setting body (double-rendered unicode limit indent value cursor wide h))
+    ∙ ap value_alone (subst (λ (t : Text). double_quoted_prefix breaks12 t ≡ reading_before [] value) (append-nil body) prefix)
 
 -- each nonempty line of a body after the first begins with two spaces, however its line breaks are written
 pub double-indented : (unicode : Bool) (limit : Option ℕ) (indent : ℕ) (value : Text) (cursor : Cursor) (setting : LineBreak)

@@ -73,9 +73,9 @@ digits-go breaks12 (suc count) more number n at rest e h =
     let digit : n % 16 < 16 = omega arith in
     let later : at ≡ count + suc more = omega arith in
     let sums : (number * sixteen_to count + n / 16) * 16 + n % 16 ≡ number * (sixteen_to count * 16) + n = omega arith in
-    let front = digits-go breaks12 count (suc more) number (n / 16) at (hex_digit (n % 16) ∷ rest) later here in
+    let prefix = digits-go breaks12 count (suc more) number (n / 16) at (hex_digit (n % 16) ∷ rest) later here in
     let last = digit-steps breaks12 more (number * sixteen_to count + n / 16) (n % 16) rest digit in
-    rw (append_assoc (hex_digits count (n / 16)) (hex_digit (n % 16) ∷ []) rest, front, last, sums)
+    rw (append_assoc (hex_digits count (n / 16)) (hex_digit (n % 16) ∷ []) rest, prefix, last, sums)
 
 -- the last digit gives the number
 digit-ends : (breaks12 : Bool) (number d n : ℕ) (rest : Text) → d < 16 → number * 16 + d ≡ n → is_scalar_number n ≡ true
@@ -92,9 +92,9 @@ digits-read breaks12 count n rest h s =
     let digit : n % 16 < 16 = omega arith in
     let none : count ≡ count + 0 = omega arith in
     let sums : (0 * sixteen_to count + n / 16) * 16 + n % 16 ≡ n = omega arith in
-    let front = digits-go breaks12 count 0 0 (n / 16) count (hex_digit (n % 16) ∷ rest) none here in
+    let prefix = digits-go breaks12 count 0 0 (n / 16) count (hex_digit (n % 16) ∷ rest) none here in
     let last = digit-ends breaks12 (0 * sixteen_to count + n / 16) (n % 16) n rest digit sums s in
-    rw (append_assoc (hex_digits count (n / 16)) (hex_digit (n % 16) ∷ []) rest, front, last)
+    rw (append_assoc (hex_digits count (n / 16)) (hex_digit (n % 16) ∷ []) rest, prefix, last)
 
 -- the number of a character has a reading
 scalar-number : (c : ℕ) → scalar c ≡ true → (is_scalar_number c ≡ true) × (c < 0x110000)

@@ -4,7 +4,7 @@ use Rattle.std.proofs.lemmas.Bool.{eqb-true}
 use Rattle.std.proofs.lemmas.Str.{IsUtf8-past_char, chars-nil, chars_past_char}
 use Rattle.std.specs.Char.{encode_utf8}
 use Rattle.std.specs.Prelude.{true, false, ◌==◌, ◌||◌, ◌&&◌}
-use Rattle.yaml_base.specs.scalars.Analysis.{begins_like_mark, begins_unlike_plain}
+use Rattle.yaml_base.specs.scalars.Analysis.{begins_like_marker, begins_unlike_plain}
 use Rattle.yaml_base.specs.Characters.{Text}
 use Rattle.yaml_scalar.specs.Barred.{is_ordinary}
 use Rattle.yaml_scalar.proofs.ByteRuns.{false_unless}
@@ -13,33 +13,33 @@ no-characters : (bs : List ℕ) → length bs ≡ 0 → chars bs ≡ []
 no-characters [] e = chars-nil
 no-characters (b ∷ bs) e = cc
 
-pub mark-of-three : (bs r₁ r₂ r₃ : List ℕ) (a b c : ℕ) → IsUtf8 bs
+pub marker-of-three : (bs r₁ r₂ r₃ : List ℕ) (a b c : ℕ) → IsUtf8 bs
     → bs ≡ encode_utf8 a ++ r₁ → r₁ ≡ encode_utf8 b ++ r₂ → r₂ ≡ encode_utf8 c ++ r₃
-    → ((a == 45 || a == 46) && b == a && c == a) ≡ begins_like_mark (chars bs)
-mark-of-three bs r₁ r₂ r₃ a b c u e₁ e₂ e₃ =
+    → ((a == 45 || a == 46) && b == a && c == a) ≡ begins_like_marker (chars bs)
+marker-of-three bs r₁ r₂ r₃ a b c u e₁ e₂ e₃ =
     let u₁ = IsUtf8-past_char bs r₁ a u e₁ in
     let u₂ = IsUtf8-past_char r₁ r₂ b u₁ e₂ in
     rw (chars_past_char bs r₁ a u e₁, chars_past_char r₁ r₂ b u₁ e₂, chars_past_char r₂ r₃ c u₂ e₃)
 
-pub mark-of-two : (bs r₁ r₂ : List ℕ) (a b : ℕ) → IsUtf8 bs
+pub marker-of-two : (bs r₁ r₂ : List ℕ) (a b : ℕ) → IsUtf8 bs
     → bs ≡ encode_utf8 a ++ r₁ → r₁ ≡ encode_utf8 b ++ r₂ → length r₂ ≡ 0
-    → false ≡ begins_like_mark (chars bs)
-mark-of-two bs r₁ r₂ a b u e₁ e₂ e₃ =
+    → false ≡ begins_like_marker (chars bs)
+marker-of-two bs r₁ r₂ a b u e₁ e₂ e₃ =
     let u₁ = IsUtf8-past_char bs r₁ a u e₁ in
     rw (chars_past_char bs r₁ a u e₁, chars_past_char r₁ r₂ b u₁ e₂, no-characters r₂ e₃)
 
-pub mark-of-one : (bs r₁ : List ℕ) (a : ℕ) → IsUtf8 bs → bs ≡ encode_utf8 a ++ r₁ → length r₁ ≡ 0
-    → false ≡ begins_like_mark (chars bs)
-mark-of-one bs r₁ a u e₁ e₂ = rw (chars_past_char bs r₁ a u e₁, no-characters r₁ e₂)
+pub marker-of-one : (bs r₁ : List ℕ) (a : ℕ) → IsUtf8 bs → bs ≡ encode_utf8 a ++ r₁ → length r₁ ≡ 0
+    → false ≡ begins_like_marker (chars bs)
+marker-of-one bs r₁ a u e₁ e₂ = rw (chars_past_char bs r₁ a u e₁, no-characters r₁ e₂)
 
 -- a letter or a digit is no other character
 other_than : (c k : ℕ) → is_ordinary c ≡ true → is_ordinary k ≡ false → (c == k) ≡ false
 other_than c k h e = false_unless (c == k) (λ same. true≢false (sym h ∙ ap is_ordinary (eqb-true c k same) ∙ e))
 
-no_mark : (c : ℕ) (rest : Text) → (c == 45) ≡ false → (c == 46) ≡ false → begins_like_mark (c ∷ rest) ≡ false
-no_mark c [] e f = refl
-no_mark c (a ∷ []) e f = refl
-no_mark c (a ∷ b ∷ rest) e f = rw (e, f)
+no_exclamation : (c : ℕ) (rest : Text) → (c == 45) ≡ false → (c == 46) ≡ false → begins_like_marker (c ∷ rest) ≡ false
+no_exclamation c [] e f = refl
+no_exclamation c (a ∷ []) e f = refl
+no_exclamation c (a ∷ b ∷ rest) e f = rw (e, f)
 
 -- so a text that begins with one begins as plain text may
 pub ordinary_plain : (c : ℕ) (rest : Text) → is_ordinary c ≡ true → begins_unlike_plain (c ∷ rest) ≡ false
@@ -47,7 +47,7 @@ ordinary_plain c rest h =
     let other : (k : ℕ) → is_ordinary k ≡ false → (c == k) ≡ false = λ k e. other_than c k h e in
     rw (
       other 32 refl,
-      no_mark c rest (other 45 refl) (other 46 refl),
+      no_exclamation c rest (other 45 refl) (other 46 refl),
       other 35 refl,
       other 44 refl,
       other 91 refl,

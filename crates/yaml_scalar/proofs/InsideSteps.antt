@@ -5,7 +5,7 @@ use Rattle.std.proofs.lemmas.Bool.Decides.{nat_tests}
 use Rattle.std.specs.List.{list_all}
 use Rattle.std.specs.Prelude.{ℕ, Bool, true, false, Option, None, Some, List, [], ◌∷◌, ◌==◌, ◌||◌, ◌&&◌, not, nat_lt, if◌then◌else◌}
 use Rattle.yaml_base.specs.Characters.{Text, is_ascii, is_break, is_printable, is_space}
-use Rattle.yaml_base.specs.Cursor.{Cursor, Laid, is_past_width, next_column, text_laid, then_laid}
+use Rattle.yaml_base.specs.Cursor.{Cursor, Rendered, is_past_width, next_column, render_text, render_then}
 use Rattle.yaml_base.specs.scalars.DoubleQuoted.{backslash, character_text, double_character, double_fold, double_inside, escape_text, may_fold, needs_escape}
 use Rattle.yaml_base.specs.scalars.DoubleQuoted.{quote}
 use Rattle.yaml_pen.specs.Page.{Page}
@@ -31,17 +31,17 @@ stays_parts unicode limit c h =
 pub stays_unbroken : (unicode : Bool) (limit : Option ℕ) (c : ℕ) → stays unicode limit c ≡ true → is_break c ≡ false
 stays_unbroken unicode limit c h = (unescaped unicode c (stays_parts unicode limit c h).0).no_break
 
--- such a character is laid out as itself
+-- such a character is rendered as itself
 character_stays : (unicode : Bool) (limit : Option ℕ) (indent : ℕ) (before : Option ℕ) (c : ℕ) (rest : Text) (cursor : Cursor)
-    → stays unicode limit c ≡ true → double_character unicode limit indent before c rest cursor ≡ text_laid (c ∷ []) cursor
+    → stays unicode limit c ≡ true → double_character unicode limit indent before c rest cursor ≡ render_text (c ∷ []) cursor
 character_stays unicode limit indent before c rest cursor h =
     let p = stays_parts unicode limit c h in
-    ap (λ (b : Bool). if b then double_fold indent rest cursor else text_laid (character_text unicode c) cursor)
+    ap (λ (b : Bool). if b then double_fold indent rest cursor else render_text (character_text unicode c) cursor)
     (no_fold (λ l. is_past_width l cursor) refl (is_space c) (may_fold before rest) limit p.1)
-    ∙ ap (λ (b : Bool). text_laid (if b then escape_text c else c ∷ []) cursor) p.0
+    ∙ ap (λ (b : Bool). render_text (if b then escape_text c else c ∷ []) cursor) p.0
 
 -- what follows a character between the quotes
-abbrev pub inside_after : (unicode : Bool) (limit : Option ℕ) (indent : ℕ) → ℕ → Text → Cursor → Laid
+abbrev pub inside_after : (unicode : Bool) (limit : Option ℕ) (indent : ℕ) → ℕ → Text → Cursor → Rendered
 inside_after unicode limit indent before = double_inside unicode limit indent (Some before)
 
 pub inside_alone : (unicode : Bool) (limit : Option ℕ) (indent : ℕ) (cursor : Cursor)
@@ -49,19 +49,19 @@ pub inside_alone : (unicode : Bool) (limit : Option ℕ) (indent : ℕ) (cursor 
 inside_alone unicode limit indent cursor =
     record {
       stands = λ before c rest column h.
-          ap (λ (l : Laid). then_laid l (double_inside unicode limit indent (Some c) rest))
+          ap (λ (l : Rendered). render_then l (double_inside unicode limit indent (Some c) rest))
           (character_stays unicode limit indent (Some before) c rest (record cursor { column = column }) h);
     }
 
--- characters that stay are laid out as themselves, from the value's first on
+-- characters that stay are rendered as themselves, from the value's first on
 pub inside_stays : (unicode : Bool) (limit : Option ℕ) (indent : ℕ) (before : Option ℕ) (run : Text) (cursor : Cursor)
-    → list_all (stays unicode limit) run ≡ true → double_inside unicode limit indent before run cursor ≡ text_laid run cursor
+    → list_all (stays unicode limit) run ≡ true → double_inside unicode limit indent before run cursor ≡ render_text run cursor
 inside_stays unicode limit indent before [] cursor h = refl
 inside_stays unicode limit indent before (c ∷ run) cursor h =
     let p = and_parts (stays unicode limit c) (list_all (stays unicode limit) run) h in
     let next : Cursor = record cursor { column = next_column c cursor.column } in
-    ap (λ (l : Laid). then_laid l (double_inside unicode limit indent (Some c) run)) (character_stays unicode limit indent before c run cursor p.0)
-    ∙ ap (λ (l : Laid). let m : Laid = record { text = c ∷ l.text; cursor = l.cursor } in m) (inside_stays unicode limit indent (Some c) run next p.1)
+    ap (λ (l : Rendered). render_then l (double_inside unicode limit indent (Some c) run)) (character_stays unicode limit indent before c run cursor p.0)
+    ∙ ap (λ (l : Rendered). let m : Rendered = record { text = c ∷ l.text; cursor = l.cursor } in m) (inside_stays unicode limit indent (Some c) run next p.1)
 
 -- what isn't escaped where ASCII alone is kept isn't where more is kept
 escaped_parts : (a b c d e : Bool) → (a || b || c || d || e) ≡ false → (b ≡ false) × ((a || false || c || d || e) ≡ false)

@@ -27,31 +27,31 @@ ending-other (x ∷ y ∷ []) c e = rw e refl
 ending-other (x ∷ y ∷ z ∷ xs) c e = ending-other (y ∷ z ∷ xs) c e
 
 -- a character after a text
-pub chars-last : (front : List ℕ) (c : ℕ) → IsUtf8 front → scalar c ≡ true → chars (front ++ encode_utf8 c) ≡ chars front ++ c ∷ []
-chars-last front c u s =
-    chars-append front (encode_utf8 c) u
-    ∙ ap (λ t. chars front ++ t) (ap chars (sym (append-nil (encode_utf8 c))) ∙ chars-encodes (c ∷ []) (rw s refl))
+pub chars-last : (prefix : List ℕ) (c : ℕ) → IsUtf8 prefix → scalar c ≡ true → chars (prefix ++ encode_utf8 c) ≡ chars prefix ++ c ∷ []
+chars-last prefix c u s =
+    chars-append prefix (encode_utf8 c) u
+    ∙ ap (λ t. chars prefix ++ t) (ap chars (sym (append-nil (encode_utf8 c))) ∙ chars-encodes (c ∷ []) (rw s refl))
 
 -- so it is the last one
-pub last-is : (before : ℕ) (text front : List ℕ) (c : ℕ) → IsUtf8 text → scalar c ≡ true → text ≡ front ++ encode_utf8 c → c ≡ last_from before (chars text)
-last-is before text front c u s e =
-    let seam = IsCharBoundary-at_seam text front (encode_utf8 c) e (IsUtf8-encode c s) in
-    let taken : take (length front) text ≡ front = ap (take (length front)) e ∙ take_at front (encode_utf8 c) (length front) refl in
-    let is_text : IsUtf8 front = subst IsUtf8 taken (IsUtf8-take text (length front) u seam) in
-    sym (ap (λ t. last_from before (chars t)) e ∙ ap (last_from before) (chars-last front c is_text s) ∙ last-more before (chars front) c)
+pub last-is : (before : ℕ) (text prefix : List ℕ) (c : ℕ) → IsUtf8 text → scalar c ≡ true → text ≡ prefix ++ encode_utf8 c → c ≡ last_from before (chars text)
+last-is before text prefix c u s e =
+    let seam = IsCharBoundary-at_seam text prefix (encode_utf8 c) e (IsUtf8-encode c s) in
+    let taken : take (length prefix) text ≡ prefix = ap (take (length prefix)) e ∙ take_at prefix (encode_utf8 c) (length prefix) refl in
+    let is_text : IsUtf8 prefix = subst IsUtf8 taken (IsUtf8-take text (length prefix) u seam) in
+    sym (ap (λ t. last_from before (chars t)) e ∙ ap (last_from before) (chars-last prefix c is_text s) ∙ last-more before (chars prefix) c)
 
 -- a text that ends in no break
-pub other-ends : (front : List ℕ) (c : ℕ) → IsUtf8 front → scalar c ≡ true → is_break c ≡ false → ending (chars (front ++ encode_utf8 c)) ≡ without_break
-other-ends front c u s e = ap ending (chars-last front c u s) ∙ ending-other (chars front) c e
+pub other-ends : (prefix : List ℕ) (c : ℕ) → IsUtf8 prefix → scalar c ≡ true → is_break c ≡ false → ending (chars (prefix ++ encode_utf8 c)) ≡ without_break
+other-ends prefix c u s e = ap ending (chars-last prefix c u s) ∙ ending-other (chars prefix) c e
 
 -- in a break alone
-pub break-ends : (front : List ℕ) (c : ℕ) → IsUtf8 front → scalar c ≡ true → is_break c ≡ true → chars front ≡ []
-    → ending (chars (front ++ encode_utf8 c)) ≡ more_breaks
-break-ends front c u s e none = ap ending (chars-last front c u s ∙ ap (λ t. t ++ c ∷ []) none) ∙ rw e refl
+pub break-ends : (prefix : List ℕ) (c : ℕ) → IsUtf8 prefix → scalar c ≡ true → is_break c ≡ true → chars prefix ≡ []
+    → ending (chars (prefix ++ encode_utf8 c)) ≡ more_breaks
+break-ends prefix c u s e none = ap ending (chars-last prefix c u s ∙ ap (λ t. t ++ c ∷ []) none) ∙ rw e refl
 
 -- in a break after another character
-pub two-end : (front : List ℕ) (b c : ℕ) → IsUtf8 front → IsUtf8 (front ++ encode_utf8 b) → scalar b ≡ true → scalar c ≡ true → is_break c ≡ true
-    → ending (chars (front ++ encode_utf8 b ++ encode_utf8 c)) ≡ (if is_break b then more_breaks else one_break)
-two-end front b c u v s t e =
-    ap ending (chars-last (front ++ encode_utf8 b) c v t ∙ ap (λ l. l ++ c ∷ []) (chars-last front b u s) ∙ append_assoc (chars front) (b ∷ []) (c ∷ []))
-    ∙ ending-two (chars front) b c ∙ rw e refl
+pub two-end : (prefix : List ℕ) (b c : ℕ) → IsUtf8 prefix → IsUtf8 (prefix ++ encode_utf8 b) → scalar b ≡ true → scalar c ≡ true → is_break c ≡ true
+    → ending (chars (prefix ++ encode_utf8 b ++ encode_utf8 c)) ≡ (if is_break b then more_breaks else one_break)
+two-end prefix b c u v s t e =
+    ap ending (chars-last (prefix ++ encode_utf8 b) c v t ∙ ap (λ l. l ++ c ∷ []) (chars-last prefix b u s) ∙ append_assoc (chars prefix) (b ∷ []) (c ∷ []))
+    ∙ ending-two (chars prefix) b c ∙ rw e refl

@@ -28,7 +28,7 @@ pub mod WholeRuns
 pub mod RunsWritten
 pub mod StaysInLine
 pub mod InsideSteps
-pub mod GatheredTexts
+pub mod BatchTexts
 pub mod QuotedSteps
 pub mod ShortRuns
 pub mod UsualTexts

@@ -3,13 +3,14 @@ use Rattle.std.proofs.Common.{◌≡◌, refl, sym, ap, ◌∙◌, subst, ℕ, s
 use Rattle.std.specs.Prelude.{Option, ◌==◌, ◌||◌, ◌&&◌, not, if◌then◌else◌, map}
 use Rattle.std.proofs.lemmas.Bool.{eqb-true, or_parts, and_from, and_parts, not-true, not-false, not_from_false}
 use Rattle.std.specs.List.{list_any}
-use Rattle.yaml_base.specs.LineBreaks.{is_laid_text}
+use Rattle.yaml_base.specs.LineBreaks.{is_rendered_text}
 use Rattle.std.proofs.Math.Bool.{and-false}
 use Rattle.yaml_base.specs.Characters.{Text, carriage_return, next_line, is_break, is_space, is_printable, line_feed, space}
 use Rattle.yaml_base.specs.Cursor.{Cursor, is_past_width}
 use Rattle.yaml_base.specs.scalars.Analysis.{Charset, is_empty, is_special, begins_with, somewhere, bars_single_quoted}
 use Rattle.yaml_base.specs.scalars.Plain.{Kind, spaces, breaks, others, kind_of, is_same_kind, indentation}
-use Rattle.yaml_base.specs.reading.ReadFolding.{FoldUnit, literal_blank, literal_break, itself, unit_of, Front, run_read, front_read, front_of, unit_before}
+use Rattle.yaml_base.specs.reading.ReadFolding.{FoldUnit, literal_blank, literal_break, itself, unit_of, FoldState, run_read, fold_state_text}
+use Rattle.yaml_base.specs.reading.ReadFolding.{fold_state_of, prepend_unit}
 use Rattle.yaml_base.specs.reading.ReadFolding.{folding_read}
 use Rattle.yaml_scalar.specs.LineSteps.{begins_kind, step_text}
 use Rattle.yaml_scalar.proofs.LineTexts.{bare_steps}
@@ -52,21 +53,21 @@ unit_by_kind charset c clean =
     same_unit c (c == 32) (c == 9) (c == 10) (c == 13) (c == 0x85) (c == 0x2028) (c == 0x2029) charset.breaks12
     (unlike c 9 printable refl) (unlike c 13 printable refl) (unlike c 0x85 printable refl) parts.1
 
--- the front of a text
-abbrev pub front_at : Bool → Text → Front
-front_at breaks12 text = front_of (map (unit_of breaks12) text)
+-- the prefix of a text
+abbrev pub fold_state_at : Bool → Text → FoldState
+fold_state_at breaks12 text = fold_state_of (map (unit_of breaks12) text)
 
--- indentation changes only the blanks of a front
+-- indentation changes only the blanks of a fold state
 indentation-breaks :
     (breaks12 : Bool) (indent : ℕ) (text : Text) →
-    (front_at breaks12 (indentation indent ++ text)).breaks ≡ (front_at breaks12 text).breaks
+    (fold_state_at breaks12 (indentation indent ++ text)).breaks ≡ (fold_state_at breaks12 text).breaks
 indentation-breaks breaks12 zero text = refl
 indentation-breaks breaks12 (suc n) text = indentation-breaks breaks12 n text
 
 -- and not the rest
 indentation-rest :
     (breaks12 : Bool) (indent : ℕ) (text : Text) →
-    (front_at breaks12 (indentation indent ++ text)).rest ≡ (front_at breaks12 text).rest
+    (fold_state_at breaks12 (indentation indent ++ text)).rest ≡ (fold_state_at breaks12 text).rest
 indentation-rest breaks12 zero text = refl
 indentation-rest breaks12 (suc n) text = indentation-rest breaks12 n text
 
@@ -76,84 +77,84 @@ clashes spaces rest = begins_with is_break rest
 clashes breaks rest = begins_with is_space rest
 clashes others rest = false
 
--- what a front must be for a value after a character of this kind
-pub record AfterSpace (value : Text) (front : Front) : Type 0 where
-  pub whole : front_read front ≡ value
-  pub no_breaks : begins_with is_break value ≡ false → front.breaks ≡ []
-  pub no_blanks : begins_with is_space value ≡ false → front.blanks ≡ []
+-- what a fold state must be for a value after a character of this kind
+pub record AfterSpace (value : Text) (prefix : FoldState) : Type 0 where
+  pub whole : fold_state_text prefix ≡ value
+  pub no_breaks : begins_with is_break value ≡ false → prefix.breaks ≡ []
+  pub no_blanks : begins_with is_space value ≡ false → prefix.blanks ≡ []
 
-pub record AfterBreak (value : Text) (front : Front) : Type 0 where
-  pub no_blanks : front.blanks ≡ []
-  pub whole : front.breaks ++ front.rest ≡ value
+pub record AfterBreak (value : Text) (prefix : FoldState) : Type 0 where
+  pub no_blanks : prefix.blanks ≡ []
+  pub whole : prefix.breaks ++ prefix.rest ≡ value
 
--- of a front, by the kind of the character before
-abbrev pub ReadsAfter : Kind → Text → Front → Type 0
-ReadsAfter spaces value front = AfterSpace value front
-ReadsAfter breaks value front = begins_with is_space value ≡ false → AfterBreak value front
-ReadsAfter others value front = front_read front ≡ value
+-- of a fold state, by the kind of the character before
+abbrev pub ReadsAfter : Kind → Text → FoldState → Type 0
+ReadsAfter spaces value prefix = AfterSpace value prefix
+ReadsAfter breaks value prefix = begins_with is_space value ≡ false → AfterBreak value prefix
+ReadsAfter others value prefix = fold_state_text prefix ≡ value
 
 -- a character that is neither a space nor a break
 own_step :
-    (before : Kind) (c : ℕ) (rest : Text) (front : Front) →
-    front_read front ≡ rest →
-    ReadsAfter before (c ∷ rest) (unit_before (itself c) front)
-own_step spaces c rest front read = record {
+    (before : Kind) (c : ℕ) (rest : Text) (prefix : FoldState) →
+    fold_state_text prefix ≡ rest →
+    ReadsAfter before (c ∷ rest) (prepend_unit (itself c) prefix)
+own_step spaces c rest prefix read = record {
   whole = ap (λ (t : Text). c ∷ t) read;
   no_breaks = λ _. refl;
   no_blanks = λ _. refl;
 }
-own_step breaks c rest front read = λ _. record { no_blanks = refl; whole = ap (λ (t : Text). c ∷ t) read }
-own_step others c rest front read = ap (λ (t : Text). c ∷ t) read
+own_step breaks c rest prefix read = λ _. record { no_blanks = refl; whole = ap (λ (t : Text). c ∷ t) read }
+own_step others c rest prefix read = ap (λ (t : Text). c ∷ t) read
 
--- where no break stands first, a front's blanks and rest are what it reads as
+-- where no break stands first, a fold state's blanks and rest are what it reads as
 clear_read :
-    (value : Text) (front : Front) → front.breaks ≡ [] → front_read front ≡ value → front.blanks ++ front.rest ≡ value
-clear_read value front clear read =
-    subst (λ (run : Text). front.blanks ++ (run_read run ++ front.rest) ≡ value) clear read
+    (value : Text) (prefix : FoldState) → prefix.breaks ≡ [] → fold_state_text prefix ≡ value → prefix.blanks ++ prefix.rest ≡ value
+clear_read value prefix clear read =
+    subst (λ (run : Text). prefix.blanks ++ (run_read run ++ prefix.rest) ≡ value) clear read
 
--- a space before such a front is read
+-- a space before such a fold state is read
 space_read :
-    (value : Text) (front : Front) → front.breaks ≡ [] → front_read front ≡ value →
-    front_read (unit_before (literal_blank space) front) ≡ space ∷ value
-space_read value front clear read = rw clear (ap (λ (t : Text). space ∷ t) (clear_read value front clear read))
+    (value : Text) (prefix : FoldState) → prefix.breaks ≡ [] → fold_state_text prefix ≡ value →
+    fold_state_text (prepend_unit (literal_blank space) prefix) ≡ space ∷ value
+space_read value prefix clear read = rw clear (ap (λ (t : Text). space ∷ t) (clear_read value prefix clear read))
 
 -- a space that stays
 space_step :
-    (before : Kind) (rest : Text) (front : Front) →
-    AfterSpace rest front →
+    (before : Kind) (rest : Text) (prefix : FoldState) →
+    AfterSpace rest prefix →
     begins_with is_break rest ≡ false →
-    ReadsAfter before (space ∷ rest) (unit_before (literal_blank space) front)
-space_step spaces rest front after clear = record {
-  whole = space_read rest front (after.no_breaks clear) after.whole;
+    ReadsAfter before (space ∷ rest) (prepend_unit (literal_blank space) prefix)
+space_step spaces rest prefix after clear = record {
+  whole = space_read rest prefix (after.no_breaks clear) after.whole;
   no_breaks = λ _. after.no_breaks clear;
   no_blanks = λ e. cc;
 }
-space_step breaks rest front after clear = λ e. cc
-space_step others rest front after clear = space_read rest front (after.no_breaks clear) after.whole
+space_step breaks rest prefix after clear = λ e. cc
+space_step others rest prefix after clear = space_read rest prefix (after.no_breaks clear) after.whole
 
 -- where no blank stands first either, its rest is
-bare_read : (value : Text) (front : Front) → front.breaks ≡ [] → front.blanks ≡ [] → front_read front ≡ value → front.rest ≡ value
-bare_read value front clear none read =
-    subst (λ (blanks : Text). blanks ++ front.rest ≡ value) none (clear_read value front clear read)
+bare_read : (value : Text) (prefix : FoldState) → prefix.breaks ≡ [] → prefix.blanks ≡ [] → fold_state_text prefix ≡ value → prefix.rest ≡ value
+bare_read value prefix clear none read =
+    subst (λ (blanks : Text). blanks ++ prefix.rest ≡ value) none (clear_read value prefix clear read)
 
--- a fold before such a front is read as a space
+-- a fold before such a fold state is read as a space
 fold_read :
-    (value : Text) (front : Front) → front.breaks ≡ [] → front.blanks ≡ [] → front_read front ≡ value →
-    run_read (line_feed ∷ front.breaks) ++ front.rest ≡ space ∷ value
-fold_read value front clear none read = rw clear (ap (λ (t : Text). space ∷ t) (bare_read value front clear none read))
+    (value : Text) (prefix : FoldState) → prefix.breaks ≡ [] → prefix.blanks ≡ [] → fold_state_text prefix ≡ value →
+    run_read (line_feed ∷ prefix.breaks) ++ prefix.rest ≡ space ∷ value
+fold_read value prefix clear none read = rw clear (ap (λ (t : Text). space ∷ t) (bare_read value prefix clear none read))
 
 -- a space that becomes a break and indentation
 fold_step :
-    (before : Kind) (rest : Text) (front : Front) →
+    (before : Kind) (rest : Text) (prefix : FoldState) →
     is_same_kind before spaces ≡ false →
-    AfterSpace rest front →
+    AfterSpace rest prefix →
     begins_with is_break rest ≡ false →
     begins_with is_space rest ≡ false →
-    ReadsAfter before (space ∷ rest) (record { blanks = []; breaks = line_feed ∷ front.breaks; rest = front.rest })
-fold_step spaces rest front other after clear own = cc
-fold_step breaks rest front other after clear own = λ e. cc
-fold_step others rest front other after clear own =
-    fold_read rest front (after.no_breaks clear) (after.no_blanks own) after.whole
+    ReadsAfter before (space ∷ rest) (record { blanks = []; breaks = line_feed ∷ prefix.breaks; rest = prefix.rest })
+fold_step spaces rest prefix other after clear own = cc
+fold_step breaks rest prefix other after clear own = λ e. cc
+fold_step others rest prefix other after clear own =
+    fold_read rest prefix (after.no_breaks clear) (after.no_blanks own) after.whole
 
 -- a run that doesn't begin with LF is kept
 run_kept : (c : ℕ) (more : Text) → (c == line_feed) ≡ false → run_read (c ∷ more) ≡ c ∷ more
@@ -161,14 +162,14 @@ run_kept c [] e = simp e
 run_kept c (d ∷ more) e = simp e
 
 -- a run of breaks, its first one LF written twice or not
-abbrev broken : Bool → ℕ → Text → Text → Front
+abbrev broken : Bool → ℕ → Text → Text → FoldState
 broken doubled c more rest =
     record { blanks = []; breaks = (if doubled then line_feed ∷ [] else []) ++ (c ∷ more); rest = rest }
 
 -- such a run is read as the breaks of the value
 broken_read :
     (c : ℕ) (value more rest : Text) (feed : Bool) → (c == line_feed) ≡ feed → more ++ rest ≡ value →
-    front_read (broken (feed && true) c more rest) ≡ c ∷ value
+    fold_state_text (broken (feed && true) c more rest) ≡ c ∷ value
 broken_read c value more rest true e whole = ap (λ (t : Text). c ∷ t) whole
 broken_read c value more rest false e whole = rw (run_kept c more e) (ap (λ (t : Text). c ∷ t) whole)
 
@@ -187,17 +188,17 @@ break_step breaks c value more rest b whole =
     λ _. record { no_blanks = refl; whole = rw (and-false (c == line_feed)) (ap (λ (t : Text). c ∷ t) whole) }
 break_step others c value more rest b whole = broken_read c value more rest _ refl whole
 
--- the front of a break as it is laid out
-broken_front :
+-- the fold state of a break as it is rendered
+broken_prefix :
     (breaks12 doubled goes_on : Bool) (indent c : ℕ) (text : Text) →
     unit_of breaks12 c ≡ literal_break c →
-    front_at breaks12
+    fold_state_at breaks12
     (((if doubled then line_feed ∷ [] else []) ++ (c ∷ (if goes_on then [] else indentation indent))) ++ text) ≡
-    broken doubled c (front_at breaks12 text).breaks (front_at breaks12 text).rest
-broken_front breaks12 true true indent c text u = rw u
-broken_front breaks12 false true indent c text u = rw u
-broken_front breaks12 true false indent c text u = rw u (simp (indentation-breaks, indentation-rest))
-broken_front breaks12 false false indent c text u = rw u (simp (indentation-breaks, indentation-rest))
+    broken doubled c (fold_state_at breaks12 text).breaks (fold_state_at breaks12 text).rest
+broken_prefix breaks12 true true indent c text u = rw u
+broken_prefix breaks12 false true indent c text u = rw u
+broken_prefix breaks12 true false indent c text u = rw u (simp (indentation-breaks, indentation-rest))
+broken_prefix breaks12 false false indent c text u = rw u (simp (indentation-breaks, indentation-rest))
 
 -- a kind is spaces only at a space
 pub spaces_only : (s b : Bool) → (if s then spaces else if b then breaks else others) ≡ spaces → s ≡ true
@@ -241,17 +242,17 @@ folds_where folds before rest e =
 spaced :
     (breaks12 folds : Bool) (indent : ℕ) (before : Kind) (rest text : Text) →
     begins_with is_break rest ≡ false →
-    AfterSpace rest (front_at breaks12 text) →
+    AfterSpace rest (fold_state_at breaks12 text) →
     (folded : Bool) →
     (folds && not (is_same_kind before spaces || (is_empty rest || begins_kind spaces rest))) ≡ folded →
     ReadsAfter before (space ∷ rest)
-    (front_at breaks12 ((if folded then line_feed ∷ indentation indent else space ∷ []) ++ text))
+    (fold_state_at breaks12 ((if folded then line_feed ∷ indentation indent else space ∷ []) ++ text))
 spaced breaks12 folds indent before rest text clear after true e =
     let where_folds = folds_where folds before rest e in
     rw (indentation-breaks breaks12 indent text, indentation-rest breaks12 indent text)
-    (fold_step before rest (front_at breaks12 text) where_folds.other after clear where_folds.own)
+    (fold_step before rest (fold_state_at breaks12 text) where_folds.other after clear where_folds.own)
 spaced breaks12 folds indent before rest text clear after false e =
-    space_step before rest (front_at breaks12 text) after clear
+    space_step before rest (fold_state_at breaks12 text) after clear
 
 -- one character's text before what reads as the rest
 step_reads :
@@ -259,21 +260,21 @@ step_reads :
     kind_of c ≡ kind →
     is_special charset c ≡ false →
     clashes kind rest ≡ false →
-    ReadsAfter kind rest (front_at charset.breaks12 text) →
+    ReadsAfter kind rest (fold_state_at charset.breaks12 text) →
     ReadsAfter before (c ∷ rest)
-    (front_at charset.breaks12 (step_text (λ t. t) folds indent before kind c rest ++ text))
+    (fold_state_at charset.breaks12 (step_text (λ t. t) folds indent before kind c rest ++ text))
 step_reads charset folds indent before spaces c rest text k clean clear after =
     rw (eqb-true c 32 (spaces_only (is_space c) (is_break c) k))
     (spaced charset.breaks12 folds indent before rest text clear after _ refl)
 step_reads charset folds indent before breaks c rest text k clean clear after =
     let unit = unit_by_kind charset c clean ∙ ap (λ (kind : Kind). unit_of_kind kind c) k in
-    let front = after clear in
-    rw (broken_front charset.breaks12 (c == line_feed && not (is_same_kind before breaks)) (begins_kind breaks rest) indent c text unit)
-    (break_step before c rest (front_at charset.breaks12 text).breaks (front_at charset.breaks12 text).rest
-    (breaks_only (is_space c) (is_break c) k) front.whole)
+    let prefix = after clear in
+    rw (broken_prefix charset.breaks12 (c == line_feed && not (is_same_kind before breaks)) (begins_kind breaks rest) indent c text unit)
+    (break_step before c rest (fold_state_at charset.breaks12 text).breaks (fold_state_at charset.breaks12 text).rest
+    (breaks_only (is_space c) (is_break c) k) prefix.whole)
 step_reads charset folds indent before others c rest text k clean clear after =
     let unit = unit_by_kind charset c clean ∙ ap (λ (kind : Kind). unit_of_kind kind c) k in
-    rw unit (own_step before c rest (front_at charset.breaks12 text) after)
+    rw unit (own_step before c rest (fold_state_at charset.breaks12 text) after)
 
 -- a value that single quotes may hold has no space beside a break
 clear_after :
@@ -292,7 +293,7 @@ clear_after charset c rest others k clean = refl
 pub lines_read :
     (charset : Charset) (written : Text → Text) (limit : Option ℕ) (indent : ℕ) (before : Kind) (value : Text) (cursor : Cursor) →
     somewhere (bars_single_quoted charset) value ≡ false →
-    ReadsAfter before value (front_at charset.breaks12 (bare_steps written limit indent before value cursor))
+    ReadsAfter before value (fold_state_at charset.breaks12 (bare_steps written limit indent before value cursor))
 lines_read charset written limit indent spaces [] cursor clean =
     record { whole = refl; no_breaks = λ _. refl; no_blanks = λ _. refl }
 lines_read charset written limit indent breaks [] cursor clean = λ _. record { no_blanks = refl; whole = refl }
@@ -328,9 +329,9 @@ no_returns charset (c ∷ rest) clean =
     let printable : is_printable c ≡ true = not-false _ (or_parts _ _ (or_parts _ _ ordinary).0).0 in
     simp (unlike c carriage_return printable refl, unlike c next_line printable refl) (no_returns charset rest parts.1)
 
--- a text that has none is laid with LF
-pub laid_without_returns : (text : Text) → list_any is_return text ≡ false → is_laid_text text ≡ true
-laid_without_returns [] clean = refl
-laid_without_returns (c ∷ rest) clean =
+-- a text that has none is rendered with LF
+pub rendered_without_returns : (text : Text) → list_any is_return text ≡ false → is_rendered_text text ≡ true
+rendered_without_returns [] clean = refl
+rendered_without_returns (c ∷ rest) clean =
     let parts = or_parts (is_return c) (list_any is_return rest) clean in
-    and_from _ _ (not_from_false _ parts.0) (laid_without_returns rest parts.1)
+    and_from _ _ (not_from_false _ parts.0) (rendered_without_returns rest parts.1)

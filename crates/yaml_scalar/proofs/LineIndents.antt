@@ -4,13 +4,13 @@ use Rattle.std.specs.Prelude.{Option, ◌==◌, ◌||◌, ◌&&◌, not, if◌th
 use Rattle.std.proofs.lemmas.Bool.{and_from, or_right, eqb-true}
 use Rattle.std.proofs.Math.Bool.{and-false}
 use Rattle.yaml_base.specs.Characters.{Text, is_break, is_space, line_feed, space}
-use Rattle.yaml_base.specs.Cursor.{Cursor, text_laid, is_past_width}
+use Rattle.yaml_base.specs.Cursor.{Cursor, render_text, is_past_width}
 use Rattle.yaml_base.specs.scalars.Analysis.{is_empty}
 use Rattle.yaml_base.specs.LineBreaks.{begins_indented, is_indented_text}
 use Rattle.yaml_base.specs.scalars.Plain.{Kind, spaces, breaks, others, kind_of, is_same_kind, indentation}
 use Rattle.yaml_base.proofs.BreakLaws.{break-begins}
 use Rattle.yaml_scalar.proofs.Unbroken.{unbroken-indented, unbroken-replicate}
-use Rattle.yaml_scalar.specs.LineSteps.{begins_kind, step_text, steps_laid}
+use Rattle.yaml_scalar.specs.LineSteps.{begins_kind, step_text, render_steps}
 use Rattle.yaml_scalar.proofs.LineRuns.{WritesEach}
 use Rattle.yaml_scalar.proofs.LineFolds.{spaces_only, breaks_only}
 
@@ -97,12 +97,12 @@ text_begins :
     (written : Text → Text) (limit : Option ℕ) (indent : ℕ) (before : Kind) (value after : Text) (cursor : Cursor) →
     is_same_kind before breaks ≡ true →
     begins_kind breaks value ≡ true →
-    begins_indented ((steps_laid written limit indent before value cursor).text ++ after) ≡ true
+    begins_indented ((render_steps written limit indent before value cursor).text ++ after) ≡ true
 text_begins written limit indent before [] after cursor same here = cc
 text_begins written limit indent before (c ∷ rest) after cursor same here =
     let folds = is_past_width limit cursor in
     let step = step_text written folds indent before (kind_of c) c rest in
-    let more = (steps_laid written limit indent (kind_of c) rest (text_laid step cursor).cursor).text in
+    let more = (render_steps written limit indent (kind_of c) rest (render_text step cursor).cursor).text in
     rw (append_assoc step more after)
     (run_begins written limit indent before (kind_of c) c rest (more ++ after) folds refl same here)
 
@@ -112,13 +112,13 @@ pub lines_indented :
     (limit : Option ℕ) (indent : ℕ) → 2 ≤ indent →
     (before : Kind) (value after : Text) (cursor : Cursor) →
     is_indented_text after ≡ true →
-    is_indented_text ((steps_laid written limit indent before value cursor).text ++ after) ≡ true
+    is_indented_text ((render_steps written limit indent before value cursor).text ++ after) ≡ true
 lines_indented written w limit indent wide before [] after cursor lines = lines
 lines_indented written w limit indent wide before (c ∷ rest) after cursor lines =
     let folds = is_past_width limit cursor in
     let step = step_text written folds indent before (kind_of c) c rest in
-    let later = (text_laid step cursor).cursor in
-    let more = (steps_laid written limit indent (kind_of c) rest later).text in
+    let later = (render_text step cursor).cursor in
+    let more = (render_steps written limit indent (kind_of c) rest later).text in
     rw (append_assoc step more after)
     (step_indented written w folds indent wide before (kind_of c) c rest (more ++ after) refl
     (lines_indented written w limit indent wide (kind_of c) rest after later lines)

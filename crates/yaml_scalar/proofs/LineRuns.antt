@@ -1,20 +1,20 @@
--- Plain and single-quoted lines laid out character by character, and that this is their layout by runs.
+-- Plain and single-quoted lines rendered character by character, and that this is their layout by runs.
 use Rattle.std.proofs.Common.{◌≡◌, refl, sym, ap, ◌∙◌, subst, ℕ, List, [], ◌∷◌, ◌++◌, Bool, true, false, append_assoc}
 use Rattle.std.specs.Prelude.{Option, ◌==◌, ◌||◌, ◌&&◌, not}
 use Rattle.std.proofs.Math.Bool.{and-false, and-true, or-false}
 use Rattle.yaml_base.specs.Characters.{Text, is_break}
-use Rattle.yaml_base.specs.Cursor.{Cursor, Laid, nothing_laid, then_laid, text_laid, column_after, is_past_width}
+use Rattle.yaml_base.specs.Cursor.{Cursor, Rendered, render_nothing, render_then, render_text, column_after, is_past_width}
 use Rattle.yaml_base.specs.scalars.Analysis.{is_empty}
-use Rattle.yaml_scalar.specs.LineSteps.{begins_kind, step_text, steps_laid}
+use Rattle.yaml_scalar.specs.LineSteps.{begins_kind, step_text, render_steps}
 use Rattle.yaml_scalar.proofs.Unbroken.{is_unbroken}
-use Rattle.yaml_base.specs.scalars.Plain.{Kind, spaces, breaks, others, kind_of, is_same_kind, Run, joined_to, runs, indentation, run_text, is_last, runs_laid}
+use Rattle.yaml_base.specs.scalars.Plain.{Kind, spaces, breaks, others, kind_of, is_same_kind, Run, cons_run, runs, indentation, run_text, is_last, render_runs}
 
 -- texts are written character by character, and each but `'` stands for itself
 pub record WritesEach (written : Text → Text) : Type 0 where
   pub nothing : written [] ≡ []
   pub kept : (c : ℕ) → (c == 39) ≡ false → written (c ∷ []) ≡ c ∷ []
   pub unbroken : (c : ℕ) → is_break c ≡ false → is_unbroken (written (c ∷ [])) ≡ true
-  pub joined : (front rest : Text) → written (front ++ rest) ≡ written front ++ written rest
+  pub joined : (prefix rest : Text) → written (prefix ++ rest) ≡ written prefix ++ written rest
 
 -- what is left of a run, after a character of its kind
 abbrev tail_text : (written : Text → Text) (indent : ℕ) → Kind → Text → Text
@@ -29,24 +29,24 @@ first_text written folds indent false kind text = run_text written folds indent 
 
 -- runs, the first of which goes on where the character before is of its kind
 abbrev continued :
-    (written : Text → Text) (limit : Option ℕ) (indent : ℕ) (before : Kind) → List Run → Cursor → Laid
-continued written limit indent before [] cursor = nothing_laid cursor
+    (written : Text → Text) (limit : Option ℕ) (indent : ℕ) (before : Kind) → List Run → Cursor → Rendered
+continued written limit indent before [] cursor = render_nothing cursor
 continued written limit indent before (run ∷ more) cursor =
-    then_laid
-    (text_laid
+    render_then
+    (render_text
     (first_text written (is_past_width limit cursor && not (is_last more)) indent (is_same_kind before run.kind) run.kind run.text)
     cursor)
-    (runs_laid written limit indent false more)
+    (render_runs written limit indent false more)
 
 -- columns count on
 column_after-append : (a b : Text) (column : ℕ) → column_after (a ++ b) column ≡ column_after b (column_after a column)
 column_after-append [] b column = refl
 column_after-append (c ∷ a) b column = column_after-append a b _
 
--- two texts laid one after another are one text
+-- two texts rendered one after another are one text
 two_texts :
-    (a b : Text) (next : Cursor → Laid) (cursor : Cursor) →
-    then_laid (text_laid a cursor) (λ after. then_laid (text_laid b after) next) ≡ then_laid (text_laid (a ++ b) cursor) next
+    (a b : Text) (next : Cursor → Rendered) (cursor : Cursor) →
+    render_then (render_text a cursor) (λ after. render_then (render_text b after) next) ≡ render_then (render_text (a ++ b) cursor) next
 two_texts a b next cursor = simp (column_after-append, append_assoc)
 
 -- a character that ends its run
@@ -122,7 +122,7 @@ same_kind others breaks e = cc
 record Shape (d : ℕ) (after : List Run) : Type 0 where
   text : Text
   more : List Run
-  is : joined_to d after ≡ record { kind = kind_of d; text = d ∷ text } ∷ more
+  is : cons_run d after ≡ record { kind = kind_of d; text = d ∷ text } ∷ more
 
 -- runs that begin with this character, by the kind of the next run
 shape_by : (d : ℕ) (first : Run) (more : List Run) (same : Bool) → is_same_kind (kind_of d) first.kind ≡ same → Shape d (first ∷ more)
@@ -141,10 +141,10 @@ shape_of d (first ∷ more) = shape_by d first more _ refl
 -- a step and the runs behind it are the runs with its character
 abbrev Agrees : (written : Text → Text) (limit : Option ℕ) (indent : ℕ) (before : Kind) (c : ℕ) (rest : Text) (after : List Run) (cursor : Cursor) → Type 0
 Agrees written limit indent before c rest after cursor =
-    then_laid
-    (text_laid (step_text written (is_past_width limit cursor) indent before (kind_of c) c rest) cursor)
+    render_then
+    (render_text (step_text written (is_past_width limit cursor) indent before (kind_of c) c rest) cursor)
     (continued written limit indent (kind_of c) after) ≡
-    continued written limit indent before (joined_to c after) cursor
+    continued written limit indent before (cons_run c after) cursor
 
 -- they agree before a character, by whether the run goes on
 agrees_by :
@@ -153,16 +153,16 @@ agrees_by :
     (same : Bool) → is_same_kind (kind_of c) (kind_of d) ≡ same →
     Agrees written limit indent before c (d ∷ rest) (record { kind = kind_of d; text = d ∷ text } ∷ more) cursor
 agrees_by written w limit indent before c d rest text more cursor true e =
-    let next = runs_laid written limit indent false more in
+    let next = render_runs written limit indent false more in
     let step = step_text written (is_past_width limit cursor) indent before (kind_of c) c (d ∷ rest) in
     let folds = is_past_width limit cursor && not (is_last more) in
     simp e (two_texts step (tail_text written indent (kind_of d) (d ∷ text)) next cursor
-    ∙ ap (λ (t : Text). then_laid (text_laid t cursor) next)
+    ∙ ap (λ (t : Text). render_then (render_text t cursor) next)
     (joined_kinds written w (is_past_width limit cursor) folds indent before (kind_of c) (kind_of d) c d rest text
     (same_kind (kind_of c) (kind_of d) e) e))
 agrees_by written w limit indent before c d rest text more cursor false e =
-    simp e (ap (λ (t : Text). then_laid (text_laid t cursor)
-    (runs_laid written limit indent false (record { kind = kind_of d; text = d ∷ text } ∷ more)))
+    simp e (ap (λ (t : Text). render_then (render_text t cursor)
+    (render_runs written limit indent false (record { kind = kind_of d; text = d ∷ text } ∷ more)))
     (lone_text written (is_past_width limit cursor) indent before (kind_of c) c (d ∷ rest) false refl e))
 
 -- they agree
@@ -171,7 +171,7 @@ agrees :
     (limit : Option ℕ) (indent : ℕ) (before : Kind) (c : ℕ) (rest : Text) (cursor : Cursor) →
     Agrees written limit indent before c rest (runs rest) cursor
 agrees written w limit indent before c [] cursor =
-    ap (λ (t : Text). then_laid (text_laid t cursor) nothing_laid)
+    ap (λ (t : Text). render_then (render_text t cursor) render_nothing)
     (lone_text written (is_past_width limit cursor) indent before (kind_of c) c [] true refl refl)
 agrees written w limit indent before c (d ∷ rest) cursor =
     let shape = shape_of d (runs rest) in
@@ -182,28 +182,28 @@ agrees written w limit indent before c (d ∷ rest) cursor =
 steps_continue :
     (written : Text → Text) → WritesEach written →
     (limit : Option ℕ) (indent : ℕ) (before : Kind) (value : Text) (cursor : Cursor) →
-    steps_laid written limit indent before value cursor ≡ continued written limit indent before (runs value) cursor
+    render_steps written limit indent before value cursor ≡ continued written limit indent before (runs value) cursor
 steps_continue written w limit indent before [] cursor = refl
 steps_continue written w limit indent before (c ∷ rest) cursor =
     let step = step_text written (is_past_width limit cursor) indent before (kind_of c) c rest in
-    ap (λ (after : Laid). record { text = step ++ after.text; cursor = after.cursor })
-    (steps_continue written w limit indent (kind_of c) rest (text_laid step cursor).cursor)
+    ap (λ (after : Rendered). record { text = step ++ after.text; cursor = after.cursor })
+    (steps_continue written w limit indent (kind_of c) rest (render_text step cursor).cursor)
     ∙ agrees written w limit indent before c rest cursor
 
 -- the start of a value counts as if a space stood before it
 edge_continues :
     (written : Text → Text) (limit : Option ℕ) (indent : ℕ) (after : List Run) (cursor : Cursor) →
-    continued written limit indent spaces after cursor ≡ runs_laid written limit indent true after cursor
+    continued written limit indent spaces after cursor ≡ render_runs written limit indent true after cursor
 edge_continues written limit indent [] cursor = refl
 edge_continues written limit indent (run ∷ more) cursor =
-    ap (λ (t : Text). then_laid (text_laid t cursor) (runs_laid written limit indent false more))
+    ap (λ (t : Text). render_then (render_text t cursor) (render_runs written limit indent false more))
     (edge_text written (is_past_width limit cursor) indent run.kind run.text (is_last more))
 
 -- the layout by runs is the layout by characters
 pub runs_by_steps :
     (written : Text → Text) → WritesEach written →
     (limit : Option ℕ) (indent : ℕ) (value : Text) (cursor : Cursor) →
-    runs_laid written limit indent true (runs value) cursor ≡ steps_laid written limit indent spaces value cursor
+    render_runs written limit indent true (runs value) cursor ≡ render_steps written limit indent spaces value cursor
 runs_by_steps written w limit indent value cursor =
     sym (steps_continue written w limit indent spaces value cursor
     ∙ edge_continues written limit indent (runs value) cursor)

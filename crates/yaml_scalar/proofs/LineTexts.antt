@@ -5,9 +5,9 @@ use Rattle.std.specs.List.{list_any}
 use Rattle.std.proofs.lemmas.Bool.{eqb-true, or_parts}
 use Rattle.std.proofs.lemmas.List.Folds.{list_any-append}
 use Rattle.yaml_base.specs.Characters.{Text, line_feed, space}
-use Rattle.yaml_base.specs.Cursor.{Cursor, text_laid, is_past_width}
+use Rattle.yaml_base.specs.Cursor.{Cursor, render_text, is_past_width}
 use Rattle.yaml_base.specs.scalars.Plain.{Kind, spaces, breaks, others, kind_of, is_same_kind, indentation}
-use Rattle.yaml_scalar.specs.LineSteps.{step_text, steps_laid}
+use Rattle.yaml_scalar.specs.LineSteps.{step_text, render_steps}
 use Rattle.yaml_scalar.proofs.LineRuns.{WritesEach}
 
 -- the lines with each character as it is; the cursor is that of the text as it is written
@@ -15,7 +15,7 @@ abbrev pub bare_steps : (written : Text → Text) (limit : Option ℕ) (indent :
 bare_steps written limit indent before [] cursor = []
 bare_steps written limit indent before (c ∷ rest) cursor =
     let folds = is_past_width limit cursor in
-    let after = text_laid (step_text written folds indent before (kind_of c) c rest) cursor in
+    let after = render_text (step_text written folds indent before (kind_of c) c rest) cursor in
     step_text (λ t. t) folds indent before (kind_of c) c rest
     ++ bare_steps written limit indent (kind_of c) rest after.cursor
 
@@ -114,12 +114,12 @@ step_written written w folds indent before others c rest k = refl
 pub bare_written :
     (written : Text → Text) → WritesEach written →
     (limit : Option ℕ) (indent : ℕ) (before : Kind) (value : Text) (cursor : Cursor) →
-    (steps_laid written limit indent before value cursor).text ≡ written (bare_steps written limit indent before value cursor)
+    (render_steps written limit indent before value cursor).text ≡ written (bare_steps written limit indent before value cursor)
 bare_written written w limit indent before [] cursor = sym w.nothing
 bare_written written w limit indent before (c ∷ rest) cursor =
     let folds = is_past_width limit cursor in
     let step = step_text written folds indent before (kind_of c) c rest in
-    let after = (text_laid step cursor).cursor in
+    let after = (render_text step cursor).cursor in
     ap (λ (t : Text). step ++ t) (bare_written written w limit indent (kind_of c) rest after)
     ∙ (ap (λ (t : Text). t ++ written (bare_steps written limit indent (kind_of c) rest after))
     (sym (step_written written w folds indent before (kind_of c) c rest refl))

@@ -5,13 +5,13 @@ use Rattle.std.specs.Prelude.{Option, Some, ◌&&◌, not, if◌then◌else◌}
 use Rattle.std.specs.List.{list_all}
 use Rattle.yaml_base.specs.scalars.Analysis.{Charset, allows_plain, allows_single_quoted}
 use Rattle.yaml_base.specs.Characters.{Text, is_space, space}
-use Rattle.yaml_base.specs.Cursor.{Cursor, Laid, space_if, text_laid, then_laid}
+use Rattle.yaml_base.specs.Cursor.{Cursor, Rendered, space_if, render_text, render_then}
 use Rattle.yaml_base.specs.LineBreaks.{is_indented_text, with_breaks_written, with_line_breaks_read}
-use Rattle.yaml_base.specs.scalars.Plain.{plain_body, plain_laid}
+use Rattle.yaml_base.specs.scalars.Plain.{plain_body, render_plain}
 use Rattle.yaml_base.specs.reading.ReadPlain.{read_plain}
 use Rattle.yaml_base.specs.reading.ReadSingle.{read_single}
 use Rattle.yaml_base.specs.Settings.{LineBreak}
-use Rattle.yaml_base.specs.scalars.SingleQuoted.{single_quoted_body, single_quoted_laid}
+use Rattle.yaml_base.specs.scalars.SingleQuoted.{single_quoted_body, render_single_quoted}
 use Rattle.yaml_base.specs.declared.errors.yaml_error_t.{yaml_error_t}
 use Rattle.yaml_pen.specs.Page.{Page, natural}
 use Rattle.yaml_pen.specs.Wrote.{Wrote}
@@ -36,14 +36,14 @@ lead_spaces setting need cursor = by (need && not cursor.whitespace)
 
 -- a lead of at most one space, and a body that reads as a value
 pub body_back :
-    (read : Text → Option Text) (value : Text) (need : Bool) (body : Cursor → Laid) {before after : Page} →
+    (read : Text → Option Text) (value : Text) (need : Bool) (body : Cursor → Rendered) {before after : Page} →
     ((cursor : Cursor) (setting : LineBreak) → read (with_line_breaks_read (with_breaks_written setting (body cursor).text)) ≡ Some value) →
     ((cursor : Cursor) (setting : LineBreak) → is_indented_text (with_breaks_written setting (body cursor).text) ≡ true) →
-    Wrote (λ cursor. then_laid (text_laid (space_if need cursor) cursor) body) before after (Ok tt) →
+    Wrote (λ cursor. render_then (render_text (space_if need cursor) cursor) body) before after (Ok tt) →
     ReadsBack read value before.text after.text
 body_back read value need body {before} {after} reads indented wrote =
     let lead = space_if need before.cursor in
-    let start = (text_laid lead before.cursor).cursor in
+    let start = (render_text lead before.cursor).cursor in
     record {
       lead = with_breaks_written before.line_break lead;
       body = with_breaks_written before.line_break (body start).text;
@@ -58,7 +58,7 @@ pub plain_back :
     (charset : Charset) (flow : Bool) (limit : Option ℕ) (indent : ℕ) (value : Text) {before after : Page} (answer : Result (Unit {0}) yaml_error_t) →
     2 ≤ indent →
     allows_plain charset flow value ≡ true →
-    Wrote (plain_laid flow limit indent value) before after answer →
+    Wrote (render_plain flow limit indent value) before after answer →
     IfOk answer (λ _. ReadsBack (read_plain charset.breaks12 flow) value before.text after.text)
 plain_back charset flow limit indent value {before} {after} (Ok done) wide allowed wrote =
     body_back (read_plain charset.breaks12 flow) value _ (plain_body limit indent value)
@@ -72,7 +72,7 @@ pub single_back :
     (charset : Charset) (limit : Option ℕ) (indent : ℕ) (value : Text) {before after : Page} (answer : Result (Unit {0}) yaml_error_t) →
     2 ≤ indent →
     allows_single_quoted charset value ≡ true →
-    Wrote (single_quoted_laid limit indent value) before after answer →
+    Wrote (render_single_quoted limit indent value) before after answer →
     IfOk answer (λ _. ReadsBack (read_single charset.breaks12) value before.text after.text)
 single_back charset limit indent value {before} {after} (Ok done) wide allowed wrote =
     body_back (read_single charset.breaks12) value true (single_quoted_body limit indent value)

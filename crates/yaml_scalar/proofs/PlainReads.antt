@@ -6,16 +6,16 @@ use Rattle.std.proofs.Math.Bool.{and-false}
 use Rattle.yaml_base.specs.Characters.{Text, is_break, is_space}
 use Rattle.yaml_base.specs.Cursor.{Cursor}
 use Rattle.yaml_base.specs.Settings.{LineBreak}
-use Rattle.yaml_base.specs.LineBreaks.{is_indented_text, is_laid_text, with_breaks_written, with_line_breaks_read}
+use Rattle.yaml_base.specs.LineBreaks.{is_indented_text, is_rendered_text, with_breaks_written, with_line_breaks_read}
 use Rattle.yaml_base.specs.scalars.Analysis.{Charset, allows_plain, bars_plain, bars_single_quoted, begins_unlike_plain, begins_with, is_empty, somewhere}
 use Rattle.yaml_base.specs.scalars.Plain.{plain_body, spaces}
 use Rattle.yaml_base.specs.reading.ReadFolding.{unit_of, folding_read}
 use Rattle.yaml_base.specs.reading.ReadPlain.{begins_no_plain, holds_no_plain, read_plain}
 use Rattle.yaml_base.proofs.BreakLaws.{breaks-round, indented-written}
-use Rattle.yaml_scalar.specs.LineSteps.{steps_laid}
+use Rattle.yaml_scalar.specs.LineSteps.{render_steps}
 use Rattle.yaml_scalar.proofs.LineRuns.{WritesEach, runs_by_steps}
 use Rattle.yaml_scalar.proofs.LineTexts.{bare_steps, bare_written, any_bare}
-use Rattle.yaml_scalar.proofs.LineFolds.{folding_reads, is_return, no_returns, laid_without_returns}
+use Rattle.yaml_scalar.proofs.LineFolds.{folding_reads, is_return, no_returns, rendered_without_returns}
 use Rattle.yaml_scalar.proofs.LineIndents.{lines_indented}
 use Rattle.yaml_scalar.proofs.PlainStarts.{lines_begin, lines_full, lines_hold}
 
@@ -25,7 +25,7 @@ itself_writes = record {
   nothing = refl;
   kept = λ c e. refl;
   unbroken = λ c e. simp e;
-  joined = λ front rest. refl;
+  joined = λ prefix rest. refl;
 }
 
 -- the lines of a plain body
@@ -83,14 +83,14 @@ pub plain_begins :
 plain_begins charset flow value allowed = (or_parts _ _ (not-true _ (and_parts _ _ allowed).1)).0
 
 -- a body holds neither CR nor U+0085
-pub plain-laid :
+pub plain-rendered :
     (charset : Charset) (flow : Bool) (limit : Option ℕ) (indent : ℕ) (value : Text) (cursor : Cursor) →
     allows_plain charset flow value ≡ true →
-    is_laid_text (plain_body limit indent value cursor).text ≡ true
-plain-laid charset flow limit indent value cursor allowed =
+    is_rendered_text (plain_body limit indent value cursor).text ≡ true
+plain-rendered charset flow limit indent value cursor allowed =
     let clean = plain_is_single charset flow value (plain_bars charset flow value allowed) in
-    ap is_laid_text (body-lines limit indent value cursor)
-    ∙ laid_without_returns (lines limit indent value cursor)
+    ap is_rendered_text (body-lines limit indent value cursor)
+    ∙ rendered_without_returns (lines limit indent value cursor)
     (any_bare is_return refl refl (λ text. text) limit indent spaces value cursor (no_returns charset value clean))
 
 -- a text that breaks no rule of plain text is read by folding, unless it is empty in flow
@@ -131,7 +131,7 @@ plain-reads charset flow limit indent value cursor setting allowed =
     let body = (plain_body limit indent value cursor).text in
     let clean = plain_is_single charset flow value (plain_bars charset flow value allowed) in
     ap (read_plain charset.breaks12 flow)
-    (breaks-round setting body (plain-laid charset flow limit indent value cursor allowed) ∙ body-lines limit indent value cursor)
+    (breaks-round setting body (plain-rendered charset flow limit indent value cursor allowed) ∙ body-lines limit indent value cursor)
     ∙ (value_reads charset flow limit indent value cursor allowed
     ∙ ap (λ (t : Text). Some t) (folding_reads charset (λ text. text) limit indent value cursor clean))
 
@@ -142,7 +142,7 @@ pub plain-indented :
     is_indented_text (with_breaks_written setting (plain_body limit indent value cursor).text) ≡ true
 plain-indented limit indent value cursor setting wide =
     let body = (plain_body limit indent value cursor).text in
-    let lines : is_indented_text ((steps_laid (λ text. text) limit indent spaces value cursor).text ++ []) ≡ true =
+    let lines : is_indented_text ((render_steps (λ text. text) limit indent spaces value cursor).text ++ []) ≡ true =
     lines_indented (λ text. text) itself_writes limit indent wide spaces value [] cursor refl in
     indented-written setting body
     (rw (runs_by_steps (λ text. text) itself_writes limit indent value cursor)

@@ -1,11 +1,11 @@
--- Where plain lines begin as the value does, and hold no sign that plain text may not hold.
+-- Where plain lines begin as the value does, and hold no indicator that plain text may not hold.
 use Rattle.std.proofs.Common.{◌≡◌, refl, sym, ap, ◌∙◌, subst, ℕ, suc, zero, [], ◌∷◌, ◌++◌, Bool, true, false, true≢false}
 use Rattle.std.specs.Prelude.{Option, ◌==◌, ◌||◌, ◌&&◌, not, if◌then◌else◌, codes}
 use Rattle.std.proofs.lemmas.Bool.{eqb-true, or_parts, or_from}
 use Rattle.std.proofs.Math.Bool.{and-false, and-true, and_assoc}
 use Rattle.yaml_base.specs.Characters.{Text, is_among, is_blank, is_break, is_space, line_feed, space}
-use Rattle.yaml_base.specs.Cursor.{Cursor, text_laid, is_past_width}
-use Rattle.yaml_base.specs.scalars.Analysis.{Charset, bars_plain, begins_like_mark, begins_unlike_plain, begins_with, ends_word, is_empty, is_gap, somewhere}
+use Rattle.yaml_base.specs.Cursor.{Cursor, render_text, is_past_width}
+use Rattle.yaml_base.specs.scalars.Analysis.{Charset, bars_plain, begins_like_marker, begins_unlike_plain, begins_with, ends_word, is_empty, is_gap, somewhere}
 use Rattle.yaml_base.specs.scalars.Plain.{Kind, spaces, breaks, others, kind_of, is_same_kind, indentation}
 use Rattle.yaml_base.specs.reading.ReadPlain.{begins_no_plain, begins_with_three, begins_white, begins_with_hash, holds_no_plain, is_read_white}
 use Rattle.yaml_scalar.specs.LineSteps.{begins_kind, step_text}
@@ -14,19 +14,19 @@ use Rattle.yaml_scalar.proofs.LineFolds.{spaces_only, breaks_only}
 
 -- what a reader takes for white space is a gap to a writer
 gap_by :
-    (sp tab lf cr nel ls ps zero_sign breaks12 : Bool) →
-    ((sp || tab) || (lf || cr || nel || ls || ps) || zero_sign) ≡ false →
+    (sp tab lf cr nel ls ps zero_indicator breaks12 : Bool) →
+    ((sp || tab) || (lf || cr || nel || ls || ps) || zero_indicator) ≡ false →
     ((sp || tab) || (lf || (not breaks12 && (ls || ps)))) ≡ false
-gap_by false false false cr nel false false zero_sign breaks12 e = and-false (not breaks12)
-gap_by true tab lf cr nel ls ps zero_sign breaks12 e = cc
-gap_by false true lf cr nel ls ps zero_sign breaks12 e = cc
-gap_by false false true cr nel ls ps zero_sign breaks12 e = cc
-gap_by false false false true nel true ps zero_sign breaks12 e = cc
-gap_by false false false true nel false true zero_sign breaks12 e = cc
-gap_by false false false false true true ps zero_sign breaks12 e = cc
-gap_by false false false false true false true zero_sign breaks12 e = cc
-gap_by false false false false false true ps zero_sign breaks12 e = cc
-gap_by false false false false false false true zero_sign breaks12 e = cc
+gap_by false false false cr nel false false zero_indicator breaks12 e = and-false (not breaks12)
+gap_by true tab lf cr nel ls ps zero_indicator breaks12 e = cc
+gap_by false true lf cr nel ls ps zero_indicator breaks12 e = cc
+gap_by false false true cr nel ls ps zero_indicator breaks12 e = cc
+gap_by false false false true nel true ps zero_indicator breaks12 e = cc
+gap_by false false false true nel false true zero_indicator breaks12 e = cc
+gap_by false false false false true true ps zero_indicator breaks12 e = cc
+gap_by false false false false true false true zero_indicator breaks12 e = cc
+gap_by false false false false false true ps zero_indicator breaks12 e = cc
+gap_by false false false false false false true zero_indicator breaks12 e = cc
 
 -- what is no gap is no white space to a reader
 pub white_is_gap : (breaks12 : Bool) (c : ℕ) → is_gap c ≡ false → is_read_white breaks12 c ≡ false
@@ -102,7 +102,7 @@ and_turns : (a b c d : Bool) → (a ≡ false → c ≡ false) → (b ≡ false 
 and_turns false b c d f g e = ap (λ (x : Bool). x && d) (f refl)
 and_turns true b c d f g e = ap (λ (x : Bool). c && x) (g e) ∙ and-false c
 
--- the signs that no plain text holds, at a character that stands as itself
+-- the indicators that no plain text holds, at a character that stands as itself
 kept_holds :
     (breaks12 flow : Bool) (c : ℕ) (rest text : Text) →
     ((c == 58 && ends_word rest) || (is_gap c && begins_with (λ d. d == 35) rest)) ≡ false →
@@ -111,8 +111,8 @@ kept_holds :
     (begins_with (λ d. d == 35) rest ≡ false → begins_with_hash text ≡ false) →
     holds_no_plain breaks12 flow text ≡ false →
     holds_no_plain breaks12 flow (c ∷ text) ≡ false
-kept_holds breaks12 flow c rest text signs in_flow white hash later =
-    let parts = or_parts (c == 58 && ends_word rest) (is_gap c && begins_with (λ d. d == 35) rest) signs in
+kept_holds breaks12 flow c rest text symbols in_flow white hash later =
+    let parts = or_parts (c == 58 && ends_word rest) (is_gap c && begins_with (λ d. d == 35) rest) symbols in
     let key : (c == 58 && begins_white breaks12 text) ≡ false =
     and_turns (c == 58) (ends_word rest) (c == 58) (begins_white breaks12 text) (λ e. e) white parts.0 in
     let comment : (is_read_white breaks12 c && begins_with_hash text) ≡ false =
@@ -120,7 +120,7 @@ kept_holds breaks12 flow c rest text signs in_flow white hash later =
     (white_is_gap breaks12 c) hash parts.1 in
     or_from _ _ (or_from _ _ (or_from _ _ key comment) in_flow) later
 
--- indentation brings no `#` to the front
+-- indentation brings no `#` to the start
 indented_hash :
     (indent : ℕ) (text : Text) → begins_with_hash text ≡ false → begins_with_hash (indentation indent ++ text) ≡ false
 indented_hash zero text hash = hash
@@ -169,18 +169,18 @@ step_holds :
     (begins_with (λ d. d == 35) rest ≡ false → begins_with_hash text ≡ false) →
     holds_no_plain breaks12 flow text ≡ false →
     holds_no_plain breaks12 flow (step_text (λ t. t) folds indent before kind c rest ++ text) ≡ false
-step_holds breaks12 flow folds indent before spaces c rest text k whole signs in_flow white hash later =
+step_holds breaks12 flow folds indent before spaces c rest text k whole symbols in_flow white hash later =
     let is : c ≡ 32 = eqb-true c 32 (spaces_only (is_space c) (is_break c) k) in
     let own : begins_with (λ d. d == 35) rest ≡ false =
-    subst (λ (n : ℕ). ((n == 58 && ends_word rest) || (is_gap n && begins_with (λ d. d == 35) rest)) ≡ false) is signs in
+    subst (λ (n : ℕ). ((n == 58 && ends_word rest) || (is_gap n && begins_with (λ d. d == 35) rest)) ≡ false) is symbols in
     rw is (spaced_holds breaks12 flow
     (folds && not (is_same_kind before spaces || (is_empty rest || begins_kind spaces rest))) indent rest text own white hash later)
-step_holds breaks12 flow folds indent before breaks c rest text k whole signs in_flow white hash later =
+step_holds breaks12 flow folds indent before breaks c rest text k whole symbols in_flow white hash later =
     absurd (true≢false (sym (breaks_only (is_space c) (is_break c) k) ∙ whole))
-step_holds breaks12 flow folds indent before others c rest text k whole signs in_flow white hash later =
-    kept_holds breaks12 flow c rest text signs in_flow white hash later
+step_holds breaks12 flow folds indent before others c rest text k whole symbols in_flow white hash later =
+    kept_holds breaks12 flow c rest text symbols in_flow white hash later
 
--- the lines of a value that allows plain text hold no sign that plain text may not hold
+-- the lines of a value that allows plain text hold no indicator that plain text may not hold
 pub lines_hold :
     (charset : Charset) (flow : Bool) (written : Text → Text) (limit : Option ℕ) (indent : ℕ) (before : Kind) (value : Text) (cursor : Cursor) →
     somewhere (bars_plain charset flow) value ≡ false →
@@ -189,80 +189,80 @@ lines_hold charset flow written limit indent before [] cursor clean = refl
 lines_hold charset flow written limit indent before (c ∷ rest) cursor clean =
     let parts = or_parts (bars_plain charset flow c rest) (somewhere (bars_plain charset flow) rest) clean in
     let to_flow = or_parts _ _ parts.0 in
-    let to_signs = or_parts _ _ to_flow.0 in
-    let to_end = or_parts _ _ to_signs.0 in
+    let to_indicators = or_parts _ _ to_flow.0 in
+    let to_end = or_parts _ _ to_indicators.0 in
     let to_break = or_parts _ _ to_end.0 in
     let folds = is_past_width limit cursor in
-    let after = (text_laid (step_text written folds indent before (kind_of c) c rest) cursor).cursor in
+    let after = (render_text (step_text written folds indent before (kind_of c) c rest) cursor).cursor in
     step_holds charset.breaks12 flow folds indent before (kind_of c) c rest
-    (bare_steps written limit indent (kind_of c) rest after) refl to_break.1 to_signs.1 to_flow.1
+    (bare_steps written limit indent (kind_of c) rest after) refl to_break.1 to_indicators.1 to_flow.1
     (lines_white charset.breaks12 written limit indent (kind_of c) rest after)
     (lines_hash written limit indent (kind_of c) rest after)
     (lines_hold charset flow written limit indent (kind_of c) rest after parts.1)
 
 -- how often a text begins with one character
 abbrev begins_times : ℕ → ℕ → Text → Bool
-begins_times zero mark text = true
-begins_times (suc n) mark [] = false
-begins_times (suc n) mark (c ∷ rest) = c == mark && begins_times n mark rest
+begins_times zero marker text = true
+begins_times (suc n) marker [] = false
+begins_times (suc n) marker (c ∷ rest) = c == marker && begins_times n marker rest
 
 -- three of a character, counted
-three_times : (mark : ℕ) (text : Text) → begins_with_three mark text ≡ begins_times 3 mark text
-three_times mark [] = refl
-three_times mark (a ∷ []) = sym (and-false (a == mark))
-three_times mark (a ∷ b ∷ []) = sym (simp and-false)
-three_times mark (a ∷ b ∷ c ∷ rest) = simp (and-true, and_assoc)
+three_times : (marker : ℕ) (text : Text) → begins_with_three marker text ≡ begins_times 3 marker text
+three_times marker [] = refl
+three_times marker (a ∷ []) = sym (and-false (a == marker))
+three_times marker (a ∷ b ∷ []) = sym (simp and-false)
+three_times marker (a ∷ b ∷ c ∷ rest) = simp (and-true, and_assoc)
 
 -- a character that is no white space
-record IsSign (mark : ℕ) : Type 0 where
-  no_space : (space == mark) ≡ false
-  no_feed : (line_feed == mark) ≡ false
-  no_break : is_break mark ≡ false
+record IsMarkerCharacter (marker : ℕ) : Type 0 where
+  no_space : (space == marker) ≡ false
+  no_feed : (line_feed == marker) ≡ false
+  no_break : is_break marker ≡ false
 
--- a break is no sign
-other_break : (mark c : ℕ) (same : Bool) → (c == mark) ≡ same → is_break mark ≡ false → is_break c ≡ true → same ≡ false
-other_break mark c false e m b = refl
-other_break mark c true e m b = sym b ∙ (ap is_break (eqb-true c mark e) ∙ m)
+-- a break is no indicator
+other_break : (marker c : ℕ) (same : Bool) → (c == marker) ≡ same → is_break marker ≡ false → is_break c ≡ true → same ≡ false
+other_break marker c false e m b = refl
+other_break marker c true e m b = sym b ∙ (ap is_break (eqb-true c marker e) ∙ m)
 
--- no sign stands first in a space or fold
+-- no indicator stands first in a space or fold
 fold_times :
-    (mark : ℕ) → IsSign mark → (n : ℕ) (folds : Bool) (indent : ℕ) (text : Text) →
-    begins_times (suc n) mark ((if folds then line_feed ∷ indentation indent else space ∷ []) ++ text) ≡ false
-fold_times mark sign n true indent text = simp sign.no_feed
-fold_times mark sign n false indent text = simp sign.no_space
+    (marker : ℕ) → IsMarkerCharacter marker → (n : ℕ) (folds : Bool) (indent : ℕ) (text : Text) →
+    begins_times (suc n) marker ((if folds then line_feed ∷ indentation indent else space ∷ []) ++ text) ≡ false
+fold_times marker is_marker n true indent text = simp is_marker.no_feed
+fold_times marker is_marker n false indent text = simp is_marker.no_space
 
 -- nor in a break
 break_times :
-    (mark : ℕ) → IsSign mark → (n : ℕ) (doubled : Bool) (c : ℕ) (more text : Text) →
-    (c == mark) ≡ false →
-    begins_times (suc n) mark (((if doubled then line_feed ∷ [] else []) ++ (c ∷ more)) ++ text) ≡ false
-break_times mark sign n true c more text e = simp sign.no_feed
-break_times mark sign n false c more text e = simp e
+    (marker : ℕ) → IsMarkerCharacter marker → (n : ℕ) (doubled : Bool) (c : ℕ) (more text : Text) →
+    (c == marker) ≡ false →
+    begins_times (suc n) marker (((if doubled then line_feed ∷ [] else []) ++ (c ∷ more)) ++ text) ≡ false
+break_times marker is_marker n true c more text e = simp is_marker.no_feed
+break_times marker is_marker n false c more text e = simp e
 
--- a step begins with a sign as its character does
+-- a step begins with an indicator as its character does
 step_times :
-    (mark : ℕ) → IsSign mark → (n : ℕ) (folds : Bool) (indent : ℕ) (before kind : Kind) (c : ℕ) (rest text : Text) →
+    (marker : ℕ) → IsMarkerCharacter marker → (n : ℕ) (folds : Bool) (indent : ℕ) (before kind : Kind) (c : ℕ) (rest text : Text) →
     kind_of c ≡ kind →
-    begins_times n mark text ≡ begins_times n mark rest →
-    begins_times (suc n) mark (step_text (λ t. t) folds indent before kind c rest ++ text) ≡ begins_times (suc n) mark (c ∷ rest)
-step_times mark sign n folds indent before spaces c rest text k later =
+    begins_times n marker text ≡ begins_times n marker rest →
+    begins_times (suc n) marker (step_text (λ t. t) folds indent before kind c rest ++ text) ≡ begins_times (suc n) marker (c ∷ rest)
+step_times marker is_marker n folds indent before spaces c rest text k later =
     rw (eqb-true c 32 (spaces_only (is_space c) (is_break c) k))
-    (fold_times mark sign n (folds && not (is_same_kind before spaces || (is_empty rest || begins_kind spaces rest))) indent text
-    ∙ sym (simp sign.no_space))
-step_times mark sign n folds indent before breaks c rest text k later =
-    let other = other_break mark c (c == mark) refl sign.no_break (breaks_only (is_space c) (is_break c) k) in
-    break_times mark sign n (c == line_feed && not (is_same_kind before breaks)) c _ text other ∙ sym (simp other)
-step_times mark sign n folds indent before others c rest text k later = ap (λ (b : Bool). c == mark && b) later
+    (fold_times marker is_marker n (folds && not (is_same_kind before spaces || (is_empty rest || begins_kind spaces rest))) indent text
+    ∙ sym (simp is_marker.no_space))
+step_times marker is_marker n folds indent before breaks c rest text k later =
+    let other = other_break marker c (c == marker) refl is_marker.no_break (breaks_only (is_space c) (is_break c) k) in
+    break_times marker is_marker n (c == line_feed && not (is_same_kind before breaks)) c _ text other ∙ sym (simp other)
+step_times marker is_marker n folds indent before others c rest text k later = ap (λ (b : Bool). c == marker && b) later
 
--- lines begin with a sign as often as the value does
+-- lines begin with an indicator as often as the value does
 times_kept :
-    (mark : ℕ) → IsSign mark → (n : ℕ) (written : Text → Text) (limit : Option ℕ) (indent : ℕ) (before : Kind) (value : Text) (cursor : Cursor) →
-    begins_times n mark (bare_steps written limit indent before value cursor) ≡ begins_times n mark value
-times_kept mark sign zero written limit indent before value cursor = refl
-times_kept mark sign (suc n) written limit indent before [] cursor = refl
-times_kept mark sign (suc n) written limit indent before (c ∷ rest) cursor =
-    step_times mark sign n (is_past_width limit cursor) indent before (kind_of c) c rest _ refl
-    (times_kept mark sign n written limit indent (kind_of c) rest _)
+    (marker : ℕ) → IsMarkerCharacter marker → (n : ℕ) (written : Text → Text) (limit : Option ℕ) (indent : ℕ) (before : Kind) (value : Text) (cursor : Cursor) →
+    begins_times n marker (bare_steps written limit indent before value cursor) ≡ begins_times n marker value
+times_kept marker is_marker zero written limit indent before value cursor = refl
+times_kept marker is_marker (suc n) written limit indent before [] cursor = refl
+times_kept marker is_marker (suc n) written limit indent before (c ∷ rest) cursor =
+    step_times marker is_marker n (is_past_width limit cursor) indent before (kind_of c) c rest _ refl
+    (times_kept marker is_marker n written limit indent (kind_of c) rest _)
 
 -- three dashes are a mark
 no_dashes : (a b c : ℕ) (is : Bool) → (a == 45) ≡ is → ((is || a == 46) && b == a && c == a) ≡ false → (is && b == 45 && c == 45) ≡ false
@@ -276,31 +276,31 @@ no_dots a b c true d e =
     subst (λ (n : ℕ). ((n == 45 || true) && b == n && c == n) ≡ false) (eqb-true a 46 d) e
 
 -- a value that doesn't begin with a mark begins with no three dashes and no three dots
-dashes : (value : Text) → begins_like_mark value ≡ false → begins_with_three 45 value ≡ false
+dashes : (value : Text) → begins_like_marker value ≡ false → begins_with_three 45 value ≡ false
 dashes [] e = refl
 dashes (a ∷ []) e = refl
 dashes (a ∷ b ∷ []) e = refl
 dashes (a ∷ b ∷ c ∷ rest) e = no_dashes a b c (a == 45) refl e
 
 -- nor with three dots
-dots : (value : Text) → begins_like_mark value ≡ false → begins_with_three 46 value ≡ false
+dots : (value : Text) → begins_like_marker value ≡ false → begins_with_three 46 value ≡ false
 dots [] e = refl
 dots (a ∷ []) e = refl
 dots (a ∷ b ∷ []) e = refl
 dots (a ∷ b ∷ c ∷ rest) e = no_dots a b c (a == 46) refl e
 
--- lines begin with three signs only where the value does
+-- lines begin with three indicators only where the value does
 lines_three :
-    (mark : ℕ) → IsSign mark → (written : Text → Text) (limit : Option ℕ) (indent : ℕ) (before : Kind) (value : Text) (cursor : Cursor) →
-    begins_with_three mark value ≡ false →
-    begins_with_three mark (bare_steps written limit indent before value cursor) ≡ false
-lines_three mark sign written limit indent before value cursor e =
-    three_times mark (bare_steps written limit indent before value cursor)
-    ∙ (times_kept mark sign 3 written limit indent before value cursor ∙ (sym (three_times mark value) ∙ e))
+    (marker : ℕ) → IsMarkerCharacter marker → (written : Text → Text) (limit : Option ℕ) (indent : ℕ) (before : Kind) (value : Text) (cursor : Cursor) →
+    begins_with_three marker value ≡ false →
+    begins_with_three marker (bare_steps written limit indent before value cursor) ≡ false
+lines_three marker is_marker written limit indent before value cursor e =
+    three_times marker (bare_steps written limit indent before value cursor)
+    ∙ (times_kept marker is_marker 3 written limit indent before value cursor ∙ (sym (three_times marker value) ∙ e))
 
 -- what is neither a space nor a break is another character
-kind_of_sign : (s b : Bool) → s ≡ false → b ≡ false → (if s then spaces else if b then breaks else others) ≡ others
-kind_of_sign s b e f = rw (e, f)
+kind_of_indicator : (s b : Bool) → s ≡ false → b ≡ false → (if s then spaces else if b then breaks else others) ≡ others
+kind_of_indicator s b e f = rw (e, f)
 
 -- a value's lines begin with its first character, where that is neither a space nor a break
 first_kept :
@@ -309,7 +309,7 @@ first_kept :
     is_break c ≡ false →
     step_text (λ t. t) folds indent before (kind_of c) c rest ≡ c ∷ []
 first_kept folds indent before c rest e f =
-    ap (λ (kind : Kind). step_text (λ t. t) folds indent before kind c rest) (kind_of_sign (is_space c) (is_break c) e f)
+    ap (λ (kind : Kind). step_text (λ t. t) folds indent before kind c rest) (kind_of_indicator (is_space c) (is_break c) e f)
 
 -- the lines of a value that isn't empty are not empty
 pub lines_full :
@@ -321,11 +321,11 @@ pub lines_full :
 lines_full written limit indent before c rest cursor e f flow =
     let to_mark = or_parts _ _ (or_parts _ _ (or_parts _ _ e).0).0 in
     let folds = is_past_width limit cursor in
-    let after = (text_laid (step_text written folds indent before (kind_of c) c rest) cursor).cursor in
+    let after = (render_text (step_text written folds indent before (kind_of c) c rest) cursor).cursor in
     ap (λ (step : Text). is_empty (step ++ bare_steps written limit indent (kind_of c) rest after) && flow)
     (first_kept folds indent before c rest to_mark.0 f)
 
--- lines begin with no sign that the value doesn't begin with
+-- lines begin with no indicator that the value doesn't begin with
 pub lines_begin :
     (breaks12 : Bool) (written : Text → Text) (limit : Option ℕ) (indent : ℕ) (before : Kind) (c : ℕ) (rest : Text) (cursor : Cursor) →
     begins_unlike_plain (c ∷ rest) ≡ false →
@@ -336,12 +336,12 @@ lines_begin breaks12 written limit indent before c rest cursor e f =
     let to_indicator = or_parts _ _ to_word.0 in
     let to_mark = or_parts _ _ to_indicator.0 in
     let folds = is_past_width limit cursor in
-    let after = (text_laid (step_text written folds indent before (kind_of c) c rest) cursor).cursor in
+    let after = (render_text (step_text written folds indent before (kind_of c) c rest) cursor).cursor in
     let text = bare_steps written limit indent (kind_of c) rest after in
     let whole : bare_steps written limit indent before (c ∷ rest) cursor ≡ c ∷ text =
     ap (λ (step : Text). step ++ text) (first_kept folds indent before c rest to_mark.0 f) in
-    let three = λ (mark : ℕ) (sign : IsSign mark) (none : begins_with_three mark (c ∷ rest) ≡ false).
-    sym (ap (begins_with_three mark) whole) ∙ lines_three mark sign written limit indent before (c ∷ rest) cursor none in
+    let three = λ (marker : ℕ) (is_marker : IsMarkerCharacter marker) (none : begins_with_three marker (c ∷ rest) ≡ false).
+    sym (ap (begins_with_three marker) whole) ∙ lines_three marker is_marker written limit indent before (c ∷ rest) cursor none in
     let word : (is_among (codes "?:-") c && begins_white breaks12 text) ≡ false =
     and_turns (is_among (codes "?:-") c) (ends_word rest) (is_among (codes "?:-") c) (begins_white breaks12 text)
     (λ g. g) (lines_white breaks12 written limit indent (kind_of c) rest after) to_word.1 in

@@ -3,8 +3,8 @@ use Rattle.std.proofs.Common.{◌≡◌, refl, IfOk, Ok, Err}
 use Rattle.std.specs.Prelude.{ℕ, ◌≤◌, Bool, true, false, Option, None, Result, [], ◌∷◌}
 use Rattle.std.specs.Str.{all_scalars}
 use Rattle.yaml_base.specs.Characters.{Text}
-use Rattle.yaml_base.specs.Cursor.{Cursor, Laid, indicator, then_laid}
-use Rattle.yaml_base.specs.scalars.DoubleQuoted.{double_inside, double_quoted_body, double_quoted_laid, quote, quote_laid}
+use Rattle.yaml_base.specs.Cursor.{Cursor, Rendered, indicator, render_then}
+use Rattle.yaml_base.specs.scalars.DoubleQuoted.{double_inside, double_quoted_body, render_double_quoted, quote, render_quote}
 use Rattle.yaml_base.specs.reading.ReadDouble.{read_double}
 use Rattle.yaml_base.specs.declared.errors.yaml_error_t.{yaml_error_t}
 use Rattle.yaml_pen.specs.Page.{Page}
@@ -14,24 +14,24 @@ use Rattle.yaml_scalar.proofs.DoubleReads.{double-indented, double-reads}
 use Rattle.yaml_scalar.proofs.LinesReadBack.{body_back}
 
 -- from the opening quote, with its lead, to the closing quote
-abbrev pub double_steps : (unicode : Bool) (limit : Option ℕ) (indent : ℕ) (value : Text) → Cursor → Laid
+abbrev pub double_steps : (unicode : Bool) (limit : Option ℕ) (indent : ℕ) (value : Text) → Cursor → Rendered
 double_steps unicode limit indent value cursor =
-    then_laid (then_laid (indicator (quote ∷ []) true false false cursor) (double_inside unicode limit indent None value)) quote_laid
+    render_then (render_then (indicator (quote ∷ []) true false false cursor) (double_inside unicode limit indent None value)) render_quote
 
 steps-at : (unicode : Bool) (limit : Option ℕ) (indent : ℕ) (value : Text) (column : ℕ) (whitespace indention : Bool)
     → let cursor : Cursor = record { column = column; whitespace = whitespace; indention = indention } in
-    double_steps unicode limit indent value cursor ≡ double_quoted_laid unicode limit indent value cursor
+    double_steps unicode limit indent value cursor ≡ render_double_quoted unicode limit indent value cursor
 steps-at unicode limit indent value column true indention = refl
 steps-at unicode limit indent value column false indention = refl
 
 pub double-steps : (unicode : Bool) (limit : Option ℕ) (indent : ℕ) (value : Text) (cursor : Cursor)
-    → double_steps unicode limit indent value cursor ≡ double_quoted_laid unicode limit indent value cursor
+    → double_steps unicode limit indent value cursor ≡ render_double_quoted unicode limit indent value cursor
 double-steps unicode limit indent value cursor = steps-at unicode limit indent value cursor.column cursor.whitespace cursor.indention
 
 -- what was written reads back, and its later lines are indented
 pub double_back : (breaks12 unicode : Bool) (limit : Option ℕ) (indent : ℕ) (value : Text) {before after : Page} (answer : Result (Unit {0}) yaml_error_t)
     → 2 ≤ indent → all_scalars value ≡ true
-    → Wrote (double_quoted_laid unicode limit indent value) before after answer
+    → Wrote (render_double_quoted unicode limit indent value) before after answer
     → IfOk answer (λ _. ReadsBack (read_double breaks12) value before.text after.text)
 double_back breaks12 unicode limit indent value {before} {after} (Ok done) wide scalars wrote =
     body_back (read_double breaks12) value true (double_quoted_body unicode limit indent value)

@@ -7,7 +7,7 @@ use Rattle.std.specs.Char.{encode_utf8}
 use Rattle.std.specs.List.{list_all}
 use Rattle.std.specs.Prelude.{ℕ, Bool, true, Ok, Err, List, [], ◌∷◌, ◌++◌, drop, length, take}
 use Rattle.yaml_base.specs.Characters.{Text}
-use Rattle.yaml_base.specs.Cursor.{Cursor, Laid, next_column, text_laid, then_laid}
+use Rattle.yaml_base.specs.Cursor.{Cursor, Rendered, next_column, render_text, render_then}
 use Rattle.yaml_base.specs.declared.errors.yaml_error_t.{yaml_error_t}
 use Rattle.yaml_pen.proofs.Cuts.{chars-cut}
 use Rattle.yaml_pen.specs.Page.{Page}
@@ -16,100 +16,101 @@ use Rattle.yaml_scalar.proofs.StillToWrite.{StillToWrite, still_as, still_failed
 use Rattle.yaml_scalar.specs.WholeRuns.{IsRun, last_from}
 
 -- in a layout of what follows a character, those that pass a test stand for themselves, at each column
-pub record StandAlone (after : ℕ → Text → Cursor → Laid) (test : ℕ → Bool) (cursor : Cursor) : Type 0 where
+pub record StandAlone (after : ℕ → Text → Cursor → Rendered) (test : ℕ → Bool) (cursor : Cursor) : Type 0 where
   pub stands : (before c : ℕ) (rest : Text) (column : ℕ) → test c ≡ true
       → after before (c ∷ rest) (record cursor { column = column })
-      ≡ then_laid (text_laid (c ∷ []) (record cursor { column = column })) (after c rest)
+      ≡ render_then (render_text (c ∷ []) (record cursor { column = column })) (after c rest)
 
 -- and so does a run of them
-run_at : {after : ℕ → Text → Cursor → Laid} {test : ℕ → Bool} {cursor : Cursor} → StandAlone after test cursor
+run_at : {after : ℕ → Text → Cursor → Rendered} {test : ℕ → Bool} {cursor : Cursor} → StandAlone after test cursor
     → (before : ℕ) (run rest : Text) (column : ℕ) → list_all test run ≡ true
     → after before (run ++ rest) (record cursor { column = column })
-    ≡ then_laid (text_laid run (record cursor { column = column })) (after (last_from before run) rest)
+    ≡ render_then (render_text run (record cursor { column = column })) (after (last_from before run) rest)
 run_at alone before [] rest column h = refl
 run_at {after} {test} {cursor} alone before (c ∷ run) rest column h =
     let p = and_parts (test c) (list_all test run) h in
     alone.stands before c (run ++ rest) column p.0
-    ∙ ap (λ (l : Laid). let m : Laid = record { text = c ∷ l.text; cursor = l.cursor } in m) (run_at alone c run rest (next_column c column) p.1)
+    ∙ ap (λ (l : Rendered). let m : Rendered = record { text = c ∷ l.text; cursor = l.cursor } in m) (run_at alone c run rest (next_column c column) p.1)
 
 -- what is left begins with a character
-pub character_still : (layout : Text → Cursor → Laid) {whole : Cursor → Laid} (c : ℕ) (old new rest : List ℕ) {start here : Page}
+pub character_still : (layout : Text → Cursor → Rendered) {whole : Cursor → Rendered} (c : ℕ) (old new rest : List ℕ) {start here : Page}
     → IsUtf8 old → old ≡ encode_utf8 c ++ new → rest ≡ new → StillToWrite (layout (chars old)) whole start here
     → StillToWrite (layout (c ∷ chars rest)) whole start here
 character_still layout c old new rest is_text e same still =
     still_same layout (chars_past_char old rest c is_text (e ∙ ap (λ l. encode_utf8 c ++ l) (sym same))) still
 
 -- in a layout of what follows a character, a run stands for itself at a cursor
-pub record RunStands (after : ℕ → Text → Cursor → Laid) (run : Text) (cursor : Cursor) : Type 0 where
-  pub stands : (before : ℕ) (rest : Text) → after before (run ++ rest) cursor ≡ then_laid (text_laid run cursor) (after (last_from before run) rest)
+pub record RunStands (after : ℕ → Text → Cursor → Rendered) (run : Text) (cursor : Cursor) : Type 0 where
+  pub stands : (before : ℕ) (rest : Text) → after before (run ++ rest) cursor ≡ render_then (render_text run cursor) (after (last_from before run) rest)
 
 -- so does one whose characters each do
-each_stands : {after : ℕ → Text → Cursor → Laid} {test : ℕ → Bool} {cursor : Cursor} {before last size : ℕ} {bytes run : List ℕ}
+each_stands : {after : ℕ → Text → Cursor → Rendered} {test : ℕ → Bool} {cursor : Cursor} {before last size : ℕ} {bytes run : List ℕ}
     → StandAlone after test cursor → IsRun test before bytes size last → run ≡ take size bytes → RunStands after (chars run) cursor
-each_stands {after} {test} {cursor} {before} {last} {size} {bytes} {run} alone is front =
+each_stands {after} {test} {cursor} {before} {last} {size} {bytes} {run} alone is prefix =
     record {
-      stands = λ before rest. run_at alone before (chars run) rest cursor.column (ap (λ l. list_all test (chars l)) front ∙ is.all);
+      stands = λ before rest. run_at alone before (chars run) rest cursor.column (ap (λ l. list_all test (chars l)) prefix ∙ is.all);
     }
 
 -- before a run it is the run, and what follows it
-run_still : (after : ℕ → Text → Cursor → Laid) {test : ℕ → Bool} {whole : Cursor → Laid} {before last size : ℕ} {bytes run rest : List ℕ} {start here : Page}
+run_still : (after : ℕ → Text → Cursor → Rendered) {test : ℕ → Bool} {whole : Cursor
+    → Rendered} {before last size : ℕ} {bytes run rest : List ℕ} {start here : Page}
     → RunStands after (chars run) here.cursor
     → IsUtf8 bytes → IsRun test before bytes size last → run ≡ take size bytes → rest ≡ drop size bytes
     → StillToWrite (after before (chars bytes)) whole start here
-    → StillToWrite (λ cursor. then_laid (text_laid (chars run) cursor) (after last (chars rest))) whole start here
-run_still after {test} {whole} {before} {last} {size} {bytes} {run} {rest} {start} {here} alone is_text is front behind still =
-    let last_is : last_from before (chars run) ≡ last = ap (λ l. last_from before (chars l)) front ∙ sym is.last_is in
-    still_as (λ cursor. then_laid (text_laid (chars run) cursor) (after last (chars rest)))
-    (ap (λ t. after before t here.cursor) (chars-cut bytes run rest size is_text is.boundary front behind)
+    → StillToWrite (λ cursor. render_then (render_text (chars run) cursor) (after last (chars rest))) whole start here
+run_still after {test} {whole} {before} {last} {size} {bytes} {run} {rest} {start} {here} alone is_text is prefix behind still =
+    let last_is : last_from before (chars run) ≡ last = ap (λ l. last_from before (chars l)) prefix ∙ sym is.last_is in
+    still_as (λ cursor. render_then (render_text (chars run) cursor) (after last (chars rest)))
+    (ap (λ t. after before t here.cursor) (chars-cut bytes run rest size is_text is.boundary prefix behind)
     ∙ alone.stands before (chars rest)
-    ∙ ap (λ c. then_laid (text_laid (chars run) here.cursor) (after c (chars rest))) last_is)
+    ∙ ap (λ c. render_then (render_text (chars run) here.cursor) (after c (chars rest))) last_is)
     still
 
 -- a run that stands for itself and was written leaves what follows it
-pub standing_more : (after : ℕ → Text → Cursor → Laid) {test : ℕ → Bool} {whole : Cursor
-    → Laid} {before last size : ℕ} {bytes run rest : List ℕ} {start here later : Page}
+pub standing_more : (after : ℕ → Text → Cursor → Rendered) {test : ℕ → Bool} {whole : Cursor
+    → Rendered} {before last size : ℕ} {bytes run rest : List ℕ} {start here later : Page}
     → RunStands after (chars run) here.cursor
     → IsUtf8 bytes → IsRun test before bytes size last → run ≡ take size bytes → rest ≡ drop size bytes
     → StillToWrite (after before (chars bytes)) whole start here
-    → Wrote (text_laid (chars run)) here later (Ok tt)
+    → Wrote (render_text (chars run)) here later (Ok tt)
     → StillToWrite (after last (chars rest)) whole start later
-standing_more after stands is_text is front behind still wrote =
-    still_rest (run_still after stands is_text is front behind still) wrote
+standing_more after stands is_text is prefix behind still wrote =
+    still_rest (run_still after stands is_text is prefix behind still) wrote
 
 -- one that failed ends it
-pub standing_failed : (after : ℕ → Text → Cursor → Laid) {test : ℕ → Bool} {whole : Cursor → Laid} {before last size : ℕ} {bytes run : List ℕ}
+pub standing_failed : (after : ℕ → Text → Cursor → Rendered) {test : ℕ → Bool} {whole : Cursor → Rendered} {before last size : ℕ} {bytes run : List ℕ}
     (rest : List ℕ) {start here later : Page} {error : yaml_error_t}
     → RunStands after (chars run) here.cursor
     → IsUtf8 bytes → IsRun test before bytes size last → run ≡ take size bytes → rest ≡ drop size bytes
     → StillToWrite (after before (chars bytes)) whole start here
-    → Wrote (text_laid (chars run)) here later (Err error)
+    → Wrote (render_text (chars run)) here later (Err error)
     → Wrote whole start later (Err error)
-standing_failed after {test} {whole} {before} {last} rest stands is_text is front behind still wrote =
-    still_failed (after last (chars rest)) (run_still after stands is_text is front behind still) wrote
+standing_failed after {test} {whole} {before} {last} rest stands is_text is prefix behind still wrote =
+    still_failed (after last (chars rest)) (run_still after stands is_text is prefix behind still) wrote
 
 -- a run that was written leaves what follows it
-pub run_more : (after : ℕ → Text → Cursor → Laid) {test : ℕ → Bool} {whole : Cursor
-    → Laid} {before last size : ℕ} {bytes run rest : List ℕ} {start here later : Page}
+pub run_more : (after : ℕ → Text → Cursor → Rendered) {test : ℕ → Bool} {whole : Cursor
+    → Rendered} {before last size : ℕ} {bytes run rest : List ℕ} {start here later : Page}
     → StandAlone after test here.cursor
     → IsUtf8 bytes → IsRun test before bytes size last → run ≡ take size bytes → rest ≡ drop size bytes
     → StillToWrite (after before (chars bytes)) whole start here
-    → Wrote (text_laid (chars run)) here later (Ok tt)
+    → Wrote (render_text (chars run)) here later (Ok tt)
     → StillToWrite (after last (chars rest)) whole start later
-run_more after alone is_text is front behind still wrote =
-    standing_more after (each_stands alone is front) is_text is front behind still wrote
+run_more after alone is_text is prefix behind still wrote =
+    standing_more after (each_stands alone is prefix) is_text is prefix behind still wrote
 
 -- a run that failed ends it
-pub run_failed : (after : ℕ → Text → Cursor → Laid) {test : ℕ → Bool} {whole : Cursor → Laid} {before last size : ℕ} {bytes run : List ℕ}
+pub run_failed : (after : ℕ → Text → Cursor → Rendered) {test : ℕ → Bool} {whole : Cursor → Rendered} {before last size : ℕ} {bytes run : List ℕ}
     (rest : List ℕ) {start here later : Page} {error : yaml_error_t}
     → StandAlone after test here.cursor
     → IsUtf8 bytes → IsRun test before bytes size last → run ≡ take size bytes → rest ≡ drop size bytes
     → StillToWrite (after before (chars bytes)) whole start here
-    → Wrote (text_laid (chars run)) here later (Err error)
+    → Wrote (render_text (chars run)) here later (Err error)
     → Wrote whole start later (Err error)
-run_failed after rest alone is_text is front behind still wrote =
-    standing_failed after rest (each_stands alone is front) is_text is front behind still wrote
+run_failed after rest alone is_text is prefix behind still wrote =
+    standing_failed after rest (each_stands alone is prefix) is_text is prefix behind still wrote
 
 -- at the end nothing is left
-pub end_still : (layout : Text → Cursor → Laid) {whole : Cursor → Laid} (old : List ℕ) {start here : Page}
+pub end_still : (layout : Text → Cursor → Rendered) {whole : Cursor → Rendered} (old : List ℕ) {start here : Page}
     → length old ≡ 0 → StillToWrite (layout (chars old)) whole start here → StillToWrite (layout []) whole start here
 end_still layout old e still = still_same layout (ap chars (nil_from_length old e) ∙ chars-nil) still

@@ -1,4 +1,4 @@
--- A short text of ASCII is laid out as it is.
+-- A short text of ASCII is rendered as it is.
 use Rattle.std.proofs.Common.{◌≡◌, ◌∙◌, ap, sym, append-nil, IsUtf8}
 use Rattle.std.proofs.lemmas.List.{take_all}
 use Rattle.std.proofs.lemmas.Str.{encodes-IsAscii, encodes-chars}
@@ -6,12 +6,12 @@ use Rattle.std.specs.List.{list_all}
 use Rattle.std.specs.Prelude.{◌≤◌, ℕ, Bool, true, false, Option, None, List, [], length}
 use Rattle.std.specs.Str.{chars}
 use Rattle.yaml_base.specs.Characters.{Text}
-use Rattle.yaml_base.specs.Cursor.{Cursor, Laid, text_laid}
+use Rattle.yaml_base.specs.Cursor.{Cursor, Rendered, render_text}
 use Rattle.yaml_base.specs.scalars.DoubleQuoted.{double_inside}
 use Rattle.yaml_base.specs.scalars.Plain.{spaces}
-use Rattle.yaml_scalar.specs.ByteClasses.{IsFreeRun, Tells}
+use Rattle.yaml_scalar.specs.ByteClasses.{IsFreeRun, ImpliesTest}
 use Rattle.yaml_scalar.specs.EscapeBytes.{is_plain}
-use Rattle.yaml_scalar.specs.LineSteps.{steps_laid, written_as}
+use Rattle.yaml_scalar.specs.LineSteps.{render_steps, written_as}
 use Rattle.yaml_scalar.specs.ShortRuns.{IsShortLine, IsShortRun, most_short}
 use Rattle.yaml_scalar.specs.WholeRuns.{stays}
 use Rattle.yaml_scalar.proofs.ByteRuns.{free_passes}
@@ -25,29 +25,29 @@ plain_bytes text is_text all = sym (encodes-IsAscii (chars text) (plain-ascii (c
 
 -- a text that is one run of bytes of no class
 pub whole_run : {classes size : ℕ} {text : List ℕ} (test : ℕ → Bool) → IsUtf8 text → IsFreeRun classes text size → length text ≤ size
-    → length text ≤ most_short → Tells classes is_plain → Tells classes test → IsShortRun test text
+    → length text ≤ most_short → ImpliesTest classes is_plain → ImpliesTest classes test → IsShortRun test text
 whole_run {classes} {size} {text} test is_text free whole few plain tells =
-    let passes : (other : ℕ → Bool) → Tells classes other → list_all other (chars text) ≡ true =
+    let passes : (other : ℕ → Bool) → ImpliesTest classes other → list_all other (chars text) ≡ true =
     λ other by. ap (λ l. list_all other (chars l)) (sym (take_all size text whole)) ∙ free_passes by is_text free in
     let same = plain_bytes text is_text (passes is_plain plain) in
     record {
       few = few;
-      same = same;
+      ascii = same;
       plain = ap (list_all is_plain) (sym same) ∙ passes is_plain plain;
       all = ap (list_all test) (sym same) ∙ passes test tells;
     }
 
 -- a text that is one line
-pub short_line_laid : (quoted : Bool) (limit : Option ℕ) (indent : ℕ) (cursor : Cursor) {text : List ℕ} → IsShortLine limit quoted cursor text
-    → text_laid text cursor ≡ steps_laid (written_as quoted) limit indent spaces (chars text) cursor
-short_line_laid quoted limit indent cursor {text} is =
-    ap (λ (t : Text). let l : Laid = record { text = t; cursor = (text_laid text cursor).cursor } in l) (sym (append-nil text))
+pub short_line_rendered : (quoted : Bool) (limit : Option ℕ) (indent : ℕ) (cursor : Cursor) {text : List ℕ} → IsShortLine limit quoted cursor text
+    → render_text text cursor ≡ render_steps (written_as quoted) limit indent spaces (chars text) cursor
+short_line_rendered quoted limit indent cursor {text} is =
+    ap (λ (t : Text). let l : Rendered = record { text = t; cursor = (render_text text cursor).cursor } in l) (sym (append-nil text))
     ∙ sym (line_at quoted limit indent false 32 text [] cursor is.run.all (λ _. is.room))
-    ∙ ap (λ (t : Text). steps_laid (written_as quoted) limit indent spaces t cursor) (append-nil text ∙ sym is.run.same)
+    ∙ ap (λ (t : Text). render_steps (written_as quoted) limit indent spaces t cursor) (append-nil text ∙ sym is.run.ascii)
 
 -- a text between double quotes
-pub short_inside_laid : (unicode : Bool) (limit : Option ℕ) (indent : ℕ) (cursor : Cursor) {text : List ℕ} → IsShortRun (stays unicode limit) text
-    → text_laid text cursor ≡ double_inside unicode limit indent None (chars text) cursor
-short_inside_laid unicode limit indent cursor {text} is =
+pub short_inside_rendered : (unicode : Bool) (limit : Option ℕ) (indent : ℕ) (cursor : Cursor) {text : List ℕ} → IsShortRun (stays unicode limit) text
+    → render_text text cursor ≡ double_inside unicode limit indent None (chars text) cursor
+short_inside_rendered unicode limit indent cursor {text} is =
     sym (inside_stays unicode limit indent None text cursor is.all)
-    ∙ ap (λ (t : Text). double_inside unicode limit indent None t cursor) (sym is.same)
+    ∙ ap (λ (t : Text). double_inside unicode limit indent None t cursor) (sym is.ascii)

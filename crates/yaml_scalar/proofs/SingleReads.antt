@@ -7,25 +7,25 @@ use Rattle.std.proofs.lemmas.List.Folds.{list_any-append}
 use Rattle.yaml_base.specs.Characters.{Text, is_break}
 use Rattle.yaml_base.specs.Cursor.{Cursor}
 use Rattle.yaml_base.specs.Settings.{LineBreak}
-use Rattle.yaml_base.specs.LineBreaks.{is_indented_text, is_laid_text, with_breaks_written, with_line_breaks_read}
+use Rattle.yaml_base.specs.LineBreaks.{is_indented_text, is_rendered_text, with_breaks_written, with_line_breaks_read}
 use Rattle.yaml_base.specs.scalars.Analysis.{Charset, allows_single_quoted}
 use Rattle.yaml_base.specs.scalars.Plain.{spaces}
 use Rattle.yaml_base.specs.scalars.SingleQuoted.{quotes_doubled, single_quote, single_quoted_body}
 use Rattle.yaml_base.specs.reading.ReadFolding.{unit_of, folding_read}
 use Rattle.yaml_base.specs.reading.ReadSingle.{unquoted, read_single}
-use Rattle.yaml_base.proofs.BreakLaws.{breaks-round, indented-written, laid-append}
+use Rattle.yaml_base.proofs.BreakLaws.{breaks-round, indented-written, rendered-append}
 use Rattle.yaml_scalar.proofs.Unbroken.{is_unbroken}
 use Rattle.yaml_scalar.proofs.LineRuns.{WritesEach, runs_by_steps}
 use Rattle.yaml_scalar.proofs.LineTexts.{bare_steps, bare_written, any_bare, any_cond}
-use Rattle.yaml_scalar.proofs.LineFolds.{folding_reads, is_return, no_returns, laid_without_returns}
+use Rattle.yaml_scalar.proofs.LineFolds.{folding_reads, is_return, no_returns, rendered_without_returns}
 use Rattle.yaml_scalar.proofs.LineIndents.{lines_indented}
 
 -- quotes are doubled part by part
-doubled-joined : (front rest : Text) → quotes_doubled (front ++ rest) ≡ quotes_doubled front ++ quotes_doubled rest
+doubled-joined : (prefix rest : Text) → quotes_doubled (prefix ++ rest) ≡ quotes_doubled prefix ++ quotes_doubled rest
 doubled-joined [] rest = refl
-doubled-joined (c ∷ front) rest =
-    ap (λ (t : Text). (if c == 39 then 39 ∷ 39 ∷ [] else c ∷ []) ++ t) (doubled-joined front rest)
-    ∙ sym (append_assoc (if c == 39 then 39 ∷ 39 ∷ [] else c ∷ []) (quotes_doubled front) (quotes_doubled rest))
+doubled-joined (c ∷ prefix) rest =
+    ap (λ (t : Text). (if c == 39 then 39 ∷ 39 ∷ [] else c ∷ []) ++ t) (doubled-joined prefix rest)
+    ∙ sym (append_assoc (if c == 39 then 39 ∷ 39 ∷ [] else c ∷ []) (quotes_doubled prefix) (quotes_doubled rest))
 
 -- and no break comes from it
 doubled-unbroken : (c : ℕ) (quote : Bool) → is_break c ≡ false → is_unbroken ((if quote then 39 ∷ 39 ∷ [] else c ∷ []) ++ []) ≡ true
@@ -83,17 +83,17 @@ any_doubled test quote (c ∷ rest) clean =
     ∙ simp (any_cond test (c == 39) (39 ∷ 39 ∷ []) (c ∷ []) (simp quote) (simp parts.0), any_doubled test quote rest parts.1)
 
 -- a body holds neither CR nor U+0085
-pub single-laid :
+pub single-rendered :
     (charset : Charset) (limit : Option ℕ) (indent : ℕ) (value : Text) (cursor : Cursor) →
     allows_single_quoted charset value ≡ true →
-    is_laid_text (single_quoted_body limit indent value cursor).text ≡ true
-single-laid charset limit indent value cursor allowed =
+    is_rendered_text (single_quoted_body limit indent value cursor).text ≡ true
+single-rendered charset limit indent value cursor allowed =
     let clean = no_returns charset value (not-true _ allowed) in
     let bare = any_bare is_return refl refl quotes_doubled limit indent spaces value (single_quote cursor).cursor clean in
-    let doubled = laid_without_returns (quotes_doubled (inside limit indent value cursor))
+    let doubled = rendered_without_returns (quotes_doubled (inside limit indent value cursor))
     (any_doubled is_return refl (inside limit indent value cursor) bare) in
-    ap is_laid_text (body-inside limit indent value cursor)
-    ∙ laid-append (quotes_doubled (inside limit indent value cursor)) (39 ∷ []) doubled refl
+    ap is_rendered_text (body-inside limit indent value cursor)
+    ∙ rendered-append (quotes_doubled (inside limit indent value cursor)) (39 ∷ []) doubled refl
 
 -- a body, however its line breaks are written, reads as the value
 pub single-reads :
@@ -107,7 +107,7 @@ single-reads charset limit indent value cursor setting allowed =
     let text = inside limit indent value cursor in
     let folded = λ (t : Text). folding_read (map (unit_of charset.breaks12) t) in
     ap (read_single charset.breaks12)
-    (breaks-round setting body (single-laid charset limit indent value cursor allowed) ∙ body-inside limit indent value cursor)
+    (breaks-round setting body (single-rendered charset limit indent value cursor allowed) ∙ body-inside limit indent value cursor)
     ∙ (ap (option_map folded) (unquoted-doubled text)
     ∙ ap (λ (t : Text). Some t)
     (folding_reads charset quotes_doubled limit indent value (single_quote cursor).cursor (not-true _ allowed)))

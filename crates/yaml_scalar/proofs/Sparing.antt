@@ -6,9 +6,9 @@ use Rattle.std.specs.List.{list_all, list_any}
 use Rattle.std.proofs.lemmas.Bool.{agree_below_at, and_from, and_parts}
 use Rattle.std.proofs.lemmas.List.Folds.{list_all-append}
 use Rattle.yaml_base.specs.Characters.{Text, is_between, hex_digit, hex_digits, is_space, line_feed, space}
-use Rattle.yaml_base.specs.Cursor.{Cursor, breaks_line, is_past_width, new_line, text_laid}
+use Rattle.yaml_base.specs.Cursor.{Cursor, breaks_line, is_past_width, new_line, render_text}
 use Rattle.yaml_base.specs.scalars.DoubleQuoted.{ShortEscape, backslash, character_text, double_character, double_fold, double_inside, double_quoted_body}
-use Rattle.yaml_base.specs.scalars.DoubleQuoted.{escape_after_backslash, escape_text, letter_among, may_fold, needs_escape, quote, quote_laid, short_escapes}
+use Rattle.yaml_base.specs.scalars.DoubleQuoted.{escape_after_backslash, escape_text, letter_among, may_fold, needs_escape, quote, render_quote, short_escapes}
 use Rattle.yaml_base.specs.scalars.DoubleQuoted.{space_kept}
 use Rattle.yaml_base.specs.scalars.Plain.{plain_body, spaces}
 use Rattle.yaml_base.specs.scalars.SingleQuoted.{quotes_doubled, single_quote, single_quoted_body}
@@ -131,7 +131,7 @@ module _ (test : ℕ → Bool) (spares : Spares test) where
         any_both test (double_character unicode limit indent before c rest cursor).text _
         (by (is_space c && may_fold before rest && is_past_width limit cursor)) (lacks_inside limit indent (Some c) rest _)
       where
-        by : (b : Bool) → list_any test (if b then double_fold indent rest cursor else text_laid (character_text unicode c) cursor).text ≡ false
+        by : (b : Bool) → list_any test (if b then double_fold indent rest cursor else render_text (character_text unicode c) cursor).text ≡ false
         by true = any_both test (new_line indent cursor).text (space_kept rest) (lacks_line indent cursor) (lacks_kept rest)
         by false = lacks_character c
 
@@ -141,5 +141,5 @@ module _ (test : ℕ → Bool) (spares : Spares test) where
     lacks_double limit indent value cursor =
         let quote_spared : test quote ≡ false = spares.graph quote refl in
         any_one test quote _ quote_spared
-        (any_both test (double_inside unicode limit indent None value (quote_laid cursor).cursor).text (quote ∷ [])
-        (lacks_inside limit indent None value (quote_laid cursor).cursor) (any_one test quote [] quote_spared refl))
+        (any_both test (double_inside unicode limit indent None value (render_quote cursor).cursor).text (quote ∷ [])
+        (lacks_inside limit indent None value (render_quote cursor).cursor) (any_one test quote [] quote_spared refl))

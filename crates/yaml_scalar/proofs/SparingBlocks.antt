@@ -11,8 +11,8 @@ use Rattle.yaml_base.specs.Cursor.{Cursor}
 use Rattle.yaml_base.specs.scalars.BlockHeader.{Ending, without_break, one_break, more_breaks, ending, begins_blank, ending_hint, block_body}
 use Rattle.yaml_base.specs.scalars.Lines.{Part, line, line_break, begun, parts}
 use Rattle.yaml_base.specs.scalars.Literal.{indented, literal_body}
-use Rattle.yaml_base.specs.scalars.Folded.{cut_from, cut_line, folded_body, folded_parts, folds, next_even}
-use Rattle.yaml_scalar.proofs.blocks.BlockReads.{block-text, digit_text, sign_of}
+use Rattle.yaml_base.specs.scalars.Folded.{cut_from, cut_line, folded_body, folded_parts, folds, next_line_unindented}
+use Rattle.yaml_scalar.proofs.blocks.BlockReads.{block-text, digit_text, block_indicator_of}
 use Rattle.yaml_scalar.proofs.LineTexts.{any_both, any_one}
 use Rattle.yaml_scalar.proofs.PlainReads.{plain_bars, plain_is_single}
 use Rattle.yaml_scalar.proofs.Sparing.{Spares, is_graph, lacks_spaces}
@@ -29,10 +29,10 @@ module _ (test : ℕ → Bool) where
   PartsLack (line_break b ∷ rest) = (test b ≡ false) × PartsLack rest
 
   -- parts after parts
-  lacks_joined : (front rest : List Part) → PartsLack front → PartsLack rest → PartsLack (front ++ rest)
+  lacks_joined : (prefix rest : List Part) → PartsLack prefix → PartsLack rest → PartsLack (prefix ++ rest)
   lacks_joined [] rest h k = k
-  lacks_joined (line text ∷ front) rest h k = (h.0, lacks_joined front rest h.1 k)
-  lacks_joined (line_break b ∷ front) rest h k = (h.0, lacks_joined front rest h.1 k)
+  lacks_joined (line text ∷ prefix) rest h k = (h.0, lacks_joined prefix rest h.1 k)
+  lacks_joined (line_break b ∷ prefix) rest h k = (h.0, lacks_joined prefix rest h.1 k)
 
   -- a character before parts
   lacks_begun : (c : ℕ) (ps : List Part) → test c ≡ false → PartsLack ps → PartsLack (begun c ps)
@@ -90,7 +90,7 @@ module _ (test : ℕ → Bool) where
         lacks_joined (cut_line limit indent text) _ (lacks_cut_line limit indent text h.0)
         (lacks_folded_parts limit indent (not (begins_with is_space text)) rest h.1)
     lacks_folded_parts limit indent after_even (line_break b ∷ rest) h =
-        lacks_twice (after_even && b == line_feed && next_even rest) b (folded_parts limit indent false rest) h.0
+        lacks_twice (after_even && b == line_feed && next_line_unindented rest) b (folded_parts limit indent false rest) h.0
         (lacks_folded_parts limit indent false rest h.1)
 
     -- parts with their indentation
@@ -101,7 +101,7 @@ module _ (test : ℕ → Bool) where
         (any_both test (replicate indent space) text (lacks_spaces test spares indent) h.0) (lacks_indented indent rest h.1)
     lacks_indented indent (line_break b ∷ rest) h = any_one test b (indented indent rest) h.0 (lacks_indented indent rest h.1)
 
-    -- the sign of a value's end
+    -- the indicator of a value's end
     lacks_hint : (e : Ending) → list_any test (ending_hint e) ≡ false
     lacks_hint without_break = any_one test 45 [] (spares.graph 45 refl) refl
     lacks_hint one_break = refl
@@ -112,19 +112,19 @@ module _ (test : ℕ → Bool) where
     lacks_digit true n high = any_one test (48 + n) [] (spares.graph (48 + n) (one_digit n high)) refl
     lacks_digit false n high = refl
 
-    -- a style's sign
-    lacks_sign : (folded : Bool) → test (sign_of folded) ≡ false
-    lacks_sign true = spares.graph 62 refl
-    lacks_sign false = spares.graph 124 refl
+    -- a style's indicator
+    lacks_indicator : (folded : Bool) → test (block_indicator_of folded) ≡ false
+    lacks_indicator true = spares.graph 62 refl
+    lacks_indicator false = spares.graph 124 refl
 
     -- a header and lines
     lacks_block : (folded : Bool) (best_indent : ℕ) (value lines : Text) (cursor : Cursor) → best_indent ≤ 9 → list_any test lines ≡ false
-        → list_any test (block_body (sign_of folded) best_indent value lines cursor).text ≡ false
+        → list_any test (block_body (block_indicator_of folded) best_indent value lines cursor).text ≡ false
     lacks_block folded best_indent value lines cursor high h =
         let digit = digit_text (begins_blank value) best_indent in
         let hint = ending_hint (ending value) in
-        ap (list_any test) (block-text (sign_of folded) best_indent value lines cursor)
-        ∙ any_one test (sign_of folded) ((digit ++ hint) ++ line_feed ∷ lines) (lacks_sign folded)
+        ap (list_any test) (block-text (block_indicator_of folded) best_indent value lines cursor)
+        ∙ any_one test (block_indicator_of folded) ((digit ++ hint) ++ line_feed ∷ lines) (lacks_indicator folded)
         (any_both test (digit ++ hint) (line_feed ∷ lines)
         (any_both test digit hint (lacks_digit (begins_blank value) best_indent high) (lacks_hint (ending value)))
         (any_one test line_feed lines spares.feed h))

@@ -1,4 +1,4 @@
--- A character that stays in its line is laid out as itself.
+-- A character that stays in its line is rendered as itself.
 use Rattle.std.proofs.Common.{◌≡◌, ◌∙◌, refl, ap, arith, subst, sym, IsUtf8}
 use Rattle.std.proofs.lemmas.Bool.{and_parts, not-true, or_parts}
 use Rattle.std.proofs.lemmas.Bool.Decides.{nat_tests}
@@ -10,9 +10,9 @@ use lib.Utf8.{encodes}
 use Rattle.std.specs.Prelude.{ℕ, zero, suc, Bool, true, false, Option, None, Some, List, [], ◌∷◌, ◌++◌, ◌==◌, ◌||◌, ◌&&◌, ◌+◌, ◌<◌, ◌≤◌, length, take}
 use Rattle.std.specs.Prelude.{if◌then◌else◌}
 use Rattle.yaml_base.specs.Characters.{Text, is_break, is_space}
-use Rattle.yaml_base.specs.Cursor.{Cursor, Laid, is_past_width, next_column, text_laid, then_laid}
+use Rattle.yaml_base.specs.Cursor.{Cursor, Rendered, is_past_width, next_column, render_text, render_then}
 use Rattle.yaml_base.specs.scalars.Plain.{Kind, spaces, breaks, others, kind_of}
-use Rattle.yaml_scalar.specs.LineSteps.{step_text, steps_laid, written_as}
+use Rattle.yaml_scalar.specs.LineSteps.{step_text, render_steps, written_as}
 use Rattle.yaml_scalar.specs.WholeRuns.{HasRoom, IsLineRun, last_from, stays_in_line}
 use Rattle.yaml_scalar.proofs.LinesWritten.{written_each}
 use Rattle.yaml_scalar.proofs.RunsWritten.{RunStands}
@@ -46,8 +46,8 @@ step_kept quoted past indent before c rest false true e f g = cc
 step_kept quoted past indent before c rest false false e f g = other_kept quoted c g
 
 -- what follows a character in plain and single-quoted lines
-abbrev pub lines_after : (quoted : Bool) (limit : Option ℕ) (indent : ℕ) → ℕ → Text → Cursor → Laid
-lines_after quoted limit indent before = steps_laid (written_as quoted) limit indent (kind_of before)
+abbrev pub lines_after : (quoted : Bool) (limit : Option ℕ) (indent : ℕ) → ℕ → Text → Cursor → Rendered
+lines_after quoted limit indent before = render_steps (written_as quoted) limit indent (kind_of before)
 
 -- a space of a run is not past the width
 unpast : (folds is_space past : Bool) → (is_space && folds) ≡ false → (folds ≡ false → past ≡ false) → (is_space && past) ≡ false
@@ -75,11 +75,11 @@ pub room_less : (limit : Option ℕ) (column count less : ℕ) → less ≤ coun
 room_less None column count less le h = tt
 room_less (Some width) column count less le h = omega arith
 
--- characters that stay, with room for them or no space among them, are laid out as themselves
+-- characters that stay, with room for them or no space among them, are rendered as themselves
 pub line_at : (quoted : Bool) (limit : Option ℕ) (indent : ℕ) (folds : Bool) (before : ℕ) (run rest : Text) (cursor : Cursor)
     → list_all (stays_in_line folds quoted) run ≡ true → (folds ≡ false → HasRoom limit cursor.column (length run))
     → lines_after quoted limit indent before (run ++ rest) cursor
-    ≡ then_laid (text_laid run cursor) (lines_after quoted limit indent (last_from before run) rest)
+    ≡ render_then (render_text run cursor) (lines_after quoted limit indent (last_from before run) rest)
 line_at quoted limit indent folds before [] rest cursor h room = refl
 line_at quoted limit indent folds before (c ∷ run) rest cursor h room =
     let p = and_parts (stays_in_line folds quoted c) (list_all (stays_in_line folds quoted) run) h in
@@ -89,8 +89,8 @@ line_at quoted limit indent folds before (c ∷ run) rest cursor h room =
     (unpast folds (is_space c) past is.no_fold (λ e. room_past limit cursor (length run) (room e))) is.no_quote in
     let next : Cursor = record cursor { column = next_column c cursor.column } in
     let column : next_column c cursor.column ≡ cursor.column + 1 = ap (λ (b : Bool). if b then 0 else cursor.column + 1) is.no_break in
-    ap (λ (t : Text). then_laid (text_laid t cursor) (steps_laid (written_as quoted) limit indent (kind_of c) (run ++ rest))) kept
-    ∙ ap (λ (l : Laid). let m : Laid = record { text = c ∷ l.text; cursor = l.cursor } in m)
+    ap (λ (t : Text). render_then (render_text t cursor) (render_steps (written_as quoted) limit indent (kind_of c) (run ++ rest))) kept
+    ∙ ap (λ (l : Rendered). let m : Rendered = record { text = c ∷ l.text; cursor = l.cursor } in m)
     (line_at quoted limit indent folds c run rest next p.1
     (λ e. subst (λ n. HasRoom limit n (length run)) (sym column) (room_next limit cursor.column (length run) (room e))))
 
@@ -105,10 +105,10 @@ few_characters bytes size is_text boundary =
 pub line_stands : (quoted : Bool) (limit : Option ℕ) (indent : ℕ) (cursor : Cursor) {before last size : ℕ} {bytes run : List ℕ}
     → IsUtf8 bytes → (is : IsLineRun limit quoted cursor before bytes size last) → run ≡ take size bytes
     → RunStands (lines_after quoted limit indent) (chars run) cursor
-line_stands quoted limit indent cursor {before} {last} {size} {bytes} {run} is_text is front =
-    let few : length (chars run) ≤ size = subst (λ l. length (chars l) ≤ size) (sym front) (few_characters bytes size is_text is.run.boundary) in
+line_stands quoted limit indent cursor {before} {last} {size} {bytes} {run} is_text is prefix =
+    let few : length (chars run) ≤ size = subst (λ l. length (chars l) ≤ size) (sym prefix) (few_characters bytes size is_text is.run.boundary) in
     record {
       stands = λ before rest.
-          line_at quoted limit indent is.folds before (chars run) rest cursor (ap (λ l. list_all (stays_in_line is.folds quoted) (chars l)) front ∙ is.run.all)
+          line_at quoted limit indent is.folds before (chars run) rest cursor (ap (λ l. list_all (stays_in_line is.folds quoted) (chars l)) prefix ∙ is.run.all)
           (λ e. room_less limit cursor.column size (length (chars run)) few (is.room e));
     }

@@ -6,13 +6,13 @@ use Rattle.yaml_base.specs.scalars.Analysis.{Charset, allows_block, bars_block, 
 use Rattle.yaml_base.specs.Characters.{Text, is_break, is_space, line_feed, space}
 use Rattle.yaml_base.specs.Cursor.{Cursor}
 use Rattle.yaml_base.specs.scalars.BlockHeader.{Ending, without_break, one_break, more_breaks, ending, begins_blank, ending_hint, block_body}
-use Rattle.yaml_base.specs.scalars.Folded.{cut_from, cut_line, folded_body, folded_parts, folds, next_even}
+use Rattle.yaml_base.specs.scalars.Folded.{cut_from, cut_line, folded_body, folded_parts, folds, next_line_unindented}
 use Rattle.yaml_base.specs.LineBreaks.{is_read_break}
 use Rattle.yaml_base.specs.scalars.Lines.{Part, line, line_break, begun, parts}
 use Rattle.yaml_base.specs.scalars.Literal.{indented, literal_body}
 use Rattle.yaml_base.specs.reading.TidyText.{begins_with_blank_line, begins_with_deep_line, begins_with_spaces, has_deep_lines}
 use Rattle.yaml_scalar.proofs.blocks.BlockFolds.{fold-spaced}
-use Rattle.yaml_scalar.proofs.blocks.BlockReads.{block-text, digit_text, ordinary, sign_of}
+use Rattle.yaml_scalar.proofs.blocks.BlockReads.{block-text, digit_text, ordinary, block_indicator_of}
 use Rattle.yaml_scalar.proofs.DeepLines.{Unbroken, deep_after, deep_break, deep_unbroken, enough_spaces, space_unbroken, spaces_unbroken}
 use Rattle.yaml_scalar.proofs.Sparing.{is_graph}
 use Rattle.yaml_scalar.proofs.SparingBlocks.{one_digit}
@@ -73,7 +73,7 @@ module _ (breaks12 : Bool) where
 
     -- the header
 
-    -- the sign of a value's end breaks no line
+    -- the indicator of a value's end breaks no line
     hint_unbroken : (e : Ending) → Unbroken breaks12 (ending_hint e)
     hint_unbroken without_break = (graph_no_break breaks12 45 refl, tt)
     hint_unbroken one_break = tt
@@ -84,22 +84,22 @@ module _ (breaks12 : Bool) where
     digit_unbroken true n h = (graph_no_break breaks12 (48 + n) h, tt)
     digit_unbroken false n h = tt
 
-    -- nor a style's sign
-    sign_unbroken : (folded : Bool) → is_read_break breaks12 (sign_of folded) ≡ false
-    sign_unbroken true = graph_no_break breaks12 62 refl
-    sign_unbroken false = graph_no_break breaks12 124 refl
+    -- nor a style's indicator
+    indicator_unbroken : (folded : Bool) → is_read_break breaks12 (block_indicator_of folded) ≡ false
+    indicator_unbroken true = graph_no_break breaks12 62 refl
+    indicator_unbroken false = graph_no_break breaks12 124 refl
 
     -- a header and such lines
     block_deep : (folded : Bool) (best_indent : ℕ) (value : Text) (ps : List Part) (cursor : Cursor) → is_graph (48 + best_indent) ≡ true → AreFull ps
-        → has_deep_lines breaks12 count (block_body (sign_of folded) best_indent value (indented indent ps) cursor).text ≡ true
+        → has_deep_lines breaks12 count (block_body (block_indicator_of folded) best_indent value (indented indent ps) cursor).text ≡ true
     block_deep folded best_indent value ps cursor digit full =
         let lines = indented indent ps in
         let number = digit_text (begins_blank value) best_indent in
         let hint = ending_hint (ending value) in
         ap (has_deep_lines breaks12 count)
-        (block-text (sign_of folded) best_indent value lines cursor
-        ∙ ap (λ (t : Text). sign_of folded ∷ t) (append_assoc number hint (line_feed ∷ lines)))
-        ∙ deep_unbroken breaks12 count (sign_of folded ∷ []) (number ++ (hint ++ line_feed ∷ lines)) (sign_unbroken folded, tt)
+        (block-text (block_indicator_of folded) best_indent value lines cursor
+        ∙ ap (λ (t : Text). block_indicator_of folded ∷ t) (append_assoc number hint (line_feed ∷ lines)))
+        ∙ deep_unbroken breaks12 count (block_indicator_of folded ∷ []) (number ++ (hint ++ line_feed ∷ lines)) (indicator_unbroken folded, tt)
         (deep_unbroken breaks12 count number (hint ++ line_feed ∷ lines) (digit_unbroken (begins_blank value) best_indent digit)
         (deep_unbroken breaks12 count hint (line_feed ∷ lines) (hint_unbroken (ending value))
         (deep_after breaks12 count line_feed lines (lines_begin ps full) (lines_deep ps full))))
@@ -232,10 +232,10 @@ module _ (breaks12 : Bool) where
           cut_full text (cut_from limit indent indent text) e (ended_not_empty text ends) (cut_known limit indent indent text u (ended_or text ends))
 
   -- full parts after full parts
-  full_joined : (front rest : List Part) → AreFull front → AreFull rest → AreFull (front ++ rest)
+  full_joined : (prefix rest : List Part) → AreFull prefix → AreFull rest → AreFull (prefix ++ rest)
   full_joined [] rest h k = k
-  full_joined (line text ∷ front) rest h k = (h.0, h.1, full_joined front rest h.2 k)
-  full_joined (line_break b ∷ front) rest h k = (h.0, full_joined front rest h.1 k)
+  full_joined (line text ∷ prefix) rest h k = (h.0, h.1, full_joined prefix rest h.2 k)
+  full_joined (line_break b ∷ prefix) rest h k = (h.0, full_joined prefix rest h.1 k)
 
   -- a break once or twice before full parts
   full_twice : (twice : Bool) (b : ℕ) (further : List Part) → is_read_break breaks12 b ≡ true → AreFull further
@@ -250,7 +250,8 @@ module _ (breaks12 : Bool) where
       full_joined (cut_line limit indent text) _ (line_full limit indent text h.0 h.1)
       (folded_full limit indent (not (begins_with is_space text)) rest h.2)
   folded_full limit indent after_even (line_break b ∷ rest) h =
-      full_twice (after_even && b == line_feed && next_even rest) b (folded_parts limit indent false rest) h.0 (folded_full limit indent false rest h.1)
+      full_twice (after_even && b == line_feed && next_line_unindented rest) b (folded_parts limit indent false rest) h.0
+      (folded_full limit indent false rest h.1)
 
 -- A value that block styles may hold.
 module _ (charset : Charset) where

@@ -6,13 +6,13 @@ use Rattle.std.proofs.lemmas.Bool.{and_from, and_parts, eqb-true, false≢true, 
 use Rattle.yaml_base.specs.scalars.Analysis.{Charset, allows_plain, allows_single_quoted, bars_plain, bars_single_quoted, begins_unlike_plain, begins_with}
 use Rattle.yaml_base.specs.scalars.Analysis.{is_empty, is_special, somewhere}
 use Rattle.yaml_base.specs.Characters.{Text, is_break, is_space, line_feed, space}
-use Rattle.yaml_base.specs.Cursor.{Cursor, text_laid, is_past_width}
+use Rattle.yaml_base.specs.Cursor.{Cursor, render_text, is_past_width}
 use Rattle.yaml_base.specs.LineBreaks.{is_read_break}
 use Rattle.yaml_base.specs.scalars.Plain.{Kind, spaces, breaks, others, kind_of, is_same_kind, indentation, plain_body}
 use Rattle.yaml_base.specs.reading.ReadPlain.{is_read_white}
 use Rattle.yaml_base.specs.scalars.SingleQuoted.{quotes_doubled, single_quote, single_quoted_body}
 use Rattle.yaml_base.specs.reading.TidyText.{begins_with_break, ends_white, has_clean_edges}
-use Rattle.yaml_scalar.specs.LineSteps.{begins_kind, step_text, steps_laid}
+use Rattle.yaml_scalar.specs.LineSteps.{begins_kind, step_text, render_steps}
 use Rattle.yaml_scalar.proofs.blocks.BlockReads.{ordinary}
 use Rattle.yaml_scalar.proofs.DeepLines.{AllInk, BeginsInk, Ink, IsEven, deep_break, even_break, even_ink, even_line, even_nothing, even_space, ink_unbroken}
 use Rattle.yaml_scalar.proofs.DeepLines.{space_unbroken}
@@ -88,7 +88,7 @@ quote_ink false = record { no_space = refl; no_break = refl }
 module _ (charset : Charset) (count indent : ℕ) (enough : count ≤ indent) (closed : Bool) where
   -- what is known of a value's lines from some character on, up to the closing quote
   record LinesEven (before : Kind) (value text : Text) : Type 0 where
-    pub is_even : IsEven charset.breaks12 count text
+    pub begins_unindented : IsEven charset.breaks12 count text
     pub ink : next_ink closed value ≡ true → BeginsInk charset.breaks12 text
     pub unbroken : is_same_kind before spaces ≡ true → begins_kind breaks value ≡ false → begins_with_break charset.breaks12 text ≡ false
     pub broken : is_same_kind before breaks ≡ true → begins_kind breaks value ≡ true → begins_with_break charset.breaks12 text ≡ true
@@ -107,7 +107,7 @@ module _ (charset : Charset) (count indent : ℕ) (enough : count ≤ indent) (c
 
   lines_end : (before : Kind) → LinesEven before [] (ending_quote closed)
   lines_end before = record {
-    is_even = even_end closed;
+    begins_unindented = even_end closed;
     ink = ink_end closed;
     unbroken = λ e k. unbroken_end closed;
     broken = λ e k. absurd (false≢true k);
@@ -117,7 +117,7 @@ module _ (charset : Charset) (count indent : ℕ) (enough : count ≤ indent) (c
   space_folded : (before : Kind) (rest text : Text) → is_same_kind before spaces ≡ false → next_ink closed rest ≡ true → LinesEven spaces rest text
       → LinesEven before (space ∷ rest) (line_feed ∷ (indentation indent ++ text))
   space_folded before rest text other next ih = record {
-    is_even = even_line charset.breaks12 count indent line_feed text enough refl (ih.ink next) ih.is_even;
+    begins_unindented = even_line charset.breaks12 count indent line_feed text enough refl (ih.ink next) ih.begins_unindented;
     ink = λ e. absurd (false≢true e);
     unbroken = λ e k. absurd (false≢true (sym other ∙ e));
     broken = λ e k. absurd (false≢true k);
@@ -127,7 +127,7 @@ module _ (charset : Charset) (count indent : ℕ) (enough : count ≤ indent) (c
   space_kept : (before : Kind) (rest text : Text) → begins_kind breaks rest ≡ false → LinesEven spaces rest text
       → LinesEven before (space ∷ rest) (space ∷ text)
   space_kept before rest text next ih = record {
-    is_even = even_space charset.breaks12 count text (ih.unbroken refl next) ih.is_even;
+    begins_unindented = even_space charset.breaks12 count text (ih.unbroken refl next) ih.begins_unindented;
     ink = λ e. absurd (false≢true e);
     unbroken = λ e k. space_unbroken charset.breaks12;
     broken = λ e k. absurd (false≢true k);
@@ -137,7 +137,7 @@ module _ (charset : Charset) (count indent : ℕ) (enough : count ≤ indent) (c
   break_begins : (before : Kind) (c : ℕ) (rest text : Text) → kind_of c ≡ breaks → is_read_break charset.breaks12 c ≡ true
       → IsEven charset.breaks12 count (c ∷ text) → LinesEven before (c ∷ rest) (c ∷ text)
   break_begins before c rest text k brk even = record {
-    is_even = even;
+    begins_unindented = even;
     ink = λ e. absurd (false≢true (ap (is_same_kind others) (sym k) ∙ e));
     unbroken = λ e none. absurd (true≢false (ap (is_same_kind breaks) (sym k) ∙ none));
     broken = λ e h. brk;
@@ -148,7 +148,7 @@ module _ (charset : Charset) (count indent : ℕ) (enough : count ≤ indent) (c
       → LinesEven before (c ∷ rest) (c ∷ text) → LinesEven before (c ∷ rest) ((if twice then line_feed ∷ [] else []) ++ (c ∷ text))
   break_doubled false before c rest text k brk h = h
   break_doubled true before c rest text k brk h = record {
-    is_even = even_break charset.breaks12 count line_feed (c ∷ text) refl (deep_break charset.breaks12 count (c ∷ text) brk) h.is_even;
+    begins_unindented = even_break charset.breaks12 count line_feed (c ∷ text) refl (deep_break charset.breaks12 count (c ∷ text) brk) h.begins_unindented;
     ink = λ e. absurd (false≢true (ap (is_same_kind others) (sym k) ∙ e));
     unbroken = λ e none. absurd (true≢false (ap (is_same_kind breaks) (sym k) ∙ none));
     broken = λ e h. refl;
@@ -160,19 +160,19 @@ module _ (charset : Charset) (count indent : ℕ) (enough : count ≤ indent) (c
       → LinesEven before (c ∷ rest) (c ∷ ((if goes_on then [] else indentation indent) ++ text))
   break_line true before c rest text k brk e next ih =
       break_begins before c rest text k brk
-      (even_break charset.breaks12 count c text brk (deep_break charset.breaks12 count text (ih.broken refl e)) ih.is_even)
+      (even_break charset.breaks12 count c text brk (deep_break charset.breaks12 count text (ih.broken refl e)) ih.begins_unindented)
   break_line false before c rest text k brk e next ih =
       break_begins before c rest (indentation indent ++ text) k brk
-      (even_line charset.breaks12 count indent c text enough brk (ih.ink (next refl)) ih.is_even)
+      (even_line charset.breaks12 count indent c text enough brk (ih.ink (next refl)) ih.begins_unindented)
 
   -- another character
-  other_begins : (before : Kind) (c : ℕ) (rest front text : Text) → kind_of c ≡ others → AllInk charset.breaks12 front
-      → BeginsInk charset.breaks12 (front ++ text)
-      → LinesEven others rest text → LinesEven before (c ∷ rest) (front ++ text)
-  other_begins before c rest front text k inks begins ih = record {
-    is_even = even_ink charset.breaks12 count front text inks ih.is_even;
+  other_begins : (before : Kind) (c : ℕ) (rest prefix text : Text) → kind_of c ≡ others → AllInk charset.breaks12 prefix
+      → BeginsInk charset.breaks12 (prefix ++ text)
+      → LinesEven others rest text → LinesEven before (c ∷ rest) (prefix ++ text)
+  other_begins before c rest prefix text k inks begins ih = record {
+    begins_unindented = even_ink charset.breaks12 count prefix text inks ih.begins_unindented;
     ink = λ e. begins;
-    unbroken = λ e none. ink_unbroken charset.breaks12 (front ++ text) begins;
+    unbroken = λ e none. ink_unbroken charset.breaks12 (prefix ++ text) begins;
     broken = λ e h. absurd (false≢true (ap (is_same_kind breaks) (sym k) ∙ h));
   }
 
@@ -230,13 +230,13 @@ module _ (charset : Charset) (count indent : ℕ) (enough : count ≤ indent) (c
 
     -- the lines of a value that quotes may hold
     lines_even : (limit : Option ℕ) (before : Kind) (value : Text) (cursor : Cursor) → somewhere (bars_single_quoted charset) value ≡ false
-        → ends_closed closed value ≡ true → LinesEven before value ((steps_laid written limit indent before value cursor).text ++ ending_quote closed)
+        → ends_closed closed value ≡ true → LinesEven before value ((render_steps written limit indent before value cursor).text ++ ending_quote closed)
     lines_even limit before [] cursor clean ends = lines_end before
     lines_even limit before (c ∷ rest) cursor clean ends =
         let folds = is_past_width limit cursor in
         let step = step_text written folds indent before (kind_of c) c rest in
-        let later = (text_laid step cursor).cursor in
-        let more = (steps_laid written limit indent (kind_of c) rest later).text in
+        let later = (render_text step cursor).cursor in
+        let more = (render_steps written limit indent (kind_of c) rest later).text in
         let parts = or_parts (bars_single_quoted charset c rest) (somewhere (bars_single_quoted charset) rest) clean in
         rw (append_assoc step more (ending_quote closed))
         (step_even folds before (kind_of c) c rest (more ++ ending_quote closed) refl parts.0 ends
@@ -272,7 +272,7 @@ single_even charset count limit indent value cursor enough allowed =
     quotes_doubled = record { inks = doubled_inks charset.breaks12; begins = doubled_begins charset.breaks12 } in
     let inside = lines_even charset count indent enough true quotes_doubled each limit spaces value after (not-true _ allowed) (ends_always value) in
     rw (runs_by_steps quotes_doubled doubled_writes limit indent value after)
-    (even_ink charset.breaks12 count (39 ∷ []) _ (quote_ink charset.breaks12, tt) inside.is_even)
+    (even_ink charset.breaks12 count (39 ∷ []) _ (quote_ink charset.breaks12, tt) inside.begins_unindented)
 
 -- Plain.
 
@@ -289,16 +289,16 @@ pub plain_even : (charset : Charset) (flow : Bool) (count : ℕ) (limit : Option
 plain_even charset flow count limit indent value cursor enough allowed =
     let bars = plain_bars charset flow value allowed in
     let each : InksEach charset count indent enough false (λ text. text) = record { inks = λ c ink. (ink, tt); begins = λ c text ink. ink } in
-    let text = (steps_laid (λ text. text) limit indent spaces value cursor).text in
+    let text = (render_steps (λ text. text) limit indent spaces value cursor).text in
     let lines = lines_even charset count indent enough false (λ text. text) each limit spaces value cursor (plain_is_single charset flow value bars)
     (plain_ends charset flow value bars) in
-    rw (runs_by_steps (λ text. text) itself_writes limit indent value cursor) (subst (IsEven charset.breaks12 count) (append-nil text) lines.is_even)
+    rw (runs_by_steps (λ text. text) itself_writes limit indent value cursor) (subst (IsEven charset.breaks12 count) (append-nil text) lines.begins_unindented)
 
 -- a text that isn't empty ends as what it ends with
-ends_append : (breaks12 : Bool) (front : Text) (c : ℕ) (rest : Text) → ends_white breaks12 (front ++ c ∷ rest) ≡ ends_white breaks12 (c ∷ rest)
+ends_append : (breaks12 : Bool) (prefix : Text) (c : ℕ) (rest : Text) → ends_white breaks12 (prefix ++ c ∷ rest) ≡ ends_white breaks12 (c ∷ rest)
 ends_append breaks12 [] c rest = refl
 ends_append breaks12 (x ∷ []) c rest = refl
-ends_append breaks12 (x ∷ y ∷ front) c rest = ends_append breaks12 (y ∷ front) c rest
+ends_append breaks12 (x ∷ y ∷ prefix) c rest = ends_append breaks12 (y ∷ prefix) c rest
 
 -- some text that ends with no blank and no break
 record EndsInk (breaks12 : Bool) (text : Text) : Type 0 where
@@ -307,12 +307,12 @@ record EndsInk (breaks12 : Bool) (text : Text) : Type 0 where
   pub is : text ≡ first ∷ more
   pub ends : ends_white breaks12 text ≡ false
 
-ends_after : (breaks12 : Bool) (front text : Text) (c : ℕ) (rest : Text) → front ≡ c ∷ rest → EndsInk breaks12 text → EndsInk breaks12 (front ++ text)
-ends_after breaks12 front text c rest e h = record {
+ends_after : (breaks12 : Bool) (prefix text : Text) (c : ℕ) (rest : Text) → prefix ≡ c ∷ rest → EndsInk breaks12 text → EndsInk breaks12 (prefix ++ text)
+ends_after breaks12 prefix text c rest e h = record {
   first = c;
   more = rest ++ text;
   is = ap (λ (t : Text). t ++ text) e;
-  ends = ap (λ (t : Text). ends_white breaks12 (front ++ t)) h.is ∙ ends_append breaks12 front h.first h.more ∙ ap (ends_white breaks12) (sym h.is) ∙ h.ends;
+  ends = ap (λ (t : Text). ends_white breaks12 (prefix ++ t)) h.is ∙ ends_append breaks12 prefix h.first h.more ∙ ap (ends_white breaks12) (sym h.is) ∙ h.ends;
 }
 
 -- a step of plain text holds a character
@@ -361,7 +361,7 @@ plain_kind charset flow c rest h s =
 
 -- a value's lines end as the value does
 lines_end_ink : (charset : Charset) (flow : Bool) (limit : Option ℕ) (indent : ℕ) (before : Kind) (c : ℕ) (rest : Text) (cursor : Cursor)
-    → somewhere (bars_plain charset flow) (c ∷ rest) ≡ false → EndsInk charset.breaks12 (steps_laid (λ t. t) limit indent before (c ∷ rest) cursor).text
+    → somewhere (bars_plain charset flow) (c ∷ rest) ≡ false → EndsInk charset.breaks12 (render_steps (λ t. t) limit indent before (c ∷ rest) cursor).text
 lines_end_ink charset flow limit indent before c [] cursor h =
     let bars = (or_parts _ _ h).0 in
     let s = plain_last charset flow c bars in
@@ -373,7 +373,7 @@ lines_end_ink charset flow limit indent before c (d ∷ rest) cursor h =
     let step = step_text (λ t. t) folds indent before (kind_of c) c (d ∷ rest) in
     let some = step_some folds indent before (kind_of c) c (d ∷ rest) in
     ends_after charset.breaks12 step _ some.0 some.1 some.2
-    (lines_end_ink charset flow limit indent (kind_of c) d rest (text_laid step cursor).cursor (or_parts _ _ h).1)
+    (lines_end_ink charset flow limit indent (kind_of c) d rest (render_text step cursor).cursor (or_parts _ _ h).1)
 
 edges_of : (breaks12 : Bool) (c : ℕ) (rest : Text) → is_read_white breaks12 c ≡ false → ends_white breaks12 (c ∷ rest) ≡ false
     → has_clean_edges breaks12 (c ∷ rest) ≡ true
@@ -381,14 +381,14 @@ edges_of breaks12 c rest h k = and_from _ _ (ap not h) (ap not k)
 
 lines_edges : (charset : Charset) (flow : Bool) (limit : Option ℕ) (indent : ℕ) (value : Text) (cursor : Cursor)
     → somewhere (bars_plain charset flow) value ≡ false
-    → begins_unlike_plain value ≡ false → has_clean_edges charset.breaks12 (steps_laid (λ t. t) limit indent spaces value cursor).text ≡ true
+    → begins_unlike_plain value ≡ false → has_clean_edges charset.breaks12 (render_steps (λ t. t) limit indent spaces value cursor).text ≡ true
 lines_edges charset flow limit indent [] cursor h begins = refl
 lines_edges charset flow limit indent (c ∷ rest) cursor h begins =
     let bars = (or_parts _ _ h).0 in
     let s : is_space c ≡ false = (or_parts _ _ (or_parts _ _ (or_parts _ _ begins).0).0).0 in
     let k = plain_kind charset flow c rest bars s in
     let ends = (lines_end_ink charset flow limit indent spaces c rest cursor h).ends in
-    let more = (steps_laid (λ t. t) limit indent others rest (text_laid (c ∷ []) cursor).cursor).text in
+    let more = (render_steps (λ t. t) limit indent others rest (render_text (c ∷ []) cursor).cursor).text in
     rw k (edges_of charset.breaks12 c more (plain_white charset flow c rest bars s) (rw k at ends))
 
 -- a plain body has no blank and no break at its edges

@@ -6,7 +6,7 @@ use Rattle.std.proofs.lemmas.Bool.Decides.{nat_tests}
 use Rattle.std.specs.Prelude.{Option, None, Some, ◌&&◌, ◌==◌, replicate, if◌then◌else◌}
 use Rattle.std.specs.List.{list_all}
 use Rattle.yaml_base.specs.Characters.{Text, is_space, line_feed, space}
-use Rattle.yaml_base.specs.Cursor.{Cursor, Laid, breaks_line, is_past_width, text_laid, then_laid}
+use Rattle.yaml_base.specs.Cursor.{Cursor, Rendered, breaks_line, is_past_width, render_text, render_then}
 use Rattle.yaml_base.specs.scalars.DoubleQuoted.{backslash, character_text, double_fold, double_inside, double_quoted_body, escape_text, is_other, may_fold}
 use Rattle.yaml_base.specs.scalars.DoubleQuoted.{needs_escape, quote, space_kept}
 use Rattle.yaml_base.specs.LineBreaks.{is_read_break}
@@ -52,7 +52,7 @@ module _ (breaks12 unicode : Bool) (count indent : ℕ) (enough : count ≤ inde
 
   -- what is known of a value's text from some character on, up to the closing quote
   record QuotedEven (before : Option ℕ) (value text : Text) : Type 0 where
-    pub is_even : IsEven breaks12 count text
+    pub begins_unindented : IsEven breaks12 count text
     pub unbroken : is_other before ≡ false → begins_with_break breaks12 text ≡ false
     pub kept_even : is_other before ≡ false → IsEven breaks12 count (space_kept value ++ text)
     pub kept : is_other before ≡ false → BeginsInk breaks12 (space_kept value ++ text)
@@ -62,16 +62,16 @@ module _ (breaks12 unicode : Bool) (count indent : ℕ) (enough : count ≤ inde
   quoted_end before =
       let ink = graph_ink breaks12 quote refl in
       let even = even_ink breaks12 count (quote ∷ []) [] (ink, tt) (even_nothing breaks12 count) in
-      record { is_even = even; unbroken = λ e. ink.no_break; kept_even = λ e. even; kept = λ e. ink }
+      record { begins_unindented = even; unbroken = λ e. ink.no_break; kept_even = λ e. even; kept = λ e. ink }
 
   -- a character that is no space
   quoted_other : (before : Option ℕ) (c : ℕ) (rest text : Text) → is_space c ≡ false → QuotedEven (Some c) rest text
       → QuotedEven before (c ∷ rest) (character_text unicode c ++ text)
   quoted_other before c rest text s ih =
-      let even = even_ink breaks12 count (character_text unicode c) text (character_inks c s) ih.is_even in
+      let even = even_ink breaks12 count (character_text unicode c) text (character_inks c s) ih.begins_unindented in
       let begins = character_begins c text s in
       record {
-        is_even = even;
+        begins_unindented = even;
         unbroken = λ e. ink_unbroken breaks12 (character_text unicode c ++ text) begins;
         kept_even = λ e. rw s even;
         kept = λ e. rw s begins;
@@ -80,10 +80,10 @@ module _ (breaks12 unicode : Bool) (count indent : ℕ) (enough : count ≤ inde
   -- a space that stays
   quoted_space : (before : Option ℕ) (rest text : Text) → QuotedEven (Some space) rest text → QuotedEven before (space ∷ rest) (space ∷ text)
   quoted_space before rest text ih =
-      let even = even_space breaks12 count text (ih.unbroken refl) ih.is_even in
+      let even = even_space breaks12 count text (ih.unbroken refl) ih.begins_unindented in
       let ink = graph_ink breaks12 backslash refl in
       record {
-        is_even = even;
+        begins_unindented = even;
         unbroken = λ e. space_unbroken breaks12;
         kept_even = λ e. even_ink breaks12 count (backslash ∷ []) (space ∷ text) (ink, tt) even;
         kept = λ e. ink;
@@ -97,7 +97,7 @@ module _ (breaks12 unicode : Bool) (count indent : ℕ) (enough : count ≤ inde
       let regroup : ((line_feed ∷ spaces) ++ space_kept rest) ++ text
       ≡ line_feed ∷ (spaces ++ (space_kept rest ++ text)) = ap (λ t. line_feed ∷ t) (append_assoc spaces (space_kept rest) text) in
       subst (λ (t : Text). QuotedEven before (space ∷ rest) t) (sym regroup) (record {
-        is_even = even_line breaks12 count indent line_feed (space_kept rest ++ text) enough refl (ih.kept refl) (ih.kept_even refl);
+        begins_unindented = even_line breaks12 count indent line_feed (space_kept rest ++ text) enough refl (ih.kept refl) (ih.kept_even refl);
         unbroken = λ e. absurd (true≢false (sym other ∙ e));
         kept_even = λ e. absurd (true≢false (sym other ∙ e));
         kept = λ e. absurd (true≢false (sym other ∙ e));
@@ -109,10 +109,10 @@ module _ (breaks12 unicode : Bool) (count indent : ℕ) (enough : count ≤ inde
     Follows c rest = (next : Cursor) → Fits indent (Some c) next
         → QuotedEven (Some c) rest ((double_inside unicode limit indent (Some c) rest next).text ++ quote ∷ [])
 
-    -- a character, laid so, and what follows it
-    abbrev Goes : (before : Option ℕ) (rest : Text) → Laid → ℕ → Type 0
-    Goes before rest laid c = Follows c rest
-        → QuotedEven before (c ∷ rest) ((then_laid laid (double_inside unicode limit indent (Some c) rest)).text ++ quote ∷ [])
+    -- a character, rendered so, and what follows it
+    abbrev Goes : (before : Option ℕ) (rest : Text) → Rendered → ℕ → Type 0
+    Goes before rest rendered c = Follows c rest
+        → QuotedEven before (c ∷ rest) ((render_then rendered (double_inside unicode limit indent (Some c) rest)).text ++ quote ∷ [])
 
     -- a fold
     fold_goes : (before : Option ℕ) (rest : Text) (cursor : Cursor) → is_other before ≡ true → breaks_line indent cursor ≡ true
@@ -128,16 +128,16 @@ module _ (breaks12 unicode : Bool) (count indent : ℕ) (enough : count ≤ inde
 
     -- a space that stays
     space_goes : (before : Option ℕ) (rest : Text) (cursor : Cursor) → Fits indent before cursor
-        → Goes before rest (text_laid (character_text unicode space) cursor) space
+        → Goes before rest (render_text (character_text unicode space) cursor) space
     space_goes before rest cursor fits ih =
-        let next = ih (text_laid (character_text unicode space) cursor).cursor (fits-character unicode indent before space cursor fits) in
+        let next = ih (render_text (character_text unicode space) cursor).cursor (fits-character unicode indent before space cursor fits) in
         rw (space-text unicode) (quoted_space before rest _ (rw (space-text unicode) at next))
 
     -- another character
     other_goes : (before : Option ℕ) (c : ℕ) (rest : Text) (cursor : Cursor) → is_space c ≡ false → Fits indent before cursor
-        → Goes before rest (text_laid (character_text unicode c) cursor) c
+        → Goes before rest (render_text (character_text unicode c) cursor) c
     other_goes before c rest cursor s fits ih =
-        let next : Cursor = (text_laid (character_text unicode c) cursor).cursor in
+        let next : Cursor = (render_text (character_text unicode c) cursor).cursor in
         let more = (double_inside unicode limit indent (Some c) rest next).text in
         subst (λ (t : Text). QuotedEven before (c ∷ rest) t) (sym (append_assoc (character_text unicode c) more (quote ∷ [])))
         (quoted_other before c rest (more ++ quote ∷ []) s (ih next (fits-character unicode indent before c cursor fits)))
@@ -145,7 +145,7 @@ module _ (breaks12 unicode : Bool) (count indent : ℕ) (enough : count ≤ inde
     -- one character and what follows it
     quoted_step : (before : Option ℕ) (c : ℕ) (rest : Text) (cursor : Cursor) (folds spaced : Bool)
         → (is_space c && may_fold before rest && is_past_width limit cursor) ≡ folds → is_space c ≡ spaced → Fits indent before cursor
-        → Goes before rest (if folds then double_fold indent rest cursor else text_laid (character_text unicode c) cursor) c
+        → Goes before rest (if folds then double_fold indent rest cursor else render_text (character_text unicode c) cursor) c
     quoted_step before c rest cursor true spaced is is_s fits ih =
         let p : ((is_space c && may_fold before rest) ≡ true) × (is_past_width limit cursor ≡ true) = and_parts _ _ is in
         let q : (is_space c ≡ true) × (may_fold before rest ≡ true) = and_parts _ _ p.0 in
@@ -155,7 +155,7 @@ module _ (breaks12 unicode : Bool) (count indent : ℕ) (enough : count ≤ inde
         subst (Goes before rest (double_fold indent rest cursor)) (sym e) (fold_goes before rest cursor other breaks) ih
     quoted_step before c rest cursor false true is is_s fits ih =
         let e : c ≡ space = eqb-true c space is_s in
-        subst (λ (k : ℕ). Goes before rest (text_laid (character_text unicode k) cursor) k) (sym e) (space_goes before rest cursor fits) ih
+        subst (λ (k : ℕ). Goes before rest (render_text (character_text unicode k) cursor) k) (sym e) (space_goes before rest cursor fits) ih
     quoted_step before c rest cursor false false is is_s fits ih = other_goes before c rest cursor is_s fits ih
 
     -- all that stands between the quotes, and the closing one
@@ -171,4 +171,4 @@ pub double_even : (breaks12 unicode : Bool) (count : ℕ) (limit : Option ℕ) (
 double_even breaks12 unicode count limit indent value cursor enough =
     let inside = quoted_inside breaks12 unicode count indent enough limit value None (quoted_cursor cursor) (inl (and_right cursor.indention false refl)) in
     even_ink breaks12 count (quote ∷ []) ((double_inside unicode limit indent None value (quoted_cursor cursor)).text ++ quote ∷ [])
-    (graph_ink breaks12 quote refl, tt) inside.is_even
+    (graph_ink breaks12 quote refl, tt) inside.begins_unindented

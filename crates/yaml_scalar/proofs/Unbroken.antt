@@ -8,7 +8,7 @@ use Rattle.yaml_base.specs.Characters.{paragraph_separator, space}
 use Rattle.yaml_base.specs.Cursor.{column_after}
 use Rattle.yaml_base.specs.scalars.DoubleQuoted.{ShortEscape, backslash, character_text, escape_after_backslash, escape_text, letter_among, needs_escape, quote}
 use Rattle.yaml_base.specs.scalars.DoubleQuoted.{short_escapes}
-use Rattle.yaml_base.specs.LineBreaks.{is_indented_text, is_laid_text}
+use Rattle.yaml_base.specs.LineBreaks.{is_indented_text, is_rendered_text}
 
 -- no character of the text is a break
 abbrev pub is_unbroken : Text → Bool
@@ -41,13 +41,13 @@ second-and-third false true c d e h = cc
 second-and-third false false true d e h = cc
 second-and-third false false false d e h = refl
 
-pub unbroken-laid : (text : Text) → is_unbroken text ≡ true → is_laid_text text ≡ true
-unbroken-laid [] h = refl
-unbroken-laid (c ∷ rest) h =
+pub unbroken-rendered : (text : Text) → is_unbroken text ≡ true → is_rendered_text text ≡ true
+unbroken-rendered [] h = refl
+unbroken-rendered (c ∷ rest) h =
     let p : (not (is_break c) ≡ true) × (is_unbroken rest ≡ true) = and_parts _ _ h in
     let q : is_break c ≡ false = not-true _ p.0 in
     and_from _ _ (second-and-third (c == line_feed) (c == carriage_return) (c == next_line) (c == line_separator) (c == paragraph_separator) q)
-    (unbroken-laid rest p.1)
+    (unbroken-rendered rest p.1)
 
 -- lines behind such a text are as they are
 pub unbroken-indented : (a b : Text) → is_unbroken a ≡ true → is_indented_text b ≡ true → is_indented_text (a ++ b) ≡ true

@@ -9,7 +9,7 @@ use Rattle.yaml_base.specs.scalars.Analysis.{Allowances, Charset, allowances, be
 use Rattle.yaml_base.specs.Characters.{Text, is_between, is_space, space}
 use Rattle.yaml_base.specs.Cursor.{Cursor}
 use Rattle.yaml_scalar.specs.Barred.{Barred, allowed_by, barred_by, barred_in, either, is_ordinary, is_quiet, none_barred}
-use Rattle.yaml_scalar.specs.ByteClasses.{Tells, is_free}
+use Rattle.yaml_scalar.specs.ByteClasses.{ImpliesTest, is_free}
 use Rattle.yaml_scalar.specs.EscapeBytes.{is_plain}
 use Rattle.yaml_scalar.specs.ShortRuns.{IsShortLine, IsShortRun}
 use Rattle.yaml_scalar.specs.UsualTexts.{IsUsual, all_allowed, has_usual_ends, is_usual_character}
@@ -43,7 +43,7 @@ pub usual_characters : {text : List ℕ} → IsUtf8 text → list_all (is_free 5
 usual_characters is_text = free_characters 57 is_usual_character refl refl usual_is_ascii is_text
 
 -- and of other tests
-quiet_tells : (unicode breaks12 : Bool) → Tells 57 (is_quiet (record { unicode = unicode; breaks12 = breaks12 }))
+quiet_tells : (unicode breaks12 : Bool) → ImpliesTest 57 (is_quiet (record { unicode = unicode; breaks12 = breaks12 }))
 quiet_tells true true = ascii_only_tells 57 (is_quiet (record { unicode = true; breaks12 = true })) refl refl
 quiet_tells true false = ascii_only_tells 57 (is_quiet (record { unicode = true; breaks12 = false })) refl refl
 quiet_tells false true = ascii_only_tells 57 (is_quiet (record { unicode = false; breaks12 = true })) refl refl
@@ -63,14 +63,14 @@ none_allowed [] first = cc
 none_allowed (c ∷ rest) first = rw (ordinary_plain c rest first) refl
 
 pub usual : {text : List ℕ} → has_usual_ends text ≡ true
-    → ((test : ℕ → Bool) → Tells 57 is_plain → Tells 57 test → IsShortRun test text) → IsUsual text
+    → ((test : ℕ → Bool) → ImpliesTest 57 is_plain → ImpliesTest 57 test → IsShortRun test text) → IsUsual text
 usual {text} ends run =
     let p = and_parts (begins_with is_ordinary text) (not (is_space (last_from 0 text))) ends in
     let told = ascii_only_tells 57 is_plain refl refl in
     record {
       allows = λ charset.
           let quiet = run (is_quiet charset) told (quiet_tells charset.unicode charset.breaks12) in
-          ap (allowances charset) quiet.same
+          ap (allowances charset) quiet.ascii
           ∙ allowed_whole charset text
           ∙ ap (λ (b : Barred). allowed_by b text) (bars_none charset text quiet.all (not-true _ p.1))
           ∙ none_allowed text p.0;

@@ -9,9 +9,9 @@ use Rattle.std.specs.Str.{IsCharBoundary, chars}
 use Rattle.yaml_base.specs.Characters.{Text, is_break}
 use Rattle.yaml_scalar.specs.WholeRuns.{IsRun, has_limit, last_from}
 
-pub last-more : (before : ℕ) (front : Text) (c : ℕ) → last_from before (front ++ c ∷ []) ≡ c
+pub last-more : (before : ℕ) (prefix : Text) (c : ℕ) → last_from before (prefix ++ c ∷ []) ≡ c
 last-more before [] c = refl
-last-more before (d ∷ front) c = last-more d front c
+last-more before (d ∷ prefix) c = last-more d prefix c
 
 -- a run holds no break where no character that passes is one
 all_unbroken : (test : ℕ → Bool) → ((c : ℕ) → test c ≡ true → is_break c ≡ false) → (text : Text) → list_all test text ≡ true → list_any is_break text ≡ false
@@ -22,8 +22,8 @@ all_unbroken test none (c ∷ rest) h =
 
 pub run_unbroken : (test : ℕ → Bool) → ((c : ℕ) → test c ≡ true → is_break c ≡ false) → {before size last : ℕ} {text run : List ℕ}
     → IsRun test before text size last → run ≡ take size text → list_any is_break (chars run) ≡ false
-run_unbroken test none {before} {size} {last} {text} {run} is front =
-    ap (λ l. list_any is_break (chars l)) front ∙ all_unbroken test none (chars (take size text)) is.all
+run_unbroken test none {before} {size} {last} {text} {run} is prefix =
+    ap (λ l. list_any is_break (chars l)) prefix ∙ all_unbroken test none (chars (take size text)) is.all
 
 -- the run of no character
 pub no_run : (test : ℕ → Bool) (before : ℕ) (text : List ℕ) → IsUtf8 text → IsRun test before text 0 before
@@ -41,18 +41,18 @@ no_fold past none true false limit h = refl
 no_fold past none true true None h = none
 no_fold past none true true (Some width) h = cc
 
--- a run of a front of a text is one of the text
-pub run_in_front : (test : ℕ → Bool) (before : ℕ) (text front : List ℕ) (place size last : ℕ) → IsUtf8 text → IsCharBoundary text place
-    → front ≡ take place text
-    → IsRun test before front size last → IsRun test before text size last
-run_in_front test before text front place size last is_text boundary e is =
-    let within : length front ≡ place = ap length e ∙ length-take-le place text boundary.0 in
+-- a run of a prefix of a text is one of the text
+pub run_in_prefix : (test : ℕ → Bool) (before : ℕ) (text prefix : List ℕ) (place size last : ℕ) → IsUtf8 text → IsCharBoundary text place
+    → prefix ≡ take place text
+    → IsRun test before prefix size last → IsRun test before text size last
+run_in_prefix test before text prefix place size last is_text boundary e is =
+    let within : length prefix ≡ place = ap length e ∙ length-take-le place text boundary.0 in
     let few : size ≤ place = omega (arith, within, is.boundary.0) in
-    let same : take size front ≡ take size text = ap (take size) e ∙ take-take size place text few in
-    let front_text : IsUtf8 front = subst IsUtf8 (sym e) (IsUtf8-take text place is_text boundary) in
+    let same : take size prefix ≡ take size text = ap (take size) e ∙ take-take size place text few in
+    let prefix_text : IsUtf8 prefix = subst IsUtf8 (sym e) (IsUtf8-take text place is_text boundary) in
     record {
       boundary = IsCharBoundary-from_take text size is_text (omega (arith, few, boundary.0))
-          (subst IsUtf8 same (IsUtf8-take front size front_text is.boundary));
+          (subst IsUtf8 same (IsUtf8-take prefix size prefix_text is.boundary));
       all = ap (λ l. list_all test (chars l)) (sym same) ∙ is.all;
       last_is = is.last_is ∙ ap (λ l. last_from before (chars l)) same;
     }

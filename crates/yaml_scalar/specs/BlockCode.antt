@@ -18,7 +18,7 @@ seen_ending WithoutBreak = layout.without_break
 seen_ending OneBreak = layout.one_break
 seen_ending MoreBreaks = layout.more_breaks
 
--- an answer without the open mark
-abbrev pub without_mark : Result ℤ yaml_error_t → Result (Unit {0}) yaml_error_t
-without_mark (Ok mark) = Ok tt
-without_mark (Err error) = Err error
+-- an answer without the open-ended state
+abbrev pub without_open_ended : Result ℤ yaml_error_t → Result (Unit {0}) yaml_error_t
+without_open_ended (Ok open_ended) = Ok tt
+without_open_ended (Err error) = Err error

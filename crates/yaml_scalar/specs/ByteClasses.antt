@@ -25,5 +25,5 @@ pub record IsFreeRun (classes : ℕ) (text : List ℕ) (size : ℕ) : Type 0 whe
   pub stops : size < length text → is_free classes (slice_index text size) ≡ false
 
 -- a character passes a test where none of its bytes is of these classes
-abbrev pub Tells : (classes : ℕ) → (ℕ → Bool) → Type 0
-Tells classes test = (c : ℕ) → IsScalar c → list_all (is_free classes) (encode_utf8 c) ≡ true → test c ≡ true
+abbrev pub ImpliesTest : (classes : ℕ) → (ℕ → Bool) → Type 0
+ImpliesTest classes test = (c : ℕ) → IsScalar c → list_all (is_free classes) (encode_utf8 c) ≡ true → test c ≡ true

@@ -10,4 +10,4 @@ pub mod ShortRuns
 pub mod UsualTexts
 pub mod ByteClasses
 pub mod EscapeBytes
-pub mod Gathered
+pub mod Batch

@@ -2,7 +2,7 @@
 use Rattle.std.specs.Prelude.{ℕ, Bool, true, false, Option, [], ◌∷◌, ◌++◌, ◌==◌, ◌||◌, ◌&&◌, not, if◌then◌else◌}
 use Rattle.yaml_base.specs.scalars.Analysis.{is_empty}
 use Rattle.yaml_base.specs.Characters.{Text, line_feed}
-use Rattle.yaml_base.specs.Cursor.{Cursor, Laid, is_past_width, nothing_laid, text_laid, then_laid}
+use Rattle.yaml_base.specs.Cursor.{Cursor, Rendered, is_past_width, render_nothing, render_text, render_then}
 use Rattle.yaml_base.specs.scalars.Plain.{Kind, spaces, breaks, others, indentation, is_same_kind, kind_of}
 use Rattle.yaml_base.specs.scalars.SingleQuoted.{quotes_doubled}
 use Rattle.yaml_scalar.specs.declared.lines.CharacterKind.{CharacterKind}
@@ -37,14 +37,14 @@ step_text written folds indent before breaks c rest =
 step_text written folds indent before others c rest = written (c ∷ [])
 
 -- what one character of a value becomes, by what was before and what follows
-abbrev pub step_laid :
-    (written : Text → Text) (limit : Option ℕ) (indent : ℕ) (before : Kind) (c : ℕ) (rest : Text) → Cursor → Laid
-step_laid written limit indent before c rest cursor =
-    text_laid (step_text written (is_past_width limit cursor) indent before (kind_of c) c rest) cursor
+abbrev pub render_step :
+    (written : Text → Text) (limit : Option ℕ) (indent : ℕ) (before : Kind) (c : ℕ) (rest : Text) → Cursor → Rendered
+render_step written limit indent before c rest cursor =
+    render_text (step_text written (is_past_width limit cursor) indent before (kind_of c) c rest) cursor
 
 -- a value from some character on; its start counts as if a space stood before it
-abbrev pub steps_laid :
-    (written : Text → Text) (limit : Option ℕ) (indent : ℕ) (before : Kind) → Text → Cursor → Laid
-steps_laid written limit indent before [] cursor = nothing_laid cursor
-steps_laid written limit indent before (c ∷ rest) cursor =
-    then_laid (step_laid written limit indent before c rest cursor) (steps_laid written limit indent (kind_of c) rest)
+abbrev pub render_steps :
+    (written : Text → Text) (limit : Option ℕ) (indent : ℕ) (before : Kind) → Text → Cursor → Rendered
+render_steps written limit indent before [] cursor = render_nothing cursor
+render_steps written limit indent before (c ∷ rest) cursor =
+    render_then (render_step written limit indent before c rest cursor) (render_steps written limit indent (kind_of c) rest)

@@ -13,7 +13,7 @@ most_short = 512
 -- a short text whose characters are its bytes; none is a break, and all pass a test
 pub record IsShortRun (test : ℕ → Bool) (text : List ℕ) : Type 0 where
   pub few : length text ≤ most_short
-  pub same : chars text ≡ text
+  pub ascii : chars text ≡ text
   pub plain : list_all is_plain text ≡ true
   pub all : list_all test text ≡ true
 

@@ -21,7 +21,7 @@ pub record IsUsual (text : List ℕ) : Type 0 where
 abbrev pub has_usual_ends : List ℕ → Bool
 has_usual_ends text = begins_with is_ordinary text && not (is_space (last_from 0 text))
 
--- printable ASCII but the signs that may end a plain scalar
+-- printable ASCII but the indicators that may end a plain scalar
 abbrev pub is_usual_character : ℕ → Bool
 is_usual_character c = is_between 0x20 0x7E c && not (c == 35 || is_among (codes ",?:[]{}") c)
 

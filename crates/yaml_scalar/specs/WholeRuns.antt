@@ -29,7 +29,7 @@ abbrev pub last_from : ℕ → Text → ℕ
 last_from before [] = before
 last_from before (c ∷ rest) = last_from c rest
 
--- a front of a text, by its length in bytes, whose characters all pass a test; and the last character up to
+-- a prefix of a text, by its length in bytes, whose characters all pass a test; and the last character up to
 -- its end, from the one before the text on
 pub record IsRun (test : ℕ → Bool) (before : ℕ) (text : List ℕ) (length last : ℕ) : Type 0 where
   pub boundary : IsCharBoundary text length

@@ -5,10 +5,10 @@ ghost use Rattle.std.specs.Str.{IsUtf8, chars};
 ghost use Rattle.yaml_base.specs.scalars.Analysis as spec;
 ghost use Rattle.yaml_base.specs.Characters as class;
 ghost use Rattle.yaml_scalar.specs.Barred.{all_styles, allowed_by, barred_by, barred_by_space, barred_in, either, is_ordinary, is_quiet, seen_barred};
-ghost use Rattle.yaml_scalar.specs.ByteClasses.{Tells};
+ghost use Rattle.yaml_scalar.specs.ByteClasses.{ImpliesTest};
 ghost use Rattle.yaml_scalar.specs.ScalarData.{ChooseAlike, is_flow, seen_charset, seen_data};
 
-use crate::classes::{BREAK, SIGN, UNPRINTABLE, WIDE, free_length, last_of};
+use crate::classes::{BREAK, INDICATOR, UNPRINTABLE, WIDE, free_length, last_of};
 use yaml_base::{is_ascii, is_blank, is_break, is_printable, is_space};
 
 /// The styles that a scalar's value allows.
@@ -158,19 +158,19 @@ fn is_indicator(c: char) -> bool
 }
 
 /// Whether three characters are `---` or `...`.
-fn is_mark(a: char, b: char, c: char) -> bool
+fn is_open_ended(a: char, b: char, c: char) -> bool
     ensures { result ≡ (a == 45 || a == 46) && b == a && c == a }
 {
     (a == '-' || a == '.') && b == a && c == a
 }
 
 /// Whether a text begins with `---` or `...`.
-fn begins_like_mark(value: &str) -> bool
-    ensures { result ≡ spec.begins_like_mark (chars value.now) }
+fn begins_like_marker(value: &str) -> bool
+    ensures { result ≡ spec.begins_like_marker (chars value.now) }
 {
     let mut chars = value.chars();
     match (chars.next(), chars.next(), chars.next()) {
-        (Some(a), Some(b), Some(c)) => is_mark(a, b, c),
+        (Some(a), Some(b), Some(c)) => is_open_ended(a, b, c),
         _ => false,
     }
 }
@@ -184,10 +184,10 @@ fn stands_alone(c: char, rest: &str) -> bool
 
 /// Whether a value, which begins with `c` before `rest`, begins as no plain text may.
 fn first_bars_plain(value: &str, c: char, rest: &str) -> bool
-    ensures { result ≡ (class.is_space c || spec.begins_like_mark (chars value.now) || spec.is_indicator c
+    ensures { result ≡ (class.is_space c || spec.begins_like_marker (chars value.now) || spec.is_indicator c
         || (class.is_among (codes "?:-") c && spec.ends_word (chars rest.now))) }
 {
-    is_space(c) || begins_like_mark(value) || is_indicator(c) || stands_alone(c, rest)
+    is_space(c) || begins_like_marker(value) || is_indicator(c) || stands_alone(c, rest)
 }
 
 /// Whether a value begins as no plain text may.
@@ -287,13 +287,13 @@ fn with_next(barred: BarredStyles, c: char, rest: &str, charset: CharacterSet) -
 }
 
 /// The classes of bytes at which a value is looked at closely.
-fn loud_classes(charset: CharacterSet) -> u8
-    ensures { Tells result (is_quiet (seen_charset charset)) }
+fn significant_classes(charset: CharacterSet) -> u8
+    ensures { ImpliesTest result (is_quiet (seen_charset charset)) }
 {
     if charset.unicode {
-        BREAK | UNPRINTABLE | SIGN
+        BREAK | UNPRINTABLE | INDICATOR
     } else {
-        BREAK | UNPRINTABLE | SIGN | WIDE
+        BREAK | UNPRINTABLE | INDICATOR | WIDE
     }
 }
 
@@ -312,13 +312,13 @@ fn with_space(barred: BarredStyles, last: char, rest: &str, charset: CharacterSe
 /// What was read, and the next characters that bar nothing, unless the last of them is a space; and what
 /// follows them.
 #[inline(always)]
-fn past_quiet(barred: BarredStyles, text: &str, charset: CharacterSet) -> (BarredStyles, &str)
+fn skip_quiet(barred: BarredStyles, text: &str, charset: CharacterSet) -> (BarredStyles, &str)
     ensures same { either (seen_barred barred) (barred_in (seen_charset charset) (chars text.now))
         ≡ either (seen_barred result.0) (barred_in (seen_charset charset) (chars result.1.now)) }
     ensures is_text { IsUtf8 result.1.now }
     ensures shorter { length result.1.now ≤ length text.now }
 {
-    let (quiet, rest) = text.split_at(free_length(text, loud_classes(charset)));
+    let (quiet, rest) = text.split_at(free_length(text, significant_classes(charset)));
     (
         with_space(barred, last_of('\0', quiet), rest, charset),
         rest,
@@ -333,7 +333,7 @@ fn bars_all(barred: BarredStyles) -> bool
 }
 
 /// The text after the next characters none of which is a break.
-fn past_unbroken(text: &str) -> &str
+fn skip_unbroken(text: &str) -> &str
     ensures same { list_any class.is_break (chars text.now) ≡ list_any class.is_break (chars result.now) }
     ensures shorter { length result.now ≤ length text.now }
 {
@@ -345,12 +345,12 @@ fn past_unbroken(text: &str) -> &str
 pub fn holds_break(text: &str) -> bool
     ensures { result ≡ list_any class.is_break (chars text.now) }
 {
-    let mut chars = past_unbroken(text).chars();
+    let mut chars = skip_unbroken(text).chars();
     while let Some(c) = chars.next() {
         if is_break(c) {
             return true;
         }
-        chars = past_unbroken(chars.as_str()).chars();
+        chars = skip_unbroken(chars.as_str()).chars();
     }
     false
 }
@@ -372,7 +372,7 @@ fn barred_before(value: &str, charset: CharacterSet) -> (BarredStyles, &str)
         ≡ barred_in (seen_charset charset) (chars value.now) }
     ensures rest { all_styles (seen_barred result.0) ≡ false → chars result.1.now ≡ [] }
 {
-    let (mut barred, first) = past_quiet(NOTHING_BARRED, value, charset);
+    let (mut barred, first) = skip_quiet(NOTHING_BARRED, value, charset);
     let mut chars = first.chars();
     while let Some(c) = chars.next() {
         let rest = chars.as_str();
@@ -380,7 +380,7 @@ fn barred_before(value: &str, charset: CharacterSet) -> (BarredStyles, &str)
         if bars_all(more) {
             return (more, rest);
         }
-        let (read, after) = past_quiet(more, rest, charset);
+        let (read, after) = skip_quiet(more, rest, charset);
         barred = read;
         chars = after.chars();
     }

@@ -5,7 +5,7 @@ ghost use Rattle.yaml_base.specs.scalars.BlockHeader as layout;
 ghost use Rattle.yaml_base.specs.Characters as class;
 ghost use Rattle.yaml_pen.specs.Page.{IsReady, natural};
 ghost use Rattle.yaml_pen.specs.Wrote.{Wrote};
-ghost use Rattle.yaml_scalar.specs.BlockCode.{is_folded, seen_ending, without_mark};
+ghost use Rattle.yaml_scalar.specs.BlockCode.{is_folded, seen_ending, without_open_ended};
 ghost use Rattle.yaml_scalar.specs.BlockSteps as step;
 
 use std::alloc::Allocator;
@@ -31,7 +31,7 @@ enum Ending {
 
 /// Writes the hints of a block scalar's header: the digit of the indent, 2 to 9, where the value begins
 /// with a space or a break; `-` where the value doesn't end in a break, nothing where it ends in exactly
-/// one after another character, else `+`. Answers the open mark: 2 after `+`, else 0.
+/// one after another character, else `+`. Answers the open-ended state: 2 after `+`, else 0.
 ///
 /// # Errors
 /// `WriteError` where the output passes its limit, `Memory` where a growth was refused, else the pen's first
@@ -44,14 +44,14 @@ pub fn write_block_scalar_hints<A: Allocator>(
     requires ready { IsReady pen.old }
     requires least { pos 2 ≤ℤ best_indent }
     requires most { best_indent ≤ℤ pos 9 }
-    ensures written { Wrote (layout.hints_laid (natural best_indent) (chars value.now)) pen.old pen.new (without_mark result) }
-    ensures mark { IfOk result (λ mark. mark ≡ pos (layout.header_mark (chars value.now))) }
+    ensures written { Wrote (layout.render_hints (natural best_indent) (chars value.now)) pen.old pen.new (without_open_ended result) }
+    ensures open_ended { IfOk result (λ open_ended. open_ended ≡ pos (layout.header_open_ended (chars value.now))) }
 {
     write_hints(pen, value, best_indent)?;
-    Ok(open_mark(value))
+    Ok(open_ended(value))
 }
 
-/// Writes a header: a separating space where one is needed, the style's sign, the hints and a break.
+/// Writes a header: a separating space where one is needed, the style's indicator, the hints and a break.
 pub(crate) fn write_header<A: Allocator>(
     pen: &mut Pen<A>,
     value: &str,
@@ -63,20 +63,20 @@ pub(crate) fn write_header<A: Allocator>(
     requires most { best_indent ≤ℤ pos 9 }
     ensures { Wrote (step.separated_header (is_folded style) (natural best_indent) (chars value.now)) pen.old pen.new result }
 {
-    pen.put_indicator(&Indicator::spaced(sign(style)))?;
+    pen.put_indicator(&Indicator::spaced(block_indicator(style)))?;
     write_hints(pen, value, best_indent)?;
     end_header(pen)
 }
 
-/// The open mark that a value's header leaves.
-pub(crate) fn open_mark(value: &str) -> i32
-    ensures { result ≡ pos (layout.header_mark (chars value.now)) }
+/// The open-ended state that a value's header leaves.
+pub(crate) fn open_ended(value: &str) -> i32
+    ensures { result ≡ pos (layout.header_open_ended (chars value.now)) }
 {
-    mark_of(value_ending(value))
+    open_ended_of(value_ending(value))
 }
 
-fn sign(style: BlockStyle) -> &'static str
-    ensures { chars result.now ≡ step.sign_of (is_folded style) ∷ [] }
+fn block_indicator(style: BlockStyle) -> &'static str
+    ensures { chars result.now ≡ step.block_indicator_of (is_folded style) ∷ [] }
 {
     match style {
         BlockStyle::Literal => "|",
@@ -102,7 +102,7 @@ fn write_hints<A: Allocator>(
     requires ready { IsReady pen.old }
     requires least { pos 2 ≤ℤ best_indent }
     requires most { best_indent ≤ℤ pos 9 }
-    ensures { Wrote (layout.hints_laid (natural best_indent) (chars value.now)) pen.old pen.new result }
+    ensures { Wrote (layout.render_hints (natural best_indent) (chars value.now)) pen.old pen.new result }
 {
     write_indentation_hint(pen, value, best_indent)?;
     write_ending_hint(pen, value_ending(value))
@@ -116,7 +116,7 @@ fn write_indentation_hint<A: Allocator>(
     requires ready { IsReady pen.old }
     requires least { pos 2 ≤ℤ best_indent }
     requires most { best_indent ≤ℤ pos 9 }
-    ensures { Wrote (layout.hint_laid (layout.indentation_hint (natural best_indent) (chars value.now))) pen.old pen.new result }
+    ensures { Wrote (layout.render_hint (layout.indentation_hint (natural best_indent) (chars value.now))) pen.old pen.new result }
 {
     if begins_blank(value) {
         write_hint(pen, b'0' + best_indent as u8)
@@ -127,7 +127,7 @@ fn write_indentation_hint<A: Allocator>(
 
 fn write_ending_hint<A: Allocator>(pen: &mut Pen<A>, ending: Ending) -> Result<(), yaml_error_t>
     requires { IsReady pen.old }
-    ensures { Wrote (layout.hint_laid (layout.ending_hint (seen_ending ending))) pen.old pen.new result }
+    ensures { Wrote (layout.render_hint (layout.ending_hint (seen_ending ending))) pen.old pen.new result }
 {
     match ending {
         Ending::WithoutBreak => write_hint(pen, b'-'),
@@ -140,7 +140,7 @@ fn write_hint<A: Allocator>(pen: &mut Pen<A>, hint: u8) -> Result<(), yaml_error
     requires ready { IsReady pen.old }
     requires ascii { hint < 128 }
     requires no_break { class.is_break hint ≡ false }
-    ensures { Wrote (layout.hint_laid (hint ∷ [])) pen.old pen.new result }
+    ensures { Wrote (layout.render_hint (hint ∷ [])) pen.old pen.new result }
 {
     pen.put(hint)?;
     pen.set_whitespace(false);
@@ -158,8 +158,8 @@ fn begins_blank(value: &str) -> bool
     }
 }
 
-fn mark_of(ending: Ending) -> i32
-    ensures { result ≡ pos (layout.ending_mark (seen_ending ending)) }
+fn open_ended_of(ending: Ending) -> i32
+    ensures { result ≡ pos (layout.ending_open_ended (seen_ending ending)) }
 {
     match ending {
         Ending::MoreBreaks => 2,
@@ -178,22 +178,22 @@ fn value_ending(value: &str) -> Ending
     }
 }
 
-fn last_ending(front: &str, last: char) -> Ending
-    ensures { seen_ending result ≡ layout.ending (chars (front.now ++ encode_utf8 last)) }
+fn last_ending(prefix: &str, last: char) -> Ending
+    ensures { seen_ending result ≡ layout.ending (chars (prefix.now ++ encode_utf8 last)) }
 {
     if !is_break(last) {
         return Ending::WithoutBreak;
     }
-    let mut characters = front.chars();
+    let mut characters = prefix.chars();
     match characters.next_back() {
         Some(before) => break_ending(characters.as_str(), before, last),
         None => Ending::MoreBreaks,
     }
 }
 
-fn break_ending(front: &str, before: char, last: char) -> Ending
+fn break_ending(prefix: &str, before: char, last: char) -> Ending
     requires { class.is_break last ≡ true }
-    ensures { seen_ending result ≡ layout.ending (chars (front.now ++ encode_utf8 before ++ encode_utf8 last)) }
+    ensures { seen_ending result ≡ layout.ending (chars (prefix.now ++ encode_utf8 before ++ encode_utf8 last)) }
 {
     if is_break(before) {
         Ending::MoreBreaks

@@ -57,8 +57,8 @@ pub(crate) fn write_lines<A: Allocator>(
         write_step(pen, lines, place, character, rest)?;
         place = place_after(lines.style, place, character);
         let run = run_after(character, rest, place, lines);
-        let (front, after) = rest.split_at(run.length);
-        pen.write_run(front)?;
+        let (prefix, after) = rest.split_at(run.length);
+        pen.write_run(prefix)?;
         characters = after.chars();
     }
     pen.write_nothing()
@@ -73,7 +73,7 @@ fn write_step<A: Allocator>(
 ) -> Result<(), yaml_error_t>
     requires ready { IsReady pen.old }
     requires not_negative { pos 0 ≤ℤ lines.indent }
-    ensures { Wrote (step.step_laid (limit_of lines.width) (natural lines.indent) place character (chars rest.now)) pen.old pen.new result }
+    ensures { Wrote (step.render_step (limit_of lines.width) (natural lines.indent) place character (chars rest.now)) pen.old pen.new result }
 {
     if is_break(character) {
         write_end(pen, is_doubled(place, character, rest), character)
@@ -93,7 +93,7 @@ fn write_inner<A: Allocator>(
     requires ready { IsReady pen.old }
     requires not_negative { pos 0 ≤ℤ lines.indent }
     requires no_break { class.is_break character ≡ false }
-    ensures { Wrote (step.inner_laid (limit_of lines.width) (natural lines.indent) place character (chars rest.now)) pen.old pen.new result }
+    ensures { Wrote (step.render_inner (limit_of lines.width) (natural lines.indent) place character (chars rest.now)) pen.old pen.new result }
 {
     match place {
         Place::LineStart => write_first(pen, character, lines.indent),
@@ -114,7 +114,7 @@ fn write_first<A: Allocator>(
     requires ready { IsReady pen.old }
     requires not_negative { pos 0 ≤ℤ indent }
     requires no_break { class.is_break character ≡ false }
-    ensures { Wrote (step.first_laid (natural indent) character) pen.old pen.new result }
+    ensures { Wrote (step.render_first (natural indent) character) pen.old pen.new result }
 {
     pen.write_indent(indent)?;
     write_content(pen, character)
@@ -129,7 +129,7 @@ fn write_folding<A: Allocator>(
     requires ready { IsReady pen.old }
     requires not_negative { pos 0 ≤ℤ indent }
     requires no_break { class.is_break character ≡ false }
-    ensures { Wrote (step.folded_laid fold (natural indent) character) pen.old pen.new result }
+    ensures { Wrote (step.render_folded fold (natural indent) character) pen.old pen.new result }
 {
     if fold {
         write_fold(pen, indent)
@@ -141,7 +141,7 @@ fn write_folding<A: Allocator>(
 fn write_fold<A: Allocator>(pen: &mut Pen<A>, indent: i32) -> Result<(), yaml_error_t>
     requires ready { IsReady pen.old }
     requires not_negative { pos 0 ≤ℤ indent }
-    ensures { Wrote (step.fold_laid (natural indent)) pen.old pen.new result }
+    ensures { Wrote (step.render_fold (natural indent)) pen.old pen.new result }
 {
     pen.write_indent(indent)?;
     pen.set_indention(false);
@@ -163,15 +163,15 @@ fn within(style: BlockStyle, place: Place, character: char) -> Place
     ensures { result ≡ step.within (is_folded style) place character }
 {
     match place {
-        Place::LineStart => entered(style, character),
+        Place::LineStart => place_in_line(style, character),
         Place::Folding => Place::Folding,
         Place::Fixed => Place::Fixed,
     }
 }
 
 /// A line that begins with a space is never folded.
-fn entered(style: BlockStyle, first: char) -> Place
-    ensures { result ≡ step.entered (is_folded style) first }
+fn place_in_line(style: BlockStyle, first: char) -> Place
+    ensures { result ≡ step.place_in_line (is_folded style) first }
 {
     match style {
         BlockStyle::Folded if !is_space(first) => Place::Folding,
@@ -214,8 +214,8 @@ fn folds<A: Allocator>(pen: &Pen<A>, width: i32, character: char, rest: &str) ->
 }
 
 /// Whether the next line, past the breaks that come first, begins without a space.
-fn next_even(rest: &str) -> bool
-    ensures { result ≡ layout.next_even (parts (chars rest.now)) }
+fn next_line_unindented(rest: &str) -> bool
+    ensures { result ≡ layout.next_line_unindented (parts (chars rest.now)) }
 {
     let mut characters = rest.chars();
     while let Some(character) = characters.next() {
@@ -231,7 +231,7 @@ fn is_doubled(place: Place, character: char, rest: &str) -> bool
     ensures { result ≡ step.is_doubled place character (chars rest.now) }
 {
     match place {
-        Place::Folding => character == '\n' && next_even(rest),
+        Place::Folding => character == '\n' && next_line_unindented(rest),
         _ => false,
     }
 }
@@ -240,7 +240,7 @@ fn is_doubled(place: Place, character: char, rest: &str) -> bool
 fn write_content<A: Allocator>(pen: &mut Pen<A>, character: char) -> Result<(), yaml_error_t>
     requires ready { IsReady pen.old }
     requires no_break { class.is_break character ≡ false }
-    ensures { Wrote (step.content_laid character) pen.old pen.new result }
+    ensures { Wrote (step.render_content character) pen.old pen.new result }
 {
     pen.write_char(character)?;
     pen.set_indention(false);
@@ -250,7 +250,7 @@ fn write_content<A: Allocator>(pen: &mut Pen<A>, character: char) -> Result<(), 
 fn write_broken<A: Allocator>(pen: &mut Pen<A>, character: char) -> Result<(), yaml_error_t>
     requires ready { IsReady pen.old }
     requires a_break { class.is_break character ≡ true }
-    ensures { Wrote (step.broken_laid character) pen.old pen.new result }
+    ensures { Wrote (step.render_broken character) pen.old pen.new result }
 {
     pen.write_break(character)?;
     pen.set_indention(true);
@@ -260,7 +260,7 @@ fn write_broken<A: Allocator>(pen: &mut Pen<A>, character: char) -> Result<(), y
 fn write_twice<A: Allocator>(pen: &mut Pen<A>, character: char) -> Result<(), yaml_error_t>
     requires ready { IsReady pen.old }
     requires a_break { class.is_break character ≡ true }
-    ensures { Wrote (step.end_laid true character) pen.old pen.new result }
+    ensures { Wrote (step.render_end true character) pen.old pen.new result }
 {
     pen.write_break(character)?;
     write_broken(pen, character)
@@ -273,7 +273,7 @@ fn write_end<A: Allocator>(
 ) -> Result<(), yaml_error_t>
     requires ready { IsReady pen.old }
     requires a_break { class.is_break character ≡ true }
-    ensures { Wrote (step.end_laid twice character) pen.old pen.new result }
+    ensures { Wrote (step.render_end twice character) pen.old pen.new result }
 {
     if twice {
         write_twice(pen, character)

@@ -9,14 +9,14 @@ ghost use Rattle.yaml_scalar.specs.WholeRuns.{last_from};
 pub(crate) const BREAK: u8 = 1;
 /// The space.
 pub(crate) const SPACE: u8 = 2;
-/// The sign `'`.
+/// The indicator `'`.
 pub(crate) const APOSTROPHE: u8 = 4;
 /// The control characters but LF, and the bytes that other unprintable characters begin with.
 pub(crate) const UNPRINTABLE: u8 = 8;
 /// The bytes that characters past ASCII begin with.
 pub(crate) const WIDE: u8 = 16;
-/// The signs that may end a plain scalar: `#`, `:` and those of flow collections.
-pub(crate) const SIGN: u8 = 32;
+/// The indicators that may end a plain scalar: `#`, `:` and those of flow collections.
+pub(crate) const INDICATOR: u8 = 32;
 /// The quote and the backslash.
 pub(crate) const ESCAPED: u8 = 64;
 
@@ -72,7 +72,7 @@ fn are_free_too(bytes: &[u8], place: usize, classes: u8) -> bool
 
 /// The length of a prefix, four bytes after four, none of whose bytes is of these classes.
 #[inline(always)]
-fn free_fours(bytes: &[u8], classes: u8) -> usize
+fn free_length_by_fours(bytes: &[u8], classes: u8) -> usize
     ensures within { result ≤ length bytes.now }
     ensures all { list_all (is_free classes) (take result bytes.now) ≡ true }
 {
@@ -89,7 +89,7 @@ pub(crate) fn free_length(text: &str, classes: u8) -> usize
     ensures { IsFreeRun classes text.now result }
 {
     let bytes = text.as_bytes();
-    let mut length = free_fours(bytes, classes);
+    let mut length = free_length_by_fours(bytes, classes);
     while length < bytes.len() && is_free(bytes[length], classes) {
         length += 1;
     }

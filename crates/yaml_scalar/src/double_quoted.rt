@@ -4,22 +4,22 @@ ghost use Rattle.std.specs.List.{list_all};
 ghost use Rattle.std.specs.Str.{IsUtf8, chars};
 ghost use Rattle.yaml_base.specs.scalars.Analysis.{begins_with};
 ghost use Rattle.yaml_base.specs.Characters.{is_space};
-ghost use Rattle.yaml_base.specs.Cursor.{is_past_width, text_laid};
+ghost use Rattle.yaml_base.specs.Cursor.{is_past_width, render_text};
 ghost use Rattle.yaml_base.specs.scalars.DoubleQuoted as spec;
 ghost use Rattle.yaml_base.specs.reading.ReadDouble.{read_double};
 ghost use Rattle.yaml_pen.specs.Page.{IsReady, natural};
 ghost use Rattle.yaml_pen.specs.Wrote.{Wrote};
-ghost use Rattle.yaml_scalar.specs.ByteClasses.{Tells};
+ghost use Rattle.yaml_scalar.specs.ByteClasses.{ImpliesTest};
 ghost use Rattle.yaml_scalar.specs.EscapeBytes.{is_plain};
-ghost use Rattle.yaml_scalar.specs.Gathered.{WroteGathered};
+ghost use Rattle.yaml_scalar.specs.Batch.{WroteBatch};
 ghost use Rattle.yaml_scalar.specs.ReadsBack.{ReadsBack};
 ghost use Rattle.yaml_scalar.specs.ShortRuns.{IsShortRun};
 ghost use Rattle.yaml_scalar.specs.WholeRuns.{IsRun, has_limit, stays, stays_where};
 ghost use Rattle.yaml_scalar.specs.Width.{limit_where};
 
+use crate::batched::{BatchBytes, fill_batch};
 use crate::classes::{BREAK, ESCAPED, SPACE, UNPRINTABLE, WIDE};
 use crate::escapes::{Escape, escape_of, needs_escape};
-use crate::gathered::{GatheredBytes, gather};
 use crate::runs::{Run, run_up_to};
 use crate::shared::{has_limit_where, may_fold_here};
 use crate::short_runs::{is_short_run, write_short_run};
@@ -27,7 +27,7 @@ use std::alloc::Allocator;
 use yaml_base::{is_space, yaml_error_t};
 use yaml_pen::{Indicator, Pen};
 
-/// How a double-quoted scalar is laid out.
+/// How a double-quoted scalar is rendered.
 #[derive(Clone, Copy)]
 struct Quoting {
     allow_breaks: bool,
@@ -56,7 +56,7 @@ pub fn write_double_quoted_scalar<A: Allocator>(
 ) -> Result<(), yaml_error_t>
     requires ready { IsReady pen.old }
     requires indented { pos 2 ≤ℤ indent }
-    ensures written { Wrote (spec.double_quoted_laid unicode (limit_where allow_breaks width) (natural indent) (chars value.now)) pen.old pen.new result }
+    ensures written { Wrote (spec.render_double_quoted unicode (limit_where allow_breaks width) (natural indent) (chars value.now)) pen.old pen.new result }
     ensures reads { (breaks12 : Bool) → IfOk result (λ _. ReadsBack (read_double breaks12) (chars value.now) pen.old.text pen.new.text) }
 {
     write_quoted(
@@ -79,7 +79,7 @@ fn write_quoted<A: Allocator>(
 ) -> Result<(), yaml_error_t>
     requires ready { IsReady pen.old }
     requires not_negative { pos 0 ≤ℤ quoting.indent }
-    ensures { Wrote (spec.double_quoted_laid quoting.unicode (limit_where quoting.allow_breaks quoting.width) (natural quoting.indent) (chars value.now))
+    ensures { Wrote (spec.render_double_quoted quoting.unicode (limit_where quoting.allow_breaks quoting.width) (natural quoting.indent) (chars value.now))
         pen.old pen.new result }
 {
     pen.put_indicator(&Indicator::spaced("\""))?;
@@ -90,7 +90,7 @@ fn write_quoted<A: Allocator>(
 /// A character as its escape.
 fn write_escape<A: Allocator>(pen: &mut Pen<A>, c: char) -> Result<(), yaml_error_t>
     requires { IsReady pen.old }
-    ensures { Wrote (text_laid (spec.escape_text c)) pen.old pen.new result }
+    ensures { Wrote (render_text (spec.escape_text c)) pen.old pen.new result }
 {
     match escape_of(c) {
         Escape::Letter(bytes) => write_bytes(pen, c, &bytes),
@@ -105,7 +105,7 @@ fn write_escape<A: Allocator>(pen: &mut Pen<A>, c: char) -> Result<(), yaml_erro
 fn write_bytes<A: Allocator>(pen: &mut Pen<A>, c: char, bytes: &[u8]) -> Result<(), yaml_error_t>
     requires ready { IsReady pen.old }
     requires bytes { bytes.now ≡ spec.escape_text c }
-    ensures { Wrote (text_laid (spec.escape_text c)) pen.old pen.new result }
+    ensures { Wrote (render_text (spec.escape_text c)) pen.old pen.new result }
 {
     pen.write_ascii(bytes)
 }
@@ -117,7 +117,7 @@ fn write_character<A: Allocator>(
     unicode: bool,
 ) -> Result<(), yaml_error_t>
     requires { IsReady pen.old }
-    ensures { Wrote (text_laid (spec.character_text unicode c)) pen.old pen.new result }
+    ensures { Wrote (render_text (spec.character_text unicode c)) pen.old pen.new result }
 {
     if needs_escape(c, unicode) {
         write_escape(pen, c)
@@ -158,9 +158,12 @@ fn folds<A: Allocator>(
 }
 
 /// Where a space follows a fold, a backslash keeps it.
-fn write_kept<A: Allocator>(pen: &mut Pen<A>, rest: &str) -> Result<(), yaml_error_t>
+fn write_backslash_before_space<A: Allocator>(
+    pen: &mut Pen<A>,
+    rest: &str,
+) -> Result<(), yaml_error_t>
     requires { IsReady pen.old }
-    ensures { Wrote (text_laid (spec.space_kept (chars rest.now))) pen.old pen.new result }
+    ensures { Wrote (render_text (spec.space_kept (chars rest.now))) pen.old pen.new result }
 {
     match rest.chars().next() {
         Some(c) if is_space(c) => pen.put(b'\\'),
@@ -175,7 +178,7 @@ fn write_fold<A: Allocator>(pen: &mut Pen<A>, rest: &str, indent: i32) -> Result
     ensures { Wrote (spec.double_fold (natural indent) (chars rest.now)) pen.old pen.new result }
 {
     pen.write_indent(indent)?;
-    write_kept(pen, rest)
+    write_backslash_before_space(pen, rest)
 }
 
 /// One character of the value, after another or at its start, before the rest.
@@ -200,7 +203,7 @@ fn write_next<A: Allocator>(
 
 /// The classes of bytes that end a run: those of what is escaped, and the space where it may become a fold.
 fn ending_classes(unicode: bool, folds: bool) -> u8
-    ensures { Tells result (stays_where unicode folds) }
+    ensures { ImpliesTest result (stays_where unicode folds) }
 {
     if unicode {
         unicode_ending_classes(folds)
@@ -211,7 +214,7 @@ fn ending_classes(unicode: bool, folds: bool) -> u8
 
 /// Those where printable characters past ASCII stand as themselves.
 fn unicode_ending_classes(folds: bool) -> u8
-    ensures { Tells result (stays_where true folds) }
+    ensures { ImpliesTest result (stays_where true folds) }
 {
     if folds {
         BREAK | UNPRINTABLE | ESCAPED | SPACE
@@ -222,7 +225,7 @@ fn unicode_ending_classes(folds: bool) -> u8
 
 /// Those where all past ASCII is escaped.
 fn ascii_ending_classes(folds: bool) -> u8
-    ensures { Tells result (stays_where false folds) }
+    ensures { ImpliesTest result (stays_where false folds) }
 {
     if folds {
         BREAK | UNPRINTABLE | ESCAPED | WIDE | SPACE
@@ -253,12 +256,12 @@ fn run_after(before: char, text: &str, quoting: Quoting) -> Run
     run_where(before, text, quoting.unicode, folds)
 }
 
-/// The texts of characters that were gathered.
+/// The texts of characters that were batched.
 #[inline(always)]
-fn write_gathered<A: Allocator>(pen: &mut Pen<A>, bytes: &GatheredBytes) -> Result<(), yaml_error_t>
+fn write_batch<A: Allocator>(pen: &mut Pen<A>, bytes: &BatchBytes) -> Result<(), yaml_error_t>
     requires ready { IsReady pen.old }
     requires plain { list_all is_plain bytes.now.items ≡ true }
-    ensures { Wrote (text_laid bytes.now.items) pen.old pen.new result }
+    ensures { Wrote (render_text bytes.now.items) pen.old pen.new result }
 {
     pen.write_ascii(bytes.as_slice())
 }
@@ -309,13 +312,13 @@ fn write_escapes<'a, A: Allocator>(
     unicode: bool,
 ) -> Result<(char, &'a str), yaml_error_t>
     requires { IsReady pen.old }
-    ensures written { WroteGathered unicode before (chars text.now) pen.old pen.new result }
+    ensures written { WroteBatch unicode before (chars text.now) pen.old pen.new result }
     ensures is_text { IfOk result (λ next. IsUtf8 next.1.now) }
     ensures shorter { IfOk result (λ next. length next.1.now ≤ length text.now) }
 {
-    let mut bytes = GatheredBytes::new();
-    let next = gather(&mut bytes, before, text, unicode);
-    write_gathered(pen, &bytes)?;
+    let mut bytes = BatchBytes::new();
+    let next = fill_batch(&mut bytes, before, text, unicode);
+    write_batch(pen, &bytes)?;
     Ok(next)
 }
 
@@ -328,7 +331,7 @@ fn write_next_escapes<'a, A: Allocator>(
     unicode: bool,
 ) -> Result<(char, &'a str), yaml_error_t>
     requires { IsReady pen.old }
-    ensures written { WroteGathered unicode before (chars text.now) pen.old pen.new result }
+    ensures written { WroteBatch unicode before (chars text.now) pen.old pen.new result }
     ensures is_text { IfOk result (λ next. IsUtf8 next.1.now) }
     ensures shorter { IfOk result (λ next. length next.1.now ≤ length text.now) }
 {
@@ -358,8 +361,8 @@ fn write_inside<A: Allocator>(
         let rest = chars.as_str();
         write_next(pen, before, c, rest, quoting)?;
         let run = run_after(c, rest, quoting);
-        let (front, after) = rest.split_at(run.length);
-        pen.write_run(front)?;
+        let (prefix, after) = rest.split_at(run.length);
+        pen.write_run(prefix)?;
         let (last, left) = write_next_escapes(pen, run.last, after, quoting.unicode)?;
         before = Some(last);
         chars = left.chars();

@@ -46,14 +46,14 @@ fn is_escaped_byte(byte: u8) -> bool
 pub(crate) fn escape_of(c: char) -> Escape
     ensures { escape_bytes result ≡ spec.escape_text c }
 {
-    match short_letter(c) {
+    match escape_letter(c) {
         Some(letter) => Escape::Letter([b'\\', letter]),
         None => number_escape(c as u32),
     }
 }
 
 /// The letter of a character that has an escape of one letter (YAML 1.1, section 5.6).
-fn short_letter(c: char) -> Option<u8>
+fn escape_letter(c: char) -> Option<u8>
     ensures { result ≡ spec.letter_among spec.short_escapes c }
 {
     let letter = match c {

@@ -2,16 +2,16 @@
 ghost use Rattle.std.specs.Prelude.{◌≡◌, ◌≤ℤ◌, ℕ, pos, false, true, Option, IfOk};
 ghost use Rattle.std.specs.Str.{chars};
 ghost use Rattle.yaml_base.specs.scalars.Analysis.{Charset, allows_block, is_empty};
-ghost use Rattle.yaml_base.specs.scalars.BlockHeader.{Encloses, header_mark};
-ghost use Rattle.yaml_base.specs.scalars.Folded.{folded_laid};
+ghost use Rattle.yaml_base.specs.scalars.BlockHeader.{Encloses, header_open_ended};
+ghost use Rattle.yaml_base.specs.scalars.Folded.{render_folded};
 ghost use Rattle.yaml_base.specs.reading.ReadBlock.{read_block};
 ghost use Rattle.yaml_pen.specs.Page.{IsReady, natural};
 ghost use Rattle.yaml_pen.specs.Wrote.{Wrote};
-ghost use Rattle.yaml_scalar.specs.BlockCode.{without_mark};
+ghost use Rattle.yaml_scalar.specs.BlockCode.{without_open_ended};
 ghost use Rattle.yaml_scalar.specs.ReadsBack.{ReadsBack};
 ghost use Rattle.yaml_scalar.specs.Width.{limit_of};
 
-use crate::block_header::{BlockStyle, open_mark, write_header};
+use crate::block_header::{BlockStyle, open_ended, write_header};
 use crate::block_lines::{BlockLines, write_lines};
 use std::alloc::Allocator;
 use yaml_base::yaml_error_t;
@@ -20,7 +20,7 @@ use yaml_pen::Pen;
 /// Writes a folded scalar (YAML 1.1, section 9.3.2), a space before it where one is needed: the header, then
 /// each nonempty line after `indent` spaces. A line that doesn't begin with a space is cut past `width`, a
 /// column counted in characters, in place of the last space of a run; `i32::MAX` is no width. `best_indent`
-/// is what the header's digit says. Returns the open mark: 2 where the header keeps all final breaks, else 0.
+/// is what the header's digit says. Returns the open-ended state: 2 where the header keeps all final breaks, else 0.
 ///
 /// # Errors
 /// `WriteError` where the output passes its limit, `Memory` where a growth was refused, else the pen's first
@@ -37,14 +37,14 @@ pub fn write_folded_scalar<A: Allocator>(
     requires least { pos 2 ≤ℤ best_indent }
     requires most { best_indent ≤ℤ pos 9 }
     requires within { best_indent ≤ℤ indent }
-    ensures written { Wrote (folded_laid (limit_of width) (natural indent) (natural best_indent) (chars value.now)) pen.old pen.new (without_mark result) }
-    ensures mark { IfOk result (λ mark. mark ≡ pos (header_mark (chars value.now))) }
+    ensures written { Wrote (render_folded (limit_of width) (natural indent) (natural best_indent) (chars value.now)) pen.old pen.new (without_open_ended result) }
+    ensures open_ended { IfOk result (λ open_ended. open_ended ≡ pos (header_open_ended (chars value.now))) }
     ensures reads { (charset : Charset) → allows_block charset (chars value.now) ≡ true
         → (column : Option ℕ) → Encloses (natural indent) (natural best_indent) column
         → IfOk result (λ _. ReadsBack (read_block charset.breaks12 column) (chars value.now) pen.old.text pen.new.text) }
 {
     write_folded(pen, value, indent, best_indent, width)?;
-    Ok(open_mark(value))
+    Ok(open_ended(value))
 }
 
 fn write_folded<A: Allocator>(
@@ -59,7 +59,7 @@ fn write_folded<A: Allocator>(
     requires least { pos 2 ≤ℤ best_indent }
     requires most { best_indent ≤ℤ pos 9 }
     requires within { best_indent ≤ℤ indent }
-    ensures { Wrote (folded_laid (limit_of width) (natural indent) (natural best_indent) (chars value.now)) pen.old pen.new result }
+    ensures { Wrote (render_folded (limit_of width) (natural indent) (natural best_indent) (chars value.now)) pen.old pen.new result }
 {
     write_header(pen, value, best_indent, BlockStyle::Folded)?;
     write_lines(

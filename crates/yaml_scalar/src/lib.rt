@@ -2,13 +2,13 @@
 #![tactic(auto)]
 
 mod analysis;
+mod batched;
 mod block_header;
 mod block_lines;
 mod classes;
 mod double_quoted;
 mod escapes;
 mod folded;
-mod gathered;
 mod lines;
 mod literal;
 mod plain;

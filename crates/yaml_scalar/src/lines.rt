@@ -4,7 +4,7 @@ ghost use Rattle.std.specs.Str.{chars};
 ghost use Rattle.yaml_base.specs.scalars.Analysis as analysis;
 ghost use Rattle.yaml_base.specs.Characters as class;
 ghost use Rattle.yaml_base.specs.Cursor as cursor;
-ghost use Rattle.yaml_base.specs.Cursor.{text_laid};
+ghost use Rattle.yaml_base.specs.Cursor.{render_text};
 ghost use Rattle.yaml_base.specs.scalars.Plain as layout;
 ghost use Rattle.yaml_pen.specs.Page.{IsReady};
 ghost use Rattle.yaml_pen.specs.Wrote.{Wrote};
@@ -29,7 +29,7 @@ pub(crate) enum CharacterKind {
     Other,
 }
 
-/// How lines are laid: between quotes each `'` is written twice; a fold may stand where breaks are allowed
+/// How lines are rendered: between quotes each `'` is written twice; a fold may stand where breaks are allowed
 /// and the column is past the width; later lines are indented.
 #[derive(Clone, Copy)]
 pub(crate) struct Lines {
@@ -73,7 +73,7 @@ fn begins_kind(kind: CharacterKind, rest: &str) -> bool
 
 fn write_indentation<A: Allocator>(pen: &mut Pen<A>, indent: u32) -> Result<(), yaml_error_t>
     requires { IsReady pen.old }
-    ensures { Wrote (text_laid (layout.indentation indent)) pen.old pen.new result }
+    ensures { Wrote (render_text (layout.indentation indent)) pen.old pen.new result }
 {
     pen.write_nothing()?;
     for written in 0..indent {
@@ -84,7 +84,7 @@ fn write_indentation<A: Allocator>(pen: &mut Pen<A>, indent: u32) -> Result<(), 
 
 fn write_fold<A: Allocator>(pen: &mut Pen<A>, indent: u32) -> Result<(), yaml_error_t>
     requires { IsReady pen.old }
-    ensures { Wrote (text_laid (class.line_feed ∷ layout.indentation indent)) pen.old pen.new result }
+    ensures { Wrote (render_text (class.line_feed ∷ layout.indentation indent)) pen.old pen.new result }
 {
     pen.put_break()?;
     write_indentation(pen, indent)
@@ -92,7 +92,7 @@ fn write_fold<A: Allocator>(pen: &mut Pen<A>, indent: u32) -> Result<(), yaml_er
 
 fn write_space<A: Allocator>(pen: &mut Pen<A>, folds: bool, indent: u32) -> Result<(), yaml_error_t>
     requires { IsReady pen.old }
-    ensures { Wrote (text_laid (if folds then class.line_feed ∷ layout.indentation indent else class.space ∷ [])) pen.old pen.new result }
+    ensures { Wrote (render_text (if folds then class.line_feed ∷ layout.indentation indent else class.space ∷ [])) pen.old pen.new result }
 {
     if folds {
         write_fold(pen, indent)
@@ -103,7 +103,7 @@ fn write_space<A: Allocator>(pen: &mut Pen<A>, folds: bool, indent: u32) -> Resu
 
 fn write_extra_break<A: Allocator>(pen: &mut Pen<A>, needed: bool) -> Result<(), yaml_error_t>
     requires { IsReady pen.old }
-    ensures { Wrote (text_laid (if needed then class.line_feed ∷ [] else [])) pen.old pen.new result }
+    ensures { Wrote (render_text (if needed then class.line_feed ∷ [] else [])) pen.old pen.new result }
 {
     if needed {
         pen.put_break()
@@ -118,7 +118,7 @@ fn write_line_start<A: Allocator>(
     indent: u32,
 ) -> Result<(), yaml_error_t>
     requires { IsReady pen.old }
-    ensures { Wrote (text_laid (if goes_on then [] else layout.indentation indent)) pen.old pen.new result }
+    ensures { Wrote (render_text (if goes_on then [] else layout.indentation indent)) pen.old pen.new result }
 {
     if goes_on {
         pen.write_nothing()
@@ -138,7 +138,7 @@ fn write_line_break<A: Allocator>(
 ) -> Result<(), yaml_error_t>
     requires ready { IsReady pen.old }
     requires a_break { class.is_break character ≡ true }
-    ensures { Wrote (text_laid ((if doubled then class.line_feed ∷ [] else []) ++ (character ∷ (if goes_on then [] else layout.indentation indent)))) pen.old
+    ensures { Wrote (render_text ((if doubled then class.line_feed ∷ [] else []) ++ (character ∷ (if goes_on then [] else layout.indentation indent)))) pen.old
         pen.new result }
 {
     write_extra_break(pen, doubled)?;
@@ -154,7 +154,7 @@ fn is_doubled_quote(character: char, quoted: bool) -> bool
 
 fn write_extra_quote<A: Allocator>(pen: &mut Pen<A>, needed: bool) -> Result<(), yaml_error_t>
     requires { IsReady pen.old }
-    ensures { Wrote (text_laid (if needed then 39 ∷ [] else [])) pen.old pen.new result }
+    ensures { Wrote (render_text (if needed then 39 ∷ [] else [])) pen.old pen.new result }
 {
     if needed {
         pen.put(b'\'')
@@ -170,7 +170,7 @@ fn write_other<A: Allocator>(
 ) -> Result<(), yaml_error_t>
     requires ready { IsReady pen.old }
     requires no_break { class.is_break character ≡ false }
-    ensures { Wrote (text_laid (steps.written_as quoted (character ∷ []))) pen.old pen.new result }
+    ensures { Wrote (render_text (steps.written_as quoted (character ∷ []))) pen.old pen.new result }
 {
     let doubled = is_doubled_quote(character, quoted);
     write_extra_quote(pen, doubled)?;
@@ -204,7 +204,7 @@ fn write_step<A: Allocator>(
     rest: &str,
 ) -> Result<(), yaml_error_t>
     requires { IsReady pen.old }
-    ensures { Wrote (steps.step_laid (steps.written_as lines.quoted) (limit_where lines.allow_breaks lines.width) lines.indent
+    ensures { Wrote (steps.render_step (steps.written_as lines.quoted) (limit_where lines.allow_breaks lines.width) lines.indent
         (steps.seen_kind before) character (chars rest.now)) pen.old pen.new result }
 {
     match kind_of(character) {
@@ -256,7 +256,7 @@ pub(crate) fn write_lines<A: Allocator>(
     lines: Lines,
 ) -> Result<(), yaml_error_t>
     requires { IsReady pen.old }
-    ensures { Wrote (layout.runs_laid (steps.written_as lines.quoted) (limit_where lines.allow_breaks lines.width) lines.indent true
+    ensures { Wrote (layout.render_runs (steps.written_as lines.quoted) (limit_where lines.allow_breaks lines.width) lines.indent true
         (layout.runs (chars value.now))) pen.old pen.new result }
 {
     if is_short_line(pen, value, lines) {
@@ -274,12 +274,12 @@ pub(crate) fn write_runs<A: Allocator>(
     lines: Lines,
 ) -> Result<(), yaml_error_t>
     requires { IsReady pen.old }
-    ensures { Wrote (layout.runs_laid (steps.written_as lines.quoted) (limit_where lines.allow_breaks lines.width) lines.indent true
+    ensures { Wrote (layout.render_runs (steps.written_as lines.quoted) (limit_where lines.allow_breaks lines.width) lines.indent true
         (layout.runs (chars value.now))) pen.old pen.new result }
 {
     let first = run_after(pen, ' ', value, lines);
-    let (front, rest) = value.split_at(first.length);
-    pen.write_run(front)?;
+    let (prefix, rest) = value.split_at(first.length);
+    pen.write_run(prefix)?;
     let before = kind_of(first.last);
     write_from(pen, before, rest, lines)
 }
@@ -292,7 +292,7 @@ fn write_from<A: Allocator>(
     lines: Lines,
 ) -> Result<(), yaml_error_t>
     requires { IsReady pen.old }
-    ensures { Wrote (steps.steps_laid (steps.written_as lines.quoted) (limit_where lines.allow_breaks lines.width) lines.indent (steps.seen_kind start)
+    ensures { Wrote (steps.render_steps (steps.written_as lines.quoted) (limit_where lines.allow_breaks lines.width) lines.indent (steps.seen_kind start)
         (chars value.now)) pen.old pen.new result }
 {
     let mut before = start;
@@ -301,8 +301,8 @@ fn write_from<A: Allocator>(
         let rest = characters.as_str();
         write_step(pen, lines, before, character, rest)?;
         let run = run_after(pen, character, rest, lines);
-        let (front, after) = rest.split_at(run.length);
-        pen.write_run(front)?;
+        let (prefix, after) = rest.split_at(run.length);
+        pen.write_run(prefix)?;
         before = kind_of(run.last);
         characters = after.chars();
     }

@@ -2,15 +2,15 @@
 ghost use Rattle.std.specs.Prelude.{◌≡◌, ◌≤ℤ◌, ℕ, pos, false, true, Option, IfOk};
 ghost use Rattle.std.specs.Str.{chars};
 ghost use Rattle.yaml_base.specs.scalars.Analysis.{Charset, allows_block, is_empty};
-ghost use Rattle.yaml_base.specs.scalars.BlockHeader.{Encloses, header_mark};
-ghost use Rattle.yaml_base.specs.scalars.Literal.{literal_laid};
+ghost use Rattle.yaml_base.specs.scalars.BlockHeader.{Encloses, header_open_ended};
+ghost use Rattle.yaml_base.specs.scalars.Literal.{render_literal};
 ghost use Rattle.yaml_base.specs.reading.ReadBlock.{read_block};
 ghost use Rattle.yaml_pen.specs.Page.{IsReady, natural};
 ghost use Rattle.yaml_pen.specs.Wrote.{Wrote};
-ghost use Rattle.yaml_scalar.specs.BlockCode.{without_mark};
+ghost use Rattle.yaml_scalar.specs.BlockCode.{without_open_ended};
 ghost use Rattle.yaml_scalar.specs.ReadsBack.{ReadsBack};
 
-use crate::block_header::{BlockStyle, open_mark, write_header};
+use crate::block_header::{BlockStyle, open_ended, write_header};
 use crate::block_lines::{BlockLines, write_lines};
 use std::alloc::Allocator;
 use yaml_base::yaml_error_t;
@@ -34,14 +34,14 @@ pub fn write_literal_scalar<A: Allocator>(
     requires least { pos 2 ≤ℤ best_indent }
     requires most { best_indent ≤ℤ pos 9 }
     requires within { best_indent ≤ℤ indent }
-    ensures written { Wrote (literal_laid (natural indent) (natural best_indent) (chars value.now)) pen.old pen.new (without_mark result) }
-    ensures mark { IfOk result (λ mark. mark ≡ pos (header_mark (chars value.now))) }
+    ensures written { Wrote (render_literal (natural indent) (natural best_indent) (chars value.now)) pen.old pen.new (without_open_ended result) }
+    ensures open_ended { IfOk result (λ open_ended. open_ended ≡ pos (header_open_ended (chars value.now))) }
     ensures reads { (charset : Charset) → allows_block charset (chars value.now) ≡ true
         → (column : Option ℕ) → Encloses (natural indent) (natural best_indent) column
         → IfOk result (λ _. ReadsBack (read_block charset.breaks12 column) (chars value.now) pen.old.text pen.new.text) }
 {
     write_literal(pen, value, indent, best_indent)?;
-    Ok(open_mark(value))
+    Ok(open_ended(value))
 }
 
 fn write_literal<A: Allocator>(
@@ -55,7 +55,7 @@ fn write_literal<A: Allocator>(
     requires least { pos 2 ≤ℤ best_indent }
     requires most { best_indent ≤ℤ pos 9 }
     requires within { best_indent ≤ℤ indent }
-    ensures { Wrote (literal_laid (natural indent) (natural best_indent) (chars value.now)) pen.old pen.new result }
+    ensures { Wrote (render_literal (natural indent) (natural best_indent) (chars value.now)) pen.old pen.new result }
 {
     write_header(pen, value, best_indent, BlockStyle::Literal)?;
     write_lines(

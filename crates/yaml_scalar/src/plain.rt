@@ -2,7 +2,7 @@
 ghost use Rattle.std.specs.Prelude.{◌≡◌, pos, ◌≤ℤ◌, ◌||◌, not, true, false, IfOk};
 ghost use Rattle.std.specs.Str.{chars};
 ghost use Rattle.yaml_base.specs.scalars.Analysis.{Charset, allows_plain, is_empty};
-ghost use Rattle.yaml_base.specs.scalars.Plain.{plain_body, plain_laid};
+ghost use Rattle.yaml_base.specs.scalars.Plain.{plain_body, render_plain};
 ghost use Rattle.yaml_base.specs.reading.ReadPlain.{read_plain};
 ghost use Rattle.yaml_pen.specs.Page.{IsReady, natural};
 ghost use Rattle.yaml_pen.specs.Wrote.{Wrote};
@@ -33,11 +33,11 @@ pub fn write_plain_scalar<A: Allocator>(
 ) -> Result<(), yaml_error_t>
     requires ready { IsReady pen.old }
     requires indented { pos 2 ≤ℤ indent }
-    ensures written { Wrote (plain_laid flow (limit_where allow_breaks width) (natural indent) (chars value.now)) pen.old pen.new result }
+    ensures written { Wrote (render_plain flow (limit_where allow_breaks width) (natural indent) (chars value.now)) pen.old pen.new result }
     ensures reads { (charset : Charset) → allows_plain charset flow (chars value.now) ≡ true
         → IfOk result (λ _. ReadsBack (read_plain charset.breaks12 flow) (chars value.now) pen.old.text pen.new.text) }
 {
-    write_laid(
+    write_after_space(
         pen,
         value,
         flow,
@@ -51,7 +51,7 @@ pub fn write_plain_scalar<A: Allocator>(
 }
 
 #[inline(always)]
-fn write_laid<A: Allocator>(
+fn write_after_space<A: Allocator>(
     pen: &mut Pen<A>,
     value: &str,
     flow: bool,
@@ -59,7 +59,7 @@ fn write_laid<A: Allocator>(
 ) -> Result<(), yaml_error_t>
     requires ready { IsReady pen.old }
     requires plain { lines.quoted ≡ false }
-    ensures { Wrote (plain_laid flow (limit_where lines.allow_breaks lines.width) lines.indent (chars value.now)) pen.old pen.new result }
+    ensures { Wrote (render_plain flow (limit_where lines.allow_breaks lines.width) lines.indent (chars value.now)) pen.old pen.new result }
 {
     pen.separate_if(needs_space(flow, value))?;
     write_body(pen, value, lines)

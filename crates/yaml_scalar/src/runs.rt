@@ -1,7 +1,7 @@
 //! Runs of characters that are handed to the pen at once.
 ghost use Rattle.std.specs.Prelude.{◌≡◌, ◌<◌, ◌≤◌, ℕ, Bool, Option, false};
 ghost use Rattle.yaml_base.specs.Cursor.{Cursor};
-ghost use Rattle.yaml_scalar.specs.ByteClasses.{Tells};
+ghost use Rattle.yaml_scalar.specs.ByteClasses.{ImpliesTest};
 ghost use Rattle.yaml_scalar.specs.EscapeBytes.{is_plain};
 ghost use Rattle.yaml_scalar.specs.WholeRuns.{HasRoom, IsLineRun, IsRun, stays_in_line};
 
@@ -23,7 +23,7 @@ pub(crate) struct RunEnds {
 
 /// The classes of bytes that end a run.
 fn ending_classes(ends: RunEnds) -> u8
-    ensures { Tells result (stays_in_line ends.space ends.quote) }
+    ensures { ImpliesTest result (stays_in_line ends.space ends.quote) }
 {
     match (ends.space, ends.quote) {
         (false, false) => BREAK,
@@ -36,8 +36,8 @@ fn ending_classes(ends: RunEnds) -> u8
 /// The classes of bytes that a short line doesn't hold: those of breaks, of what is past ASCII, and of a `'`
 /// where it is doubled.
 pub(crate) fn short_classes(quote: bool) -> u8
-    ensures plain { Tells result is_plain }
-    ensures line { Tells result (stays_in_line false quote) }
+    ensures plain { ImpliesTest result is_plain }
+    ensures line { ImpliesTest result (stays_in_line false quote) }
 {
     if quote {
         BREAK | WIDE | APOSTROPHE
@@ -48,7 +48,7 @@ pub(crate) fn short_classes(quote: bool) -> u8
 
 /// The run up to the first byte of some classes, which may end it early.
 pub(crate) fn run_up_to(before: char, text: &str, classes: u8) -> Run
-    ensures { (test : ℕ → Bool) → Tells classes test → IsRun test before text.now result.length result.last }
+    ensures { (test : ℕ → Bool) → ImpliesTest classes test → IsRun test before text.now result.length result.last }
 {
     let length = free_length(text, classes);
     let (run, _) = text.split_at(length);
@@ -67,7 +67,7 @@ pub(crate) fn line_run_after(before: char, text: &str, ends: RunEnds) -> Run
 
 /// The run up to the first byte of some classes, at most `room` bytes long.
 fn run_within(before: char, text: &str, classes: u8, room: usize) -> Run
-    ensures run { (test : ℕ → Bool) → Tells classes test → IsRun test before text.now result.length result.last }
+    ensures run { (test : ℕ → Bool) → ImpliesTest classes test → IsRun test before text.now result.length result.last }
     ensures within { result.length ≤ room }
 {
     let (near, _) = text.split_at(text.floor_char_boundary(room));

@@ -2,7 +2,7 @@
 ghost use Rattle.std.specs.Prelude.{◌≡◌, pos, ◌≤ℤ◌, true, IfOk};
 ghost use Rattle.std.specs.Str.{chars};
 ghost use Rattle.yaml_base.specs.scalars.Analysis.{Charset, allows_single_quoted};
-ghost use Rattle.yaml_base.specs.scalars.SingleQuoted.{single_quoted_laid};
+ghost use Rattle.yaml_base.specs.scalars.SingleQuoted.{render_single_quoted};
 ghost use Rattle.yaml_base.specs.reading.ReadSingle.{read_single};
 ghost use Rattle.yaml_pen.specs.Page.{IsReady, natural};
 ghost use Rattle.yaml_pen.specs.Wrote.{Wrote};
@@ -31,11 +31,11 @@ pub fn write_single_quoted_scalar<A: Allocator>(
 ) -> Result<(), yaml_error_t>
     requires ready { IsReady pen.old }
     requires indented { pos 2 ≤ℤ indent }
-    ensures written { Wrote (single_quoted_laid (limit_where allow_breaks width) (natural indent) (chars value.now)) pen.old pen.new result }
+    ensures written { Wrote (render_single_quoted (limit_where allow_breaks width) (natural indent) (chars value.now)) pen.old pen.new result }
     ensures reads { (charset : Charset) → allows_single_quoted charset (chars value.now) ≡ true
         → IfOk result (λ _. ReadsBack (read_single charset.breaks12) (chars value.now) pen.old.text pen.new.text) }
 {
-    write_laid(
+    write_between_quotes(
         pen,
         value,
         Lines {
@@ -47,10 +47,14 @@ pub fn write_single_quoted_scalar<A: Allocator>(
     )
 }
 
-fn write_laid<A: Allocator>(pen: &mut Pen<A>, value: &str, lines: Lines) -> Result<(), yaml_error_t>
+fn write_between_quotes<A: Allocator>(
+    pen: &mut Pen<A>,
+    value: &str,
+    lines: Lines,
+) -> Result<(), yaml_error_t>
     requires ready { IsReady pen.old }
     requires quoted { lines.quoted ≡ true }
-    ensures { Wrote (single_quoted_laid (limit_where lines.allow_breaks lines.width) lines.indent (chars value.now)) pen.old pen.new result }
+    ensures { Wrote (render_single_quoted (limit_where lines.allow_breaks lines.width) lines.indent (chars value.now)) pen.old pen.new result }
 {
     pen.put_indicator(&Indicator::spaced("'"))?;
     write_lines(pen, value, lines)?;

@@ -53,8 +53,8 @@ pub fn select_scalar_style(
     let plain_fits = fits_plain(allowed, empty, tag_written, plain_implicit, context);
     let block_fits = allowed.block_allowed && !flow && !simple_key;
     let must_be_double = canonical || (simple_key && allowed.multiline);
-    let asked = style_asked(must_be_double, style);
-    let style = style_fitting(allowed, plain_fits, block_fits, asked);
+    let asked = requested_style(must_be_double, style);
+    let style = fitting_style(allowed, plain_fits, block_fits, asked);
     Ok((style, is_bare(tag_written, quoted_implicit, style)))
 }
 
@@ -84,8 +84,8 @@ fn fits_plain(
 }
 
 /// What is asked for.
-fn style_asked(must_be_double: bool, style: yaml_scalar_style_t) -> yaml_scalar_style_t
-    ensures { seen_scalar_style result ≡ spec.style_asked must_be_double (seen_scalar_style style) }
+fn requested_style(must_be_double: bool, style: yaml_scalar_style_t) -> yaml_scalar_style_t
+    ensures { seen_scalar_style result ≡ spec.requested_style must_be_double (seen_scalar_style style) }
 {
     if must_be_double {
         return YAML_DOUBLE_QUOTED_SCALAR_STYLE;
@@ -97,8 +97,8 @@ fn style_asked(must_be_double: bool, style: yaml_scalar_style_t) -> yaml_scalar_
 }
 
 /// Single quotes where the value allows them, else double quotes.
-fn style_quoted(allowed: &scalar_data_t) -> yaml_scalar_style_t
-    ensures { seen_scalar_style result ≡ spec.style_quoted (seen_data allowed.now) }
+fn quoted_style(allowed: &scalar_data_t) -> yaml_scalar_style_t
+    ensures { seen_scalar_style result ≡ spec.quoted_style (seen_data allowed.now) }
 {
     if allowed.single_quoted_allowed {
         YAML_SINGLE_QUOTED_SCALAR_STYLE
@@ -108,17 +108,17 @@ fn style_quoted(allowed: &scalar_data_t) -> yaml_scalar_style_t
 }
 
 /// The style asked for where it fits.
-fn style_fitting(
+fn fitting_style(
     allowed: &scalar_data_t,
     plain_fits: bool,
     block_fits: bool,
     asked: yaml_scalar_style_t,
 ) -> yaml_scalar_style_t
-    ensures { seen_scalar_style result ≡ spec.style_fitting (seen_data allowed.now) plain_fits block_fits (seen_scalar_style asked) }
+    ensures { seen_scalar_style result ≡ spec.fitting_style (seen_data allowed.now) plain_fits block_fits (seen_scalar_style asked) }
 {
     match asked {
         YAML_PLAIN_SCALAR_STYLE if plain_fits => YAML_PLAIN_SCALAR_STYLE,
-        YAML_PLAIN_SCALAR_STYLE | YAML_SINGLE_QUOTED_SCALAR_STYLE => style_quoted(allowed),
+        YAML_PLAIN_SCALAR_STYLE | YAML_SINGLE_QUOTED_SCALAR_STYLE => quoted_style(allowed),
         YAML_LITERAL_SCALAR_STYLE if block_fits => YAML_LITERAL_SCALAR_STYLE,
         YAML_FOLDED_SCALAR_STYLE if block_fits => YAML_FOLDED_SCALAR_STYLE,
         _ => YAML_DOUBLE_QUOTED_SCALAR_STYLE,

@@ -2,14 +2,14 @@
 //! follows it.
 ghost use Rattle.std.specs.Prelude.{◌≡◌, pos, ◌≤ℤ◌, Bool, true, false};
 ghost use Rattle.std.specs.Str.{chars};
-ghost use Rattle.yaml_base.specs.scalars.Plain.{plain_body, plain_laid, runs, runs_laid};
+ghost use Rattle.yaml_base.specs.scalars.Plain.{plain_body, render_plain, runs, render_runs};
 ghost use Rattle.yaml_pen.specs.Page.{IsReady, natural};
 ghost use Rattle.yaml_pen.specs.Wrote.{Wrote};
 ghost use Rattle.yaml_scalar.specs.Barred.{is_ordinary};
 ghost use Rattle.yaml_scalar.specs.UsualTexts.{IsUsual, has_usual_ends, is_usual};
 ghost use Rattle.yaml_scalar.specs.Width.{limit_where};
 
-use crate::classes::{BREAK, SIGN, UNPRINTABLE, WIDE};
+use crate::classes::{BREAK, INDICATOR, UNPRINTABLE, WIDE};
 use crate::lines::{Lines, line_room, write_runs};
 use crate::short_runs::{is_short_run, write_short_run};
 use std::alloc::Allocator;
@@ -17,10 +17,10 @@ use yaml_base::yaml_error_t;
 use yaml_pen::Pen;
 
 /// The classes of bytes that no usual text holds.
-const UNUSUAL: u8 = BREAK | UNPRINTABLE | SIGN | WIDE;
+const UNUSUAL: u8 = BREAK | UNPRINTABLE | INDICATOR | WIDE;
 
 /// Returns whether a text is usual: at most 512 bytes of ASCII, a letter or a digit first and no space last, without
-/// a break, a control character, `#`, `:`, `?` and the signs of flow collections. Every style may hold such a text.
+/// a break, a control character, `#`, `:`, `?` and the flow indicators. Every style may hold such a text.
 #[inline(always)]
 pub fn is_usual(text: &str) -> bool
     ensures value { result ≡ is_usual text.now }
@@ -64,9 +64,9 @@ pub fn write_usual_scalar<A: Allocator>(
     requires ready { IsReady pen.old }
     requires usual { IsUsual value.now }
     requires indented { pos 2 ≤ℤ indent }
-    ensures { (flow : Bool) → Wrote (plain_laid flow (limit_where allow_breaks width) (natural indent) (chars value.now)) pen.old pen.new result }
+    ensures { (flow : Bool) → Wrote (render_plain flow (limit_where allow_breaks width) (natural indent) (chars value.now)) pen.old pen.new result }
 {
-    write_laid(
+    write_after_space(
         pen,
         value,
         Lines {
@@ -78,11 +78,15 @@ pub fn write_usual_scalar<A: Allocator>(
     )
 }
 
-fn write_laid<A: Allocator>(pen: &mut Pen<A>, value: &str, lines: Lines) -> Result<(), yaml_error_t>
+fn write_after_space<A: Allocator>(
+    pen: &mut Pen<A>,
+    value: &str,
+    lines: Lines,
+) -> Result<(), yaml_error_t>
     requires ready { IsReady pen.old }
     requires usual { IsUsual value.now }
     requires plain { lines.quoted ≡ false }
-    ensures { (flow : Bool) → Wrote (plain_laid flow (limit_where lines.allow_breaks lines.width) lines.indent (chars value.now)) pen.old pen.new result }
+    ensures { (flow : Bool) → Wrote (render_plain flow (limit_where lines.allow_breaks lines.width) lines.indent (chars value.now)) pen.old pen.new result }
 {
     pen.separate()?;
     write_body(pen, value, lines)
@@ -109,7 +113,7 @@ fn write_usual_line<A: Allocator>(
     requires ready { IsReady pen.old }
     requires usual { IsUsual value.now }
     requires plain { lines.quoted ≡ false }
-    ensures { Wrote (runs_laid (λ text. text) (limit_where lines.allow_breaks lines.width) lines.indent true (runs (chars value.now))) pen.old pen.new result }
+    ensures { Wrote (render_runs (λ text. text) (limit_where lines.allow_breaks lines.width) lines.indent true (runs (chars value.now))) pen.old pen.new result }
 {
     if value.len() <= line_room(pen, lines) {
         write_short_run(pen, value)

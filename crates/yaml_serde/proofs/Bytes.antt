@@ -14,7 +14,7 @@ use Rattle.yaml_base.specs.Pieces.{list_layout}
 use Rattle.yaml_base.specs.Settings.{utf8}
 use Rattle.yaml_writer.specs.Given.{default_settings}
 use Rattle.yaml_writer.specs.Writing.{IsStream, opening, closing}
-use Rattle.yaml_serde.specs.Documents.{IsCall, IsDocument}
+use Rattle.yaml_serde.specs.Documents.{IsWriterEvent, IsDocument}
 
 -- a document round some events
 abbrev all_of : List Event → List Event
@@ -38,7 +38,7 @@ stream_is_utf8 events bytes stream =
 pub document_is_utf8 : (bytes : List ℕ) → IsDocument default_settings bytes → IsUtf8 bytes
 document_is_utf8 bytes document = IsUtf8-had bytes (∥∥₁_map document is)
   where
-    is : (events : List Event) × All IsCall events × IsStream default_settings (all_of events) bytes → IsUtf8 bytes
+    is : (events : List Event) × All IsWriterEvent events × IsStream default_settings (all_of events) bytes → IsUtf8 bytes
     is stream = stream_is_utf8 stream.0 bytes stream.2
 
 pub document_ok : {A E : Type 0} (answer : Result (Vec ℕ A) E) → IfOk answer (λ bytes. IsDocument default_settings bytes.items)

@@ -7,7 +7,7 @@ use Rattle.yaml_base.specs.declared.errors.yaml_error_t.{yaml_error_t}
 use Rattle.yaml_base.specs.declared.errors.yaml_error_t.TheVariants.{Memory}
 use Rattle.yaml_pen.proofs.Composing.{grows_itself}
 use Rattle.yaml_pen.specs.Wrote.{Grows}
-use Rattle.yaml_writer.specs.Writing.{WriterState, Gave, Failed, EndsInnermost, NodeExpected, awaits_node}
+use Rattle.yaml_writer.specs.Writing.{WriterState, GaveEvent, Failed, EndsInnermost, NodeExpected, awaits_node}
 
 -- the text and the output of a writer only grow
 abbrev GrowsOn : (before after : WriterState) → Type 0
@@ -19,15 +19,15 @@ grown_same before after is = subst (λ (writer : WriterState). GrowsOn before wr
 
 -- an event was given, or there was no memory for it
 pub grown_given : (answer : Result (Unit {0}) yaml_error_t) (before after : WriterState) (event : Event)
-    → OnOk answer (Gave before event None after) → IfErr answer (λ error. Failed before event error after) → GrowsOn before after
+    → OnOk answer (GaveEvent before event None after) → IfErr answer (λ error. Failed before event error after) → GrowsOn before after
 grown_given (Ok done) before after event gave failed = gave.grows
 grown_given (Err error) before after event gave (inl failed) = failed.grows
 grown_given (Err error) before after event gave (inr none) = grown_same before after none.1
 
 -- the start of a collection was given, or there was no memory for it
 pub grown_begun : (answer : Result (Unit {0}) yaml_error_t) (before inside after : WriterState) (event : Event) → inside.emitter ≡ before.emitter
-    → OnOk answer (Gave inside event None after)
-    → IfErr answer (λ error. Gave inside event (Some error) after ⊎ ((error ≡ Memory) × (after ≡ before)))
+    → OnOk answer (GaveEvent inside event None after)
+    → IfErr answer (λ error. GaveEvent inside event (Some error) after ⊎ ((error ≡ Memory) × (after ≡ before)))
     → GrowsOn before after
 grown_begun (Ok done) before inside after event same gave failed = subst (λ emitter. Grows emitter.page after.emitter.page) same gave.grows
 grown_begun (Err error) before inside after event same gave (inl failed) =

@@ -10,47 +10,48 @@ use Rattle.yaml_base.specs.Settings.{Settings}
 use Rattle.yaml_base.specs.declared.errors.yaml_error_t.{yaml_error_t}
 use Rattle.yaml_base.specs.declared.errors.yaml_error_t.TheVariants.{Memory}
 use Rattle.yaml_emitter.specs.State.{State}
-use Rattle.yaml_writer.specs.Writing.{WriterState, Adds, Gave, Failed, EndsInnermost, Finishes, IsStream, NodeExpected, StandsTaken, awaits_node, closing}
+use Rattle.yaml_writer.specs.Writing.{WriterState, AddsEvent, GaveEvent, Failed, EndsInnermost, Finishes, IsStream, NodeExpected, StandsTaken}
+use Rattle.yaml_writer.specs.Writing.{awaits_node, closing}
 use Rattle.yaml_writer.specs.Writing.{end_event, opening}
-use Rattle.yaml_serde.specs.Documents.{IsCall, IsWithin, IsDocument, end_call}
+use Rattle.yaml_serde.specs.Documents.{IsWriterEvent, IsWithin, IsDocument, end_call}
 
 module _ (given : Settings) where
   -- the events so far of a document
   abbrev Begun : State → Type 0
-  Begun emitter = (events : List Event) × All IsCall events × StandsTaken given (opening ++ events) [] emitter
+  Begun emitter = (events : List Event) × All IsWriterEvent events × StandsTaken given (opening ++ events) [] emitter
 
   -- a new writer has given the start of a document
   pub within_new : (emitter : State) → StandsTaken given opening [] emitter → IsWithin given emitter
   within_new emitter stands = ∣ begun ∣₁
     where
       begun : Begun emitter
-      begun = ([], All-nil IsCall, stands)
+      begun = ([], All-nil IsWriterEvent, stands)
 
   -- one call more
-  within_more : (before after : State) (event : Event) → IsCall event → Adds before event after → IsWithin given before → IsWithin given after
+  within_more : (before after : State) (event : Event) → IsWriterEvent event → AddsEvent before event after → IsWithin given before → IsWithin given after
   within_more before after event call adds within = ∥∥₁_map within more
     where
       more : Begun before → Begun after
       more begun =
-          let one = All-cons IsCall event [] call (All-nil IsCall) in
-          (begun.0 ++ event ∷ [], All-append IsCall begun.0 (event ∷ []) begun.1 one, adds given (opening ++ begun.0) [] begun.2)
+          let one = All-cons IsWriterEvent event [] call (All-nil IsWriterEvent) in
+          (begun.0 ++ event ∷ [], All-append IsWriterEvent begun.0 (event ∷ []) begun.1 one, adds given (opening ++ begun.0) [] begun.2)
 
   -- a writer that is within a document stays so where nothing changes
   within_same : (before after : WriterState) → after ≡ before → IsWithin given before.emitter → IsWithin given after.emitter
   within_same before after is = subst (λ (writer : WriterState). IsWithin given writer.emitter) (sym is)
 
   -- an event was given, or there was no memory for it
-  pub within_given : (answer : Result (Unit {0}) yaml_error_t) (before after : WriterState) {event : Event} → IsCall event
-      → OnOk answer (Gave before event None after) → IfErr answer (λ error. Failed before event error after)
+  pub within_given : (answer : Result (Unit {0}) yaml_error_t) (before after : WriterState) {event : Event} → IsWriterEvent event
+      → OnOk answer (GaveEvent before event None after) → IfErr answer (λ error. Failed before event error after)
       → IsWithin given before.emitter → IsWithin given after.emitter
   within_given (Ok done) before after {event} call gave failed = within_more before.emitter after.emitter event call gave.adds
   within_given (Err error) before after {event} call gave (inl failed) = within_more before.emitter after.emitter event call failed.adds
   within_given (Err error) before after {event} call gave (inr none) = within_same before after none.1
 
   -- the start of a collection was given, or there was no memory for it
-  pub within_begun : (answer : Result (Unit {0}) yaml_error_t) (before inside after : WriterState) {event : Event} → IsCall event
-      → inside.emitter ≡ before.emitter → OnOk answer (Gave inside event None after)
-      → IfErr answer (λ error. Gave inside event (Some error) after ⊎ ((error ≡ Memory) × (after ≡ before)))
+  pub within_begun : (answer : Result (Unit {0}) yaml_error_t) (before inside after : WriterState) {event : Event} → IsWriterEvent event
+      → inside.emitter ≡ before.emitter → OnOk answer (GaveEvent inside event None after)
+      → IfErr answer (λ error. GaveEvent inside event (Some error) after ⊎ ((error ≡ Memory) × (after ≡ before)))
       → IsWithin given before.emitter → IsWithin given after.emitter
   within_begun (Ok done) before inside after {event} call same gave failed within =
       within_more inside.emitter after.emitter event call gave.adds (subst (IsWithin given) (sym same) within)
@@ -86,7 +87,7 @@ module _ (given : Settings) where
   finished : (emitter : State) (bytes : List ℕ) → IsWithin given emitter → Finishes emitter bytes → IsDocument given bytes
   finished emitter bytes within finishes = ∥∥₁_map within whole
     where
-      whole : Begun emitter → (events : List Event) × All IsCall events × IsStream given (opening ++ events ++ closing) bytes
+      whole : Begun emitter → (events : List Event) × All IsWriterEvent events × IsStream given (opening ++ events ++ closing) bytes
       whole begun = (begun.0, begun.1, finishes given (opening ++ begun.0) [] begun.2)
 
   pub finished_ok : {A E : Type 0} (answer : Result (Vec ℕ A) E) (emitter : State) → IsWithin given emitter

@@ -14,22 +14,22 @@ use Rattle.yaml_writer.specs.declared.kinds.CollectionKind.{CollectionKind}
 
 -- an event that a call of a writer gives, with the writer's properties of the next node: so a number is spelled for both
 -- schemas, and a text stands plain only where both read it as a text
-pub data IsCall : Event → Type 0 where
-  null_call : (writer : WriterState) → IsCall (null_event writer)
-  bool_call : (writer : WriterState) (value : Bool) → IsCall (bool_event writer value)
-  int_call : (writer : WriterState) (value : ℤ) → IsCall (int_event writer value)
-  number_call : (writer : WriterState) (number : JsonNumber) → is_json_number number ≡ true → IsCall (number_event writer number)
-  special_call : (writer : WriterState) (value : SpecialFloat) → IsCall (special_event writer value)
-  text_call : (writer : WriterState) (text : Text) → IsCall (text_event writer text)
-  mapping_call : (writer : WriterState) → IsCall (mapping_event writer block)
-  sequence_call : (writer : WriterState) → IsCall (sequence_event writer block)
-  end_call : (kind : CollectionKind) → IsCall (end_event kind)
+pub data IsWriterEvent : Event → Type 0 where
+  null_call : (writer : WriterState) → IsWriterEvent (null_event writer)
+  bool_call : (writer : WriterState) (value : Bool) → IsWriterEvent (bool_event writer value)
+  int_call : (writer : WriterState) (value : ℤ) → IsWriterEvent (int_event writer value)
+  number_call : (writer : WriterState) (number : JsonNumber) → is_json_number number ≡ true → IsWriterEvent (number_event writer number)
+  special_call : (writer : WriterState) (value : SpecialFloat) → IsWriterEvent (special_event writer value)
+  text_call : (writer : WriterState) (text : Text) → IsWriterEvent (text_event writer text)
+  mapping_call : (writer : WriterState) → IsWriterEvent (mapping_event writer block)
+  sequence_call : (writer : WriterState) → IsWriterEvent (sequence_event writer block)
+  end_call : (kind : CollectionKind) → IsWriterEvent (end_event kind)
 
 -- under these settings an emitter was given the start of a document and the events of some calls; nothing of its output is taken
 abbrev pub IsWithin : Settings → State → Type 0
-IsWithin given emitter = ∥ ((events : List Event) × All IsCall events × StandsTaken given (opening ++ events) [] emitter) ∥₁
+IsWithin given emitter = ∥ ((events : List Event) × All IsWriterEvent events × StandsTaken given (opening ++ events) [] emitter) ∥₁
 
 -- bytes are the output of a stream that begins and ends a document round the events of some calls: well-formed, written whole
 -- under these settings, and read back as those events
 abbrev pub IsDocument : Settings → List ℕ → Type 0
-IsDocument given bytes = ∥ ((events : List Event) × All IsCall events × IsStream given (opening ++ events ++ closing) bytes) ∥₁
+IsDocument given bytes = ∥ ((events : List Event) × All IsWriterEvent events × IsStream given (opening ++ events ++ closing) bytes) ∥₁

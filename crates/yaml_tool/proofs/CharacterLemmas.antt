@@ -78,14 +78,14 @@ pub is_prefix : (text end : List ℕ) → EndsIn text end → IsUtf8 text → Is
 is_prefix text end ends is_text is_end = IsUtf8-take text (length text - length end) is_text (cut_before_end text end ends is_end)
 
 -- a text that was passed over up to its end
-pub record Passed (text end : List ℕ) : Type 0 where
+pub record PassedEvents (text end : List ℕ) : Type 0 where
   pub ends : EndsIn text end
   pub is_text : IsUtf8 text
   pub is_end : IsUtf8 end
   pub all : chars text ≡ chars (prefix_of text end) ++ chars end
 
 -- it is passed wherever it ends in characters
-pub passed_to : (text end : List ℕ) → EndsIn text end → IsUtf8 text → IsUtf8 end → Passed text end
+pub passed_to : (text end : List ℕ) → EndsIn text end → IsUtf8 text → IsUtf8 end → PassedEvents text end
 passed_to text end ends is_text is_end = record {
   ends = ends;
   is_text = is_text;
@@ -93,7 +93,7 @@ passed_to text end ends is_text is_end = record {
   all = ap chars (prefix_and_end text end ends) ∙ chars-append (prefix_of text end) end (is_prefix text end ends is_text is_end);
 }
 
-pub nothing_passed : (text : List ℕ) → IsUtf8 text → Passed text text
+pub nothing_passed : (text : List ℕ) → IsUtf8 text → PassedEvents text text
 nothing_passed text is = record {
   ends = ends_in_itself text;
   is_text = is;
@@ -104,7 +104,7 @@ nothing_passed text is = record {
 pub empty_prefix : (text : List ℕ) → chars (prefix_of text text) ≡ []
 empty_prefix text = ap chars (prefix_of_itself text) ∙ chars-nil
 
-pub one_passed : (text end behind : List ℕ) (c : ℕ) → Passed text end → end ≡ encode_utf8 c ++ behind → Passed text behind
+pub one_passed : (text end behind : List ℕ) (c : ℕ) → PassedEvents text end → end ≡ encode_utf8 c ++ behind → PassedEvents text behind
 one_passed text end behind c passed is =
     let is_behind = IsUtf8-past_char end behind c passed.is_end is in
     let grown = prefix_grows text end behind c passed.is_text passed.is_end is_behind passed.ends is in
@@ -119,29 +119,29 @@ one_passed text end behind c passed is =
           ∙ ap (λ (prefix : List ℕ). prefix ++ chars behind) (sym grown);
     }
 
-pub prefix_passed : (text end behind : List ℕ) (c : ℕ) → Passed text end → end ≡ encode_utf8 c ++ behind
+pub prefix_passed : (text end behind : List ℕ) (c : ℕ) → PassedEvents text end → end ≡ encode_utf8 c ++ behind
     → chars (prefix_of text behind) ≡ chars (prefix_of text end) ++ c ∷ []
 prefix_passed text end behind c passed is = prefix_grows text end behind c passed.is_text passed.is_end
     (IsUtf8-past_char end behind c passed.is_end is) passed.ends is
 
 -- one run of characters after another
-pub run_passed : (text end further : List ℕ) → Passed text end → EndsIn end further → IsUtf8 further → Passed text further
+pub run_passed : (text end further : List ℕ) → PassedEvents text end → EndsIn end further → IsUtf8 further → PassedEvents text further
 run_passed text end further passed ends is =
     passed_to text further (ends_further text end (prefix_of end further) further passed.ends (prefix_and_end end further ends)) passed.is_text is
 
-pub run_prefix : (text end further : List ℕ) → Passed text end → EndsIn end further
+pub run_prefix : (text end further : List ℕ) → PassedEvents text end → EndsIn end further
     → chars (prefix_of text further) ≡ chars (prefix_of text end) ++ chars (prefix_of end further)
 run_prefix text end further passed ends =
     ap chars (prefix_further text end (prefix_of end further) further passed.ends (prefix_and_end end further ends))
     ∙ chars-append (prefix_of text end) (prefix_of end further) (is_prefix text end passed.ends passed.is_text passed.is_end)
 
 -- where nothing is left the prefix is all
-pub all_passed : (text end : List ℕ) → Passed text end → chars end ≡ [] → chars text ≡ chars (prefix_of text end)
+pub all_passed : (text end : List ℕ) → PassedEvents text end → chars end ≡ [] → chars text ≡ chars (prefix_of text end)
 all_passed text end passed is = passed.all ∙ ap (λ (rest : List ℕ). chars (prefix_of text end) ++ rest) is ∙ append-nil (chars (prefix_of text end))
 
 -- a character that isn't sought leaves the prefix free
-pub still_free : (sign c : ℕ) (prefix grown : List ℕ) → IsFree sign prefix → (c ≡ sign → ⊥) → grown ≡ prefix ++ c ∷ [] → IsFree sign grown
-still_free sign c prefix grown free is_not is =
-    ap (λ (text : List ℕ). list_any (λ character. character == sign) text) is
-    ∙ list_any-append (λ character. character == sign) prefix (c ∷ [])
+pub still_free : (delimiter c : ℕ) (prefix grown : List ℕ) → IsFree delimiter prefix → (c ≡ delimiter → ⊥) → grown ≡ prefix ++ c ∷ [] → IsFree delimiter grown
+still_free delimiter c prefix grown free is_not is =
+    ap (λ (text : List ℕ). list_any (λ character. character == delimiter) text) is
+    ∙ list_any-append (λ character. character == delimiter) prefix (c ∷ [])
     ∙ grind (arith, nat_tests, free, is_not)

@@ -14,30 +14,31 @@ neither true b h = cc
 one_cut : ℕ → List Text → Bool → List Text
 one_cut c pieces is = cond is ([] ∷ pieces) (onto_first c pieces)
 
-cut_prefix : (sign : ℕ) (prefix : Text) (back : List Text) (text : Text) → IsFree sign prefix → cut_at sign text ≡ [] ∷ back
-    → cut_at sign (prefix ++ text) ≡ prefix ∷ back
+cut_prefix : (delimiter : ℕ) (prefix : Text) (back : List Text) (text : Text) → IsFree delimiter prefix → cut_at delimiter text ≡ [] ∷ back
+    → cut_at delimiter (prefix ++ text) ≡ prefix ∷ back
 unfolding one_cut
-cut_prefix sign [] back text free is = is
-cut_prefix sign (c ∷ prefix) back text free is =
-    let both = neither (c == sign) _ free in
-    ap (one_cut c (cut_at sign (prefix ++ text))) both.0 ∙ ap (onto_first c) (cut_prefix sign prefix back text both.1 is)
+cut_prefix delimiter [] back text free is = is
+cut_prefix delimiter (c ∷ prefix) back text free is =
+    let both = neither (c == delimiter) _ free in
+    ap (one_cut c (cut_at delimiter (prefix ++ text))) both.0 ∙ ap (onto_first c) (cut_prefix delimiter prefix back text both.1 is)
 
-at_sign : (sign : ℕ) → (sign == sign) ≡ true
-at_sign sign = grind (arith, nat_tests)
+at_delimiter : (delimiter : ℕ) → (delimiter == delimiter) ≡ true
+at_delimiter delimiter = grind (arith, nat_tests)
 
 -- without the character there is one piece
-pub cut_free : (sign : ℕ) (text : Text) → IsFree sign text → cut_at sign text ≡ text ∷ []
+pub cut_free : (delimiter : ℕ) (text : Text) → IsFree delimiter text → cut_at delimiter text ≡ text ∷ []
 unfolding one_cut
-cut_free sign [] free = refl
-cut_free sign (c ∷ rest) free =
-    let both = neither (c == sign) _ free in
-    ap (one_cut c (cut_at sign rest)) both.0 ∙ ap (onto_first c) (cut_free sign rest both.1)
+cut_free delimiter [] free = refl
+cut_free delimiter (c ∷ rest) free =
+    let both = neither (c == delimiter) _ free in
+    ap (one_cut c (cut_at delimiter rest)) both.0 ∙ ap (onto_first c) (cut_free delimiter rest both.1)
 
 -- the prefix is the first piece, and the back gives the others
-pub cut_cut : (sign : ℕ) (text prefix back : Text) → IsCut sign text prefix back → cut_at sign text ≡ prefix ∷ cut_at sign back
+pub cut_cut : (delimiter : ℕ) (text prefix back : Text) → IsCut delimiter text prefix back → cut_at delimiter text ≡ prefix ∷ cut_at delimiter back
 unfolding one_cut
-cut_cut sign text prefix back cut =
-    ap (cut_at sign) cut.0 ∙ cut_prefix sign prefix (cut_at sign back) (sign ∷ back) cut.1 (ap (one_cut sign (cut_at sign back)) (at_sign sign))
+cut_cut delimiter text prefix back cut =
+    ap (cut_at delimiter) cut.0 ∙ cut_prefix delimiter prefix (cut_at delimiter back) (delimiter ∷ back) cut.1
+    (ap (one_cut delimiter (cut_at delimiter back)) (at_delimiter delimiter))
 
 three : (major minor : Text) (first : Bool) (c : ℕ) (pieces : List Text) → version_of (major ∷ minor ∷ one_cut c pieces first) ≡ None
 unfolding one_cut
@@ -46,7 +47,7 @@ three major minor false c [] = refl
 three major minor false c (piece ∷ pieces) = refl
 
 -- more than two pieces are no version
-pub no_version : (sign : ℕ) (major minor back : Text) → version_of (major ∷ minor ∷ cut_at sign back) ≡ None
+pub no_version : (delimiter : ℕ) (major minor back : Text) → version_of (major ∷ minor ∷ cut_at delimiter back) ≡ None
 unfolding one_cut
-no_version sign major minor [] = refl
-no_version sign major minor (c ∷ rest) = three major minor (c == sign) c (cut_at sign rest)
+no_version delimiter major minor [] = refl
+no_version delimiter major minor (c ∷ rest) = three major minor (c == delimiter) c (cut_at delimiter rest)

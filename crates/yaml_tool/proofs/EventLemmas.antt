@@ -10,7 +10,7 @@ use Rattle.yaml_base.specs.declared.directives.yaml_tag_directive_t.{yaml_tag_di
 use Rattle.yaml_base.specs.Seen.{seen_directive}
 use Rattle.yaml_tool.specs.declared.events.CollectionKind.{CollectionKind}
 use Rattle.yaml_tool.specs.Events.{start_of}
-use Rattle.yaml_tool.specs.Fields.{led_by, field_of, HasField}
+use Rattle.yaml_tool.specs.Fields.{prepend_field, field_of, HasField}
 
 -- the field that stands for a choice is read as it
 choice_read : (choice : Option Text) → text_or_none (field_of choice) ≡ Some choice
@@ -18,8 +18,9 @@ choice_read None = refl
 choice_read (Some text) = refl
 
 scalar_parts : (style plain quoted' value : Text) (anchor tag : Option Text)
-    → option_and_then scalar_of (led_by (bare style) (led_by (bare plain) (led_by (bare quoted') (led_by (field_of anchor) (led_by (field_of tag)
-    (led_by (quoted value) (Some [])))))))
+    → option_and_then scalar_of (prepend_field (bare style)
+    (prepend_field (bare plain) (prepend_field (bare quoted') (prepend_field (field_of anchor) (prepend_field (field_of tag)
+    (prepend_field (quoted value) (Some [])))))))
     ≡ scalar_with (named scalar_styles style) (named flags plain) (named flags quoted') (Some anchor) (Some tag) value
 scalar_parts style plain quoted' value anchor tag =
     ap (λ choice. scalar_with (named scalar_styles style) (named flags plain) (named flags quoted') choice (text_or_none (field_of tag)) value)
@@ -28,19 +29,20 @@ scalar_parts style plain quoted' value anchor tag =
 
 -- a scalar's fields, each read by itself
 pub record ScalarRead (style plain quoted' value : Text) (anchor tag : Option Text) (f0 f1 f2 f3 f4 f5 f6 : Option (List Field)) : Type 0 where
-  pub style_read : f0 ≡ led_by (bare style) f1
-  pub plain_read : f1 ≡ led_by (bare plain) f2
-  pub quoted_read : f2 ≡ led_by (bare quoted') f3
-  pub anchor_read : f3 ≡ led_by (field_of anchor) f4
-  pub tag_read : f4 ≡ led_by (field_of tag) f5
-  pub value_read : f5 ≡ led_by (quoted value) f6
+  pub style_read : f0 ≡ prepend_field (bare style) f1
+  pub plain_read : f1 ≡ prepend_field (bare plain) f2
+  pub quoted_read : f2 ≡ prepend_field (bare quoted') f3
+  pub anchor_read : f3 ≡ prepend_field (field_of anchor) f4
+  pub tag_read : f4 ≡ prepend_field (field_of tag) f5
+  pub value_read : f5 ≡ prepend_field (quoted value) f6
 
 scalar_fields : (style plain quoted' value : Text) (anchor tag : Option Text) (f0 f1 f2 f3 f4 f5 f6 : Option (List Field))
     → ScalarRead style plain quoted' value anchor tag f0 f1 f2 f3 f4 f5 f6
-    → f0 ≡ led_by (bare style) (led_by (bare plain) (led_by (bare quoted') (led_by (field_of anchor) (led_by (field_of tag) (led_by (quoted value) f6)))))
+    → f0 ≡ prepend_field (bare style) (prepend_field (bare plain)
+    (prepend_field (bare quoted') (prepend_field (field_of anchor) (prepend_field (field_of tag) (prepend_field (quoted value) f6)))))
 scalar_fields style plain quoted' value anchor tag f0 f1 f2 f3 f4 f5 f6 read =
-    read.style_read ∙ ap (led_by (bare style)) (read.plain_read ∙ ap (led_by (bare plain)) (read.quoted_read ∙ ap (led_by (bare quoted'))
-    (read.anchor_read ∙ ap (led_by (field_of anchor)) (read.tag_read ∙ ap (led_by (field_of tag)) read.value_read))))
+    read.style_read ∙ ap (prepend_field (bare style)) (read.plain_read ∙ ap (prepend_field (bare plain)) (read.quoted_read ∙ ap (prepend_field (bare quoted'))
+    (read.anchor_read ∙ ap (prepend_field (field_of anchor)) (read.tag_read ∙ ap (prepend_field (field_of tag)) read.value_read))))
 
 -- are the scalar
 pub scalar_joined : (style plain quoted' value : Text) (anchor tag : Option Text) (f0 f1 f2 f3 f4 f5 f6 : Option (List Field)) (result : Option Event)
@@ -55,8 +57,9 @@ scalar_joined style plain quoted' value anchor tag f0 f1 f2 f3 f4 f5 f6 result a
     ∙ ap (λ x. scalar_with (named scalar_styles style) (named flags plain) x (Some anchor) (Some tag) value) is_c
     ∙ sym (scalar_parts style plain quoted' value anchor tag)
     ∙ sym (ap (option_and_then scalar_of) (scalar_fields style plain quoted' value anchor tag f0 f1 f2 f3 f4 f5 f6 read
-    ∙ ap (λ fields. led_by (bare style) (led_by (bare plain) (led_by (bare quoted') (led_by (field_of anchor) (led_by (field_of tag)
-    (led_by (quoted value) fields)))))) end))
+    ∙ ap (λ fields. prepend_field (bare style)
+    (prepend_field (bare plain) (prepend_field (bare quoted') (prepend_field (field_of anchor) (prepend_field (field_of tag)
+    (prepend_field (quoted value) fields)))))) end))
 
 -- and where a further field follows, there is no scalar
 pub no_scalar : (style plain quoted' value : Text) (anchor tag : Option Text) (f0 f1 f2 f3 f4 f5 f6 : Option (List Field))
@@ -65,23 +68,27 @@ no_scalar style plain quoted' value anchor tag f0 f1 f2 f3 f4 f5 f6 read has =
     none f6 has ∙ sym (ap (option_and_then scalar_of) (scalar_fields style plain quoted' value anchor tag f0 f1 f2 f3 f4 f5 f6 read))
   where
     none : (fields : Option (List Field)) → HasField fields
-        → None ≡ option_and_then scalar_of (led_by (bare style) (led_by (bare plain) (led_by (bare quoted') (led_by (field_of anchor) (led_by (field_of tag)
-        (led_by (quoted value) fields))))))
+        → None ≡ option_and_then scalar_of (prepend_field (bare style)
+        (prepend_field (bare plain) (prepend_field (bare quoted') (prepend_field (field_of anchor) (prepend_field (field_of tag)
+        (prepend_field (quoted value) fields))))))
     none None has = refl
     none (Some []) has = absurd has
     none (Some (field ∷ rest)) has = refl
 
 collection_parts : (style implicit : Text) (anchor tag : Option Text)
-    → option_and_then collection_of (led_by (bare style) (led_by (bare implicit) (led_by (field_of anchor) (led_by (field_of tag) (Some [])))))
+    → option_and_then collection_of (prepend_field (bare style)
+    (prepend_field (bare implicit) (prepend_field (field_of anchor) (prepend_field (field_of tag) (Some [])))))
     ≡ collection_with (named collection_styles style) (named flags implicit) (Some anchor) (Some tag)
 collection_parts style implicit anchor tag =
     ap (λ choice. collection_with (named collection_styles style) (named flags implicit) choice (text_or_none (field_of tag))) (choice_read anchor)
     ∙ ap (λ choice. collection_with (named collection_styles style) (named flags implicit) (Some anchor) choice) (choice_read tag)
 
 -- a collection's parts, each read by itself, are its start
-pub collection_joined : (kind : CollectionKind) (style implicit : Text) (anchor tag : Option Text) (f0 f1 f2 f3 f4 : Option (List Field)) (result : Option Event)
+pub collection_joined : (kind : CollectionKind) (style implicit : Text) (anchor tag : Option Text) (f0 f1 f2 f3 f4 : Option (List Field))
+    (result : Option Event)
     → (a : Option CollectionStyle) (b : Option Bool)
-    → f0 ≡ led_by (bare style) f1 → f1 ≡ led_by (bare implicit) f2 → f2 ≡ led_by (field_of anchor) f3 → f3 ≡ led_by (field_of tag) f4 → f4 ≡ Some []
+    → f0 ≡ prepend_field (bare style) f1 → f1 ≡ prepend_field (bare implicit) f2 → f2 ≡ prepend_field (field_of anchor) f3
+    → f3 ≡ prepend_field (field_of tag) f4 → f4 ≡ Some []
     → a ≡ named collection_styles style → b ≡ named flags implicit
     → result ≡ option_map (start_of kind) (collection_with a b (Some anchor) (Some tag))
     → result ≡ option_map (start_of kind) (option_and_then collection_of f0)
@@ -91,20 +98,23 @@ collection_joined kind style implicit anchor tag f0 f1 f2 f3 f4 result a b e0 e1
     ∙ ap (λ x. option_map (start_of kind) (collection_with (named collection_styles style) x (Some anchor) (Some tag))) is_b
     ∙ ap (option_map (start_of kind)) (sym (collection_parts style implicit anchor tag))
     ∙ sym (ap (λ fields. option_map (start_of kind) (option_and_then collection_of fields))
-    (e0 ∙ ap (led_by (bare style)) (e1 ∙ ap (led_by (bare implicit)) (e2 ∙ ap (led_by (field_of anchor)) (e3 ∙ ap (led_by (field_of tag)) e4)))))
+    (e0 ∙ ap (prepend_field (bare style)) (e1
+    ∙ ap (prepend_field (bare implicit)) (e2 ∙ ap (prepend_field (field_of anchor)) (e3 ∙ ap (prepend_field (field_of tag)) e4)))))
 
 -- a further field is one too many
 pub no_collection : (kind : CollectionKind) (style implicit : Text) (anchor tag : Option Text) (f0 f1 f2 f3 f4 : Option (List Field))
-    → f0 ≡ led_by (bare style) f1 → f1 ≡ led_by (bare implicit) f2 → f2 ≡ led_by (field_of anchor) f3 → f3 ≡ led_by (field_of tag) f4 → HasField f4
+    → f0 ≡ prepend_field (bare style) f1 → f1 ≡ prepend_field (bare implicit) f2 → f2 ≡ prepend_field (field_of anchor) f3
+    → f3 ≡ prepend_field (field_of tag) f4 → HasField f4
     → None ≡ option_map (start_of kind) (option_and_then collection_of f0)
 no_collection kind style implicit anchor tag f0 f1 f2 f3 f4 e0 e1 e2 e3 has =
     none f4 has
     ∙ sym (ap (λ fields. option_map (start_of kind) (option_and_then collection_of fields))
-    (e0 ∙ ap (led_by (bare style)) (e1 ∙ ap (led_by (bare implicit)) (e2 ∙ ap (led_by (field_of anchor)) e3))))
+    (e0 ∙ ap (prepend_field (bare style)) (e1 ∙ ap (prepend_field (bare implicit)) (e2 ∙ ap (prepend_field (field_of anchor)) e3))))
   where
     none : (fields : Option (List Field)) → HasField fields
-        → None ≡ option_map (start_of kind) (option_and_then collection_of (led_by (bare style) (led_by (bare implicit) (led_by (field_of anchor)
-        (led_by (field_of tag) fields)))))
+        → None ≡ option_map (start_of kind) (option_and_then collection_of
+        (prepend_field (bare style) (prepend_field (bare implicit) (prepend_field (field_of anchor)
+        (prepend_field (field_of tag) fields)))))
     none None has = refl
     none (Some []) has = absurd has
     none (Some (field ∷ rest)) has = refl
@@ -122,7 +132,8 @@ one_directive directives grown directive (Some others) e =
     (sym (append_assoc (map seen_directive directives) (seen_directive directive ∷ []) others)
     ∙ ap (λ (all : List TagDirective). all ++ others) (sym (ap (map seen_directive) e ∙ map-append seen_directive directives (directive ∷ []))))
 
-pair_read : (handle prefix : Text) (fields : Option (List Field)) → option_and_then directives_of (led_by (quoted handle) (led_by (quoted prefix) fields))
+pair_read : (handle prefix : Text) (fields : Option (List Field))
+    → option_and_then directives_of (prepend_field (quoted handle) (prepend_field (quoted prefix) fields))
     ≡ option_map (λ others. record { handle = handle; prefix = prefix } ∷ others) (option_and_then directives_of fields)
 pair_read handle prefix None = refl
 pair_read handle prefix (Some fields) = refl
@@ -131,12 +142,12 @@ pair_read handle prefix (Some fields) = refl
 pub directive_read : {A : Type 0} (directives grown : List (yaml_tag_directive_t A)) (directive : yaml_tag_directive_t A) (f0 f1 f2 : Option (List Field))
     (whole : Option (List TagDirective))
     → whole ≡ option_map (λ others. map seen_directive directives ++ others) (option_and_then directives_of f0)
-    → f0 ≡ led_by (quoted (seen_directive directive).handle) f1 → f1 ≡ led_by (quoted (seen_directive directive).prefix) f2
+    → f0 ≡ prepend_field (quoted (seen_directive directive).handle) f1 → f1 ≡ prepend_field (quoted (seen_directive directive).prefix) f2
     → grown ≡ directives ++ directive ∷ []
     → whole ≡ option_map (λ others. map seen_directive grown ++ others) (option_and_then directives_of f2)
 directive_read directives grown directive f0 f1 f2 whole before first second grows =
     before
     ∙ ap (λ fields. option_map (λ others. map seen_directive directives ++ others) (option_and_then directives_of fields))
-    (first ∙ ap (led_by (quoted (seen_directive directive).handle)) second)
+    (first ∙ ap (prepend_field (quoted (seen_directive directive).handle)) second)
     ∙ ap (option_map (λ others. map seen_directive directives ++ others)) (pair_read (seen_directive directive).handle (seen_directive directive).prefix f2)
     ∙ one_directive directives grown directive (option_and_then directives_of f2) grows

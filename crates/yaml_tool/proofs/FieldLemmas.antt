@@ -9,23 +9,24 @@ use Rattle.std.specs.Str.{chars, IsUtf8}
 use Rattle.yaml_base.specs.Characters.{Text, space}
 use Rattle.yaml_base.specs.scripts.Script as notation
 use Rattle.yaml_base.specs.scripts.Script.{outside, inside, escaped, separates, state_after, cut_before, pieces_from, bare, quoted, text_from, at_character}
-use Rattle.yaml_base.specs.scripts.Script.{field_read, field_and, each_field, fields_read, quotation_mark, backslash}
+use Rattle.yaml_base.specs.scripts.Script.{field_read, field_and, read_fields, fields_read, quotation_mark, backslash}
 use Rattle.yaml_tool.specs.Cuts.{IsFree, SkipsTo, prefix_of}
-use Rattle.yaml_tool.specs.Fields.{attached, RunsTo, later_fields, led_by, HasField}
+use Rattle.yaml_tool.specs.Fields.{prepend_to_first_piece, SkipsRunTo, later_fields, prepend_field, HasField}
 use Rattle.yaml_tool.proofs.CutLemmas.{neither}
 use Rattle.yaml_tool.proofs.TextLemmas.{reads_prefix}
-use Rattle.yaml_tool.proofs.CharacterLemmas.{Passed, passed_to, ends_in_itself, empty_prefix, run_prefix, run_passed}
+use Rattle.yaml_tool.proofs.CharacterLemmas.{PassedEvents, passed_to, ends_in_itself, empty_prefix, run_prefix, run_passed}
 
-attached_one : (prefix : Text) (c : ℕ) (pieces : List Text) → attached (prefix ++ c ∷ []) pieces ≡ attached prefix (onto_first c pieces)
+attached_one : (prefix : Text) (c : ℕ) (pieces : List Text)
+    → prepend_to_first_piece (prefix ++ c ∷ []) pieces ≡ prepend_to_first_piece prefix (onto_first c pieces)
 attached_one [] c pieces = refl
 attached_one (d ∷ prefix) c pieces = ap (onto_first d) (attached_one prefix c pieces)
 
-attached_empty : (prefix : Text) (pieces : List Text) → attached prefix ([] ∷ pieces) ≡ prefix ∷ pieces
+attached_empty : (prefix : Text) (pieces : List Text) → prepend_to_first_piece prefix ([] ∷ pieces) ≡ prefix ∷ pieces
 attached_empty [] pieces = refl
 attached_empty (c ∷ prefix) pieces = ap (onto_first c) (attached_empty prefix pieces)
 
 -- the whole line is one piece
-pub whole_line : (line : Text) → attached line ([] ∷ []) ≡ line ∷ []
+pub whole_line : (line : Text) → prepend_to_first_piece line ([] ∷ []) ≡ line ∷ []
 whole_line line = attached_empty line []
 
 behind_separator : (standing : notation.FieldState) (c : ℕ) → separates standing c ≡ true → state_after standing c ≡ outside
@@ -37,51 +38,54 @@ behind_separator escaped c h = cc
 
 -- a separator ends the first piece
 pub stops_first : (standing : notation.FieldState) (c : ℕ) (prefix text rest : Text) → text ≡ c ∷ rest → separates standing c ≡ true
-    → attached prefix (pieces_from standing text) ≡ prefix ∷ pieces_from outside rest
+    → prepend_to_first_piece prefix (pieces_from standing text) ≡ prefix ∷ pieces_from outside rest
 stops_first standing c prefix text rest begins is =
     let opened : pieces_from standing text ≡ cut_before (separates standing c) c (pieces_from (state_after standing c) rest) =
     ap (pieces_from standing) begins in
     let cut : cut_before (separates standing c) c (pieces_from (state_after standing c) rest) ≡ [] ∷ pieces_from outside rest =
     subst (λ (b : Bool). cut_before b c (pieces_from (state_after standing c) rest) ≡ [] ∷ pieces_from outside rest) (sym is)
     (ap (λ (s : notation.FieldState). [] ∷ pieces_from s rest) (behind_separator standing c is)) in
-    ap (attached prefix) (opened ∙ cut) ∙ attached_empty prefix (pieces_from outside rest)
+    ap (prepend_to_first_piece prefix) (opened ∙ cut) ∙ attached_empty prefix (pieces_from outside rest)
 
 -- any other character belongs to the first piece
 pub goes_first : (standing : notation.FieldState) (c : ℕ) (prefix grown text rest : Text) → text ≡ c ∷ rest → separates standing c ≡ false
     → grown ≡ prefix ++ c ∷ []
-    → attached prefix (pieces_from standing text) ≡ attached grown (pieces_from (state_after standing c) rest)
+    → prepend_to_first_piece prefix (pieces_from standing text) ≡ prepend_to_first_piece grown (pieces_from (state_after standing c) rest)
 goes_first standing c prefix grown text rest begins is_not grows =
     let pieces = pieces_from (state_after standing c) rest in
     let opened : pieces_from standing text ≡ cut_before (separates standing c) c pieces = ap (pieces_from standing) begins in
     let kept : cut_before (separates standing c) c pieces ≡ onto_first c pieces = ap (λ (b : Bool). cut_before b c pieces) is_not in
-    ap (attached prefix) (opened ∙ kept) ∙ sym (attached_one prefix c pieces) ∙ ap (λ (all : Text). attached all pieces) (sym grows)
+    ap (prepend_to_first_piece prefix) (opened ∙ kept) ∙ sym (attached_one prefix c pieces) ∙ ap (λ (all : Text). prepend_to_first_piece all pieces) (sym grows)
 
-pub attached_both : (prefix more : Text) (pieces : List Text) → attached (prefix ++ more) pieces ≡ attached prefix (attached more pieces)
+pub attached_both : (prefix more : Text) (pieces : List Text)
+    → prepend_to_first_piece (prefix ++ more) pieces ≡ prepend_to_first_piece prefix (prepend_to_first_piece more pieces)
 attached_both [] more pieces = refl
 attached_both (c ∷ prefix) more pieces = ap (onto_first c) (attached_both prefix more pieces)
 
 -- outside texts only a space and a quotation mark matter
-pub run_outside : (prefix rest : Text) → IsFree 0x20 prefix → IsFree 0x22 prefix → pieces_from outside (prefix ++ rest) ≡ attached prefix (pieces_from outside rest)
-run_outside [] rest no_space no_mark = refl
-run_outside (c ∷ prefix) rest no_space no_mark =
+pub run_outside : (prefix rest : Text) → IsFree 0x20 prefix → IsFree 0x22 prefix
+    → pieces_from outside (prefix ++ rest) ≡ prepend_to_first_piece prefix (pieces_from outside rest)
+run_outside [] rest no_space no_exclamation = refl
+run_outside (c ∷ prefix) rest no_space no_exclamation =
     let space = neither (c == 0x20) _ no_space in
-    let mark = neither (c == 0x22) _ no_mark in
+    let quotation = neither (c == 0x22) _ no_exclamation in
     ap (λ (b : Bool). cut_before b c (pieces_from (state_after outside c) (prefix ++ rest))) space.0
-    ∙ ap (λ (b : Bool). onto_first c (pieces_from (if b then inside else outside) (prefix ++ rest))) mark.0
-    ∙ ap (onto_first c) (run_outside prefix rest space.1 mark.1)
+    ∙ ap (λ (b : Bool). onto_first c (pieces_from (if b then inside else outside) (prefix ++ rest))) quotation.0
+    ∙ ap (onto_first c) (run_outside prefix rest space.1 quotation.1)
 
 -- inside texts only a quotation mark and a backslash matter
-pub run_inside : (prefix rest : Text) → IsFree 0x22 prefix → IsFree 0x5C prefix → pieces_from inside (prefix ++ rest) ≡ attached prefix (pieces_from inside rest)
-run_inside [] rest no_mark no_backslash = refl
-run_inside (c ∷ prefix) rest no_mark no_backslash =
-    let mark = neither (c == 0x22) _ no_mark in
+pub run_inside : (prefix rest : Text) → IsFree 0x22 prefix → IsFree 0x5C prefix
+    → pieces_from inside (prefix ++ rest) ≡ prepend_to_first_piece prefix (pieces_from inside rest)
+run_inside [] rest no_exclamation no_backslash = refl
+run_inside (c ∷ prefix) rest no_exclamation no_backslash =
+    let quotation = neither (c == 0x22) _ no_exclamation in
     let backslash = neither (c == 0x5C) _ no_backslash in
-    ap (λ (b : Bool). onto_first c (pieces_from (if b then outside else (if c == 0x5C then escaped else inside)) (prefix ++ rest))) mark.0
+    ap (λ (b : Bool). onto_first c (pieces_from (if b then outside else (if c == 0x5C then escaped else inside)) (prefix ++ rest))) quotation.0
     ∙ ap (λ (b : Bool). onto_first c (pieces_from (if b then escaped else inside) (prefix ++ rest))) backslash.0
-    ∙ ap (onto_first c) (run_inside prefix rest mark.1 backslash.1)
+    ∙ ap (onto_first c) (run_inside prefix rest quotation.1 backslash.1)
 
 -- so what stands before such a character is a run
-pub runs_outside : (text end : List ℕ) → IsUtf8 text → SkipsTo 0x20 0x22 text end → RunsTo outside text end
+pub runs_outside : (text end : List ℕ) → IsUtf8 text → SkipsTo 0x20 0x22 text end → SkipsRunTo outside text end
 runs_outside text end is skipped = record {
   ends = skipped.ends;
   is_end = skipped.is_end;
@@ -89,7 +93,7 @@ runs_outside text end is skipped = record {
       ∙ run_outside (chars (prefix_of text end)) (chars end) skipped.free.0 skipped.free.1;
 }
 
-pub runs_inside : (text end : List ℕ) → IsUtf8 text → SkipsTo 0x22 0x5C text end → RunsTo inside text end
+pub runs_inside : (text end : List ℕ) → IsUtf8 text → SkipsTo 0x22 0x5C text end → SkipsRunTo inside text end
 runs_inside text end is skipped = record {
   ends = skipped.ends;
   is_end = skipped.is_end;
@@ -98,46 +102,46 @@ runs_inside text end is skipped = record {
 }
 
 -- no character is a run, too
-pub runs_nowhere : (standing : notation.FieldState) (text : List ℕ) → IsUtf8 text → RunsTo standing text text
+pub runs_nowhere : (standing : notation.FieldState) (text : List ℕ) → IsUtf8 text → SkipsRunTo standing text text
 runs_nowhere standing text is = record {
   ends = ends_in_itself text;
   is_end = is;
-  run = ap (λ (prefix : Text). attached prefix (pieces_from standing (chars text))) (sym (empty_prefix text));
+  run = ap (λ (prefix : Text). prepend_to_first_piece prefix (pieces_from standing (chars text))) (sym (empty_prefix text));
 }
 
 -- past a run the pieces are those of what follows, behind a longer prefix
-pub further_on : (standing : notation.FieldState) (line text end : List ℕ) (pieces : List Text) → Passed line text → RunsTo standing text end
-    → pieces ≡ attached (chars (prefix_of line text)) (pieces_from standing (chars text))
-    → pieces ≡ attached (chars (prefix_of line end)) (pieces_from standing (chars end))
+pub further_on : (standing : notation.FieldState) (line text end : List ℕ) (pieces : List Text) → PassedEvents line text → SkipsRunTo standing text end
+    → pieces ≡ prepend_to_first_piece (chars (prefix_of line text)) (pieces_from standing (chars text))
+    → pieces ≡ prepend_to_first_piece (chars (prefix_of line end)) (pieces_from standing (chars end))
 further_on standing line text end pieces passed runs is =
     let before = chars (prefix_of line text) in
     let run = chars (prefix_of text end) in
-    is ∙ ap (attached before) runs.run ∙ sym (attached_both before run (pieces_from standing (chars end)))
-    ∙ ap (λ (prefix : Text). attached prefix (pieces_from standing (chars end))) (sym (run_prefix line text end passed runs.ends))
+    is ∙ ap (prepend_to_first_piece before) runs.run ∙ sym (attached_both before run (pieces_from standing (chars end)))
+    ∙ ap (λ (prefix : Text). prepend_to_first_piece prefix (pieces_from standing (chars end))) (sym (run_prefix line text end passed runs.ends))
 
 -- a run is passed
-pub past_run : (standing : notation.FieldState) (line text end : List ℕ) → Passed line text → RunsTo standing text end → Passed line end
-past_run standing line text end passed runs = run_passed line text end passed runs.ends runs.is_end
+pub skip_run : (standing : notation.FieldState) (line text end : List ℕ) → PassedEvents line text → SkipsRunTo standing text end → PassedEvents line end
+skip_run standing line text end passed runs = run_passed line text end passed runs.ends runs.is_end
 
 -- what follows it is no longer
-pub run_within : (standing : notation.FieldState) (text end : List ℕ) → RunsTo standing text end → length end ≤ length text
+pub run_within : (standing : notation.FieldState) (text end : List ℕ) → SkipsRunTo standing text end → length end ≤ length text
 run_within standing text end runs = runs.ends.within
 
 -- ---- fields
 
 -- a field that has a reading, before others
-pub field_leads : (field : notation.Field) (fields : Option (List notation.Field)) → field_and (Some field) fields ≡ led_by field fields
+pub field_leads : (field : notation.Field) (fields : Option (List notation.Field)) → field_and (Some field) fields ≡ prepend_field field fields
 field_leads field None = refl
 field_leads field (Some others) = refl
 
 -- where the line ends at its first separator
 pub field_before : (line field rest : Text) → pieces_from outside line ≡ field ∷ pieces_from outside rest
     → fields_read line ≡ field_and (field_read field) (fields_read rest)
-field_before line field rest cut = ap each_field cut
+field_before line field rest cut = ap read_fields cut
 
 -- and where it has none
 pub field_alone : (line field : Text) → pieces_from outside line ≡ field ∷ [] → fields_read line ≡ field_and (field_read field) (Some [])
-field_alone line field cut = ap each_field cut
+field_alone line field cut = ap read_fields cut
 
 -- a line has a field
 line_has_field : (line : Text) → HasField (fields_read line)
@@ -149,10 +153,10 @@ line_has_field (c ∷ rest) = go (separates outside c) (pieces_from (state_after
     one (Some field) None = tt
     one (Some field) (Some more) = tt
 
-    go : (b : Bool) (pieces : List Text) → HasField (each_field (cut_before b c pieces))
+    go : (b : Bool) (pieces : List Text) → HasField (read_fields (cut_before b c pieces))
     go true pieces = tt
     go false [] = one (field_read (c ∷ [])) (Some [])
-    go false (piece ∷ pieces) = one (field_read (c ∷ piece)) (each_field pieces)
+    go false (piece ∷ pieces) = one (field_read (c ∷ piece)) (read_fields pieces)
 
 -- nothing is left at the end of a line
 pub none_left : (rest : Option (Bor (List ℕ))) → is_some rest ≡ false → later_fields rest ≡ Some []

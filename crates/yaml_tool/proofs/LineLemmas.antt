@@ -7,11 +7,12 @@ use Rattle.std.specs.Option.{option_or}
 use Rattle.std.specs.Str.{chars, IsUtf8, is_utf8}
 use Rattle.std.proofs.lemmas.Str.{is_utf8-from_IsUtf8, IsUtf8-from_is_utf8}
 use Rattle.yaml_base.specs.Event.{Event}
-use Rattle.yaml_base.specs.scripts.Script.{Setting, Field, Line, bare, quoted, says_nothing, sets, gives, setting_of, setting_line, event_of, line_of, line_read}
+use Rattle.yaml_base.specs.scripts.Script.{Setting, Field, Line, bare, quoted, says_nothing, sets, gives, setting_of, setting_line, event_of, line_of}
+use Rattle.yaml_base.specs.scripts.Script.{line_read}
 use Rattle.yaml_base.specs.scripts.Script.{line_understood, fields_read, number_sign}
 use Rattle.yaml_tool.specs.Cuts.{IsFree}
 use Rattle.yaml_tool.specs.Events.{event_word, event_by}
-use Rattle.yaml_tool.specs.Fields.{led_by}
+use Rattle.yaml_tool.specs.Fields.{prepend_field}
 use Rattle.yaml_tool.specs.declared.words.EventName.{EventName}
 use Rattle.yaml_tool.specs.declared.words.EventName.TheVariants as name
 use Rattle.yaml_base.specs.Characters.{Text, carriage_return}
@@ -61,57 +62,58 @@ no_fields name.MappingStart = refl
 no_fields name.MappingEnd = refl
 
 -- so a line that begins with it says that event
-line_said : (name : EventName) (fields : Option (List Field))
-    → option_map gives (event_by name fields) ≡ option_and_then line_of (led_by (bare (event_word name)) fields)
-line_said name None = ap (option_map gives) (no_fields name)
-line_said name (Some fields) =
+line_parsed : (name : EventName) (fields : Option (List Field))
+    → option_map gives (event_by name fields) ≡ option_and_then line_of (prepend_field (bare (event_word name)) fields)
+line_parsed name None = ap (option_map gives) (no_fields name)
+line_parsed name (Some fields) =
     ap (option_map gives) (sym (gives_event name fields))
     ∙ ap (λ setting. option_or (option_map sets setting) (option_map gives (event_of (event_word name) fields))) (sym (sets_nothing name fields))
 
-pub event_said : (name : EventName) (word : Text) (line rest : Option (List Field)) (event : Option Event) → word ≡ event_word name
-    → line ≡ led_by (bare word) rest → event ≡ event_by name rest → option_map gives event ≡ option_and_then line_of line
-event_said name word line rest event is begins given =
-    ap (option_map gives) given ∙ line_said name rest ∙ sym (ap (option_and_then line_of) (begins ∙ ap (λ w. led_by (bare w) rest) is))
+pub event_parsed : (name : EventName) (word : Text) (line rest : Option (List Field)) (event : Option Event) → word ≡ event_word name
+    → line ≡ prepend_field (bare word) rest → event ≡ event_by name rest → option_map gives event ≡ option_and_then line_of line
+event_parsed name word line rest event is begins given =
+    ap (option_map gives) given ∙ line_parsed name rest ∙ sym (ap (option_and_then line_of) (begins ∙ ap (λ w. prepend_field (bare w) rest) is))
 
 -- any other name says what it sets
-pub setting_said : (word : Text) (line rest : Option (List Field)) (setting : Option Setting) → ((fields : List Field) → event_of word fields ≡ None)
-    → line ≡ led_by (bare word) rest
+pub setting_parsed : (word : Text) (line rest : Option (List Field)) (setting : Option Setting) → ((fields : List Field) → event_of word fields ≡ None)
+    → line ≡ prepend_field (bare word) rest
     → setting ≡ option_and_then (setting_line word) rest → option_map sets setting ≡ option_and_then line_of line
-setting_said word line rest setting no_event begins given = ap (option_map sets) given ∙ go rest ∙ sym (ap (option_and_then line_of) begins)
+setting_parsed word line rest setting no_event begins given = ap (option_map sets) given ∙ go rest ∙ sym (ap (option_and_then line_of) begins)
   where
     alone : (x : Option Setting) → option_map sets x ≡ option_or (option_map sets x) None
     alone None = refl
     alone (Some x) = refl
 
-    go : (fields : Option (List Field)) → option_map sets (option_and_then (setting_line word) fields) ≡ option_and_then line_of (led_by (bare word) fields)
+    go : (fields : Option (List Field)) → option_map sets (option_and_then (setting_line word) fields) ≡ option_and_then line_of
+        (prepend_field (bare word) fields)
     go None = refl
     go (Some fields) = alone (setting_line word fields)
         ∙ ap (λ event. option_or (option_map sets (setting_line word fields)) (option_map gives event)) (sym (no_event fields))
 
 -- a line in UTF-8 says what its characters say
-characters_said : (bytes : List ℕ) → IsUtf8 bytes → line_understood bytes ≡ line_read (chars bytes)
-characters_said bytes is = ap (λ (b : Bool). if b then line_read (chars bytes) else None) (is_utf8-from_IsUtf8 bytes is)
+characters_parsed : (bytes : List ℕ) → IsUtf8 bytes → line_understood bytes ≡ line_read (chars bytes)
+characters_parsed bytes is = ap (λ (b : Bool). if b then line_read (chars bytes) else None) (is_utf8-from_IsUtf8 bytes is)
 
 no_utf8 : (bytes : List ℕ) (b : Bool) → (b ≡ true → IsUtf8 bytes) → ¬ (IsUtf8 bytes) → b ≡ false
-no_utf8 bytes true told is_not = absurd (is_not (told refl))
-no_utf8 bytes false told is_not = refl
+no_utf8 bytes true reported is_not = absurd (is_not (reported refl))
+no_utf8 bytes false reported is_not = refl
 
 -- any other line is bad
-pub bytes_said_nothing : (bytes : List ℕ) → ¬ (IsUtf8 bytes) → line_understood bytes ≡ None
-bytes_said_nothing bytes is_not = ap (λ (b : Bool). if b then line_read (chars bytes) else None)
+pub bytes_parsed_nothing : (bytes : List ℕ) → ¬ (IsUtf8 bytes) → line_understood bytes ≡ None
+bytes_parsed_nothing bytes is_not = ap (λ (b : Bool). if b then line_read (chars bytes) else None)
     (no_utf8 bytes (is_utf8 bytes) (IsUtf8-from_is_utf8 bytes) is_not)
 
-pub bytes_said : (bytes text : List ℕ) (said : Option Line) → text ≡ bytes → IsUtf8 bytes → said ≡ line_read (chars text) → said ≡ line_understood bytes
-bytes_said bytes text said same is reads = reads ∙ ap (λ (b : List ℕ). line_read (chars b)) same ∙ sym (characters_said bytes is)
+pub bytes_parsed : (bytes text : List ℕ) (parsed : Option Line) → text ≡ bytes → IsUtf8 bytes → parsed ≡ line_read (chars text) → parsed ≡ line_understood bytes
+bytes_parsed bytes text parsed same is reads = reads ∙ ap (λ (b : List ℕ). line_read (chars b)) same ∙ sym (characters_parsed bytes is)
 
 -- a comment says nothing
-pub comment_said : (text comment : Text) → text ≡ number_sign ∷ comment → IsFree carriage_return comment → Some says_nothing ≡ line_read text
-comment_said text comment begins free =
-    sym (ap line_read begins ∙ ap (λ (b : Bool). let said : Option Line = if b then None else Some says_nothing in said) free)
+pub comment_parsed : (text comment : Text) → text ≡ number_sign ∷ comment → IsFree carriage_return comment → Some says_nothing ≡ line_read text
+comment_parsed text comment begins free =
+    sym (ap line_read begins ∙ ap (λ (b : Bool). let parsed : Option Line = if b then None else Some says_nothing in parsed) free)
 
 -- any other line says what its fields do
-pub fields_said : (text rest : Text) (c : ℕ) → text ≡ c ∷ rest → ¬ (c ≡ number_sign) → option_and_then line_of (fields_read text) ≡ line_read text
-fields_said text rest c begins is_not =
+pub fields_parsed : (text rest : Text) (c : ℕ) → text ≡ c ∷ rest → ¬ (c ≡ number_sign) → option_and_then line_of (fields_read text) ≡ line_read text
+fields_parsed text rest c begins is_not =
     ap (λ (t : Text). option_and_then line_of (fields_read t)) begins ∙ sym (ap line_read begins ∙ ap (λ (b : Bool). if b
     then (if list_any (λ d. d == carriage_return) rest then None else Some says_nothing) else option_and_then line_of (fields_read (c ∷ rest))) other)
   where

@@ -8,7 +8,7 @@ use Rattle.yaml_tool.specs.declared.answers.run_answer_t.TheVariants.{Done, Refu
 use Rattle.yaml_tool.specs.declared.parts.ScriptPrefix.{ScriptPrefix}
 use Rattle.yaml_tool.specs.declared.scripts.ScriptError.{ScriptError}
 use Rattle.yaml_tool.specs.Runs.{IsFault, ReadsAll}
-use Rattle.yaml_tool.specs.Scripts.{seen_progress, nothing_said, script_behind, script_with, GoesOn, IsFaultOf}
+use Rattle.yaml_tool.specs.Scripts.{seen_progress, nothing_parsed, script_after_lines, script_with, ContinuesScript, IsFaultOf}
 
 -- at the end of the input the whole script was read
 pub reads_at_end : (answer : run_answer_t) (left : Option (List ℕ)) → IsAtEnd left → ReadsAll answer left
@@ -30,7 +30,7 @@ pub says_first : {A : Type 0} (given : Option (List ℕ)) (prefix : ScriptPrefix
 says_first None prefix is = tt
 says_first (Some all) prefix is = sym (is all)
 
-pub says_more : {A : Type 0} (given now next : Option (List ℕ)) (old new : ScriptPrefix A) → StillSays given old now → GoesOn old now new next
+pub says_more : {A : Type 0} (given now next : Option (List ℕ)) (old new : ScriptPrefix A) → StillSays given old now → ContinuesScript old now new next
     → StillSays given new next
 says_more None now next old new says goes = tt
 says_more (Some all) None next old new says goes = absurd says
@@ -47,10 +47,10 @@ says_all (Some all) (Some left) prefix script says end is = says ∙ ap (script_
 pub bad_all : {A : Type 0} (given left : Option (List ℕ)) (prefix : ScriptPrefix A) (error : ScriptError) (answer : run_answer_t) → StillSays given prefix left
     → IsAtEnd left → IsFaultOf error (script_with prefix []) → ((script : Script) → IsFaultOf error script → IsFault answer script)
     → IfSome given (λ all. IsFault answer (script_of all))
-bad_all None left prefix error answer says end bad told = tt
-bad_all (Some all) None prefix error answer says end bad told = absurd says
-bad_all (Some all) (Some left) prefix error answer says end bad told =
-    subst (IsFault answer) (sym (says ∙ ap (script_with prefix) end)) (told (script_with prefix []) bad)
+bad_all None left prefix error answer says end bad reported = tt
+bad_all (Some all) None prefix error answer says end bad reported = absurd says
+bad_all (Some all) (Some left) prefix error answer says end bad reported =
+    subst (IsFault answer) (sym (says ∙ ap (script_with prefix) end)) (reported (script_with prefix []) bad)
 
 pub bad_prefix : {A : Type 0} (given left : Option (List ℕ)) (prefix : ScriptPrefix A) (answer : run_answer_t) → StillSays given prefix left
     → IfSome left (λ bytes. IsFault answer (script_with prefix bytes)) → IfSome given (λ all. IsFault answer (script_of all))
@@ -60,13 +60,13 @@ bad_prefix (Some all) (Some left) prefix answer says bad = subst (IsFault answer
 
 -- a part that was read and taken
 pub goes_past : {A : Type 0} (left next : Option (List ℕ)) (part : List ℕ) (old new : ScriptPrefix A) → Consumes left next part
-    → ((more : List ℕ) → script_with old (part ++ more) ≡ script_with new more) → GoesOn old left new next
+    → ((more : List ℕ) → script_with old (part ++ more) ≡ script_with new more) → ContinuesScript old left new next
 goes_past None next part old new consumes taken = tt
 goes_past (Some before) None part old new consumes taken = absurd consumes
 goes_past (Some before) (Some after) part old new consumes taken = ap (script_with old) consumes ∙ taken after
 
 -- one that wasn't read
-pub goes_nowhere : {A : Type 0} (left next : Option (List ℕ)) (prefix : ScriptPrefix A) → Keeps left next → GoesOn prefix left prefix next
+pub goes_nowhere : {A : Type 0} (left next : Option (List ℕ)) (prefix : ScriptPrefix A) → Keeps left next → ContinuesScript prefix left prefix next
 goes_nowhere None next prefix keeps = tt
 goes_nowhere (Some before) None prefix keeps = absurd keeps
 goes_nowhere (Some before) (Some after) prefix keeps = ap (script_with prefix) (sym keeps)
@@ -75,7 +75,7 @@ goes_nowhere (Some before) (Some after) prefix keeps = ap (script_with prefix) (
 pub bad_past : {A : Type 0} (left next : Option (List ℕ)) (part : List ℕ) (prefix : ScriptPrefix A) (error : ScriptError) (answer : run_answer_t)
     → Consumes left next part → ((more : List ℕ) → IsFaultOf error (script_with prefix (part ++ more)))
     → ((script : Script) → IsFaultOf error script → IsFault answer script) → IfSome left (λ bytes. IsFault answer (script_with prefix bytes))
-bad_past None next part prefix error answer consumes bad told = tt
-bad_past (Some before) None part prefix error answer consumes bad told = absurd consumes
-bad_past (Some before) (Some after) part prefix error answer consumes bad told =
-    subst (λ bytes. IsFault answer (script_with prefix bytes)) (sym consumes) (told (script_with prefix (part ++ after)) (bad after))
+bad_past None next part prefix error answer consumes bad reported = tt
+bad_past (Some before) None part prefix error answer consumes bad reported = absurd consumes
+bad_past (Some before) (Some after) part prefix error answer consumes bad reported =
+    subst (λ bytes. IsFault answer (script_with prefix bytes)) (sym consumes) (reported (script_with prefix (part ++ after)) (bad after))

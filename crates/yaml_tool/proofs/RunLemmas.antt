@@ -7,7 +7,7 @@ use Rattle.yaml_base.specs.Settings.{Settings}
 use Rattle.yaml_base.specs.Seen.{seen_event}
 use Rattle.yaml_base.specs.scripts.Script.{Numbered, understood, script_of}
 use Rattle.yaml_base.specs.declared.errors.yaml_error_t.{yaml_error_t}
-use Rattle.yaml_pen.specs.Page.{told}
+use Rattle.yaml_pen.specs.Page.{result_of_error}
 use Rattle.yaml_pen.specs.Wrote.{Grows}
 use Rattle.yaml_emitter.proofs.standing.KeptDocuments.{documents_kept, documents_stay}
 use Rattle.yaml_emitter.specs.State.{State}
@@ -17,17 +17,17 @@ use Rattle.yaml_tool.specs.declared.answers.run_answer_t.{run_answer_t}
 use Rattle.yaml_tool.specs.declared.answers.run_answer_t.TheVariants.{Done, Refused, BadLine, ReadFailed, WriteFailed, NoMemory}
 use Rattle.yaml_tool.specs.declared.scripts.NumberedEvent.{NumberedEvent}
 use Rattle.yaml_tool.specs.Scripts.{seen_numbered}
-use Rattle.yaml_tool.specs.Runs.{events_in, EmitsAll, RefusesAt, Emits, EndsAt, LastLine, FlushesLast, TellsEvents, Tells, WritesNothing}
+use Rattle.yaml_tool.specs.Runs.{events_in, EmitsAll, RefusesAt, Emits, EndsAt, LastLine, FlushesLast, AnswersEvents, AnswersScript, WritesNothing}
 
 -- what an answer says of a script's events it says of the bytes that were left
 pub tells_all : (left : Option (List ℕ)) (given : Settings) (all : List Numbered) (answer : run_answer_t) (old new : Option (List ℕ))
-    → IfSome left (λ bytes. script_of bytes ≡ understood given all) → TellsEvents given all answer old new
-    → IfSome left (λ bytes. Tells (script_of bytes) answer old new)
+    → IfSome left (λ bytes. script_of bytes ≡ understood given all) → AnswersEvents given all answer old new
+    → IfSome left (λ bytes. AnswersScript (script_of bytes) answer old new)
 tells_all None given all answer old new is tells = tt
-tells_all (Some bytes) given all answer old new is tells = subst (λ script. Tells script answer old new) (sym is) tells
+tells_all (Some bytes) given all answer old new is tells = subst (λ script. AnswersScript script answer old new) (sym is) tells
 
--- an error that was told
-pub some_told : (given : Option yaml_error_t) (error : yaml_error_t) → Err error ≡ told given → given ≡ Some error
+-- an error that was returned
+pub some_told : (given : Option yaml_error_t) (error : yaml_error_t) → Err error ≡ result_of_error given → given ≡ Some error
 some_told None error is = cc
 some_told (Some other) error is = cc
 
@@ -81,9 +81,9 @@ flushed_last set all line Done before after stood promised none ends h =
       stands = (h.1 set (events_in all) stood).0;
       promised = (h.1 set (events_in all) stood).1;
       no_error = h.0;
-      handed_out = (h.1 set (events_in all) stood).2;
+      flushed_whole = (h.1 set (events_in all) stood).2;
     }
-flushed_last set all line (Refused told error) before after stood promised none ends h =
+flushed_last set all line (Refused reported error) before after stood promised none ends h =
     inr
     (record {
       before = ends.before;
@@ -122,13 +122,13 @@ ended_without set all None state is stands kept none ends =
       stands = stands;
       promised = kept;
       no_error = none;
-      handed_out = subst (λ all. HasAllBytes set (events_in all) state) (sym ends.0) ends.1;
+      flushed_whole = subst (λ all. HasAllBytes set (events_in all) state) (sym ends.0) ends.1;
     }
 ended_without set all (Some line) state is stands kept none ends = cc
 
--- what is told where the output was written, or couldn't be
+-- what is returned where the output was written, or couldn't be
 pub told_answer : (set : Settings) (all : List Numbered) (answer : run_answer_t) (state : State) (old new : Option (List ℕ)) → Emits set all answer state
-    → Appends old new state.page.output → TellsEvents set all answer old new
+    → Appends old new state.page.output → AnswersEvents set all answer old new
 told_answer set all Done state old new emits appends = (state, emits, appends)
 told_answer set all (Refused line error) state old new emits appends = (state, emits, appends)
 told_answer set all (BadLine line) state old new emits appends = emits

@@ -3,19 +3,19 @@ use Rattle.std.specs.Result.{IfErr, IsErr, IsErrAnd}
 use Rattle.std.proofs.Common.{◌≡◌, Result, Ok, Err, ℕ, suc, ◌+◌, ◌<◌, add-one, Option, None, Some, List, [], ◌∷◌, ◌++◌, length, length-append, append-nil}
 use Rattle.std.proofs.Common.{append_assoc, refl, ap, sym, subst, ◌∙◌, arith}
 use Rattle.yaml_base.specs.Characters.{line_feed}
-use Rattle.yaml_base.specs.scripts.Script.{Script, Sofar, bad_line, understood, unset, settings_of, script_from}
+use Rattle.yaml_base.specs.scripts.Script.{Script, ScriptState, bad_line, understood, unset, settings_of, script_from}
 use Rattle.yaml_tool.specs.declared.scripts.ScriptError.{ScriptError}
 use Rattle.yaml_tool.specs.declared.scripts.ScriptError.TheVariants.{BadLine, OutOfMemory}
 use Rattle.yaml_tool.specs.Cuts.{IsFree, IsCut, cut_at}
-use Rattle.yaml_tool.specs.Scripts.{after_line, script_behind, LeavesLine, IsFaultOf, IsFaultAt}
+use Rattle.yaml_tool.specs.Scripts.{after_line, script_after_lines, LeavesLastLine, IsFaultOf, IsFaultAt}
 use Rattle.yaml_tool.proofs.CutLemmas.{cut_free, cut_cut}
 
 -- what a script's line and those behind it come to
-goes_on : ℕ → List (List ℕ) → Option Sofar → Script
+goes_on : ℕ → List (List ℕ) → Option ScriptState → Script
 goes_on number rest None = bad_line number
 goes_on number rest (Some after) = script_from (suc number) after rest
 
-one_line : (number : ℕ) (rest : List (List ℕ)) (after : Option Sofar) → (elim after as (λ _. Script) [
+one_line : (number : ℕ) (rest : List (List ℕ)) (after : Option ScriptState) → (elim after as (λ _. Script) [
   | None ↦ bad_line number
   | Some sofar ↦ script_from (suc number) sofar rest
 ]) ≡ goes_on number rest after
@@ -23,14 +23,14 @@ unfolding goes_on
 one_line number rest None = refl
 one_line number rest (Some after) = refl
 
--- a bad line is told
-pub line_is_bad : (number : ℕ) (before : Sofar) (line : List ℕ) (rest : List (List ℕ)) → after_line number before line ≡ None
+-- a bad line is returned
+pub line_is_bad : (number : ℕ) (before : ScriptState) (line : List ℕ) (rest : List (List ℕ)) → after_line number before line ≡ None
     → script_from number before (line ∷ rest) ≡ bad_line number
 unfolding goes_on
 line_is_bad number before line rest bad = one_line number rest (after_line number before line) ∙ ap (goes_on number rest) bad
 
 -- a good one goes to those before it
-pub line_is_good : (number : ℕ) (before after : Sofar) (line : List ℕ) (rest : List (List ℕ)) → after_line number before line ≡ Some after
+pub line_is_good : (number : ℕ) (before after : ScriptState) (line : List ℕ) (rest : List (List ℕ)) → after_line number before line ≡ Some after
     → script_from number before (line ∷ rest) ≡ script_from (number + 1) after rest
 unfolding goes_on
 line_is_good number before after line rest good =
@@ -46,41 +46,42 @@ first_more bytes line rest more cut =
     cut_cut line_feed (bytes ++ more) line (rest ++ more) (ap (λ (b : List ℕ). b ++ more) cut.0 ∙ append_assoc line (line_feed ∷ rest) more, cut.1)
 
 -- its fault is the script's
-pub fault_first : (error : ScriptError) (number : ℕ) (before : Sofar) (bytes line rest more : List ℕ) → IsCut line_feed bytes line rest
-    → IsFaultAt error number (after_line number before line) → IsFaultOf error (script_behind number before (bytes ++ more))
-fault_first (BadLine told) number before bytes line rest more cut fault =
+pub fault_first : (error : ScriptError) (number : ℕ) (before : ScriptState) (bytes line rest more : List ℕ) → IsCut line_feed bytes line rest
+    → IsFaultAt error number (after_line number before line) → IsFaultOf error (script_after_lines number before (bytes ++ more))
+fault_first (BadLine reported) number before bytes line rest more cut fault =
     ap (script_from number before) (first_more bytes line rest more cut)
     ∙ line_is_bad number before line (cut_at line_feed (rest ++ more)) fault.1 ∙ ap bad_line (sym fault.0)
 fault_first OutOfMemory number before bytes line rest more cut fault = tt
 
-pub good_first : (number : ℕ) (before after : Sofar) (bytes line rest more : List ℕ) → IsCut line_feed bytes line rest
+pub good_first : (number : ℕ) (before after : ScriptState) (bytes line rest more : List ℕ) → IsCut line_feed bytes line rest
     → after_line number before line ≡ Some after
-    → script_behind number before (bytes ++ more) ≡ script_behind (number + 1) after (rest ++ more)
+    → script_after_lines number before (bytes ++ more) ≡ script_after_lines (number + 1) after (rest ++ more)
 good_first number before after bytes line rest more cut good =
     ap (script_from number before) (first_more bytes line rest more cut) ∙ line_is_good number before after line (cut_at line_feed (rest ++ more)) good
 
 -- the last line, behind which nothing stands
-pub fault_last : (error : ScriptError) (number : ℕ) (before : Sofar) (line : List ℕ) → IsFree line_feed line
-    → IsFaultAt error number (after_line number before line) → IsFaultOf error (script_behind number before line)
-fault_last (BadLine told) number before line free fault =
+pub fault_last : (error : ScriptError) (number : ℕ) (before : ScriptState) (line : List ℕ) → IsFree line_feed line
+    → IsFaultAt error number (after_line number before line) → IsFaultOf error (script_after_lines number before line)
+fault_last (BadLine reported) number before line free fault =
     ap (script_from number before) (cut_free line_feed line free) ∙ line_is_bad number before line [] fault.1 ∙ ap bad_line (sym fault.0)
 fault_last OutOfMemory number before line free fault = tt
 
-pub good_last : (number : ℕ) (before after : Sofar) (line : List ℕ) → IsFree line_feed line → after_line number before line ≡ Some after
-    → script_behind number before line ≡ understood (settings_of unset after.settings) after.events
+pub good_last : (number : ℕ) (before after : ScriptState) (line : List ℕ) → IsFree line_feed line → after_line number before line ≡ Some after
+    → script_after_lines number before line ≡ understood (settings_of unset after.settings) after.events
 good_last number before after line free good =
     ap (script_from number before) (cut_free line_feed line free) ∙ line_is_good number before after line [] good
 
 -- where nothing follows, the last line is all that is left
-pub left_alone : (number : ℕ) (before : Sofar) (bytes : List ℕ) (next : ℕ) (after : Sofar) (last : List ℕ) → LeavesLine number before bytes next after last
-    → script_behind number before bytes ≡ script_behind next after last
+pub left_alone : (number : ℕ) (before : ScriptState) (bytes : List ℕ) (next : ℕ) (after : ScriptState) (last : List ℕ)
+    → LeavesLastLine number before bytes next after last
+    → script_after_lines number before bytes ≡ script_after_lines next after last
 left_alone number before bytes next after last leaves =
-    ap (script_behind number before) (sym (append-nil bytes)) ∙ leaves.same [] ∙ ap (script_behind next after) (append-nil last)
+    ap (script_after_lines number before) (sym (append-nil bytes)) ∙ leaves.same [] ∙ ap (script_after_lines next after) (append-nil last)
 
 -- and so is a fault
-pub fault_alone : (error : ScriptError) (number : ℕ) (before : Sofar) (bytes : List ℕ) → IsFaultOf error (script_behind number before (bytes ++ []))
-    → IsFaultOf error (script_behind number before bytes)
-fault_alone error number before bytes fault = subst (λ all. IsFaultOf error (script_behind number before all)) (append-nil bytes) fault
+pub fault_alone : (error : ScriptError) (number : ℕ) (before : ScriptState) (bytes : List ℕ) → IsFaultOf error (script_after_lines number before (bytes ++ []))
+    → IsFaultOf error (script_after_lines number before bytes)
+fault_alone error number before bytes fault = subst (λ all. IsFaultOf error (script_after_lines number before all)) (append-nil bytes) fault
 
 -- what is so of an error is so of the answer by which `?` returns it
 pub exit_with : {T E : Type 0} (P : E → Type 0) (error : E) (answer : Result T E) → IsErr answer × IsErrAnd answer (λ given. given ≡ error) → P error

@@ -46,17 +46,18 @@ one_line bytes none = ap (list_any (is_byte line_feed)) (sym (take_all (length b
     ∙ none_before (is_byte line_feed) bytes (length bytes) (le_refl (length bytes)) none
 
 -- an ASCII sign stands among characters only where its byte does
-free_characters : (test : ℕ → Bool) (sign : ℕ) (text : List ℕ) → sign < 128 → test sign ≡ true → list_any test (encode_utf8_all text) ≡ false → IsFree sign text
-free_characters test sign [] ascii passes none = refl
-free_characters test sign (c ∷ text) ascii passes none =
+free_characters : (test : ℕ → Bool) (delimiter : ℕ) (text : List ℕ) → delimiter < 128 → test delimiter ≡ true → list_any test (encode_utf8_all text) ≡ false
+    → IsFree delimiter text
+free_characters test delimiter [] ascii passes none = refl
+free_characters test delimiter (c ∷ text) ascii passes none =
     let both = neither (list_any test (encode_utf8 c)) (list_any test (encode_utf8_all text))
     (sym (list_any-append test (encode_utf8 c) (encode_utf8_all text)) ∙ none) in
-    let first : (c == sign) ≡ false = not_true (c == sign) (λ yes. byte_passes (eqb-true c sign yes) both.0) in
-    ap (λ (b : Bool). b || list_any (λ d. d == sign) text) first ∙ free_characters test sign text ascii passes both.1
+    let first : (c == delimiter) ≡ false = not_true (c == delimiter) (λ yes. byte_passes (eqb-true c delimiter yes) both.0) in
+    ap (λ (b : Bool). b || list_any (λ d. d == delimiter) text) first ∙ free_characters test delimiter text ascii passes both.1
   where
-    byte_passes : c ≡ sign → list_any test (encode_utf8 c) ≡ false → ⊥
+    byte_passes : c ≡ delimiter → list_any test (encode_utf8 c) ≡ false → ⊥
     byte_passes is free =
-        false≢true (sym free ∙ ap (λ (d : ℕ). list_any test (encode_utf8 d)) is ∙ ap (list_any test) (encode_ascii sign ascii)
+        false≢true (sym free ∙ ap (λ (d : ℕ). list_any test (encode_utf8 d)) is ∙ ap (list_any test) (encode_ascii delimiter ascii)
         ∙ ap (λ (b : Bool). b || false) passes)
 
 passes_first : (first second : ℕ) → is_byte2 first second first ≡ true
@@ -81,15 +82,15 @@ skips first second text prefix end first_ascii second_ascii all is_prefix is_end
       );
     }
 
-sign_is_ascii : (first second byte : ℕ) → first < 128 → second < 128 → is_byte2 first second byte ≡ true → byte < 128
-sign_is_ascii first second byte first_ascii second_ascii passes = grind (arith, nat_tests, passes, first_ascii, second_ascii)
+delimiter_is_ascii : (first second byte : ℕ) → first < 128 → second < 128 → is_byte2 first second byte ≡ true → byte < 128
+delimiter_is_ascii first second byte first_ascii second_ascii passes = grind (arith, nat_tests, passes, first_ascii, second_ascii)
 
 -- a text ends in what stands from one of two signs on
-pub sign_found : (first second : ℕ) (text end : List ℕ) (place : ℕ) → IsUtf8 text → first < 128 → second < 128
+pub delimiter_found : (first second : ℕ) (text end : List ℕ) (place : ℕ) → IsUtf8 text → first < 128 → second < 128
     → NoneBefore (Passes (is_byte2 first second) text) 0 (length text) place × Passes (is_byte2 first second) text place
     → end ≡ drop place text → SkipsTo first second text end
-sign_found first second text end place is first_ascii second_ascii found begins =
-    let low = sign_is_ascii first second (slice_index text place) first_ascii second_ascii found.1 in
+delimiter_found first second text end place is first_ascii second_ascii found begins =
+    let low = delimiter_is_ascii first second (slice_index text place) first_ascii second_ascii found.1 in
     let seam = IsCharBoundary-before_ascii text place found.0.high low in
     skips first second text (take place text) end first_ascii second_ascii
     (sym (take-append-drop place text) ∙ ap (λ (back : List ℕ). take place text ++ back) (sym begins))
@@ -98,9 +99,9 @@ sign_found first second text end place is first_ascii second_ascii found begins 
     (none_before (is_byte2 first second) text place (omega (arith, found.0.high)) found.0.before)
 
 -- or it has neither
-pub no_sign : (first second : ℕ) (text : List ℕ) → IsUtf8 text → first < 128 → second < 128 → Nowhere (Passes (is_byte2 first second) text) 0 (length text)
+pub no_indicator : (first second : ℕ) (text : List ℕ) → IsUtf8 text → first < 128 → second < 128 → Nowhere (Passes (is_byte2 first second) text) 0 (length text)
     → SkipsTo first second text []
-no_sign first second text is first_ascii second_ascii none =
+no_indicator first second text is first_ascii second_ascii none =
     let all = length text in
     skips first second text text [] first_ascii second_ascii (sym (append-nil text)) is IsUtf8-nil
     (ap (list_any (is_byte2 first second)) (sym (take_all all text (le_refl all))) ∙ none_before (is_byte2 first second) text all (le_refl all) none)

@@ -9,21 +9,21 @@ use Rattle.std.proofs.lemmas.Str.{chars-append, chars-nil, encodes-append, encod
 use Rattle.yaml_base.specs.Seen.{seen_text}
 use Rattle.yaml_base.specs.Characters.{Text}
 use Rattle.yaml_base.specs.scripts.Script as notation
-use Rattle.yaml_base.specs.scripts.Script.{goes_on, stands_for, ends, fails, at_character, at_escape, at_digits, at_brace, text_from, numbered_turn}
-use Rattle.yaml_base.specs.scripts.Script.{quotation_mark, backslash, turn}
+use Rattle.yaml_base.specs.scripts.Script.{goes_on, stands_for, ends, fails, at_character, at_escape, at_digits, at_brace, text_from, numbered_step}
+use Rattle.yaml_base.specs.scripts.Script.{quotation_mark, backslash, text_step}
 use Rattle.yaml_tool.specs.Cuts.{IsFree, IsCut, SkipsTo, prefix_of}
 use Rattle.yaml_tool.specs.Texts.{ReadsOn}
 use Rattle.yaml_tool.proofs.CutLemmas.{neither}
 use Rattle.yaml_tool.proofs.CharacterLemmas.{passed_to}
 
 -- what a turn and the characters behind it are read as
-abbrev pub read_turn : notation.Turn → Text → Option Text
+abbrev pub read_turn : notation.TextStep → Text → Option Text
 read_turn (goes_on next) rest = text_from next rest
 read_turn (stands_for character) rest = option_map (λ value. character ∷ value) (text_from at_character rest)
 read_turn ends rest = if length rest == 0 then Some [] else None
 read_turn fails rest = None
 
-one_turn : (t : notation.Turn) (rest : Text) → (elim t as (λ _. Option Text) [
+one_turn : (t : notation.TextStep) (rest : Text) → (elim t as (λ _. Option Text) [
   | goes_on next ↦ text_from next rest
   | stands_for character ↦ option_map (λ value. character ∷ value) (text_from at_character rest)
   | ends ↦ if length rest == 0 then Some [] else None
@@ -34,12 +34,12 @@ one_turn (stands_for character) rest = refl
 one_turn ends rest = refl
 one_turn fails rest = refl
 
-first_turn : (within : notation.Within) (c : ℕ) (rest : Text) → text_from within (c ∷ rest) ≡ read_turn (turn within c) rest
-first_turn within c rest = one_turn (turn within c) rest
+first_turn : (within : notation.Within) (c : ℕ) (rest : Text) → text_from within (c ∷ rest) ≡ read_turn (text_step within c) rest
+first_turn within c rest = one_turn (text_step within c) rest
 
-digit_goes_on : (digits : Text) (c : ℕ) → (c == 0x7D) ≡ false → turn (at_digits digits) c ≡ goes_on (at_digits (digits ++ c ∷ []))
+digit_goes_on : (digits : Text) (c : ℕ) → (c == 0x7D) ≡ false → text_step (at_digits digits) c ≡ goes_on (at_digits (digits ++ c ∷ []))
 digit_goes_on digits c h = subst
-    (λ (b : Bool). (if b then numbered_turn digits else goes_on (at_digits (digits ++ c ∷ []))) ≡ goes_on (at_digits (digits ++ c ∷ []))) (sym h) refl
+    (λ (b : Bool). (if b then numbered_step digits else goes_on (at_digits (digits ++ c ∷ []))) ≡ goes_on (at_digits (digits ++ c ∷ []))) (sym h) refl
 
 -- no closing brace, no character
 digits_without_end : (digits prefix : Text) → IsFree 0x7D prefix → text_from (at_digits digits) prefix ≡ None
@@ -51,17 +51,17 @@ digits_without_end digits (c ∷ prefix) free =
 
 -- up to the first closing brace they are one character
 digits_with_end : (digits prefix back : Text) → IsFree 0x7D prefix
-    → text_from (at_digits digits) (prefix ++ (0x7D ∷ back)) ≡ read_turn (numbered_turn (digits ++ prefix)) back
-digits_with_end digits [] back free = first_turn (at_digits digits) 0x7D back ∙ ap (λ (ds : Text). read_turn (numbered_turn ds) back) (sym (append-nil digits))
+    → text_from (at_digits digits) (prefix ++ (0x7D ∷ back)) ≡ read_turn (numbered_step (digits ++ prefix)) back
+digits_with_end digits [] back free = first_turn (at_digits digits) 0x7D back ∙ ap (λ (ds : Text). read_turn (numbered_step ds) back) (sym (append-nil digits))
 digits_with_end digits (c ∷ prefix) back free =
     let both = neither (c == 0x7D) _ free in
     first_turn (at_digits digits) c (prefix ++ (0x7D ∷ back))
     ∙ ap (λ t. read_turn t (prefix ++ (0x7D ∷ back))) (digit_goes_on digits c both.0)
     ∙ digits_with_end (digits ++ c ∷ []) prefix back both.1
-    ∙ ap (λ (ds : Text). read_turn (numbered_turn ds) back) (append_assoc digits (c ∷ []) prefix)
+    ∙ ap (λ (ds : Text). read_turn (numbered_step ds) back) (append_assoc digits (c ∷ []) prefix)
 
 pub braced : (behind digits prefix back : Text) → behind ≡ 0x7B ∷ digits → IsCut 0x7D digits prefix back
-    → text_from at_brace behind ≡ read_turn (numbered_turn prefix) back
+    → text_from at_brace behind ≡ read_turn (numbered_step prefix) back
 braced behind digits prefix back opened cut = rw (opened, cut.0) (digits_with_end [] prefix back cut.1)
 
 pub unbraced : (behind digits : Text) → behind ≡ 0x7B ∷ digits → IsFree 0x7D digits → text_from at_brace behind ≡ None
@@ -92,26 +92,26 @@ nothing_before text (Some more) empty = ap (λ (prefix : List ℕ). Some (prefix
 
 -- characters other than a quotation mark and a backslash stand for themselves
 pub reads_prefix : (prefix behind : Text) → IsFree quotation_mark prefix → IsFree backslash prefix → ReadsOn (prefix ++ behind) prefix behind
-reads_prefix [] behind no_mark no_backslash = go (text_from at_character behind)
+reads_prefix [] behind no_exclamation no_backslash = go (text_from at_character behind)
   where
     go : (read : Option Text) → read ≡ option_map (λ more. [] ++ more) read
     go None = refl
     go (Some more) = refl
-reads_prefix (c ∷ prefix) behind no_mark no_backslash =
+reads_prefix (c ∷ prefix) behind no_exclamation no_backslash =
     first_turn at_character c (prefix ++ behind)
     ∙ ap (λ t. read_turn t (prefix ++ behind)) stands
-    ∙ ap (option_map (λ value. c ∷ value)) (reads_prefix prefix behind mark.1 slash.1)
+    ∙ ap (option_map (λ value. c ∷ value)) (reads_prefix prefix behind quotation.1 slash.1)
     ∙ go (text_from at_character behind)
   where
-    mark : ((c == quotation_mark) ≡ false) × IsFree quotation_mark prefix
-    mark = neither (c == quotation_mark) _ no_mark
+    quotation : ((c == quotation_mark) ≡ false) × IsFree quotation_mark prefix
+    quotation = neither (c == quotation_mark) _ no_exclamation
 
     slash : ((c == backslash) ≡ false) × IsFree backslash prefix
     slash = neither (c == backslash) _ no_backslash
 
-    stands : turn at_character c ≡ stands_for c
+    stands : text_step at_character c ≡ stands_for c
     stands =
-        ap (λ (b : Bool). if b then ends else (if c == backslash then goes_on at_escape else stands_for c)) mark.0
+        ap (λ (b : Bool). if b then ends else (if c == backslash then goes_on at_escape else stands_for c)) quotation.0
         ∙ ap (λ (b : Bool). if b then goes_on at_escape else stands_for c) slash.0
 
     go : (read : Option Text) → option_map (λ value. c ∷ value) (option_map (λ more. prefix ++ more) read) ≡ option_map (λ more. (c ∷ prefix) ++ more) read

@@ -5,15 +5,15 @@ use Rattle.std.specs.Str.{chars, IsUtf8}
 
 -- the character stands nowhere in the text
 abbrev pub IsFree : ℕ → List ℕ → Type 0
-IsFree sign text = list_any (λ character. character == sign) text ≡ false
+IsFree delimiter text = list_any (λ character. character == delimiter) text ≡ false
 
 -- the text is the prefix, the character and the back, and the character doesn't stand in the prefix
 abbrev pub IsCut : ℕ → List ℕ → List ℕ → List ℕ → Type 0
-IsCut sign text prefix back = (text ≡ prefix ++ (sign ∷ back)) × IsFree sign prefix
+IsCut delimiter text prefix back = (text ≡ prefix ++ (delimiter ∷ back)) × IsFree delimiter prefix
 
 -- the pieces of the text between the characters
 abbrev pub cut_at : ℕ → List ℕ → List (List ℕ)
-cut_at sign text = slice_split (λ character. character == sign) text
+cut_at delimiter text = slice_split (λ character. character == delimiter) text
 
 -- the text ends in these bytes
 pub record EndsIn (text end : List ℕ) : Type 0 where

@@ -17,15 +17,15 @@ seen_field_state Inside = inside
 seen_field_state Escaped = escaped
 
 -- characters before the first piece
-abbrev pub attached : Text → List Text → List Text
-attached [] pieces = pieces
-attached (c ∷ prefix) pieces = onto_first c (attached prefix pieces)
+abbrev pub prepend_to_first_piece : Text → List Text → List Text
+prepend_to_first_piece [] pieces = pieces
+prepend_to_first_piece (c ∷ prefix) pieces = onto_first c (prepend_to_first_piece prefix pieces)
 
 -- the text ends in a text before which no character separates or changes where the next one stands
-pub record RunsTo (standing : notation.FieldState) (text end : List ℕ) : Type 0 where
+pub record SkipsRunTo (standing : notation.FieldState) (text end : List ℕ) : Type 0 where
   pub ends : EndsIn text end
   pub is_end : IsUtf8 end
-  pub run : pieces_from standing (chars text) ≡ attached (chars (prefix_of text end)) (pieces_from standing (chars end))
+  pub run : pieces_from standing (chars text) ≡ prepend_to_first_piece (chars (prefix_of text end)) (pieces_from standing (chars end))
 
 -- ---- what is left of a line
 
@@ -40,8 +40,8 @@ left_length None = 0
 left_length (Some rest) = suc (length rest.now)
 
 -- a field before others, where these have a reading
-abbrev pub led_by : notation.Field → Option (List notation.Field) → Option (List notation.Field)
-led_by field fields = option_map (λ others. field ∷ others) fields
+abbrev pub prepend_field : notation.Field → Option (List notation.Field) → Option (List notation.Field)
+prepend_field field fields = option_map (λ others. field ∷ others) fields
 
 -- ---- the next field
 
@@ -80,6 +80,6 @@ HasNoChoice (Some (field ∷ rest)) = notation.text_or_none field ≡ None
 HasNoChoice _ = ⊤
 
 -- the only field, where it is a word
-abbrev pub the_word : List notation.Field → Option Text
-the_word (bare word ∷ []) = Some word
-the_word _ = None
+abbrev pub only_word : List notation.Field → Option Text
+only_word (bare word ∷ []) = Some word
+only_word _ = None

@@ -20,12 +20,12 @@ events_in all = map (λ (numbered : Numbered). numbered.event) all
 
 -- ---- the emitter that a script's events were given
 
--- no call answered an error, and all that is written is handed out
+-- no call answered an error, and all that is written is flushed
 pub record EmitsAll (given : Settings) (all : List Numbered) (state : State) : Type 0 where
   pub stands : StandsAfter given (events_in all) state
   pub promised : Promised given (events_in all) state
   pub no_error : state.error ≡ None
-  pub handed_out : HasAllBytes given (events_in all) state
+  pub flushed_whole : HasAllBytes given (events_in all) state
 
 -- the call that was given this line's event is the first that answered an error, this one, and no event after it was given;
 -- nothing that was written before it is lost, and all bytes of the documents that were complete before it are written
@@ -72,24 +72,24 @@ abbrev pub WritesOutput : Settings → List Numbered → run_answer_t → Option
 WritesOutput given all answer old new = (state : State) × Emits given all answer state × Appends old new state.page.output
 
 -- what an answer says of a script's first bad line, unless reading or memory failed
-abbrev pub TellsBadLine : ℕ → run_answer_t → Type 0
-TellsBadLine number (BadLine line) = line ≡ number
-TellsBadLine number ReadFailed = ⊤
-TellsBadLine number NoMemory = ⊤
-TellsBadLine number answer = ⊥
+abbrev pub AnswersBadLine : ℕ → run_answer_t → Type 0
+AnswersBadLine number (BadLine line) = line ≡ number
+AnswersBadLine number ReadFailed = ⊤
+AnswersBadLine number NoMemory = ⊤
+AnswersBadLine number answer = ⊥
 
 -- what an answer says of a script's events, unless reading, writing or memory failed
-abbrev pub TellsEvents : Settings → List Numbered → run_answer_t → Option (List ℕ) → Option (List ℕ) → Type 0
-TellsEvents given all (BadLine line) old new = ⊥
-TellsEvents given all ReadFailed old new = ⊤
-TellsEvents given all WriteFailed old new = ⊤
-TellsEvents given all NoMemory old new = ⊤
-TellsEvents given all answer old new = WritesOutput given all answer old new
+abbrev pub AnswersEvents : Settings → List Numbered → run_answer_t → Option (List ℕ) → Option (List ℕ) → Type 0
+AnswersEvents given all (BadLine line) old new = ⊥
+AnswersEvents given all ReadFailed old new = ⊤
+AnswersEvents given all WriteFailed old new = ⊤
+AnswersEvents given all NoMemory old new = ⊤
+AnswersEvents given all answer old new = WritesOutput given all answer old new
 
 -- what an answer says of a script
-abbrev pub Tells : Script → run_answer_t → Option (List ℕ) → Option (List ℕ) → Type 0
-Tells (bad_line number) answer old new = TellsBadLine number answer
-Tells (understood given all) answer old new = TellsEvents given all answer old new
+abbrev pub AnswersScript : Script → run_answer_t → Option (List ℕ) → Option (List ℕ) → Type 0
+AnswersScript (bad_line number) answer old new = AnswersBadLine number answer
+AnswersScript (understood given all) answer old new = AnswersEvents given all answer old new
 
 -- nothing is written where no event was emitted
 abbrev pub WritesNothing : run_answer_t → Option (List ℕ) → Option (List ℕ) → Type 0
@@ -119,7 +119,7 @@ pub record EndsAt (all : List Numbered) (line : ℕ) : Type 0 where
   pub event : Event
   pub parts : before ++ record { line = line; event = event } ∷ [] ≡ all
 
--- the line of the last event, where there is one; before the first nothing is handed out
+-- the line of the last event, where there is one; before the first nothing is flushed
 abbrev pub LastLine : List Numbered → Option ℕ → State → Type 0
 LastLine all None state = (all ≡ []) × (state.page.output ≡ [])
 LastLine all (Some line) state = EndsAt all line
@@ -129,7 +129,7 @@ abbrev pub FlushesLast : ℕ → State → run_answer_t → State → Type 0
 FlushesLast line before Done after =
     (after.error ≡ None) × ((given : Settings) (all : List Event) → StandsAfter given all before → StandsAfter given all after × Promised given all after
     × HasAllBytes given all after)
-FlushesLast line before (Refused told error) after =
-    (told ≡ line) × (after.error ≡ Some error) × Grows before.page after.page × (error ≡ Memory → after.page.output ≡ before.page.output)
+FlushesLast line before (Refused reported error) after =
+    (reported ≡ line) × (after.error ≡ Some error) × Grows before.page after.page × (error ≡ Memory → after.page.output ≡ before.page.output)
     × ((given : Settings) (all : List Event) → StandsAfter given all before → StandsAfter given all after × Promised given all after)
 FlushesLast line before answer after = ⊥

@@ -16,15 +16,15 @@ abbrev pub seen_numbered : {A : Type 0} → NumberedEvent A → notation.Numbere
 seen_numbered numbered = record { line = numbered.line; event = seen_event numbered.event }
 
 -- the settings and events of the lines so far
-abbrev pub seen_progress : {A : Type 0} → Progress A → notation.Sofar
+abbrev pub seen_progress : {A : Type 0} → Progress A → notation.ScriptState
 seen_progress progress = record { settings = map seen_setting progress.settings.items; events = map seen_numbered progress.events.items }
 
 -- before the first line
-abbrev pub nothing_said : notation.Sofar
-nothing_said = record { settings = []; events = [] }
+abbrev pub nothing_parsed : notation.ScriptState
+nothing_parsed = record { settings = []; events = [] }
 
 -- what the lines so far and one more say, where that is good
-abbrev pub after_line : ℕ → notation.Sofar → List ℕ → Option notation.Sofar
+abbrev pub after_line : ℕ → notation.ScriptState → List ℕ → Option notation.ScriptState
 after_line number before bytes = option_and_then (notation.with_line number before) (notation.line_understood bytes)
 
 -- a bad line is the script's first; want of memory says nothing of the script
@@ -33,28 +33,28 @@ IsFaultOf (BadLine number) script = script ≡ notation.bad_line number
 IsFaultOf OutOfMemory script = ⊤
 
 -- the line of this number is bad; want of memory says nothing of it
-abbrev pub IsFaultAt : ScriptError → ℕ → Option notation.Sofar → Type 0
+abbrev pub IsFaultAt : ScriptError → ℕ → Option notation.ScriptState → Type 0
 IsFaultAt (BadLine line) number after = (line ≡ number) × (after ≡ None)
 IsFaultAt OutOfMemory number after = ⊤
 
 -- ---- scripts of which the lines so far were taken
 
 -- the script whose lines before this number say this, and whose other lines are these bytes
-abbrev pub script_behind : ℕ → notation.Sofar → List ℕ → notation.Script
-script_behind number before bytes = notation.script_from number before (cut_at line_feed bytes)
+abbrev pub script_after_lines : ℕ → notation.ScriptState → List ℕ → notation.Script
+script_after_lines number before bytes = notation.script_from number before (cut_at line_feed bytes)
 
 -- of some bytes all lines were taken but the last, which may go on behind them
-pub record LeavesLine (number : ℕ) (before : notation.Sofar) (bytes : List ℕ) (next : ℕ) (after : notation.Sofar) (last : List ℕ) : Type 0 where
+pub record LeavesLastLine (number : ℕ) (before : notation.ScriptState) (bytes : List ℕ) (next : ℕ) (after : notation.ScriptState) (last : List ℕ) : Type 0 where
   pub free : IsFree line_feed last
   pub counted : next + length last ≤ number + length bytes
-  pub same : (more : List ℕ) → script_behind number before (bytes ++ more) ≡ script_behind next after (last ++ more)
+  pub same : (more : List ℕ) → script_after_lines number before (bytes ++ more) ≡ script_after_lines next after (last ++ more)
 
 -- the script whose prefix was read, with these bytes behind it
 abbrev pub script_with : {A : Type 0} → ScriptPrefix A → List ℕ → notation.Script
-script_with prefix more = script_behind prefix.number (seen_progress prefix.progress) (prefix.line.items ++ more)
+script_with prefix more = script_after_lines prefix.number (seen_progress prefix.progress) (prefix.line.items ++ more)
 
 -- what was left was the rest of the same script, where it is known
-abbrev pub GoesOn : {A : Type 0} → ScriptPrefix A → Option (List ℕ) → ScriptPrefix A → Option (List ℕ) → Type 0
-GoesOn old None new left = ⊤
-GoesOn old (Some before) new None = ⊥
-GoesOn old (Some before) new (Some after) = script_with old before ≡ script_with new after
+abbrev pub ContinuesScript : {A : Type 0} → ScriptPrefix A → Option (List ℕ) → ScriptPrefix A → Option (List ℕ) → Type 0
+ContinuesScript old None new left = ⊤
+ContinuesScript old (Some before) new None = ⊥
+ContinuesScript old (Some before) new (Some after) = script_with old before ≡ script_with new after

@@ -32,7 +32,7 @@ pub fn prefix_before<'a>(text: &'a str, end: &str) -> &'a str
 }
 
 /// The text from the first of two ASCII characters on; empty if it contains neither.
-pub fn from_sign(first: u8, second: u8, text: &str) -> &str
+pub fn from_delimiter(first: u8, second: u8, text: &str) -> &str
     requires first { first < 128 }
     requires second { second < 128 }
     ensures { SkipsTo first second text.now result.now }
@@ -45,7 +45,7 @@ pub fn from_sign(first: u8, second: u8, text: &str) -> &str
 
 /// The place of the first of two bytes, looked for byte by byte.
 #[inline(always)]
-fn near_place(first: u8, second: u8, bytes: &[u8]) -> Option<usize>
+fn first_place_by_bytes(first: u8, second: u8, bytes: &[u8]) -> Option<usize>
     ensures { IsFirstByte (is_byte2 first second) bytes.now result }
 {
     for (index, byte) in bytes.iter().enumerate() {
@@ -58,24 +58,24 @@ fn near_place(first: u8, second: u8, bytes: &[u8]) -> Option<usize>
 
 /// The text from the first space or quotation mark on; empty if it contains neither. Words are too short for a wide search.
 #[inline(always)]
-pub fn past_word(text: &str) -> &str
+pub fn skip_word(text: &str) -> &str
     ensures { SkipsTo 0x20 0x22 text.now result.now }
 {
-    match near_place(b' ', b'"', text.as_bytes()) {
+    match first_place_by_bytes(b' ', b'"', text.as_bytes()) {
         Some(place) => &text[place..],
         None => "",
     }
 }
 
 /// The texts before and after the first occurrence of a character.
-pub fn cut_once(sign: char, text: &str) -> Option<(&str, &str)>
-    ensures cut { MatchOption result (IsFree sign (chars text.now)) (λ parts. IsCut sign (chars text.now) (chars parts.0.now) (chars parts.1.now)) }
+pub fn cut_once(delimiter: char, text: &str) -> Option<(&str, &str)>
+    ensures cut { MatchOption result (IsFree delimiter (chars text.now)) (λ parts. IsCut delimiter (chars text.now) (chars parts.0.now) (chars parts.1.now)) }
     ensures shorter { IfSome result (λ parts. length parts.1.now < length text.now) }
     ensures utf8 { IfSome result (λ parts. IsUtf8 parts.1.now) }
 {
     let mut rest = text;
     while let Some((character, behind)) = first_character(rest) {
-        if character == sign {
+        if character == delimiter {
             return Some((prefix_before(text, rest), behind));
         }
         rest = behind;

@@ -14,7 +14,7 @@ use std::alloc::{AllocError, Allocator};
 use yaml_base::{yaml_tag_directive_t, yaml_version_directive_t};
 
 /// The texts before and after the only point; `None` if the word has none or more than one.
-fn two_parts(word: &str) -> Option<(&str, &str)>
+fn split_version(word: &str) -> Option<(&str, &str)>
     ensures { MatchOption result (notation.version_of (cut_at 0x2E (chars word.now)) ≡ None)
         (λ parts. cut_at 0x2E (chars word.now) ≡ chars parts.0.now ∷ chars parts.1.now ∷ []) }
 {
@@ -31,7 +31,7 @@ fn two_parts(word: &str) -> Option<(&str, &str)>
 fn version_of(word: &str) -> Option<yaml_version_directive_t>
     ensures { option_map seen_version result ≡ notation.version_of (cut_at 0x2E (chars word.now)) }
 {
-    let (major, minor) = two_parts(word)?;
+    let (major, minor) = split_version(word)?;
     Some(yaml_version_directive_t {
         major: natural_number(major)?,
         minor: natural_number(minor)?,

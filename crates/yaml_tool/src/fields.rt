@@ -5,11 +5,11 @@ ghost use Rattle.std.specs.Prelude.{◌≡◌, ◌<◌, ◌≤◌, true, false, 
 ghost use Rattle.std.specs.Str.{chars, IsUtf8};
 ghost use Rattle.yaml_base.specs.scripts.Script as notation;
 ghost use Rattle.yaml_base.specs.Seen.{seen_text};
-ghost use Rattle.yaml_tool.specs.Fields.{seen_field_state, RunsTo, later_fields, left_length, led_by, no_text, field_of, the_word};
+ghost use Rattle.yaml_tool.specs.Fields.{seen_field_state, SkipsRunTo, later_fields, left_length, prepend_field, no_text, field_of, only_word};
 ghost use Rattle.yaml_tool.specs.Fields.{HasField, HasNoWord, HasNoText, HasNoDash, HasNoChoice};
 
-use crate::characters::{first_character, from_sign, past_word, prefix_before};
-use crate::texts::text_behind;
+use crate::characters::{first_character, from_delimiter, prefix_before, skip_word};
+use crate::texts::text_after_quote;
 use crate::words::is_word;
 use std::alloc::{AllocError, Allocator};
 
@@ -35,12 +35,12 @@ impl FieldState {
 
     /// Skips characters that separate no fields and leave the state as it is.
     #[inline(always)]
-    fn past_run(self, text: &str) -> &str
-        ensures { RunsTo (seen_field_state self) text.now result.now }
+    fn skip_run(self, text: &str) -> &str
+        ensures { SkipsRunTo (seen_field_state self) text.now result.now }
     {
         match self {
-            FieldState::Outside => past_word(text),
-            FieldState::Inside => from_sign(b'"', b'\\', text),
+            FieldState::Outside => skip_word(text),
+            FieldState::Inside => from_delimiter(b'"', b'\\', text),
             FieldState::Escaped => text,
         }
     }
@@ -76,13 +76,13 @@ fn first_field(line: &str) -> (&str, Option<&str>)
     ensures utf8 { IfSome result.1 (λ rest. IsUtf8 rest.now) }
 {
     let mut standing = FieldState::Outside;
-    let mut rest = standing.past_run(line);
+    let mut rest = standing.skip_run(line);
     while let Some((character, after)) = first_character(rest) {
         if standing.separates(character) {
             return (prefix_before(line, rest), Some(after));
         }
         standing = standing.after(character);
-        rest = standing.past_run(after);
+        rest = standing.skip_run(after);
     }
     (line, None)
 }
@@ -91,7 +91,7 @@ fn first_field(line: &str) -> (&str, Option<&str>)
 #[inline(always)]
 pub fn word_after(rest: Option<&str>) -> Option<(&str, Option<&str>)>
     ensures { MatchOption result (HasNoWord (later_fields rest.entry))
-        (λ parts. later_fields rest.entry ≡ led_by (notation.bare (chars parts.0.now)) (later_fields parts.1)) }
+        (λ parts. later_fields rest.entry ≡ prepend_field (notation.bare (chars parts.0.now)) (later_fields parts.1)) }
 {
     let (field, rest) = first_field(rest?);
     match first_character(field) {
@@ -102,7 +102,7 @@ pub fn word_after(rest: Option<&str>) -> Option<(&str, Option<&str>)>
 
 /// Returns the next field, if it is a word and the last field.
 pub fn last_word(rest: Option<&str>) -> Option<&str>
-    ensures { option_map (λ word. chars word.now) result ≡ option_and_then the_word (later_fields rest.entry) }
+    ensures { option_map (λ word. chars word.now) result ≡ option_and_then only_word (later_fields rest.entry) }
 {
     let (word, rest) = word_after(rest)?;
     if is_end(rest) { Some(word) } else { None }
@@ -116,7 +116,7 @@ pub fn text_after<A: Allocator>(
 ) -> Result<Option<(String<A>, Option<&str>)>, AllocError>
     ensures read { IfOk result (λ text.
         MatchOption text (HasNoText (later_fields rest.entry))
-        (λ parts. later_fields rest.entry ≡ led_by (notation.quoted (seen_text parts.0)) (later_fields parts.1))) }
+        (λ parts. later_fields rest.entry ≡ prepend_field (notation.quoted (seen_text parts.0)) (later_fields parts.1))) }
     ensures shorter { IfOk result (λ text. IfSome text (λ parts. left_length parts.1 < left_length rest.entry)) }
     ensures utf8 { IfOk result (λ text. IfSome text (λ parts. IfSome parts.1 (λ others. IsUtf8 others.now))) }
 {
@@ -125,7 +125,7 @@ pub fn text_after<A: Allocator>(
     };
     let (field, others) = first_field(line);
     match first_character(field) {
-        Some(('"', behind)) => match text_behind(alloc, behind)? {
+        Some(('"', behind)) => match text_after_quote(alloc, behind)? {
             Some(text) => Ok(Some((text, others))),
             None => Ok(None),
         },
@@ -135,9 +135,9 @@ pub fn text_after<A: Allocator>(
 
 /// Returns what is left after the next field, if that is `-`.
 #[inline(always)]
-fn past_dash(rest: Option<&str>) -> Option<Option<&str>>
+fn skip_dash(rest: Option<&str>) -> Option<Option<&str>>
     ensures { MatchOption result (HasNoDash (later_fields rest.entry))
-        (λ others. later_fields rest.entry ≡ led_by no_text (later_fields others)) }
+        (λ others. later_fields rest.entry ≡ prepend_field no_text (later_fields others)) }
 {
     let (word, others) = word_after(rest)?;
     if is_word(word, "-") {
@@ -155,9 +155,9 @@ pub fn choice_after<A: Allocator>(
 ) -> Result<Option<(Option<String<A>>, Option<&str>)>, AllocError>
     ensures { IfOk result (λ choice.
         MatchOption choice (HasNoChoice (later_fields rest.entry))
-        (λ parts. later_fields rest.entry ≡ led_by (field_of (option_map seen_text parts.0)) (later_fields parts.1))) }
+        (λ parts. later_fields rest.entry ≡ prepend_field (field_of (option_map seen_text parts.0)) (later_fields parts.1))) }
 {
-    if let Some(others) = past_dash(rest) {
+    if let Some(others) = skip_dash(rest) {
         return Ok(Some((None, others)));
     }
     match text_after(alloc, rest)? {

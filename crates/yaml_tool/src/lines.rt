@@ -27,7 +27,7 @@ pub enum Line<A: Allocator> {
 }
 
 /// Parses the value of a setting; `None` if there is no such setting, or it has no such value.
-fn setting_in(name: &str, rest: Option<&str>) -> Option<Setting>
+fn parse_setting(name: &str, rest: Option<&str>) -> Option<Setting>
     ensures { option_map seen_setting result ≡ option_and_then (notation.setting_line (chars name.now)) (later_fields rest.entry) }
 {
     setting_of(name, last_word(rest)?)
@@ -65,7 +65,7 @@ pub fn parse_line<A: Allocator + Copy>(
             Some(event) => Ok(Some(Line::Gives(event))),
             None => Ok(None),
         },
-        None => match setting_in(word, rest) {
+        None => match parse_setting(word, rest) {
             Some(setting) => Ok(Some(Line::Sets(setting))),
             None => Ok(None),
         },

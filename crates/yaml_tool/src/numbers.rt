@@ -8,7 +8,7 @@ ghost use Rattle.yaml_tool.specs.Numbers.{number_after};
 use crate::characters::first_character;
 
 /// Value of `digits` in this radix, `None` above `most` or at another character; 0 if empty.
-pub fn number_in(radix: u32, most: u32, digits: &str) -> Option<u32>
+pub fn parse_number(radix: u32, most: u32, digits: &str) -> Option<u32>
     requires least { 2 ≤ radix }
     requires greatest { radix ≤ 36 }
     ensures { result ≡ number_after radix most 0 (chars digits.now) }
@@ -34,18 +34,18 @@ pub fn number_up_to(most: u32, word: &str) -> Option<u32>
 {
     match first_character(word) {
         None => None,
-        Some(_) => number_in(10, most, word),
+        Some(_) => parse_number(10, most, word),
     }
 }
 
 /// The largest `i32`.
-const GREATEST: u32 = 2_147_483_647;
+const LARGEST_I32: u32 = 2_147_483_647;
 
 /// A decimal number from 0 to the largest `i32`.
 pub fn natural_number(word: &str) -> Option<i32>
     ensures { result ≡ option_map pos (notation.number_up_to largest_i32 (chars word.now)) }
 {
-    number_up_to(GREATEST, word).map(|number| number as i32)
+    number_up_to(LARGEST_I32, word).map(|number| number as i32)
 }
 
 fn negative(number: u32) -> i32
@@ -61,7 +61,7 @@ pub fn signed_number(word: &str) -> Option<i32>
 {
     match first_character(word) {
         None => None,
-        Some(('-', rest)) => number_up_to(GREATEST + 1, rest).map(negative),
+        Some(('-', rest)) => number_up_to(LARGEST_I32 + 1, rest).map(negative),
         Some(_) => natural_number(word),
     }
 }

@@ -3,7 +3,7 @@ ghost use Rattle.std.specs.Prelude.{◌≡◌, ℕ, false, List, [], ◌++◌, m
 ghost use Rattle.std.specs.Io.KnownBytes.{IsAtEnd};
 ghost use Rattle.yaml_base.specs.scripts.Script as notation;
 ghost use Rattle.yaml_tool.specs.Runs.{IsFault, ReadsAll};
-ghost use Rattle.yaml_tool.specs.Scripts.{seen_numbered, script_with, GoesOn, IsFaultOf};
+ghost use Rattle.yaml_tool.specs.Scripts.{seen_numbered, script_with, ContinuesScript, IsFaultOf};
 ghost use Rattle.yaml_tool.specs.Settings.{seen_settings};
 
 use crate::answers::run_answer_t;
@@ -14,7 +14,7 @@ use std::io;
 use std::io::{ErrorKind, Read};
 
 /// The number of bytes that are read at once.
-const PART: usize = 16_384;
+const PART_SIZE: usize = 16_384;
 
 /// A script of which a prefix was read.
 #[derive(Drop)]
@@ -114,12 +114,12 @@ fn read_part<A: Allocator + Copy, R: Read>(
     reader: &mut R,
     script: &mut ScriptPrefix<A>,
 ) -> Result<bool, run_answer_t>
-    ensures goes_on { OnOk result (GoesOn script.old (R.remaining reader.old) script.new (R.remaining reader.new)) }
+    ensures goes_on { OnOk result (ContinuesScript script.old (R.remaining reader.old) script.new (R.remaining reader.new)) }
     ensures end { IfOk result (λ more. more ≡ false → IsAtEnd (R.remaining reader.new)) }
     ensures fault { IfErr result (λ answer. IfSome (R.remaining reader.old) (λ left. IsFault answer (script_with script.old left))) }
     ensures read { IfErr result (λ answer. ReadsAll answer (R.remaining reader.new)) }
 {
-    let mut part = [0; PART];
+    let mut part = [0; PART_SIZE];
     match reader.read(&mut part) {
         Ok(count) => match script.take_part(alloc, &part[..count]) {
             Ok(()) => Ok(count > 0),
@@ -134,7 +134,7 @@ fn read_part<A: Allocator + Copy, R: Read>(
 }
 
 /// Parses a script, and reads it to its end even if a line is bad.
-pub fn script_in<A: Allocator + Copy, R: Read>(
+pub fn read_script_from<A: Allocator + Copy, R: Read>(
     alloc: A,
     reader: &mut R,
 ) -> Result<Script<A>, run_answer_t>
@@ -164,7 +164,7 @@ pub fn script_in<A: Allocator + Copy, R: Read>(
 fn skip_all<R: Read>(reader: &mut R) -> io::Result<()>
     ensures { OnOk result (IsAtEnd (R.remaining reader.new)) }
 {
-    let mut part = [0; PART];
+    let mut part = [0; PART_SIZE];
     // No reader promises to end, so the reads are counted.
     let mut turns = u64::MAX;
     while turns > 0 {

@@ -5,12 +5,12 @@ ghost use Rattle.yaml_base.specs.Settings as given;
 ghost use Rattle.yaml_emitter.specs.Given.{nothing_given};
 ghost use Rattle.yaml_emitter.specs.State.{new_state};
 ghost use Rattle.yaml_emitter.specs.StandsAfter.{StandsAfter};
-ghost use Rattle.yaml_tool.specs.Runs.{Emits, FlushesLast, Tells, WritesNothing, ReadsAll};
+ghost use Rattle.yaml_tool.specs.Runs.{Emits, FlushesLast, AnswersScript, WritesNothing, ReadsAll};
 ghost use Rattle.yaml_tool.specs.Scripts.{seen_numbered};
 ghost use Rattle.yaml_tool.specs.Settings.{seen_settings};
 
 use crate::answers::run_answer_t;
-use crate::parts::script_in;
+use crate::parts::read_script_from;
 use crate::scripts::NumberedEvent;
 use crate::settings::Settings;
 use std::alloc::Allocator;
@@ -31,11 +31,11 @@ pub fn run<A: Allocator + Copy, R: Read, W: Write>(
     reader: &mut R,
     writer: &mut W,
 ) -> run_answer_t
-    ensures told { IfSome (R.remaining reader.old) (λ left. Tells (notation.script_of left) result (W.contents writer.old) (W.contents writer.new)) }
+    ensures reported { IfSome (R.remaining reader.old) (λ left. AnswersScript (notation.script_of left) result (W.contents writer.old) (W.contents writer.new)) }
     ensures unwritten { WritesNothing result (W.contents writer.old) (W.contents writer.new) }
     ensures read { ReadsAll result (R.remaining reader.new) }
 {
-    let script = match script_in(alloc, reader) {
+    let script = match read_script_from(alloc, reader) {
         Ok(script) => script,
         Err(answer) => return answer,
     };

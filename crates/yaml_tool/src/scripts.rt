@@ -2,7 +2,7 @@
 ghost use Rattle.std.specs.Prelude.{◌≡◌, ◌≤◌, ◌+◌, ◌-◌, ◌^◌, ℕ, List, ◌++◌, length, map, Some, IfOk, IfErr, OnOk};
 ghost use Rattle.yaml_base.specs.scripts.Script as notation;
 ghost use Rattle.yaml_tool.specs.Settings.{seen_setting, seen_settings};
-ghost use Rattle.yaml_tool.specs.Scripts.{seen_progress, seen_numbered, nothing_said, after_line, script_behind, LeavesLine, IsFaultOf, IsFaultAt};
+ghost use Rattle.yaml_tool.specs.Scripts.{seen_progress, seen_numbered, nothing_parsed, after_line, script_after_lines, LeavesLastLine, IsFaultOf, IsFaultAt};
 
 use crate::lines::{Line, parse_line};
 use crate::settings::{Setting, Settings, is_set, settings_of};
@@ -49,7 +49,7 @@ pub(crate) struct Progress<A: Allocator> {
 impl<A: Allocator + Copy> Progress<A> {
     /// None, before the first line.
     pub(crate) fn new(alloc: A) -> Progress<A>
-        ensures { seen_progress result ≡ nothing_said }
+        ensures { seen_progress result ≡ nothing_parsed }
     {
         Progress {
             settings: Vec::new(alloc),
@@ -127,8 +127,8 @@ pub(crate) fn take_lines<'a, A: Allocator + Copy>(
     bytes: &'a [u8],
 ) -> Result<(u64, &'a [u8]), ScriptError>
     requires { number + length bytes.now ≤ 2 ^ 64 - 1 }
-    ensures taken { IfOk result (λ last. LeavesLine number (seen_progress progress.old) bytes.now last.0 (seen_progress progress.new) last.1.now) }
-    ensures fault { IfErr result (λ error. (more : List ℕ) → IsFaultOf error (script_behind number (seen_progress progress.old) (bytes.now ++ more))) }
+    ensures taken { IfOk result (λ last. LeavesLastLine number (seen_progress progress.old) bytes.now last.0 (seen_progress progress.new) last.1.now) }
+    ensures fault { IfErr result (λ error. (more : List ℕ) → IsFaultOf error (script_after_lines number (seen_progress progress.old) (bytes.now ++ more))) }
 {
     let mut number = number;
     let mut rest = bytes;
@@ -149,9 +149,9 @@ pub(crate) fn finish<A: Allocator + Copy>(
 ) -> Result<Script<A>, ScriptError>
     requires { number + length bytes.now ≤ 2 ^ 64 - 1 }
     ensures understood { IfOk result
-        (λ script. script_behind number (seen_progress progress) bytes.now
+        (λ script. script_after_lines number (seen_progress progress) bytes.now
         ≡ notation.understood (seen_settings script.settings) (map seen_numbered script.events.items)) }
-    ensures fault { IfErr result (λ error. IsFaultOf error (script_behind number (seen_progress progress) bytes.now)) }
+    ensures fault { IfErr result (λ error. IsFaultOf error (script_after_lines number (seen_progress progress) bytes.now)) }
 {
     let mut progress = progress;
     let (number, last) = take_lines(alloc, &mut progress, number, bytes)?;

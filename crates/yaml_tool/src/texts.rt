@@ -5,8 +5,8 @@ ghost use Rattle.yaml_base.specs.scripts.Script as notation;
 ghost use Rattle.yaml_base.specs.Seen.{seen_text};
 ghost use Rattle.yaml_tool.specs.Texts.{step_of, ReadsOn, StepsTo};
 
-use crate::characters::{cut_once, first_character, from_sign, prefix_before};
-use crate::numbers::number_in;
+use crate::characters::{cut_once, first_character, from_delimiter, prefix_before};
+use crate::numbers::parse_number;
 use std::alloc::{AllocError, Allocator};
 
 /// The meaning of the next character or escape of a text.
@@ -29,13 +29,13 @@ fn count_of(text: &str) -> usize
 
 /// The character of `\u{..}`: one to six hexadecimal digits of a Unicode scalar value.
 fn numbered_character(digits: &str) -> Option<char>
-    ensures { step_of result ≡ notation.numbered_turn (chars digits.now) }
+    ensures { step_of result ≡ notation.numbered_step (chars digits.now) }
 {
     let count = count_of(digits);
     if count < 1 || 6 < count {
         return None;
     }
-    number_in(16, 0x10FFFF, digits).and_then(char::from_u32)
+    parse_number(16, 0x10FFFF, digits).and_then(char::from_u32)
 }
 
 /// Parses what follows `\u`.
@@ -88,7 +88,7 @@ fn unescaped_prefix(text: &str) -> (&str, &str)
     ensures shorter { length result.1.now ≤ length text.now }
     ensures utf8 { IsUtf8 result.1.now }
 {
-    let behind = from_sign(b'"', b'\\', text);
+    let behind = from_delimiter(b'"', b'\\', text);
     (prefix_before(text, behind), behind)
 }
 
@@ -108,7 +108,10 @@ fn push_prefix<'a, A: Allocator>(
 }
 
 /// The value of a text, given the characters after its opening `"`; `None` if they are no text.
-pub fn text_behind<A: Allocator>(alloc: A, behind: &str) -> Result<Option<String<A>>, AllocError>
+pub fn text_after_quote<A: Allocator>(
+    alloc: A,
+    behind: &str,
+) -> Result<Option<String<A>>, AllocError>
     ensures { IfOk result (λ text. option_map seen_text text ≡ notation.text_from notation.at_character (chars behind.now)) }
 {
     let mut text = String::with_capacity(alloc, behind.len())?;

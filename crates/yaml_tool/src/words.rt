@@ -26,8 +26,8 @@ fn is_same(word: &[u8], name: &[u8]) -> bool
     let mut named = name;
     loop {
         match (left, named) {
-            ([byte, rest @ ..], [sign, others @ ..]) => {
-                if *byte != *sign {
+            ([byte, rest @ ..], [wanted, others @ ..]) => {
+                if *byte != *wanted {
                     return false;
                 }
                 left = rest;

@@ -100,9 +100,9 @@ events_stay value fits =
       ),
     )
 
-shallow : (value : TypedValue) → nesting value ≤ most_nested → (front rest : List Event) → front ++ rest ≡ value_events value → open_count front ≤ most_open
-shallow value fits front rest is =
-    let few = few_open most_nested (value_events value) front rest (events_stay value fits) is in omega (arith, few)
+shallow : (value : TypedValue) → nesting value ≤ most_nested → (prefix rest : List Event) → prefix ++ rest ≡ value_events value → open_count prefix ≤ most_open
+shallow value fits prefix rest is =
+    let few = few_open most_nested (value_events value) prefix rest (events_stay value fits) is in omega (arith, few)
 
 pub value_accepted : (value : TypedValue) → nesting value ≤ most_nested → IsAccepted true (value_events value)
 value_accepted value fits =

@@ -36,9 +36,9 @@ value_written value state fits bits emits =
 never_refused : (events before rest : List Event) (error : yaml_error_t) (state : State) → IsAccepted true events → before ++ rest ≡ events
     → RefusedAt typed_settings before error state → ⊥
 never_refused events before rest error state accepted begins refused =
-    let whole : (refused.front ++ refused.event ∷ []) ++ (refused.later ++ rest) ≡ events =
-    append_assoc refused.front (refused.event ∷ []) (refused.later ++ rest)
-    ∙ sym (append_assoc refused.front (refused.event ∷ refused.later) rest) ∙ ap (λ events. events ++ rest) refused.parts ∙ begins in
+    let whole : (refused.prefix ++ refused.event ∷ []) ++ (refused.later ++ rest) ≡ events =
+    append_assoc refused.prefix (refused.event ∷ []) (refused.later ++ rest)
+    ∙ sym (append_assoc refused.prefix (refused.event ∷ refused.later) rest) ∙ ap (λ events. events ++ rest) refused.parts ∙ begins in
     refused.ends (record { rest = refused.later ++ rest; accepted = subst (IsAccepted true) (sym whole) accepted })
 
 -- where emitting a value's events fails, memory gave out

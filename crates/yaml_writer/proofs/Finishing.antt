@@ -64,7 +64,7 @@ waiting_unaccepted given all state promised none some accepted =
 pub refuses_one : (given : Settings) (all : List Event) (error : yaml_error_t) (state : State) → RefusedAt given all error state
     → RefusesOne given.canonical all error
 refuses_one given all error state at = record {
-  front = at.front;
+  prefix = at.prefix;
   event = at.event;
   later = at.later;
   parts = at.parts;

@@ -9,13 +9,13 @@ use Rattle.yaml_base.proofs.Completions.{pushed-append}
 use Rattle.yaml_base.specs.Characters.{Text, is_alpha}
 use Rattle.yaml_base.specs.Event.{Event, TagDirective, Version, alias, document_start, mapping_start, scalar, sequence_start}
 use Rattle.yaml_base.specs.Grammar.{Partial, before_stream, between_documents, within_document, after_root, after_stream, push, pushed}
-use Rattle.yaml_base.specs.Refusal.{content_fault, depth_fault, expected, fault_if, name_or_tag_fault, place_fault}
+use Rattle.yaml_base.specs.Refusal.{content_fault, depth_fault, expected, some_if, name_or_tag_fault, place_fault}
 use Rattle.yaml_base.specs.Event.{collection_tag}
 use Rattle.yaml_base.specs.Refusal.{begins_collection, most_open, open_levels, properties_fault, refusal_at}
 use Rattle.yaml_base.specs.Event.{scalar_tag}
 use Rattle.yaml_base.specs.scalars.Style.{lacks_tag_and_flags}
 use Rattle.yaml_base.specs.Tags.{alias_fault, anchor_fault, directive_fault, directives_fault_after, gives_handle, handle_fault, name_fault}
-use Rattle.yaml_base.specs.Tags.{is_the_number, last_from, next_directive_fault, prefix_fault, tag_fault, tag_mark, version_fault, without_last}
+use Rattle.yaml_base.specs.Tags.{equals_integer, last_from, next_directive_fault, prefix_fault, tag_fault, exclamation_mark, version_fault, without_last}
 use Rattle.yaml_base.specs.declared.errors.yaml_error_t.{yaml_error_t}
 use Rattle.yaml_base.specs.declared.errors.yaml_error_t.TheVariants.{AliasAlphabet, AliasEmpty, AnchorAlphabet, AnchorEmpty, DuplicateDirective}
 use Rattle.yaml_base.specs.declared.errors.yaml_error_t.TheVariants.{ExpectedNode, IncompatibleVersion, NoTagNorImplicit, TagHandleAlphabet}
@@ -39,7 +39,7 @@ unless : (x : Bool) (error : yaml_error_t) → NamesNone (Some error) → NamesN
 unless true error none is = cc
 unless false error none is = none is
 
-where_wrong : (x : Bool) (error : yaml_error_t) → NamesNone (Some error) → NamesNone (fault_if x error)
+where_wrong : (x : Bool) (error : yaml_error_t) → NamesNone (Some error) → NamesNone (some_if x error)
 where_wrong true error none is = none is
 where_wrong false error none is = cc
 
@@ -82,15 +82,15 @@ in_names canonical event = λ is. cc
 
 in_version : (version : Version) → NamesNone (version_fault version)
 in_version version =
-    unless (is_the_number 1 version.major && (is_the_number 1 version.minor || is_the_number 2 version.minor)) IncompatibleVersion (λ is. cc)
+    unless (equals_integer 1 version.major && (equals_integer 1 version.minor || equals_integer 2 version.minor)) IncompatibleVersion (λ is. cc)
 
 in_handle : (handle : Text) → NamesNone (handle_fault handle)
 in_handle [] = λ is. cc
 in_handle (c ∷ rest) =
     let alphabet : Option yaml_error_t = if list_all is_alpha (without_last rest) then None else Some TagHandleAlphabet in
-    let ending : Option yaml_error_t = if not (last_from c rest == tag_mark) then Some TagHandleEnd else alphabet in
-    chosen (not (c == tag_mark)) (Some TagHandleStart) ending (λ is. cc)
-    (chosen (not (last_from c rest == tag_mark)) (Some TagHandleEnd) alphabet (λ is. cc)
+    let ending : Option yaml_error_t = if not (last_from c rest == exclamation_mark) then Some TagHandleEnd else alphabet in
+    chosen (not (c == exclamation_mark)) (Some TagHandleStart) ending (λ is. cc)
+    (chosen (not (last_from c rest == exclamation_mark)) (Some TagHandleEnd) alphabet (λ is. cc)
     (unless (list_all is_alpha (without_last rest)) TagHandleAlphabet (λ is. cc)))
 
 in_prefix : (prefix : Text) → NamesNone (prefix_fault prefix)
@@ -137,7 +137,7 @@ open_place (after_root encoding before start root) is = cc
 open_place (after_stream stream) is = cc
 
 -- a place that names one is open, and the event can't stand there
-at_place : (partial : Partial) (next : Option Partial) → fault_if (is_none next) (expected partial) ≡ Some ExpectedNode
+at_place : (partial : Partial) (next : Option Partial) → some_if (is_none next) (expected partial) ≡ Some ExpectedNode
     → (awaits_more (Some partial) ≡ true) × (next ≡ None)
 at_place partial None is = (open_place partial is, refl)
 at_place partial (Some next) is = cc
@@ -153,17 +153,17 @@ placed canonical partial event is =
 -- an event that is refused for want of a node leaves one out
 pub misses : (canonical : Bool) (all : List Event) → RefusesOne canonical all ExpectedNode → MissesNode all
 misses canonical all one =
-    let stands = stands_from_begins canonical one.front one.begins in
+    let stands = stands_from_begins canonical one.prefix one.begins in
     let at = placed canonical stands.partial one.event
     (ap (λ p. option_and_then (λ partial. refusal_at canonical partial one.event) p) (sym stands.is_partial) ∙ one.refusal) in
     record {
-      front = one.front;
+      prefix = one.prefix;
       event = one.event;
       later = one.later;
       parts = one.parts;
       awaits = ap awaits_more stands.is_partial ∙ at.0;
       none =
-          pushed-append one.front (one.event ∷ []) before_stream
+          pushed-append one.prefix (one.event ∷ []) before_stream
           ∙ ap (λ p. option_and_then (λ partial. pushed partial (one.event ∷ [])) p) stands.is_partial
           ∙ ap (λ p. option_and_then (λ partial. pushed partial []) p) at.1;
     }

@@ -15,7 +15,7 @@ use Rattle.yaml_emitter.proofs.standing.Room.{more_bytes}
 use Rattle.yaml_emitter.proofs.standing.StandingFull.{promises_full}
 use Rattle.yaml_emitter.proofs.standing.StandingPromises.{promises_output, stands_failed}
 use Rattle.yaml_emitter.specs.Promises.{BeginsOutput, FillsLimit, OutputBegins, StopsWriting, stops_before, stops_within}
-use Rattle.yaml_emitter.specs.StandsAfter.{HoldsPiecesWith, StandsCut, StandsSo, StandsStopped, holds_before, holds_part, at_event}
+use Rattle.yaml_emitter.specs.StandsAfter.{HoldsPiecesWith, StandsCut, StateStands, StandsStopped, holds_before, holds_part, at_event}
 use Rattle.yaml_emitter.specs.StandsAfter.{between_events}
 use Rattle.yaml_emitter.specs.State.{State, machine_of}
 use Rattle.yaml_emitter.specs.Uncut.{IsUncut}
@@ -26,47 +26,48 @@ not_memory is = cc
 
 -- The encoding of a page that holds bytes is the stream's
 
-held_encoding : (front : List Event) (s : Effective) (pieces : List Piece) (error : Option yaml_error_t) (page : Page)
-    → HoldsPiecesWith error s front pieces page → 0 < length (encoded page) → page.encoding ≡ Some s.encoding
+held_encoding : (prefix : List Event) (s : Effective) (pieces : List Piece) (error : Option yaml_error_t) (page : Page)
+    → HoldsPiecesWith error s prefix pieces page → 0 < length (encoded page) → page.encoding ≡ Some s.encoding
 held_encoding [] s pieces error page h some =
     let none : length (encoded page) ≡ 0 = ap (λ (p : Page). length (encoded p)) h in absurd (omega (arith, some, none))
-held_encoding (x ∷ front) s pieces error page h some = h.0.encoding
+held_encoding (x ∷ prefix) s pieces error page h some = h.0.encoding
 
 cut_encoding : (given : Settings) (all : List Event) (state : State) → StandsCut given all WriteError (machine_of state)
     → state.page.encoding ≡ Some (settings_for given all).encoding
 cut_encoding given all state h =
     elim h.page [ holds_before memory page ↦ absurd (not_memory memory) | holds_part begun page told least most ↦ page.encoding ]
 
-stopped_encoding : (given : Settings) (all : List Event) (state : State) → StandsStopped given all WriteError (machine_of state) → 0 < length (encoded state.page)
+stopped_encoding : (given : Settings) (all : List Event) (state : State) → StandsStopped given all WriteError (machine_of state)
+    → 0 < length (encoded state.page)
     → state.page.encoding ≡ Some (settings_for given all).encoding
 stopped_encoding given all state (at_event cut) some = cut_encoding given all state cut
 stopped_encoding given all state (between_events other) some =
     held_encoding (take (written other.before) other.before) (settings_for given all) _ (Some WriteError) state.page other.page some
 
-passed_by : (given : Settings) (all front : List Event) (count : ℕ) (state : State) → state.page.encoding ≡ Some (settings_for given all).encoding
-    → given.limit < length (encoded state.page) → (IsAccepted given.canonical all → IsUncut given all → ⊥) → BeginsOutput given all front count state
+passed_by : (given : Settings) (all prefix : List Event) (count : ℕ) (state : State) → state.page.encoding ≡ Some (settings_for given all).encoding
+    → given.limit < length (encoded state.page) → (IsAccepted given.canonical all → IsUncut given all → ⊥) → BeginsOutput given all prefix count state
     → PassesLimit given all
-passed_by given all front count state is passes whole begun =
+passed_by given all prefix count state is passes whole begun =
     let s = settings_for given all in
     record {
-      front = front;
+      prefix = prefix;
       later = begun.later;
       parts = begun.parts;
       more = begun.more;
       accepted = begun.accepted;
-      passed = omega (arith, passes, more_bytes s state.page (take (length front) (list_layout s (front ++ begun.more))) is begun.most);
+      passed = omega (arith, passes, more_bytes s state.page (take (length prefix) (list_layout s (prefix ++ begun.more))) is begun.most);
       whole = whole;
     }
 
 stopped_by : (given : Settings) (all : List Event) (state : State) → state.page.encoding ≡ Some (settings_for given all).encoding
     → given.limit < length (encoded state.page) → (IsAccepted given.canonical all → IsUncut given all → ⊥) → StopsWriting given all state
     → PassesLimit given all
-stopped_by given all state is passes whole (stops_before front begun) = passed_by given all front (length front) state is passes whole begun
-stopped_by given all state is passes whole (stops_within front event begun) =
-    passed_by given all (front ++ event ∷ []) (length front) state is passes whole begun
+stopped_by given all state is passes whole (stops_before prefix begun) = passed_by given all prefix (length prefix) state is passes whole begun
+stopped_by given all state is passes whole (stops_within prefix event begun) =
+    passed_by given all (prefix ++ event ∷ []) (length prefix) state is passes whole begun
 
 -- an emitter that answers the write error was given events whose bytes pass the limit
-pub overflowed : (given : Settings) (all : List Event) (state : State) → StandsSo given all state → state.error ≡ Some WriteError → PassesLimit given all
+pub overflowed : (given : Settings) (all : List Event) (state : State) → StateStands given all state → state.error ≡ Some WriteError → PassesLimit given all
 overflowed given all state stands is =
     stopped_by given all state encoding fills.passed whole
     (subst (λ (error : Option yaml_error_t). OutputBegins given all error state) is (promises_output given all state stands))

@@ -171,20 +171,20 @@ fraction_cut_at whole (Some digits) h =
     ap (λ o. around_point o (whole ++ (codes "." ++ digits))) (cut_found 0x2E whole digits (digits_lack 0x2E whole refl h))
 
 -- the sign before an exponent's digits
-abbrev sign_text : Option Bool → Text
-sign_text sign = elim sign as (λ _. Text) [
+abbrev indicator_text : Option Bool → Text
+indicator_text sign = elim sign as (λ _. Text) [
   | None ↦ []
   | Some negative ↦ if negative then codes "-" else codes "+"
 ]
 
-sign_lacks : (sign : Option Bool) → lacks 0x65 (sign_text sign) ≡ true
+sign_lacks : (sign : Option Bool) → lacks 0x65 (indicator_text sign) ≡ true
 sign_lacks None = refl
 sign_lacks (Some true) = refl
 sign_lacks (Some false) = refl
 
 -- an exponent is found in its text
 exponent_found : (capital : Bool) (sign : Option Bool) (digits : Text) → are_digits 10 digits ≡ true
-    → exponent_in capital (sign_text sign ++ digits) ≡ record { capital = capital; sign = sign; digits = digits }
+    → exponent_in capital (indicator_text sign ++ digits) ≡ record { capital = capital; sign = sign; digits = digits }
 exponent_found capital (Some true) digits h = refl
 exponent_found capital (Some false) digits h = refl
 exponent_found capital None [] h = absurd (true≢false (sym h))
@@ -217,11 +217,11 @@ exponent_cut_at mantissa None h g e =
 exponent_cut_at mantissa (Some exponent) h g e = by exponent.capital
   where
     after : Text
-    after = sign_text exponent.sign ++ exponent.digits
+    after = indicator_text exponent.sign ++ exponent.digits
 
     after_lacks : lacks 0x65 after ≡ true
     after_lacks =
-        lacks_both 0x65 (sign_text exponent.sign) exponent.digits (sign_lacks exponent.sign)
+        lacks_both 0x65 (indicator_text exponent.sign) exponent.digits (sign_lacks exponent.sign)
         (digits_lack 0x65 exponent.digits refl (and_parts (not (length exponent.digits == 0)) (list_all is_decimal exponent.digits) e).1)
 
     by : (a : Bool)
@@ -329,10 +329,10 @@ pub no_minus : (text : Text) → ((rest : Text) → text ≢ 0x2D ∷ rest) → 
 no_minus [] h = (refl, refl)
 no_minus (c ∷ rest) h = (first_unlike 0x2D c rest h, ap (λ x. if x then rest else c ∷ rest) (first_unlike 0x2D c rest h))
 
-pub no_sign : (text : Text) → ((rest : Text) → text ≢ 0x2D ∷ rest) → ((rest : Text) → text ≢ 0x2B ∷ rest)
+pub no_indicator : (text : Text) → ((rest : Text) → text ≢ 0x2D ∷ rest) → ((rest : Text) → text ≢ 0x2B ∷ rest)
     → (sign_of text ≡ None) × (past_sign text ≡ text)
-no_sign [] h g = (refl, refl)
-no_sign (c ∷ rest) h g = (
+no_indicator [] h g = (refl, refl)
+no_indicator (c ∷ rest) h g = (
   ap (λ x. if x then Some true else (if c == 0x2B then Some false else None)) (first_unlike 0x2D c rest h)
       ∙ ap (λ x. if x then Some false else None) (first_unlike 0x2B c rest g),
   ap (λ x. if x then rest else c ∷ rest) (or_from (c == 0x2B) (c == 0x2D) (first_unlike 0x2B c rest g) (first_unlike 0x2D c rest h)),

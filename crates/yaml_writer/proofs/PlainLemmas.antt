@@ -6,7 +6,7 @@ use Rattle.yaml_base.proofs.SurelyTexts.{surely_text}
 use Rattle.yaml_base.specs.scalars.Analysis.{Allowances}
 use Rattle.yaml_base.specs.Characters.{is_break}
 use Rattle.yaml_base.specs.Event.{any_style, plain, single_quoted, double_quoted, literal}
-use Rattle.yaml_base.specs.scalars.Style.{style_asked, style_fitting, fits_plain}
+use Rattle.yaml_base.specs.scalars.Style.{requested_style, fitting_style, fits_plain}
 use Rattle.yaml_base.specs.values.SurelyText.{is_surely_text}
 use Rattle.yaml_writer.specs.PlainTexts.{PlainTextsAreTexts}
 
@@ -21,7 +21,7 @@ block_apart false is = cc
 
 -- plain is chosen only for a text that is surely one
 plain_sure : (allowed : Allowances) (plain_fits block_fits double broken sure : Bool)
-    → style_fitting allowed plain_fits block_fits (style_asked double (if broken then literal else (if sure then any_style else single_quoted))) ≡ plain
+    → fitting_style allowed plain_fits block_fits (requested_style double (if broken then literal else (if sure then any_style else single_quoted))) ≡ plain
     → sure ≡ true
 plain_sure allowed plain_fits block_fits true broken sure is = cc
 plain_sure allowed plain_fits block_fits false true sure is = absurd (block_apart block_fits is)

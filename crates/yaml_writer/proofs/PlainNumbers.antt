@@ -8,15 +8,15 @@ use Rattle.std.specs.List.{list_all, list_any}
 use Rattle.std.specs.Prelude.{ℕ, Bool, true, false, [], ◌∷◌, ◌++◌, ◌==◌, ◌||◌, ◌&&◌, not, length, codes, if◌then◌else◌}
 use Rattle.yaml_base.proofs.NumberCuts.{digit_unlike}
 use Rattle.yaml_base.proofs.NumbersRead.{numbers_are_read}
-use Rattle.yaml_base.specs.scalars.Analysis.{Allowances, Charset, allowances, allows_plain, bars_plain, begins_like_mark, begins_unlike_plain, begins_with}
+use Rattle.yaml_base.specs.scalars.Analysis.{Allowances, Charset, allowances, allows_plain, bars_plain, begins_like_marker, begins_unlike_plain, begins_with}
 use Rattle.yaml_base.specs.scalars.Analysis.{ends_word, is_empty, is_gap, is_indicator, is_special, somewhere}
 use Rattle.yaml_base.specs.Characters.{Text, is_among, is_ascii, is_break, is_printable, is_space, line_separator, paragraph_separator}
 use Rattle.yaml_base.specs.Event.{plain}
-use Rattle.yaml_base.specs.values.JsonNumbers.{minus, is_json_integer, fraction_or, exponent_spelled, json_value, means_number, yaml_number}
+use Rattle.yaml_base.specs.values.JsonNumbers.{minus, is_json_integer, fraction_or_default, exponent_spelled, json_value, means_number, yaml_number}
 use Rattle.yaml_base.specs.values.Resolved.{is_decimal, are_digits}
 use Rattle.yaml_base.specs.values.SchemaCore.{resolved_by_core}
 use Rattle.yaml_base.specs.values.SchemaOf11.{resolved_by_11}
-use Rattle.yaml_base.specs.scalars.Style.{fits_plain, style_asked, style_fitting, style_quoted, chosen}
+use Rattle.yaml_base.specs.scalars.Style.{fits_plain, requested_style, fitting_style, quoted_style, chosen}
 use Rattle.yaml_writer.specs.ReadNumbers.{WrittenNumbersAreRead}
 use Rattle.yaml_writer.proofs.SpellingLemmas.{PassesNumbers, spelling_passes, whole_digits}
 
@@ -105,23 +105,24 @@ unbroken (c ∷ rest) h = or_from (is_break c) (list_any is_break rest) (no_harm
 
 -- Beginnings
 
-no_mark : (c : ℕ) (rest : Text) → (c == 45 || c == 46) ≡ false → begins_like_mark (c ∷ rest) ≡ false
-no_mark c [] h = refl
-no_mark c (d ∷ []) h = refl
-no_mark c (d ∷ e ∷ rest) h = and_left ((c == 45 || c == 46) && d == c) (e == c) (and_left (c == 45 || c == 46) (d == c) h)
+no_exclamation : (c : ℕ) (rest : Text) → (c == 45 || c == 46) ≡ false → begins_like_marker (c ∷ rest) ≡ false
+no_exclamation c [] h = refl
+no_exclamation c (d ∷ []) h = refl
+no_exclamation c (d ∷ e ∷ rest) h = and_left ((c == 45 || c == 46) && d == c) (e == c) (and_left (c == 45 || c == 46) (d == c) h)
 
-no_mark_after : (c : ℕ) (rest : Text) → (c == 45) ≡ false → begins_like_mark (0x2D ∷ c ∷ rest) ≡ false
-no_mark_after c [] h = refl
-no_mark_after c (d ∷ rest) h = and_left (c == 45) (d == 45) h
+no_exponent_letter_after : (c : ℕ) (rest : Text) → (c == 45) ≡ false → begins_like_marker (0x2D ∷ c ∷ rest) ≡ false
+no_exponent_letter_after c [] h = refl
+no_exponent_letter_after c (d ∷ rest) h = and_left (c == 45) (d == 45) h
 
 begins_as_plain : (negative : Bool) (c : ℕ) (rest : Text) → is_decimal c ≡ true → begins_unlike_plain (minus negative ++ (c ∷ rest)) ≡ false
 begins_as_plain true c rest digit =
-    or_from (begins_like_mark (0x2D ∷ c ∷ rest) || false) (is_gap c)
-    (or_from (begins_like_mark (0x2D ∷ c ∷ rest)) false (no_mark_after c rest (digit_unlike c 45 refl digit)) refl) (no_harm c (digit_harmless c digit)).gap
+    or_from (begins_like_marker (0x2D ∷ c ∷ rest) || false) (is_gap c)
+    (or_from (begins_like_marker (0x2D ∷ c ∷ rest)) false (no_exponent_letter_after c rest (digit_unlike c 45 refl digit)) refl)
+    (no_harm c (digit_harmless c digit)).gap
 begins_as_plain false c rest digit =
-    or_from (is_space c || begins_like_mark (c ∷ rest) || is_indicator c) (is_among (codes "?:-") c && ends_word rest)
-    (or_from (is_space c || begins_like_mark (c ∷ rest)) (is_indicator c)
-    (or_from (is_space c) (begins_like_mark (c ∷ rest)) marks.0 (no_mark c rest marks.1)) indicators.1)
+    or_from (is_space c || begins_like_marker (c ∷ rest) || is_indicator c) (is_among (codes "?:-") c && ends_word rest)
+    (or_from (is_space c || begins_like_marker (c ∷ rest)) (is_indicator c)
+    (or_from (is_space c) (begins_like_marker (c ∷ rest)) marks.0 (no_exclamation c rest marks.1)) indicators.1)
     (and_left (is_among (codes "?:-") c) (ends_word rest) alone.1)
   where
     alone : ((is_space c || (c == 45 || c == 46) || is_indicator c) ≡ false) × (is_among (codes "?:-") c ≡ false)
@@ -176,8 +177,8 @@ module _ (text : Text) (harmless : list_all is_harmless text ≡ true) (filled :
   stands_plain : (charset : Charset) (tag_written plain_implicit quoted_implicit flow simple_key : Bool) → (tag_written || plain_implicit) ≡ true
       → (chosen (allowances charset text) plain (is_empty text) tag_written plain_implicit quoted_implicit flow simple_key false).style ≡ plain
   stands_plain charset tag_written plain_implicit quoted_implicit flow simple_key told =
-      ap (λ double. style_fitting allowed fit block (style_asked double plain)) (and_right simple_key (list_any is_break text) (unbroken text harmless))
-      ∙ ap (λ x. if x then plain else style_quoted allowed) (fits charset tag_written plain_implicit flow simple_key told)
+      ap (λ double. fitting_style allowed fit block (requested_style double plain)) (and_right simple_key (list_any is_break text) (unbroken text harmless))
+      ∙ ap (λ x. if x then plain else quoted_style allowed) (fits charset tag_written plain_implicit flow simple_key told)
     where
       allowed : Allowances
       allowed = allowances charset text
@@ -199,7 +200,7 @@ written_numbers number charset tag_written plain_implicit quoted_implicit flow s
     first : (is_empty (yaml_number number) ≡ false) × (begins_unlike_plain (yaml_number number) ≡ false)
     first =
         begins_digits number.negative number.whole
-        (if is_json_integer number then [] else codes "." ++ fraction_or (codes "0") number ++ exponent_spelled number.exponent)
+        (if is_json_integer number then [] else codes "." ++ fraction_or_default (codes "0") number ++ exponent_spelled number.exponent)
         (whole_digits number valid)
 
     read : (means_number (json_value number) (resolved_by_11 (yaml_number number)) ≡ true)

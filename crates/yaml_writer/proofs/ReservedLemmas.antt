@@ -9,9 +9,10 @@ use Rattle.std.specs.List.{list_all, list_any, slice_split, take_while}
 use Rattle.std.specs.Prelude.{ℕ, zero, suc, Bool, true, false, List, [], ◌∷◌, ◌++◌, ◌==◌, ◌||◌, ◌&&◌, nat_lt, length, map, take, bytes_eq, if◌then◌else◌}
 use Rattle.yaml_base.specs.Characters.{Text, is_ascii, is_space}
 use Rattle.yaml_base.specs.Words.{is_word}
-use Rattle.yaml_base.specs.values.Resolved.{first_is}
-use Rattle.yaml_base.specs.values.SurelyText.{reserved_words, ascii_front}
-use Rattle.yaml_writer.specs.Words.{is_of, begins_reserved, null_words, truth_words, answer_words, key_words, float_words, plus_words, minus_words, is_reserved_word}
+use Rattle.yaml_base.specs.values.Resolved.{first_meets}
+use Rattle.yaml_base.specs.values.SurelyText.{reserved_words, ascii_prefix}
+use Rattle.yaml_writer.specs.Words.{is_one_of, begins_reserved, null_words, truth_words, answer_words, key_words, float_words, plus_words}
+use Rattle.yaml_writer.specs.Words.{minus_words, is_reserved_word}
 
 -- ---- groups
 
@@ -23,18 +24,19 @@ listed words = slice_split is_space words
 in_groups : (text : Text) → list_any (is_word text) reserved_words ≡ is_reserved_word text
 in_groups text =
     one null_words (listed truth_words ++ (listed answer_words ++ (listed key_words ++ (listed float_words ++ (listed plus_words ++ listed minus_words)))))
-    ∙ ap (λ x. is_of null_words text || x) (one truth_words (listed answer_words ++ (listed key_words ++ (listed float_words ++ (listed plus_words ++ listed minus_words))))
-    ∙ ap (λ x. is_of truth_words text || x) (one answer_words (listed key_words ++ (listed float_words ++ (listed plus_words ++ listed minus_words)))
-    ∙ ap (λ x. is_of answer_words text || x) (one key_words (listed float_words ++ (listed plus_words ++ listed minus_words))
-    ∙ ap (λ x. is_of key_words text || x) (one float_words (listed plus_words ++ listed minus_words)
-    ∙ ap (λ x. is_of float_words text || x) (one plus_words (listed minus_words))))))
+    ∙ ap (λ x. is_one_of null_words text || x)
+    (one truth_words (listed answer_words ++ (listed key_words ++ (listed float_words ++ (listed plus_words ++ listed minus_words))))
+    ∙ ap (λ x. is_one_of truth_words text || x) (one answer_words (listed key_words ++ (listed float_words ++ (listed plus_words ++ listed minus_words)))
+    ∙ ap (λ x. is_one_of answer_words text || x) (one key_words (listed float_words ++ (listed plus_words ++ listed minus_words))
+    ∙ ap (λ x. is_one_of key_words text || x) (one float_words (listed plus_words ++ listed minus_words)
+    ∙ ap (λ x. is_one_of float_words text || x) (one plus_words (listed minus_words))))))
   where
-    one : (words : Text) (others : List Text) → list_any (is_word text) (listed words ++ others) ≡ (is_of words text || list_any (is_word text) others)
+    one : (words : Text) (others : List Text) → list_any (is_word text) (listed words ++ others) ≡ (is_one_of words text || list_any (is_word text) others)
     one words others = list_any-append (is_word text) (listed words) others
 
 -- ---- the first bytes
 
--- the front of a text, in lower case
+-- the prefix of a text, in lower case
 abbrev lowered : Text → Text
 lowered text = map to_ascii_lowercase text
 
@@ -62,40 +64,40 @@ short_word (suc n) (c ∷ rest) (d ∷ word) h =
     by false later = refl
 
 short_words : (text : Text) (words : List Text) → list_all (λ word. nat_lt (length word) 10) words ≡ true
-    → list_any (is_word (lowered (take_while is_ascii (take 10 text)))) words ≡ list_any (is_word (ascii_front text)) words
+    → list_any (is_word (lowered (take_while is_ascii (take 10 text)))) words ≡ list_any (is_word (ascii_prefix text)) words
 short_words text [] h = refl
 short_words text (word ∷ words) h =
     ap (λ x. x || list_any (is_word (lowered (take_while is_ascii (take 10 text)))) words) (short_word 10 text word (ltb-true (length word) 10 both.0))
-    ∙ ap (λ x. is_word (ascii_front text) word || x) (short_words text words both.1)
+    ∙ ap (λ x. is_word (ascii_prefix text) word || x) (short_words text words both.1)
   where
     both : (nat_lt (length word) 10 ≡ true) × (list_all (λ w. nat_lt (length w) 10) words ≡ true)
     both = and_parts (nat_lt (length word) 10) (list_all (λ w. nat_lt (length w) 10) words) h
 
 -- the first bytes tell a reserved word
-pub reserved_by_head : (text : Text) → is_reserved_word (lowered (take_while is_ascii (take 10 text))) ≡ list_any (is_word (ascii_front text)) reserved_words
+pub reserved_by_head : (text : Text) → is_reserved_word (lowered (take_while is_ascii (take 10 text))) ≡ list_any (is_word (ascii_prefix text)) reserved_words
 reserved_by_head text = sym (in_groups (lowered (take_while is_ascii (take 10 text)))) ∙ short_words text reserved_words refl
 
 -- ---- the first byte
 
-no_word : (words : List Text) (text : Text) → list_all (first_is begins_reserved) words ≡ true → first_is begins_reserved text ≡ false
+no_word : (words : List Text) (text : Text) → list_all (first_meets begins_reserved) words ≡ true → first_meets begins_reserved text ≡ false
     → list_any (is_word text) words ≡ false
 no_word [] text all other = refl
 no_word (word ∷ words) text all other = or_from (is_word text word) _ (by (is_word text word) refl) (no_word words text both.1 other)
   where
-    both : (first_is begins_reserved word ≡ true) × (list_all (first_is begins_reserved) words ≡ true)
-    both = and_parts (first_is begins_reserved word) (list_all (first_is begins_reserved) words) all
+    both : (first_meets begins_reserved word ≡ true) × (list_all (first_meets begins_reserved) words ≡ true)
+    both = and_parts (first_meets begins_reserved word) (list_all (first_meets begins_reserved) words) all
 
     by : (x : Bool) → is_word text word ≡ x → x ≡ false
-    by true e = absurd (true≢false (sym both.0 ∙ ap (first_is begins_reserved) (sym ((bytes_eq-Decides text word).0 e)) ∙ other))
+    by true e = absurd (true≢false (sym both.0 ∙ ap (first_meets begins_reserved) (sym ((bytes_eq-Decides text word).0 e)) ∙ other))
     by false e = refl
 
 -- a text whose first byte begins no reserved word is none
 pub none_by_first : (c : ℕ) (rest : Text) → begins_reserved (to_ascii_lowercase c) ≡ false
-    → list_any (is_word (ascii_front (c ∷ rest))) reserved_words ≡ false
+    → list_any (is_word (ascii_prefix (c ∷ rest))) reserved_words ≡ false
 none_by_first c rest h =
-    no_word reserved_words (ascii_front (c ∷ rest)) refl
-    (ap (λ t. first_is begins_reserved (lowered t)) (take_while-cons is_ascii c rest) ∙ by (is_ascii c))
+    no_word reserved_words (ascii_prefix (c ∷ rest)) refl
+    (ap (λ t. first_meets begins_reserved (lowered t)) (take_while-cons is_ascii c rest) ∙ by (is_ascii c))
   where
-    by : (x : Bool) → first_is begins_reserved (lowered (if x then c ∷ take_while is_ascii rest else [])) ≡ false
+    by : (x : Bool) → first_meets begins_reserved (lowered (if x then c ∷ take_while is_ascii rest else [])) ≡ false
     by true = h
     by false = refl

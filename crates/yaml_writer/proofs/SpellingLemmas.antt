@@ -12,9 +12,9 @@ use Rattle.std.specs.Prelude.{ℕ, Bool, true, false, Option, None, Some, List, 
 use Rattle.std.specs.Prelude.{if◌then◌else◌}
 use Rattle.yaml_base.specs.Characters.{Text}
 use Rattle.yaml_base.specs.Words.{is_word}
-use Rattle.yaml_base.specs.values.Resolved.{is_decimal, first_is, are_digits}
+use Rattle.yaml_base.specs.values.Resolved.{is_decimal, first_meets, are_digits}
 use Rattle.yaml_base.specs.values.JsonNumbers.{JsonNumber, JsonExponent, minus, is_json_number, is_json_integer, exponent_text, exponent_negative}
-use Rattle.yaml_base.specs.values.JsonNumbers.{exponent_spelled, fraction_or, json_text, yaml_number}
+use Rattle.yaml_base.specs.values.JsonNumbers.{exponent_spelled, fraction_or_default, json_text, yaml_number}
 use Rattle.yaml_writer.specs.NumberParts.{IsNumber, IsNoNumber, is_fraction, is_exponent}
 use Rattle.yaml_writer.specs.Spellings.{is_spelled, is_spelled_exponent}
 use Rattle.yaml_writer.proofs.ValidNumbers.{Valid, valid_parts}
@@ -34,7 +34,8 @@ pub record PassesNumbers (test : ℕ → Bool) : Type 0 where
 -- the whole part of a number is digits
 pub whole_digits : (number : JsonNumber) → is_json_number number ≡ true → are_digits 10 number.whole ≡ true
 whole_digits number h =
-    (and_parts (are_digits 10 number.whole) (is_word number.whole (codes "0") || not (first_is (λ c. c == 0x30) number.whole)) (valid_parts number h).whole).0
+    (and_parts (are_digits 10 number.whole) (is_word number.whole (codes "0") || not (first_meets (λ c. c == 0x30) number.whole))
+    (valid_parts number h).whole).0
 
 module _ (test : ℕ → Bool) (passes : PassesNumbers test) where
   one_passes : (c : ℕ) (rest : Text) → test c ≡ true → list_all test rest ≡ true → list_all test (c ∷ rest) ≡ true
@@ -123,13 +124,13 @@ module _ (test : ℕ → Bool) (passes : PassesNumbers test) where
       valid = valid_parts number h
 
       after : Text
-      after = codes "." ++ fraction_or (codes "0") number ++ exponent_spelled number.exponent
+      after = codes "." ++ fraction_or_default (codes "0") number ++ exponent_spelled number.exponent
 
       by : (x : Bool) → list_all test (if x then [] else after) ≡ true
       by true = refl
       by false =
-          both_pass (codes "." ++ fraction_or (codes "0") number) (exponent_spelled number.exponent)
-          (one_passes 0x2E (fraction_or (codes "0") number) passes.point (fraction_or_passes number.fraction valid.fraction))
+          both_pass (codes "." ++ fraction_or_default (codes "0") number) (exponent_spelled number.exponent)
+          (one_passes 0x2E (fraction_or_default (codes "0") number) passes.point (fraction_or_passes number.fraction valid.fraction))
           (spelled_passes number.exponent valid.exponent)
 
 -- ASCII

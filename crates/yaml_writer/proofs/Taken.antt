@@ -6,13 +6,13 @@ use Rattle.yaml_base.specs.Characters.{Text}
 use Rattle.yaml_base.specs.Event.{Event}
 use Rattle.yaml_base.specs.Settings.{Settings}
 use Rattle.yaml_base.specs.declared.errors.yaml_error_t.{yaml_error_t}
-use Rattle.yaml_pen.proofs.Writing.{none_from_told}
-use Rattle.yaml_pen.specs.Page.{output_left, told}
+use Rattle.yaml_pen.proofs.Writing.{none_from_result}
+use Rattle.yaml_pen.specs.Page.{output_left, result_of_error}
 use Rattle.yaml_pen.specs.Wrote.{Grows}
-use Rattle.yaml_emitter.proofs.standing.StandingMore.{some_from_told}
+use Rattle.yaml_emitter.proofs.standing.StandingMore.{some_from_result}
 use Rattle.yaml_emitter.specs.State.{KeepsSet, State, with_all_taken}
 use Rattle.yaml_emitter.specs.StandsAfter.{StandsAfter}
-use Rattle.yaml_writer.specs.Writing.{Adds, AddsAll, Failed, Gave, Passed, StandsTaken, WriterState}
+use Rattle.yaml_writer.specs.Writing.{AddsEvent, AddsEvents, Failed, GaveEvent, PassedEvents, StandsTaken, WriterState}
 
 -- a call of the emitter keeps what was taken
 pub still_taken : (given : Settings) (all more : List Event) (sent : List ℕ) (before after : State) → StandsTaken given all sent before
@@ -51,25 +51,25 @@ left_taken given all sent bytes before after was left now stands =
 -- Calls that pass events on
 
 pub passed : (inside before : WriterState) (events : List Event) (answer : Result (Unit {0}) yaml_error_t) (emitter : State) → inside ≡ before
-    → AddsAll inside.emitter events emitter → Grows inside.emitter.page emitter.page → answer ≡ told emitter.error
-    → Passed before events answer (record inside { emitter = emitter })
+    → AddsEvents inside.emitter events emitter → Grows inside.emitter.page emitter.page → answer ≡ result_of_error emitter.error
+    → PassedEvents before events answer (record inside { emitter = emitter })
 passed inside before events answer emitter is adds grows answered =
-    subst (λ (writer : WriterState). Passed writer events answer (record inside { emitter = emitter })) is
+    subst (λ (writer : WriterState). PassedEvents writer events answer (record inside { emitter = emitter })) is
     (record { adds = adds; grows = grows; answered = answered; rest = refl })
 
 -- Calls that give an event with the properties of the next node
 
 module _ (inside before : WriterState) (emitter : State) (anchor tag : Option Text) (given event : Event) (answer : Result (Unit {0}) yaml_error_t)
-    (view : inside ≡ before) (is : given ≡ event) (adds : Adds inside.emitter given emitter)
-    (grows : Grows inside.emitter.page emitter.page) (answered : answer ≡ told emitter.error)
+    (view : inside ≡ before) (is : given ≡ event) (adds : AddsEvent inside.emitter given emitter)
+    (grows : Grows inside.emitter.page emitter.page) (answered : answer ≡ result_of_error emitter.error)
     (no_anchor : anchor ≡ None) (no_tag : tag ≡ None) where
   abbrev after : WriterState
   after = record inside { emitter = emitter; anchor = anchor; tag = tag }
 
-  gave : (error : Option yaml_error_t) → emitter.error ≡ error → Gave before event error after
+  gave : (error : Option yaml_error_t) → emitter.error ≡ error → GaveEvent before event error after
   gave error error_is =
       record {
-        adds = subst (λ (w : WriterState). Adds w.emitter event emitter) view (subst (λ (e : Event). Adds inside.emitter e emitter) is adds);
+        adds = subst (λ (w : WriterState). AddsEvent w.emitter event emitter) view (subst (λ (e : Event). AddsEvent inside.emitter e emitter) is adds);
         grows = subst (λ (w : WriterState). Grows w.emitter.page emitter.page) view grows;
         error_is = error_is;
         canonical = ap (λ (w : WriterState). w.canonical) view;
@@ -78,23 +78,24 @@ module _ (inside before : WriterState) (emitter : State) (anchor tag : Option Te
         no_tag = no_tag;
       }
 
-  by_ok : (told_so : Result (Unit {0}) yaml_error_t) → told_so ≡ told emitter.error → OnOk told_so (Gave before event None after)
-  by_ok (Ok done) so = gave None (none_from_told emitter.error so)
+  by_ok : (told_so : Result (Unit {0}) yaml_error_t) → told_so ≡ result_of_error emitter.error → OnOk told_so (GaveEvent before event None after)
+  by_ok (Ok done) so = gave None (none_from_result emitter.error so)
   by_ok (Err error) so = tt
 
-  by_failed : (told_so : Result (Unit {0}) yaml_error_t) → told_so ≡ told emitter.error → IfErr told_so (λ error. Gave before event (Some error) after)
+  by_failed : (told_so : Result (Unit {0}) yaml_error_t) → told_so ≡ result_of_error emitter.error
+      → IfErr told_so (λ error. GaveEvent before event (Some error) after)
   by_failed (Ok done) so = tt
-  by_failed (Err error) so = gave (Some error) (some_from_told emitter.error error so)
+  by_failed (Err error) so = gave (Some error) (some_from_result emitter.error error so)
 
   -- where it was given, and where it failed
-  pub gave_either : OnOk answer (Gave before event None after) × IfErr answer (λ error. Gave before event (Some error) after)
+  pub gave_either : OnOk answer (GaveEvent before event None after) × IfErr answer (λ error. GaveEvent before event (Some error) after)
   gave_either = (by_ok answer answered, by_failed answer answered)
 
 -- a call that gives the same event
 pub given_as : {given event : Event} (before after : WriterState) (answer : Result (Unit {0}) yaml_error_t) → given ≡ event
-    → OnOk answer (Gave before given None after) → IfErr answer (λ error. Failed before given error after)
-    → OnOk answer (Gave before event None after) × IfErr answer (λ error. Failed before event error after)
+    → OnOk answer (GaveEvent before given None after) → IfErr answer (λ error. Failed before given error after)
+    → OnOk answer (GaveEvent before event None after) × IfErr answer (λ error. Failed before event error after)
 given_as before after answer is given failed = (
-  subst (λ (e : Event). OnOk answer (Gave before e None after)) is given,
+  subst (λ (e : Event). OnOk answer (GaveEvent before e None after)) is given,
   subst (λ (e : Event). IfErr answer (λ error. Failed before e error after)) is failed,
 )

@@ -11,9 +11,9 @@ use Rattle.std.specs.Str.{chars, IsUtf8, encode_utf8_all}
 use Rattle.std.specs.Prelude.{ℕ, Bool, true, false, List, [], ◌∷◌, ◌++◌, ◌==◌, ◌||◌, ◌&&◌, not, codes, length, map, if◌then◌else◌}
 use Rattle.yaml_base.specs.Characters.{Text, is_among, is_ascii, is_blank}
 use Rattle.yaml_base.specs.Words.{is_word}
-use Rattle.yaml_base.specs.values.Resolved.{first_is, is_decimal, is_point, is_sign}
+use Rattle.yaml_base.specs.values.Resolved.{first_meets, is_decimal, is_point, is_plus_or_minus}
 use Rattle.yaml_base.specs.values.SchemaOf11.{is_colon, past}
-use Rattle.yaml_base.specs.values.SurelyText.{ascii_front, reserved_words, is_reserved, is_symbol, precedes_number, begins_based, is_based, begins_number}
+use Rattle.yaml_base.specs.values.SurelyText.{ascii_prefix, reserved_words, is_reserved, is_symbol, precedes_number, begins_based, is_based, begins_number}
 use Rattle.yaml_base.specs.values.SurelyText.{is_number_letter, in_number, is_numeric, is_doubtful}
 use Rattle.yaml_base.proofs.no_numbers.NoNumbers.{past_cons, filled}
 
@@ -80,7 +80,7 @@ no_digit c h = by (is_decimal c) refl
 
 not_before_number : (c : ℕ) → is_ascii c ≡ false → precedes_number c ≡ false
 not_before_number c h =
-    or_from (is_sign c) _ (or_from (c == 0x2B) _ (unlike 0x2B c refl h) (unlike 0x2D c refl h)) (unlike 0x5F c refl h)
+    or_from (is_plus_or_minus c) _ (or_from (c == 0x2B) _ (unlike 0x2B c refl h) (unlike 0x2D c refl h)) (unlike 0x5F c refl h)
 
 not_first : (c : ℕ) → is_ascii c ≡ false → begins_number c ≡ false
 not_first c h =
@@ -98,16 +98,16 @@ not_within c h =
 -- ---- what is looked at
 
 first_alike : (test : ℕ → Bool) → ((c : ℕ) → is_ascii c ≡ false → test c ≡ false) → (text : Text) (bytes : List ℕ) → Alike text bytes
-    → first_is test text ≡ first_is test bytes
+    → first_meets test text ≡ first_meets test bytes
 first_alike test fails _ _ at_end = refl
 first_alike test fails _ _ (same c text bytes a) = refl
 first_alike test fails _ _ (others c b text bytes h k) = fails c h ∙ sym (fails b k)
 
-front_alike : (text : Text) (bytes : List ℕ) → Alike text bytes → take_while is_ascii text ≡ take_while is_ascii bytes
-front_alike _ _ at_end = refl
-front_alike _ _ (same c text bytes a) =
-    take_while-cons is_ascii c text ∙ ap (λ (t : Text). if is_ascii c then c ∷ t else []) (front_alike text bytes a) ∙ sym (take_while-cons is_ascii c bytes)
-front_alike _ _ (others c b text bytes h k) =
+prefix_alike : (text : Text) (bytes : List ℕ) → Alike text bytes → take_while is_ascii text ≡ take_while is_ascii bytes
+prefix_alike _ _ at_end = refl
+prefix_alike _ _ (same c text bytes a) =
+    take_while-cons is_ascii c text ∙ ap (λ (t : Text). if is_ascii c then c ∷ t else []) (prefix_alike text bytes a) ∙ sym (take_while-cons is_ascii c bytes)
+prefix_alike _ _ (others c b text bytes h k) =
     take_while-cons is_ascii c text ∙ ap (λ x. if x then c ∷ take_while is_ascii text else []) h
     ∙ sym (take_while-cons is_ascii b bytes ∙ ap (λ x. if x then b ∷ take_while is_ascii bytes else []) k)
 
@@ -118,8 +118,8 @@ empty_alike _ _ (others c b text bytes h k) = filled (length text) ∙ sym (fill
 
 reserved_alike : (text : Text) (bytes : List ℕ) → Alike text bytes → is_reserved text ≡ is_reserved bytes
 reserved_alike text bytes a =
-    ap (λ x. x || list_any (is_word (ascii_front text)) reserved_words) (empty_alike text bytes a)
-    ∙ ap (λ (t : Text). length bytes == 0 || list_any (is_word (map to_ascii_lowercase t)) reserved_words) (front_alike text bytes a)
+    ap (λ x. x || list_any (is_word (ascii_prefix text)) reserved_words) (empty_alike text bytes a)
+    ∙ ap (λ (t : Text). length bytes == 0 || list_any (is_word (map to_ascii_lowercase t)) reserved_words) (prefix_alike text bytes a)
 
 second_alike : (c : ℕ) (text : Text) (bytes : List ℕ) → Alike text bytes → begins_based (c ∷ text) ≡ begins_based (c ∷ bytes)
 second_alike c _ _ at_end = refl
@@ -165,8 +165,8 @@ numeric_alike text bytes a = by (list_all in_number text) refl
   where
     none : (t : Text) → list_all in_number t ≡ false → is_numeric t ≡ false
     none t h =
-        and_left (first_is begins_number t && list_all in_number t) (list_any is_decimal t || not (list_any is_number_letter t))
-        (and_right (first_is begins_number t) (list_all in_number t) h)
+        and_left (first_meets begins_number t && list_all in_number t) (list_any is_decimal t || not (list_any is_number_letter t))
+        (and_right (first_meets begins_number t) (list_all in_number t) h)
 
     by : (x : Bool) → list_all in_number text ≡ x → is_numeric text ≡ is_numeric bytes
     by true e = ap is_numeric (equal_alike text bytes a e)

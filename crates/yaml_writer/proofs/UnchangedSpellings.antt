@@ -9,10 +9,10 @@ use Rattle.yaml_base.specs.values.JsonNumbers.{JsonNumber, JsonExponent, minus, 
 use Rattle.yaml_writer.specs.Spellings.{is_spelled}
 
 -- what is put together otherwise, but to the same, has the same length
-same_length : (front point after less rest : Text) → front ++ (point ++ after) ≡ front ++ less ++ rest
+same_length : (prefix point after less rest : Text) → prefix ++ (point ++ after) ≡ prefix ++ less ++ rest
     → length point + length after ≡ length less + length rest
-same_length front point after less rest e =
-    omega (arith, ap length e, length-append front (point ++ after), length-append point after, length-append (front ++ less) rest, length-append front less)
+same_length prefix point after less rest e =
+    omega (arith, ap length e, length-append prefix (point ++ after), length-append point after, length-append (prefix ++ less) rest, length-append prefix less)
 
 abbrev first_of : Text → ℕ
 first_of [] = 0

@@ -9,12 +9,12 @@ use Rattle.yaml_base.specs.Ready.{written}
 use Rattle.yaml_base.specs.Refusal.{BeginsAccepted, IsAccepted}
 use Rattle.yaml_base.specs.Settings.{Settings, Effective}
 use Rattle.yaml_base.specs.declared.errors.yaml_error_t.{yaml_error_t}
-use Rattle.yaml_pen.specs.Page.{told}
-use Rattle.yaml_pen.proofs.Writing.{none_from_told}
+use Rattle.yaml_pen.specs.Page.{result_of_error}
+use Rattle.yaml_pen.proofs.Writing.{none_from_result}
 use Rattle.yaml_emitter.proofs.EndedStreams.{ends_last}
 use Rattle.yaml_emitter.proofs.standing.Standing.{settings_grown}
 use Rattle.yaml_emitter.proofs.standing.StandingEnds.{whole_accepted}
-use Rattle.yaml_emitter.proofs.standing.StandingMore.{some_from_told}
+use Rattle.yaml_emitter.proofs.standing.StandingMore.{some_from_result}
 use Rattle.yaml_emitter.proofs.standing.StandingPromises.{most_few}
 use Rattle.yaml_emitter.specs.Promises.{HasRoom, IsRefusal, Promised, begins_with_start}
 use Rattle.yaml_emitter.specs.StandsAfter.{StandsAfter}
@@ -32,14 +32,14 @@ closed_twice = document_end true ∷ stream_end ∷ stream_end ∷ []
 -- ---- lists
 
 -- a list that ends behind another's last element but one
-shorter : {A : Type 0} (front later all : List A) (last : A) → front ++ later ≡ all ++ last ∷ [] → (later ≡ [] → ⊥)
-    → (rest : List A) × (front ++ rest ≡ all)
+shorter : {A : Type 0} (prefix later all : List A) (last : A) → prefix ++ later ≡ all ++ last ∷ [] → (later ≡ [] → ⊥)
+    → (rest : List A) × (prefix ++ rest ≡ all)
 shorter [] later all last parts some = (all, refl)
-shorter (x ∷ front) later [] last parts some =
-    absurd (some (nil_from_length later (omega (arith, ap length parts, length-append front later))))
-shorter (x ∷ front) later (y ∷ all) last parts some =
+shorter (x ∷ prefix) later [] last parts some =
+    absurd (some (nil_from_length later (omega (arith, ap length parts, length-append prefix later))))
+shorter (x ∷ prefix) later (y ∷ all) last parts some =
     let same : x ≡ y = cc in
-    let less = shorter front later all last (ap (drop 1) parts) some in
+    let less = shorter prefix later all last (ap (drop 1) parts) some in
     (less.0, ap (λ l. x ∷ l) less.1 ∙ ap (λ e. e ∷ all) same)
 
 drop_nil : {A : Type 0} (n : ℕ) (none : List A) → none ≡ [] → drop n none ≡ []
@@ -82,9 +82,9 @@ module _ (canonical : Bool) (all : List Event) (unaccepted : IsAccepted canonica
       → RefusesOne canonical (all ++ closing) error
   refuses_shorter error one = by one.later refl
     where
-      at : (later : List Event) → one.front ++ one.event ∷ later ≡ all ++ closing → RefusesOne canonical (all ++ closing) error
+      at : (later : List Event) → one.prefix ++ one.event ∷ later ≡ all ++ closing → RefusesOne canonical (all ++ closing) error
       at later parts = record {
-        front = one.front;
+        prefix = one.prefix;
         event = one.event;
         later = later;
         parts = parts;
@@ -92,31 +92,32 @@ module _ (canonical : Bool) (all : List Event) (unaccepted : IsAccepted canonica
         refusal = one.refusal;
       }
 
-      is_all : (rest : List Event) → one.front ++ rest ≡ all ++ closing → one.later ≡ [] → one.front ≡ all ++ closing
+      is_all : (rest : List Event) → one.prefix ++ rest ≡ all ++ closing → one.later ≡ [] → one.prefix ≡ all ++ closing
       is_all rest parts none =
-          let whole : one.front ++ one.event ∷ [] ≡ (all ++ closing) ++ stream_end ∷ [] = ap (λ later. one.front ++ one.event ∷ later) (sym none) ∙ one.parts in
+          let whole : one.prefix ++ one.event ∷ [] ≡ (all ++ closing) ++ stream_end ∷ [] = ap (λ later. one.prefix ++ one.event ∷ later) (sym none)
+          ∙ one.parts in
           let nothing : rest ≡ [] =
           nil_from_length rest
           (omega (
             arith,
             ap length whole,
             ap length parts,
-            length-append one.front (one.event ∷ []),
-            length-append one.front rest,
+            length-append one.prefix (one.event ∷ []),
+            length-append one.prefix rest,
             length-append (all ++ closing) (stream_end ∷ []),
           )) in
-          sym (append-nil one.front) ∙ ap (λ rest. one.front ++ rest) (sym nothing) ∙ parts
+          sym (append-nil one.prefix) ∙ ap (λ rest. one.prefix ++ rest) (sym nothing) ∙ parts
 
       by : (later : List Event) → one.later ≡ later → RefusesOne canonical (all ++ closing) error
       by [] none =
-          let before = shorter one.front (one.event ∷ one.later) (all ++ closing) stream_end one.parts (λ is. cc) in
+          let before = shorter one.prefix (one.event ∷ one.later) (all ++ closing) stream_end one.parts (λ is. cc) in
           absurd (begins_none (subst (BeginsAccepted canonical) (is_all before.0 before.1 none) one.begins))
       by (x ∷ later) some =
-          let longer = one.front ++ one.event ∷ [] in
+          let longer = one.prefix ++ one.event ∷ [] in
           let before =
-          shorter longer one.later (all ++ closing) stream_end (append_assoc one.front (one.event ∷ []) one.later ∙ one.parts)
+          shorter longer one.later (all ++ closing) stream_end (append_assoc one.prefix (one.event ∷ []) one.later ∙ one.parts)
           (λ none. let is = sym none ∙ some in cc) in
-          at before.0 (sym (append_assoc one.front (one.event ∷ []) before.0) ∙ before.1)
+          at before.0 (sym (append_assoc one.prefix (one.event ∷ []) before.0) ∙ before.1)
 
 -- the settings are told by the first event
 settings_more : (given : Settings) (all more : List Event) → settings_for given ((all ++ closing) ++ more) ≡ settings_for given (all ++ closing)
@@ -128,31 +129,31 @@ passes_shorter : (given : Settings) (all : List Event) → (IsAccepted given.can
     → PassesLimit given ((all ++ closing) ++ stream_end ∷ []) → PassesLimit given (all ++ closing)
 passes_shorter given all unaccepted passes =
     record {
-      front = passes.front;
+      prefix = passes.prefix;
       later = before.0;
       parts = before.1;
       more = passes.more;
       accepted = passes.accepted;
       passed =
-          subst (λ (s : Effective). given.limit < length (bytes_written s (take (length passes.front) (list_layout s (passes.front ++ passes.more)))))
+          subst (λ (s : Effective). given.limit < length (bytes_written s (take (length passes.prefix) (list_layout s (passes.prefix ++ passes.more)))))
           (settings_more given all (stream_end ∷ [])) passes.passed;
       whole = λ accepted. absurd (unaccepted accepted);
     }
   where
     not_all : passes.later ≡ [] → ⊥
     not_all none =
-        let whole : passes.front ≡ (all ++ closing) ++ stream_end ∷ [] =
-        sym (append-nil passes.front) ∙ ap (λ later. passes.front ++ later) (sym none) ∙ passes.parts in
+        let whole : passes.prefix ≡ (all ++ closing) ++ stream_end ∷ [] =
+        sym (append-nil passes.prefix) ∙ ap (λ later. passes.prefix ++ later) (sym none) ∙ passes.parts in
         begins_none given.canonical all unaccepted
         (record {
           rest = stream_end ∷ passes.more;
           accepted =
               subst (IsAccepted given.canonical)
-              (ap (λ front. front ++ passes.more) whole ∙ append_assoc (all ++ closing) (stream_end ∷ []) passes.more) passes.accepted;
+              (ap (λ prefix. prefix ++ passes.more) whole ∙ append_assoc (all ++ closing) (stream_end ∷ []) passes.more) passes.accepted;
         })
 
-    before : (rest : List Event) × (passes.front ++ rest ≡ all ++ closing)
-    before = shorter passes.front passes.later (all ++ closing) stream_end passes.parts not_all
+    before : (rest : List Event) × (passes.prefix ++ rest ≡ all ++ closing)
+    before = shorter passes.prefix passes.later (all ++ closing) stream_end passes.parts not_all
 
 -- the third event is answered with an error
 pub third_fails : (given : Settings) (all : List Event) (state : State) → (IsAccepted given.canonical (all ++ closing) → ⊥)
@@ -202,11 +203,12 @@ third_unfinished before after error none ends is = record {
     one_of given all promised refusal = refuses_one given ((all ++ closing) ++ stream_end ∷ []) error after (promised.refused error is refusal)
 
 -- by the answer of the third call
-pub third_err : (before after : State) (answer : Result (Unit {0}) yaml_error_t) → answer ≡ told after.error
+pub third_err : (before after : State) (answer : Result (Unit {0}) yaml_error_t) → answer ≡ result_of_error after.error
     → ((error : yaml_error_t) → after.error ≡ Some error → IsUnfinished before error) → IfErr answer (λ error. IsUnfinished before error)
 third_err before after (Ok done) is ends = tt
-third_err before after (Err error) is ends = ends error (some_from_told after.error error is)
+third_err before after (Err error) is ends = ends error (some_from_result after.error error is)
 
-pub third_ok : {P : Type 0} (after : State) (answer : Result (Unit {0}) yaml_error_t) → answer ≡ told after.error → (after.error ≡ None → P) → OnOk answer P
-third_ok after (Ok done) is ends = ends (none_from_told after.error is)
+pub third_ok : {P : Type 0} (after : State) (answer : Result (Unit {0}) yaml_error_t) → answer ≡ result_of_error after.error → (after.error ≡ None → P)
+    → OnOk answer P
+third_ok after (Ok done) is ends = ends (none_from_result after.error is)
 third_ok after (Err error) is ends = tt

@@ -2,7 +2,7 @@
 use Rattle.std.specs.Prelude.{◌≡◌, List, Bool, true, Option, None, Some, ◌&&◌, ◌||◌, not, is_some, ℕ, [], ◌++◌, codes, if◌then◌else◌}
 use Rattle.std.specs.String.{string_bytes}
 use Rattle.yaml_base.specs.Characters.{Text}
-use Rattle.yaml_base.specs.values.JsonNumbers.{JsonNumber, JsonExponent, is_json_integer, fraction_or, exponent_spelled, yaml_number}
+use Rattle.yaml_base.specs.values.JsonNumbers.{JsonNumber, JsonExponent, is_json_integer, fraction_or_default, exponent_spelled, yaml_number}
 use Rattle.yaml_writer.specs.NumberParts.{IsNumber}
 use Rattle.yaml_writer.specs.declared.spelling.Spelling.{Spelling}
 use Rattle.yaml_writer.specs.declared.spelling.Spelling.TheVariants.{Unchanged, Changed}
@@ -39,4 +39,4 @@ exponent_lead (Some negative) = codes "e" ++ (if negative then codes "-" else co
 -- what follows a number's whole part
 abbrev pub after_whole : JsonNumber → Text
 after_whole number =
-    if is_json_integer number then [] else codes "." ++ fraction_or (codes "0") number ++ exponent_spelled number.exponent
+    if is_json_integer number then [] else codes "." ++ fraction_or_default (codes "0") number ++ exponent_spelled number.exponent

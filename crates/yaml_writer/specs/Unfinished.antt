@@ -16,12 +16,12 @@ use Rattle.yaml_writer.specs.Writing.{closing}
 
 -- one of some events is refused with this error; those before it begin a stream
 pub record RefusesOne (canonical : Bool) (all : List Event) (error : yaml_error_t) : Type 0 where
-  pub front : List Event
+  pub prefix : List Event
   pub event : Event
   pub later : List Event
-  pub parts : front ++ event ∷ later ≡ all
-  pub begins : BeginsAccepted canonical front
-  pub refusal : refusal canonical front event ≡ Some error
+  pub parts : prefix ++ event ∷ later ≡ all
+  pub begins : BeginsAccepted canonical prefix
+  pub refusal : refusal canonical prefix event ≡ Some error
 
 -- a document is open, and its root, or what comes next in its innermost collection, is missing
 abbrev pub awaits_more : Option Partial → Bool
@@ -30,12 +30,12 @@ awaits_more _ = false
 
 -- a node is missing: the events before this one leave one out, and it neither is a node nor begins one
 pub record MissesNode (all : List Event) : Type 0 where
-  pub front : List Event
+  pub prefix : List Event
   pub event : Event
   pub later : List Event
-  pub parts : front ++ event ∷ later ≡ all
-  pub awaits : awaits_more (partial_of front) ≡ true
-  pub none : partial_of (front ++ event ∷ []) ≡ None
+  pub parts : prefix ++ event ∷ later ≡ all
+  pub awaits : awaits_more (partial_of prefix) ≡ true
+  pub none : partial_of (prefix ++ event ∷ []) ≡ None
 
 -- the events are no stream: one of them is refused with this error; a node is missing where the error says so
 pub record IsNoStream (canonical : Bool) (all : List Event) (error : yaml_error_t) : Type 0 where
@@ -46,14 +46,14 @@ pub record IsNoStream (canonical : Bool) (all : List Event) (error : yaml_error_
 -- the bytes of the events pass the limit: already those of the first of them, in a stream that begins so; and where all are a
 -- stream, its bytes do
 pub record PassesLimit (given : Settings) (all : List Event) : Type 0 where
-  pub front : List Event
+  pub prefix : List Event
   pub later : List Event
-  pub parts : front ++ later ≡ all
+  pub parts : prefix ++ later ≡ all
   pub more : List Event
-  pub accepted : IsAccepted given.canonical (front ++ more)
+  pub accepted : IsAccepted given.canonical (prefix ++ more)
   pub passed :
       let s = settings_for given all in
-      given.limit < length (bytes_written s (take (length front) (list_layout s (front ++ more))))
+      given.limit < length (bytes_written s (take (length prefix) (list_layout s (prefix ++ more))))
   pub whole : IsAccepted given.canonical all → IsUncut given all → ⊥
 
 -- the stream of an emitter couldn't be finished with this error: its first error stays; the limit gave out only where the bytes

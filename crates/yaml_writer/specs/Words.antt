@@ -5,8 +5,8 @@ use Rattle.yaml_base.specs.Characters.{Text, is_among, is_space}
 use Rattle.yaml_base.specs.Words.{is_word}
 
 -- a text is one of these words, one space apart
-abbrev pub is_of : Text → Text → Bool
-is_of words text = list_any (is_word text) (slice_split is_space words)
+abbrev pub is_one_of : Text → Text → Bool
+is_one_of words text = list_any (is_word text) (slice_split is_space words)
 
 -- begins a reserved word
 abbrev pub begins_reserved : ℕ → Bool
@@ -43,7 +43,7 @@ minus_words = codes "-.inf -.nan -inf -nan -infinity"
 -- a text is one of all these
 abbrev pub is_reserved_word : Text → Bool
 is_reserved_word text =
-    is_of null_words text
-    || (is_of truth_words text
-    || (is_of answer_words text
-    || (is_of key_words text || (is_of float_words text || (is_of plus_words text || is_of minus_words text)))))
+    is_one_of null_words text
+    || (is_one_of truth_words text
+    || (is_one_of answer_words text
+    || (is_one_of key_words text || (is_one_of float_words text || (is_one_of plus_words text || is_one_of minus_words text)))))

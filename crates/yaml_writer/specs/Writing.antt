@@ -14,7 +14,7 @@ use Rattle.yaml_base.specs.values.SurelyText.{is_surely_text}
 use Rattle.yaml_base.specs.values.TypedValues.{null_tag, bool_tag, int_tag, bool_text}
 use Rattle.yaml_base.specs.declared.errors.yaml_error_t.{yaml_error_t}
 use Rattle.yaml_base.specs.declared.errors.yaml_error_t.TheVariants.{ExpectedDocumentEnd, ExpectedNode, Memory}
-use Rattle.yaml_pen.specs.Page.{told}
+use Rattle.yaml_pen.specs.Page.{result_of_error}
 use Rattle.yaml_pen.specs.Wrote.{Grows}
 use Rattle.yaml_emitter.specs.State.{State}
 use Rattle.yaml_emitter.specs.StandsAfter.{StandsAfter}
@@ -46,9 +46,9 @@ abbrev pub closing : List Event
 closing = document_end true ∷ stream_end ∷ []
 
 -- a tag that was given, else this one in canonical form, where each scalar stands in quotes
-abbrev pub tag_or : Option Text → Bool → Text → Option Text
-tag_or (Some tag) canonical own = Some tag
-tag_or None canonical own = if canonical then Some own else None
+abbrev pub tag_or_default : Option Text → Bool → Text → Option Text
+tag_or_default (Some tag) canonical own = Some tag
+tag_or_default None canonical own = if canonical then Some own else None
 
 -- a scalar with the anchor of the next node; a tag is written where there is one
 abbrev pub scalar_event : WriterState → Option Text → Text → ScalarStyle → Event
@@ -58,7 +58,7 @@ scalar_event writer tag value style =
 
 -- a word that stands plain, with its type's tag in canonical form
 abbrev pub word_event : WriterState → Text → Text → Event
-word_event writer own word = scalar_event writer (tag_or writer.tag writer.canonical own) word plain
+word_event writer own word = scalar_event writer (tag_or_default writer.tag writer.canonical own) word plain
 
 -- nothing
 abbrev pub null_event : WriterState → Event
@@ -110,8 +110,8 @@ end_event Mapping = mapping_end
 end_event Sequence = sequence_end
 
 -- one more collection is open
-abbrev pub entered : WriterState → CollectionKind → WriterState
-entered writer kind = record writer { levels = writer.levels ++ kind ∷ [] }
+abbrev pub with_collection : WriterState → CollectionKind → WriterState
+with_collection writer kind = record writer { levels = writer.levels ++ kind ∷ [] }
 
 -- ---- the calls
 
@@ -130,30 +130,30 @@ pub record StandsTaken (given : Settings) (all : List Event) (sent : List ℕ) (
   pub begins : IsPrefix sent emitter.page.output
 
 -- wherever the emitter stood, it stands after these events more; what was taken stays taken
-abbrev pub AddsAll : State → List Event → State → Type 0
-AddsAll before events after =
+abbrev pub AddsEvents : State → List Event → State → Type 0
+AddsEvents before events after =
     (given : Settings) (all : List Event) (sent : List ℕ) → StandsTaken given all sent before → StandsTaken given (all ++ events) sent after
 
 -- wherever the emitter stood, it stands after this event more; what was taken stays taken
-abbrev pub Adds : State → Event → State → Type 0
-Adds before event after = AddsAll before (event ∷ []) after
+abbrev pub AddsEvent : State → Event → State → Type 0
+AddsEvent before event after = AddsEvents before (event ∷ []) after
 
 -- wherever the emitter stood, it stands there still, and these bytes are taken more
-abbrev pub Takes : State → List ℕ → State → Type 0
-Takes before bytes after =
+abbrev pub TakesBytes : State → List ℕ → State → Type 0
+TakesBytes before bytes after =
     (given : Settings) (all : List Event) (sent : List ℕ) → StandsTaken given all sent before → StandsTaken given all (sent ++ bytes) after
 
--- these events were given to the emitter, whose error is told; its text and its output only grow, and nothing else changes
-pub record Passed (before : WriterState) (events : List Event) (answer : Result (Unit {0}) yaml_error_t) (after : WriterState) : Type 0 where
-  pub adds : AddsAll before.emitter events after.emitter
+-- these events were given to the emitter, whose error is returned; its text and its output only grow, and nothing else changes
+pub record PassedEvents (before : WriterState) (events : List Event) (answer : Result (Unit {0}) yaml_error_t) (after : WriterState) : Type 0 where
+  pub adds : AddsEvents before.emitter events after.emitter
   pub grows : Grows before.emitter.page after.emitter.page
-  pub answered : answer ≡ told after.emitter.error
+  pub answered : answer ≡ result_of_error after.emitter.error
   pub rest : after ≡ record before { emitter = after.emitter }
 
 -- the event was given to the emitter, which has this error, and whose text and output only grow; the next node has no
 -- properties yet
-pub record Gave (before : WriterState) (event : Event) (error : Option yaml_error_t) (after : WriterState) : Type 0 where
-  pub adds : Adds before.emitter event after.emitter
+pub record GaveEvent (before : WriterState) (event : Event) (error : Option yaml_error_t) (after : WriterState) : Type 0 where
+  pub adds : AddsEvent before.emitter event after.emitter
   pub grows : Grows before.emitter.page after.emitter.page
   pub error_is : after.emitter.error ≡ error
   pub canonical : after.canonical ≡ before.canonical
@@ -163,22 +163,22 @@ pub record Gave (before : WriterState) (event : Event) (error : Option yaml_erro
 
 -- the emitter failed, or there was no memory for the event, and nothing changed
 abbrev pub Failed : WriterState → Event → yaml_error_t → WriterState → Type 0
-Failed before event error after = Gave before event (Some error) after ⊎ ((error ≡ Memory) × (after ≡ before))
+Failed before event error after = GaveEvent before event (Some error) after ⊎ ((error ≡ Memory) × (after ≡ before))
 
 -- the innermost collection was ended; the emitter's text and output only grow
-pub record Ended (before : WriterState) (answer : Result (Unit {0}) yaml_error_t) (after : WriterState) : Type 0 where
+pub record EndedCollection (before : WriterState) (answer : Result (Unit {0}) yaml_error_t) (after : WriterState) : Type 0 where
   pub outer : List CollectionKind
   pub kind : CollectionKind
   pub levels : before.levels ≡ outer ++ kind ∷ []
-  pub adds : Adds before.emitter (end_event kind) after.emitter
+  pub adds : AddsEvent before.emitter (end_event kind) after.emitter
   pub grows : Grows before.emitter.page after.emitter.page
-  pub answered : answer ≡ told after.emitter.error
+  pub answered : answer ≡ result_of_error after.emitter.error
   pub rest : after ≡ record before { emitter = after.emitter; levels = outer }
 
 -- the innermost collection was ended, or none was open, and nothing changed
 abbrev pub EndsInnermost : WriterState → Result (Unit {0}) yaml_error_t → WriterState → Type 0
 EndsInnermost before answer after =
-    ((before.levels ≡ []) × (answer ≡ Err ExpectedDocumentEnd) × (after ≡ before)) ⊎ Ended before answer after
+    ((before.levels ≡ []) × (answer ≡ Err ExpectedDocumentEnd) × (after ≡ before)) ⊎ EndedCollection before answer after
 
 -- bytes that are the output of a stream
 pub record IsStream (given : Settings) (all : List Event) (bytes : List ℕ) : Type 0 where

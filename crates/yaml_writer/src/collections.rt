@@ -1,7 +1,7 @@
 //! Collections and documents of a writer.
 ghost use Rattle.std.specs.Prelude.{◌≡◌, ◌⊎◌, IfErr, OnOk, None, Some, true, false};
 ghost use Rattle.yaml_base.specs.Seen.{seen_mapping_style, seen_sequence_style};
-ghost use Rattle.yaml_writer.specs.Writing.{EndsInnermost, Failed, Gave, NodeExpected, awaits_node, entered, mapping_event, sequence_event};
+ghost use Rattle.yaml_writer.specs.Writing.{EndsInnermost, Failed, GaveEvent, NodeExpected, awaits_node, with_collection, mapping_event, sequence_event};
 ghost use Rattle.yaml_writer.specs.declared.kinds.CollectionKind.TheVariants.{Mapping, Sequence};
 
 use crate::giving::{give_end, give_mapping, give_sequence};
@@ -16,8 +16,8 @@ impl<A: Allocator + Copy> Writer<A> {
     /// # Errors
     /// Those of the emitter, and `Memory`.
     pub fn begin_mapping(&mut self, style: yaml_mapping_style_t) -> Result<(), yaml_error_t>
-        ensures given { OnOk result (Gave (entered self.old Mapping) (mapping_event self.old (seen_mapping_style style)) None self.new) }
-        ensures failed { IfErr result (λ error. Gave (entered self.old Mapping) (mapping_event self.old (seen_mapping_style style)) (Some error) self.new
+        ensures given { OnOk result (GaveEvent (with_collection self.old Mapping) (mapping_event self.old (seen_mapping_style style)) None self.new) }
+        ensures failed { IfErr result (λ error. GaveEvent (with_collection self.old Mapping) (mapping_event self.old (seen_mapping_style style)) (Some error) self.new
             ⊎ ((error ≡ yaml_error_t.Memory) × (self.new ≡ self.old))) }
     {
         self.enter(CollectionKind::Mapping)?;
@@ -29,8 +29,8 @@ impl<A: Allocator + Copy> Writer<A> {
     /// # Errors
     /// Those of the emitter, and `Memory`.
     pub fn begin_sequence(&mut self, style: yaml_sequence_style_t) -> Result<(), yaml_error_t>
-        ensures given { OnOk result (Gave (entered self.old Sequence) (sequence_event self.old (seen_sequence_style style)) None self.new) }
-        ensures failed { IfErr result (λ error. Gave (entered self.old Sequence) (sequence_event self.old (seen_sequence_style style)) (Some error) self.new
+        ensures given { OnOk result (GaveEvent (with_collection self.old Sequence) (sequence_event self.old (seen_sequence_style style)) None self.new) }
+        ensures failed { IfErr result (λ error. GaveEvent (with_collection self.old Sequence) (sequence_event self.old (seen_sequence_style style)) (Some error) self.new
             ⊎ ((error ≡ yaml_error_t.Memory) × (self.new ≡ self.old))) }
     {
         self.enter(CollectionKind::Sequence)?;
@@ -57,7 +57,7 @@ impl<A: Allocator + Copy> Writer<A> {
 
     /// One more collection is open.
     fn enter(&mut self, kind: CollectionKind) -> Result<(), yaml_error_t>
-        ensures entered { OnOk result (self.new ≡ entered self.old kind) }
+        ensures with_collection { OnOk result (self.new ≡ with_collection self.old kind) }
         ensures full { IfErr result (λ error. (error ≡ yaml_error_t.Memory) × (self.new ≡ self.old)) }
     {
         self.levels.push(kind).map_err(|_| yaml_error_t::Memory)
@@ -65,8 +65,8 @@ impl<A: Allocator + Copy> Writer<A> {
 
     /// Gives the start of a mapping to the emitter, with the properties of the next node.
     fn mapping(&mut self, style: yaml_mapping_style_t) -> Result<(), yaml_error_t>
-        ensures given { OnOk result (Gave self.old (mapping_event self.old (seen_mapping_style style)) None self.new) }
-        ensures failed { IfErr result (λ error. Gave self.old (mapping_event self.old (seen_mapping_style style)) (Some error) self.new) }
+        ensures given { OnOk result (GaveEvent self.old (mapping_event self.old (seen_mapping_style style)) None self.new) }
+        ensures failed { IfErr result (λ error. GaveEvent self.old (mapping_event self.old (seen_mapping_style style)) (Some error) self.new) }
     {
         let anchor = self.anchor.take();
         let tag = self.tag.take();
@@ -75,8 +75,8 @@ impl<A: Allocator + Copy> Writer<A> {
 
     /// Gives the start of a sequence to the emitter, with the properties of the next node.
     fn sequence(&mut self, style: yaml_sequence_style_t) -> Result<(), yaml_error_t>
-        ensures given { OnOk result (Gave self.old (sequence_event self.old (seen_sequence_style style)) None self.new) }
-        ensures failed { IfErr result (λ error. Gave self.old (sequence_event self.old (seen_sequence_style style)) (Some error) self.new) }
+        ensures given { OnOk result (GaveEvent self.old (sequence_event self.old (seen_sequence_style style)) None self.new) }
+        ensures failed { IfErr result (λ error. GaveEvent self.old (sequence_event self.old (seen_sequence_style style)) (Some error) self.new) }
     {
         let anchor = self.anchor.take();
         let tag = self.tag.take();

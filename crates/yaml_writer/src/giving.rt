@@ -3,10 +3,10 @@ ghost use Rattle.std.specs.Prelude.{◌≡◌, IfOk, IfErr, OnOk, [], ◌∷◌,
 ghost use Rattle.yaml_base.specs.Event.{Event, alias, document_end, mapping_start, scalar, sequence_start};
 ghost use Rattle.yaml_base.specs.Seen.{seen_event, seen_mapping_style, seen_scalar_style, seen_sequence_style, seen_text};
 ghost use Rattle.yaml_base.specs.Settings.{Settings};
-ghost use Rattle.yaml_pen.specs.Page.{output_left, told};
+ghost use Rattle.yaml_pen.specs.Page.{output_left, result_of_error};
 ghost use Rattle.yaml_pen.specs.Wrote.{Grows};
 ghost use Rattle.yaml_writer.specs.Unfinished.{IsUnfinished};
-ghost use Rattle.yaml_writer.specs.Writing.{Adds, AddsAll, Finishes, StandsTaken, end_event, opening, plain_start as document_begins};
+ghost use Rattle.yaml_writer.specs.Writing.{AddsEvent, AddsEvents, Finishes, StandsTaken, end_event, opening, plain_start as document_begins};
 
 use crate::kinds::CollectionKind;
 use std::alloc::Allocator;
@@ -36,9 +36,9 @@ fn give<A: Allocator + Copy>(
     event: yaml_event_t<A>,
 ) -> Result<(), yaml_error_t>
     requires output { emitter.old.has_output ≡ true }
-    ensures adds { Adds emitter.old (seen_event event) emitter.new }
+    ensures adds { AddsEvent emitter.old (seen_event event) emitter.new }
     ensures grows { Grows emitter.old.page emitter.new.page }
-    ensures answered { result ≡ told emitter.new.error }
+    ensures answered { result ≡ result_of_error emitter.new.error }
     ensures output { emitter.new.has_output ≡ true }
 {
     yaml_emitter_emit(emitter, event)
@@ -68,7 +68,7 @@ pub(crate) fn give_scalar<A: Allocator + Copy>(
     style: yaml_scalar_style_t,
 ) -> Result<(), yaml_error_t>
     requires output { emitter.old.has_output ≡ true }
-    ensures adds { Adds emitter.old
+    ensures adds { AddsEvent emitter.old
         (scalar (record {
           anchor = option_map seen_text anchor;
           tag = option_map seen_text tag;
@@ -79,7 +79,7 @@ pub(crate) fn give_scalar<A: Allocator + Copy>(
         }))
         emitter.new }
     ensures grows { Grows emitter.old.page emitter.new.page }
-    ensures answered { result ≡ told emitter.new.error }
+    ensures answered { result ≡ result_of_error emitter.new.error }
     ensures output { emitter.new.has_output ≡ true }
 {
     let implicit = tag.is_none();
@@ -104,12 +104,12 @@ pub(crate) fn give_mapping<A: Allocator + Copy>(
     style: yaml_mapping_style_t,
 ) -> Result<(), yaml_error_t>
     requires output { emitter.old.has_output ≡ true }
-    ensures adds { Adds emitter.old
+    ensures adds { AddsEvent emitter.old
         (mapping_start
         (record { anchor = option_map seen_text anchor; tag = option_map seen_text tag; implicit = is_none tag; style = seen_mapping_style style }))
         emitter.new }
     ensures grows { Grows emitter.old.page emitter.new.page }
-    ensures answered { result ≡ told emitter.new.error }
+    ensures answered { result ≡ result_of_error emitter.new.error }
     ensures output { emitter.new.has_output ≡ true }
 {
     let implicit = tag.is_none();
@@ -132,12 +132,12 @@ pub(crate) fn give_sequence<A: Allocator + Copy>(
     style: yaml_sequence_style_t,
 ) -> Result<(), yaml_error_t>
     requires output { emitter.old.has_output ≡ true }
-    ensures adds { Adds emitter.old
+    ensures adds { AddsEvent emitter.old
         (sequence_start
         (record { anchor = option_map seen_text anchor; tag = option_map seen_text tag; implicit = is_none tag; style = seen_sequence_style style }))
         emitter.new }
     ensures grows { Grows emitter.old.page emitter.new.page }
-    ensures answered { result ≡ told emitter.new.error }
+    ensures answered { result ≡ result_of_error emitter.new.error }
     ensures output { emitter.new.has_output ≡ true }
 {
     let implicit = tag.is_none();
@@ -158,9 +158,9 @@ pub(crate) fn give_end<A: Allocator + Copy>(
     kind: CollectionKind,
 ) -> Result<(), yaml_error_t>
     requires output { emitter.old.has_output ≡ true }
-    ensures adds { Adds emitter.old (end_event kind) emitter.new }
+    ensures adds { AddsEvent emitter.old (end_event kind) emitter.new }
     ensures grows { Grows emitter.old.page emitter.new.page }
-    ensures answered { result ≡ told emitter.new.error }
+    ensures answered { result ≡ result_of_error emitter.new.error }
     ensures output { emitter.new.has_output ≡ true }
 {
     let event = match kind {
@@ -176,9 +176,9 @@ pub(crate) fn give_alias<A: Allocator + Copy>(
     anchor: String<A>,
 ) -> Result<(), yaml_error_t>
     requires output { emitter.old.has_output ≡ true }
-    ensures adds { AddsAll emitter.old (alias (seen_text anchor) ∷ []) emitter.new }
+    ensures adds { AddsEvents emitter.old (alias (seen_text anchor) ∷ []) emitter.new }
     ensures grows { Grows emitter.old.page emitter.new.page }
-    ensures answered { result ≡ told emitter.new.error }
+    ensures answered { result ≡ result_of_error emitter.new.error }
     ensures output { emitter.new.has_output ≡ true }
 {
     give(emitter, YAML_ALIAS_EVENT { anchor })
@@ -190,9 +190,9 @@ pub(crate) fn give_next<A: Allocator + Copy>(
     emitter: &mut yaml_emitter_t<A>,
 ) -> Result<(), yaml_error_t>
     requires output { emitter.old.has_output ≡ true }
-    ensures adds { AddsAll emitter.old (document_end true ∷ document_begins ∷ []) emitter.new }
+    ensures adds { AddsEvents emitter.old (document_end true ∷ document_begins ∷ []) emitter.new }
     ensures grows { Grows emitter.old.page emitter.new.page }
-    ensures answered { result ≡ told emitter.new.error }
+    ensures answered { result ≡ result_of_error emitter.new.error }
     ensures output { emitter.new.has_output ≡ true }
 {
     let _ = give(emitter, YAML_DOCUMENT_END_EVENT { implicit: true });
@@ -214,7 +214,7 @@ fn end_stream<A: Allocator + Copy>(emitter: &mut yaml_emitter_t<A>) -> Result<()
     Ok(())
 }
 
-/// Ends the document and the stream, and hands out the bytes that weren't taken before.
+/// Ends the document and the stream, and flushes the bytes that weren't taken before.
 pub(crate) fn finished<A: Allocator + Copy>(
     emitter: &mut yaml_emitter_t<A>,
 ) -> Result<Vec<u8, A>, yaml_error_t>

@@ -141,7 +141,7 @@ fn is_digits(text: &str) -> bool
 }
 
 fn begins_with_zero(text: &str) -> bool
-    ensures { result ≡ schema.first_is (λ c. c == 0x30) text.now }
+    ensures { result ≡ schema.first_meets (λ c. c == 0x30) text.now }
 {
     text.as_bytes().first().is_some_and(|first| *first == b'0')
 }

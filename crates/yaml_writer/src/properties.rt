@@ -1,7 +1,7 @@
 //! Properties of nodes, aliases, and further documents of a writer.
 ghost use Rattle.std.specs.Prelude.{◌≡◌, ◌⊎◌, IfErr, OnOk, Err, Some, [], ◌∷◌, true, false, chars};
 ghost use Rattle.yaml_base.specs.Event as event;
-ghost use Rattle.yaml_writer.specs.Writing.{NodeExpected, Passed, awaits_node, plain_start};
+ghost use Rattle.yaml_writer.specs.Writing.{NodeExpected, PassedEvents, awaits_node, plain_start};
 
 use crate::giving::{give_alias, give_next};
 use crate::scalars::text_of;
@@ -42,7 +42,7 @@ impl<A: Allocator + Copy> Writer<A> {
     pub fn alias(&mut self, name: &str) -> Result<(), yaml_error_t>
         ensures awaited { awaits_node self.old ≡ true → NodeExpected self.old result self.new }
         ensures passed { awaits_node self.old ≡ false
-            → ((result ≡ Err yaml_error_t.Memory) × (self.new ≡ self.old)) ⊎ Passed self.old (event.alias (chars name.now) ∷ []) result self.new }
+            → ((result ≡ Err yaml_error_t.Memory) × (self.new ≡ self.old)) ⊎ PassedEvents self.old (event.alias (chars name.now) ∷ []) result self.new }
     {
         if self.awaits_node() {
             return Err(yaml_error_t::ExpectedNode);
@@ -58,7 +58,7 @@ impl<A: Allocator + Copy> Writer<A> {
     /// root or a collection is open, and the other errors of the emitter.
     pub fn next_document(&mut self) -> Result<(), yaml_error_t>
         ensures awaited { awaits_node self.old ≡ true → NodeExpected self.old result self.new }
-        ensures passed { awaits_node self.old ≡ false → Passed self.old (event.document_end true ∷ plain_start ∷ []) result self.new }
+        ensures passed { awaits_node self.old ≡ false → PassedEvents self.old (event.document_end true ∷ plain_start ∷ []) result self.new }
     {
         if self.awaits_node() {
             Err(yaml_error_t::ExpectedNode)

@@ -3,7 +3,8 @@ ghost use Rattle.std.specs.Prelude.{◌≡◌, IfOk, IfErr, OnOk, chars, option_
 ghost use Rattle.std.specs.Fmt.{signed_decimal};
 ghost use Rattle.yaml_base.specs.Seen.{seen_scalar_style, seen_text};
 ghost use Rattle.yaml_base.specs.values.TypedValues.{bool_text};
-ghost use Rattle.yaml_writer.specs.Writing.{Failed, Gave, bool_event, int_event, null_event, number_event, number_tag, tag_or, text_event, text_style};
+ghost use Rattle.yaml_writer.specs.Writing.{Failed, GaveEvent, bool_event, int_event, null_event, number_event, number_tag, tag_or_default};
+ghost use Rattle.yaml_writer.specs.Writing.{text_event, text_style};
 ghost use Rattle.yaml_writer.specs.Writing.{word_event};
 
 use crate::numbers::Number;
@@ -26,12 +27,12 @@ pub(crate) fn text_of<A: Allocator>(alloc: A, text: &str) -> Result<String<A>, y
 }
 
 /// The tag that a scalar of this type has in canonical form.
-fn tag_of<A: Allocator>(
+fn canonical_tag<A: Allocator>(
     alloc: A,
     canonical: bool,
     tag: &str,
 ) -> Result<Option<String<A>>, yaml_error_t>
-    ensures tag { IfOk result (λ copy. option_map seen_text copy ≡ tag_or None canonical (chars tag.now)) }
+    ensures tag { IfOk result (λ copy. option_map seen_text copy ≡ tag_or_default None canonical (chars tag.now)) }
     ensures memory { IfErr result (λ error. error ≡ yaml_error_t.Memory) }
 {
     if canonical {
@@ -94,7 +95,7 @@ impl<A: Allocator + Copy> Writer<A> {
     /// # Errors
     /// Those of the emitter, and `Memory`.
     pub fn null(&mut self) -> Result<(), yaml_error_t>
-        ensures given { OnOk result (Gave self.old (null_event self.old) None self.new) }
+        ensures given { OnOk result (GaveEvent self.old (null_event self.old) None self.new) }
         ensures failed { IfErr result (λ error. Failed self.old (null_event self.old) error self.new) }
     {
         self.word(YAML_NULL_TAG, "null")
@@ -105,7 +106,7 @@ impl<A: Allocator + Copy> Writer<A> {
     /// # Errors
     /// Those of the emitter, and `Memory`.
     pub fn bool(&mut self, value: bool) -> Result<(), yaml_error_t>
-        ensures given { OnOk result (Gave self.old (bool_event self.old value) None self.new) }
+        ensures given { OnOk result (GaveEvent self.old (bool_event self.old value) None self.new) }
         ensures failed { IfErr result (λ error. Failed self.old (bool_event self.old value) error self.new) }
     {
         self.word(YAML_BOOL_TAG, word_of(value))
@@ -116,7 +117,7 @@ impl<A: Allocator + Copy> Writer<A> {
     /// # Errors
     /// Those of the emitter, and `Memory`.
     pub fn int(&mut self, value: i64) -> Result<(), yaml_error_t>
-        ensures given { OnOk result (Gave self.old (int_event self.old value) None self.new) }
+        ensures given { OnOk result (GaveEvent self.old (int_event self.old value) None self.new) }
         ensures failed { IfErr result (λ error. Failed self.old (int_event self.old value) error self.new) }
     {
         match digits_of(self.alloc, value) {
@@ -130,7 +131,7 @@ impl<A: Allocator + Copy> Writer<A> {
     /// # Errors
     /// Those of the emitter, and `Memory`.
     pub fn unsigned(&mut self, value: u64) -> Result<(), yaml_error_t>
-        ensures given { OnOk result (Gave self.old (int_event self.old (pos value)) None self.new) }
+        ensures given { OnOk result (GaveEvent self.old (int_event self.old (pos value)) None self.new) }
         ensures failed { IfErr result (λ error. Failed self.old (int_event self.old (pos value)) error self.new) }
     {
         match digits_of_unsigned(self.alloc, value) {
@@ -145,7 +146,7 @@ impl<A: Allocator + Copy> Writer<A> {
     /// # Errors
     /// Those of the emitter, and `Memory`.
     pub fn number(&mut self, number: &Number<'_>) -> Result<(), yaml_error_t>
-        ensures given { OnOk result (Gave self.old (number_event self.old number.now) None self.new) }
+        ensures given { OnOk result (GaveEvent self.old (number_event self.old number.now) None self.new) }
         ensures failed { IfErr result (λ error. Failed self.old (number_event self.old number.now) error self.new) }
     {
         match number.spelling(self.alloc) {
@@ -160,7 +161,7 @@ impl<A: Allocator + Copy> Writer<A> {
     /// # Errors
     /// Those of the emitter, and `Memory`.
     pub fn text(&mut self, value: &str) -> Result<(), yaml_error_t>
-        ensures given { OnOk result (Gave self.old (text_event self.old (chars value.now)) None self.new) }
+        ensures given { OnOk result (GaveEvent self.old (text_event self.old (chars value.now)) None self.new) }
         ensures failed { IfErr result (λ error. Failed self.old (text_event self.old (chars value.now)) error self.new) }
     {
         let style = style_of(value);
@@ -170,10 +171,10 @@ impl<A: Allocator + Copy> Writer<A> {
 
     /// Writes a word of a type of YAML, plain.
     pub(crate) fn word(&mut self, tag: &str, word: &str) -> Result<(), yaml_error_t>
-        ensures given { OnOk result (Gave self.old (word_event self.old (chars tag.now) (chars word.now)) None self.new) }
+        ensures given { OnOk result (GaveEvent self.old (word_event self.old (chars tag.now) (chars word.now)) None self.new) }
         ensures failed { IfErr result (λ error. Failed self.old (word_event self.old (chars tag.now) (chars word.now)) error self.new) }
     {
-        let own = tag_of(self.alloc, self.canonical, tag)?;
+        let own = canonical_tag(self.alloc, self.canonical, tag)?;
         let value = text_of(self.alloc, word)?;
         self.scalar(own, value, YAML_PLAIN_SCALAR_STYLE)
     }

@@ -79,7 +79,7 @@ impl Parts<'_> {
     }
 
     fn fraction_or_zero(&self) -> &str
-        ensures { result.now ≡ json.fraction_or (codes "0") (seen_parts self.now) }
+        ensures { result.now ≡ json.fraction_or_default (codes "0") (seen_parts self.now) }
     {
         match self.fraction {
             None => "0",
@@ -90,7 +90,7 @@ impl Parts<'_> {
     /// Appends its fraction and its exponent.
     fn push_fraction<A: Allocator>(&self, text: &mut String<A>) -> Result<(), AllocError>
         ensures { IfOk result (λ _. string_bytes text.new ≡ string_bytes text.old
-            ++ (codes "." ++ json.fraction_or (codes "0") (seen_parts self.now) ++ json.exponent_spelled (seen_parts self.now).exponent)) }
+            ++ (codes "." ++ json.fraction_or_default (codes "0") (seen_parts self.now) ++ json.exponent_spelled (seen_parts self.now).exponent)) }
     {
         text.push_str(".")?;
         text.push_str(self.fraction_or_zero())?;

@@ -5,7 +5,7 @@ ghost use Rattle.std.specs.Char.{to_ascii_lowercase};
 ghost use Rattle.std.specs.List.{list_all, list_any, prefix_len, take_while};
 ghost use Rattle.yaml_base.specs.Characters.{is_ascii};
 ghost use Rattle.yaml_base.specs.Words.{is_word};
-ghost use Rattle.yaml_base.specs.values.Resolved.{first_is, is_decimal};
+ghost use Rattle.yaml_base.specs.values.Resolved.{first_meets, is_decimal};
 ghost use Rattle.yaml_base.specs.values.SchemaOf11.{past};
 ghost use Rattle.yaml_base.specs.values.SurelyText as surely;
 ghost use Rattle.yaml_writer.specs.Words as words;
@@ -45,7 +45,7 @@ fn ascii_length(text: &[u8]) -> usize
 }
 
 /// The bytes before the first that isn't ASCII.
-fn ascii_front(text: &[u8]) -> &[u8]
+fn ascii_prefix(text: &[u8]) -> &[u8]
     ensures { result.now ≡ take_while is_ascii text.now }
 {
     text.split_at(ascii_length(text)).0
@@ -53,9 +53,9 @@ fn ascii_front(text: &[u8]) -> &[u8]
 
 /// The first bytes of a text, up to one that isn't ASCII, are a reserved word in any case.
 fn begins_with_reserved_word(text: &[u8]) -> bool
-    ensures { result ≡ list_any (is_word (surely.ascii_front text.now)) surely.reserved_words }
+    ensures { result ≡ list_any (is_word (surely.ascii_prefix text.now)) surely.reserved_words }
 {
-    is_reserved_word(ascii_front(head(text)))
+    is_reserved_word(ascii_prefix(head(text)))
 }
 
 /// Nothing, or a reserved word in any case, alone or before a byte that isn't ASCII.
@@ -152,7 +152,7 @@ fn in_number(byte: u8) -> bool
 
 /// A text begins as a number.
 fn begins_as_number(text: &[u8]) -> bool
-    ensures { result ≡ first_is surely.begins_number text.now }
+    ensures { result ≡ first_meets surely.begins_number text.now }
 {
     match text.first() {
         None => false,

@@ -13,21 +13,21 @@ fn is_word(text: &[u8], word: &[u8]) -> bool
 
 /// `~` or `null`.
 fn is_null_word(text: &[u8]) -> bool
-    ensures { result ≡ words.is_of words.null_words (map to_ascii_lowercase text.now) }
+    ensures { result ≡ words.is_one_of words.null_words (map to_ascii_lowercase text.now) }
 {
     is_word(text, b"~") || is_word(text, b"null")
 }
 
 /// `true` or `false`.
 fn is_truth_word(text: &[u8]) -> bool
-    ensures { result ≡ words.is_of words.truth_words (map to_ascii_lowercase text.now) }
+    ensures { result ≡ words.is_one_of words.truth_words (map to_ascii_lowercase text.now) }
 {
     is_word(text, b"true") || is_word(text, b"false")
 }
 
 /// A word that is true or false in YAML 1.1 alone.
 fn is_answer_word(text: &[u8]) -> bool
-    ensures { result ≡ words.is_of words.answer_words (map to_ascii_lowercase text.now) }
+    ensures { result ≡ words.is_one_of words.answer_words (map to_ascii_lowercase text.now) }
 {
     is_word(text, b"y")
         || is_word(text, b"n")
@@ -39,14 +39,14 @@ fn is_answer_word(text: &[u8]) -> bool
 
 /// `<<` or `=`, the merge key and the default value of YAML 1.1.
 fn is_key_word(text: &[u8]) -> bool
-    ensures { result ≡ words.is_of words.key_words (map to_ascii_lowercase text.now) }
+    ensures { result ≡ words.is_one_of words.key_words (map to_ascii_lowercase text.now) }
 {
     is_word(text, b"<<") || is_word(text, b"=")
 }
 
 /// A word for infinity or for no number.
 fn is_float_word(text: &[u8]) -> bool
-    ensures { result ≡ words.is_of words.float_words (map to_ascii_lowercase text.now) }
+    ensures { result ≡ words.is_one_of words.float_words (map to_ascii_lowercase text.now) }
 {
     is_word(text, b".inf")
         || is_word(text, b".nan")
@@ -57,7 +57,7 @@ fn is_float_word(text: &[u8]) -> bool
 
 /// Such a word after `+`.
 fn is_plus_word(text: &[u8]) -> bool
-    ensures { result ≡ words.is_of words.plus_words (map to_ascii_lowercase text.now) }
+    ensures { result ≡ words.is_one_of words.plus_words (map to_ascii_lowercase text.now) }
 {
     is_word(text, b"+.inf")
         || is_word(text, b"+.nan")
@@ -68,7 +68,7 @@ fn is_plus_word(text: &[u8]) -> bool
 
 /// Such a word after `-`.
 fn is_minus_word(text: &[u8]) -> bool
-    ensures { result ≡ words.is_of words.minus_words (map to_ascii_lowercase text.now) }
+    ensures { result ≡ words.is_one_of words.minus_words (map to_ascii_lowercase text.now) }
 {
     is_word(text, b"-.inf")
         || is_word(text, b"-.nan")

@@ -6,7 +6,7 @@ ghost use Rattle.yaml_emitter.specs.State.{with_all_taken};
 ghost use Rattle.yaml_pen.specs.Page.{output_left};
 ghost use Rattle.yaml_writer.specs.Given.{seen_settings};
 ghost use Rattle.yaml_writer.specs.Unfinished.{IsUnfinished};
-ghost use Rattle.yaml_writer.specs.Writing.{Finishes, Gave, StandsTaken, Takes, awaits_node, opening, scalar_event};
+ghost use Rattle.yaml_writer.specs.Writing.{Finishes, GaveEvent, StandsTaken, TakesBytes, awaits_node, opening, scalar_event};
 
 use crate::giving::{begin, finished, give_scalar};
 use crate::kinds::CollectionKind;
@@ -70,9 +70,9 @@ impl<A: Allocator + Copy> Writer<A> {
         value: String<A>,
         style: yaml_scalar_style_t,
     ) -> Result<(), yaml_error_t>
-        ensures given { OnOk result (Gave self.old (scalar_event self.old (option_or self.old.tag (option_map seen_text own)) (seen_text value)
+        ensures given { OnOk result (GaveEvent self.old (scalar_event self.old (option_or self.old.tag (option_map seen_text own)) (seen_text value)
             (seen_scalar_style style)) None self.new) }
-        ensures failed { IfErr result (λ error. Gave self.old (scalar_event self.old (option_or self.old.tag (option_map seen_text own)) (seen_text value)
+        ensures failed { IfErr result (λ error. GaveEvent self.old (scalar_event self.old (option_or self.old.tag (option_map seen_text own)) (seen_text value)
             (seen_scalar_style style)) (Some error) self.new) }
     {
         let anchor = self.anchor.take();
@@ -87,14 +87,14 @@ impl<A: Allocator + Copy> Writer<A> {
         self.anchor.is_some() || self.tag.is_some()
     }
 
-    /// The bytes of the stream that were handed out so far and not taken before, so that a stream of any length can be sent
+    /// The bytes of the stream that were flushed so far and not taken before, so that a stream of any length can be sent
     /// onwards while it is written: what these calls return, one after another, and then `finish`, is together the stream.
-    /// A document's bytes are handed out at its end at the latest, by `next_document` or `finish`.
+    /// A document's bytes are flushed at its end at the latest, by `next_document` or `finish`.
     ///
     /// It may be called at any time, also after an error, and takes no memory. All else stays: the collections that are open,
     /// the anchor and the tag of the next node, and the emitter's error. The limit counts what was taken, too.
     pub fn take_output(&mut self) -> Vec<u8, A>
-        ensures takes { Takes self.old.emitter result.items self.new.emitter }
+        ensures takes { TakesBytes self.old.emitter result.items self.new.emitter }
         ensures left { result.items ≡ output_left self.old.emitter.page }
         ensures kept { self.new ≡ record self.old { emitter = with_all_taken self.old.emitter } }
     {

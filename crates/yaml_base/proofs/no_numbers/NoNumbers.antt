@@ -4,9 +4,10 @@ use Rattle.std.proofs.lemmas.Bool.{ne_eqb}
 use Rattle.std.specs.Prelude.{ℕ, suc, Bool, true, false, Option, None, List, ◌∷◌, ◌==◌, ◌+◌, drop, if◌then◌else◌}
 use Rattle.std.specs.List.{slice_split, prefix_len}
 use Rattle.yaml_base.specs.Characters.{Text}
-use Rattle.yaml_base.specs.values.Resolved.{is_point, is_exponent_mark, past_sign, is_negative}
+use Rattle.yaml_base.specs.values.Resolved.{is_point, is_exponent_letter, past_sign, is_negative}
 use Rattle.yaml_base.specs.values.SchemaCore.{core_integer, core_decimal}
-use Rattle.yaml_base.specs.values.SchemaOf11.{float_11, octal_11, decimal_11, sixties_11, fine_sixties_11, more_points_11, points_11, is_colon, past, timestamp_11}
+use Rattle.yaml_base.specs.values.SchemaOf11.{float_11, octal_11, decimal_11, sixties_11, fine_sixties_11, more_points_11, points_11, is_colon, past}
+use Rattle.yaml_base.specs.values.SchemaOf11.{timestamp_11}
 
 -- neither schema reads a number without a base, and no timestamp
 pub record NoNumber (text : Text) : Type 0 where
@@ -16,7 +17,7 @@ pub record NoNumber (text : Text) : Type 0 where
   pub decimal : decimal_11 (is_negative text) (past_sign text) ≡ None
   pub sixties : sixties_11 (is_negative text) (slice_split is_colon (past_sign text)) ≡ None
   pub fine_sixties : fine_sixties_11 (is_negative text) (slice_split is_point (past_sign text)) ≡ None
-  pub more_points : more_points_11 (slice_split is_exponent_mark (past_sign text)) ≡ None
+  pub more_points : more_points_11 (slice_split is_exponent_letter (past_sign text)) ≡ None
   pub points : points_11 (past_sign text) ≡ None
   pub core_integer : core_integer text ≡ None
   pub core_decimal : core_decimal text ≡ None

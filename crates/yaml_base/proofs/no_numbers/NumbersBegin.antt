@@ -6,8 +6,9 @@ use Rattle.std.proofs.lemmas.List.Splits.{slice_split-cons_no}
 use Rattle.std.specs.List.{slice_split, onto_first, take_while}
 use Rattle.std.specs.Prelude.{ℕ, ℤ, pos, Bool, true, false, Option, None, Some, List, [], ◌∷◌, ◌++◌, ◌==◌, ◌||◌, not, length, if◌then◌else◌}
 use Rattle.yaml_base.specs.Characters.{Text, is_between}
-use Rattle.yaml_base.specs.values.Resolved.{Decimal, is_point, is_exponent_mark, is_decimal, is_sign, is_negative, first_is, past_sign, are_digits}
-use Rattle.yaml_base.specs.values.Resolved.{counted_digits, pointed, scaled, scientific, exponent_read}
+use Rattle.yaml_base.specs.values.Resolved.{Decimal, is_point, is_exponent_letter, is_decimal, is_plus_or_minus, is_negative, first_meets, past_sign}
+use Rattle.yaml_base.specs.values.Resolved.{are_digits}
+use Rattle.yaml_base.specs.values.Resolved.{counted_digits, decimal_of_digits, times_power_of_ten, scientific, exponent_read}
 use Rattle.yaml_base.specs.values.SchemaCore.{core_mantissa}
 use Rattle.yaml_base.specs.values.SchemaOf11.{is_leading, begins_grouped, are_grouped, octal_11, decimal_11, are_sixtieths, is_colon, fine_sixties_11}
 use Rattle.yaml_base.specs.values.SchemaOf11.{mantissa_11, exponent_11, has_more_points, more_points_11, is_hyphen, in_date, is_date, timestamp_11}
@@ -22,16 +23,16 @@ abbrev pub first_part : List Text → Text
 first_part [] = []
 first_part (part ∷ parts) = part
 
-onto_first_begins : (test : ℕ → Bool) (c : ℕ) (parts : List Text) → first_is test (first_part (onto_first c parts)) ≡ test c
+onto_first_begins : (test : ℕ → Bool) (c : ℕ) (parts : List Text) → first_meets test (first_part (onto_first c parts)) ≡ test c
 onto_first_begins test c [] = refl
 onto_first_begins test c (part ∷ parts) = refl
 
 -- a cut text's first piece begins with what the text begins with, or is empty
-pub split_begins : (test sign : ℕ → Bool) (text : Text) → first_is test text ≡ false → first_is test (first_part (slice_split sign text)) ≡ false
+pub split_begins : (test sign : ℕ → Bool) (text : Text) → first_meets test text ≡ false → first_meets test (first_part (slice_split sign text)) ≡ false
 split_begins test sign [] h = refl
 split_begins test sign (c ∷ rest) h = by (sign c)
   where
-    by : (x : Bool) → first_is test (first_part (if x then [] ∷ slice_split sign rest else onto_first c (slice_split sign rest))) ≡ false
+    by : (x : Bool) → first_meets test (first_part (if x then [] ∷ slice_split sign rest else onto_first c (slice_split sign rest))) ≡ false
     by true = refl
     by false = onto_first_begins test c (slice_split sign rest) ∙ h
 
@@ -45,21 +46,21 @@ unlike c n digit other = by (c == n) refl
 
 -- Numbers without their sign
 
-pub digits_begin : (text : Text) → first_is is_decimal text ≡ false → are_digits 10 text ≡ false
+pub digits_begin : (text : Text) → first_meets is_decimal text ≡ false → are_digits 10 text ≡ false
 digits_begin [] h = refl
 digits_begin (c ∷ rest) h = and_right (not (length (c ∷ rest) == 0)) _ (and_left (is_decimal c) _ h)
 
-pointed_begins : (negative : Bool) (c : ℕ) (whole fraction : Text) → is_decimal c ≡ false → pointed negative (c ∷ whole) fraction ≡ None
+pointed_begins : (negative : Bool) (c : ℕ) (whole fraction : Text) → is_decimal c ≡ false → decimal_of_digits negative (c ∷ whole) fraction ≡ None
 pointed_begins negative c whole fraction h = off _ _ (digits_begin ((c ∷ whole) ++ fraction) h)
 
 pub scientific_begins : (mantissa : Text → Option Decimal) (exponent : Text → Option ℤ) (parts : List Text) → mantissa (first_part parts) ≡ None
     → scientific mantissa exponent parts ≡ None
 scientific_begins mantissa exponent [] h = refl
-scientific_begins mantissa exponent (m ∷ []) h = ap (λ d. scaled d (Some (pos 0))) h
-scientific_begins mantissa exponent (m ∷ e ∷ []) h = ap (λ d. scaled d (exponent e)) h
+scientific_begins mantissa exponent (m ∷ []) h = ap (λ d. times_power_of_ten d (Some (pos 0))) h
+scientific_begins mantissa exponent (m ∷ e ∷ []) h = ap (λ d. times_power_of_ten d (exponent e)) h
 scientific_begins mantissa exponent (m ∷ e ∷ f ∷ rest) h = refl
 
-core_mantissa_begins : (negative : Bool) (text : Text) → first_is begins_digits text ≡ false → core_mantissa negative (slice_split is_point text) ≡ None
+core_mantissa_begins : (negative : Bool) (text : Text) → first_meets begins_digits text ≡ false → core_mantissa negative (slice_split is_point text) ≡ None
 core_mantissa_begins negative [] h = refl
 core_mantissa_begins negative (c ∷ rest) h =
     ap (core_mantissa negative) (slice_split-cons_no is_point c rest (or_parts (is_decimal c) (is_point c) h).1) ∙ by (slice_split is_point rest)
@@ -73,7 +74,7 @@ core_mantissa_begins negative (c ∷ rest) h =
     by (a ∷ b ∷ []) = pointed_begins negative c a b other
     by (a ∷ b ∷ d ∷ parts) = refl
 
-mantissa_11_begins : (negative : Bool) (text : Text) → first_is begins_digits text ≡ false → mantissa_11 negative (slice_split is_point text) ≡ None
+mantissa_11_begins : (negative : Bool) (text : Text) → first_meets begins_digits text ≡ false → mantissa_11 negative (slice_split is_point text) ≡ None
 mantissa_11_begins negative [] h = refl
 mantissa_11_begins negative (c ∷ rest) h =
     ap (mantissa_11 negative) (slice_split-cons_no is_point c rest (or_parts (is_decimal c) (is_point c) h).1) ∙ by (slice_split is_point rest)
@@ -84,7 +85,7 @@ mantissa_11_begins negative (c ∷ rest) h =
     by (a ∷ b ∷ []) = off _ _ (and_left _ _ (and_left (is_decimal c) _ (or_parts (is_decimal c) (is_point c) h).0))
     by (a ∷ b ∷ d ∷ parts) = refl
 
-more_points_begin : (text : Text) → first_is begins_digits text ≡ false → has_more_points (slice_split is_point text) ≡ false
+more_points_begin : (text : Text) → first_meets begins_digits text ≡ false → has_more_points (slice_split is_point text) ≡ false
 more_points_begin [] h = refl
 more_points_begin (c ∷ rest) h =
     ap has_more_points (slice_split-cons_no is_point c rest (or_parts (is_decimal c) (is_point c) h).1) ∙ by (slice_split is_point rest)
@@ -101,54 +102,54 @@ more_points_11_begins (m ∷ []) h = off _ _ h
 more_points_11_begins (m ∷ e ∷ []) h = off _ _ (and_left _ _ (and_left _ _ h))
 more_points_11_begins (m ∷ e ∷ f ∷ rest) h = refl
 
-pub groups_begin : (test : ℕ → Bool) (groups : List Text) → first_is test (first_part groups) ≡ false → are_sixtieths test groups ≡ false
+pub groups_begin : (test : ℕ → Bool) (groups : List Text) → first_meets test (first_part groups) ≡ false → are_sixtieths test groups ≡ false
 groups_begin test [] h = refl
 groups_begin test (a ∷ []) h = refl
-groups_begin test (a ∷ b ∷ rest) h = and_left (begins_grouped test a) _ (and_left (first_is test a) _ h)
+groups_begin test (a ∷ b ∷ rest) h = and_left (begins_grouped test a) _ (and_left (first_meets test a) _ h)
 
-pub fine_sixties_begin : (negative : Bool) (parts : List Text) → first_is is_decimal (first_part parts) ≡ false → fine_sixties_11 negative parts ≡ None
+pub fine_sixties_begin : (negative : Bool) (parts : List Text) → first_meets is_decimal (first_part parts) ≡ false → fine_sixties_11 negative parts ≡ None
 fine_sixties_begin negative [] h = refl
 fine_sixties_begin negative (a ∷ []) h = refl
 fine_sixties_begin negative (a ∷ b ∷ []) h =
     off _ _ (and_left _ (are_grouped 10 b) (groups_begin is_decimal (slice_split is_colon a) (split_begins is_decimal is_colon a h)))
 fine_sixties_begin negative (a ∷ b ∷ d ∷ rest) h = refl
 
-pub octal_11_begins : (negative : Bool) (text : Text) → first_is is_decimal text ≡ false → octal_11 negative text ≡ None
+pub octal_11_begins : (negative : Bool) (text : Text) → first_meets is_decimal text ≡ false → octal_11 negative text ≡ None
 octal_11_begins negative [] h = refl
 octal_11_begins negative (c ∷ []) h = refl
 octal_11_begins negative (c ∷ d ∷ rest) h = off _ _ (and_left (c == 0x30) _ (unlike c 0x30 refl h))
 
-pub leading_begins : (text : Text) → first_is is_decimal text ≡ false → first_is is_leading text ≡ false
+pub leading_begins : (text : Text) → first_meets is_decimal text ≡ false → first_meets is_leading text ≡ false
 leading_begins [] h = refl
 leading_begins (c ∷ rest) h = and_left (is_decimal c) _ h
 
-pub decimal_11_begins : (negative : Bool) (text : Text) → first_is is_decimal text ≡ false → decimal_11 negative text ≡ None
+pub decimal_11_begins : (negative : Bool) (text : Text) → first_meets is_decimal text ≡ false → decimal_11 negative text ≡ None
 decimal_11_begins negative [] h = refl
 decimal_11_begins negative (c ∷ rest) h =
     off _ _ (or_from _ _ (and_left (c == 0x30) _ (unlike c 0x30 refl h)) (and_left (is_leading c) _ (leading_begins (c ∷ rest) h)))
 
 -- Timestamps
 
-date_front : (text : Text) → first_is is_decimal text ≡ false → first_is is_decimal (take_while in_date text) ≡ false
-date_front [] h = refl
-date_front (c ∷ rest) h = ap (first_is is_decimal) (take_while-cons in_date c rest) ∙ by (in_date c)
+date_prefix : (text : Text) → first_meets is_decimal text ≡ false → first_meets is_decimal (take_while in_date text) ≡ false
+date_prefix [] h = refl
+date_prefix (c ∷ rest) h = ap (first_meets is_decimal) (take_while-cons in_date c rest) ∙ by (in_date c)
   where
-    by : (x : Bool) → first_is is_decimal (if x then c ∷ take_while in_date rest else []) ≡ false
+    by : (x : Bool) → first_meets is_decimal (if x then c ∷ take_while in_date rest else []) ≡ false
     by true = h
     by false = refl
 
-year_begins : (text : Text) → first_is is_decimal text ≡ false → counted_digits 4 4 text ≡ false
+year_begins : (text : Text) → first_meets is_decimal text ≡ false → counted_digits 4 4 text ≡ false
 year_begins [] h = refl
 year_begins (c ∷ rest) h = and_right (is_between 4 4 (length (c ∷ rest))) _ (and_left (is_decimal c) _ h)
 
-date_begins : (least : ℕ) (parts : List Text) → first_is is_decimal (first_part parts) ≡ false → is_date least parts ≡ false
+date_begins : (least : ℕ) (parts : List Text) → first_meets is_decimal (first_part parts) ≡ false → is_date least parts ≡ false
 date_begins least [] h = refl
 date_begins least (a ∷ []) h = refl
 date_begins least (a ∷ b ∷ []) h = refl
 date_begins least (a ∷ b ∷ d ∷ []) h = and_left _ (counted_digits least 2 d) (and_left (counted_digits 4 4 a) _ (year_begins a h))
 date_begins least (a ∷ b ∷ d ∷ e ∷ rest) h = refl
 
-pub timestamp_begins : (text : Text) → first_is is_decimal text ≡ false → timestamp_11 text ≡ None
+pub timestamp_begins : (text : Text) → first_meets is_decimal text ≡ false → timestamp_11 text ≡ None
 timestamp_begins text h =
     off _ _
     (or_from _ _ (and_left (is_date 2 date) _ (date_begins 2 date begun)) (and_left (is_date 1 date) _ (date_begins 1 date begun)))
@@ -156,15 +157,15 @@ timestamp_begins text h =
     date : List Text
     date = slice_split is_hyphen (take_while in_date text)
 
-    begun : first_is is_decimal (first_part date) ≡ false
-    begun = split_begins is_decimal is_hyphen (take_while in_date text) (date_front text h)
+    begun : first_meets is_decimal (first_part date) ≡ false
+    begun = split_begins is_decimal is_hyphen (take_while in_date text) (date_prefix text h)
 
 -- a sign begins no number, so the text itself begins none either
-whole_begins : (text : Text) → first_is begins_digits (past_sign text) ≡ false → first_is is_decimal text ≡ false
+whole_begins : (text : Text) → first_meets begins_digits (past_sign text) ≡ false → first_meets is_decimal text ≡ false
 whole_begins [] h = refl
-whole_begins (c ∷ rest) h = by (is_sign c) refl h
+whole_begins (c ∷ rest) h = by (is_plus_or_minus c) refl h
   where
-    of_sign : is_sign c ≡ true → is_decimal c ≡ false
+    of_sign : is_plus_or_minus c ≡ true → is_decimal c ≡ false
     of_sign e = by_sign (c == 0x2B) (c == 0x2D) refl refl e
       where
         by_sign : (x y : Bool) → (c == 0x2B) ≡ x → (c == 0x2D) ≡ y → (x || y) ≡ true → is_decimal c ≡ false
@@ -172,22 +173,22 @@ whole_begins (c ∷ rest) h = by (is_sign c) refl h
         by_sign false true e f g = ap is_decimal (eqb-true c 0x2D f)
         by_sign false false e f g = absurd (false≢true g)
 
-    by : (x : Bool) → is_sign c ≡ x → first_is begins_digits (if x then rest else c ∷ rest) ≡ false → is_decimal c ≡ false
+    by : (x : Bool) → is_plus_or_minus c ≡ x → first_meets begins_digits (if x then rest else c ∷ rest) ≡ false → is_decimal c ≡ false
     by true e g = of_sign e
     by false e g = (or_parts (is_decimal c) (is_point c) g).0
 
-digit_begins : (text : Text) → first_is begins_digits text ≡ false → first_is is_decimal text ≡ false
+digit_begins : (text : Text) → first_meets begins_digits text ≡ false → first_meets is_decimal text ≡ false
 digit_begins [] h = refl
 digit_begins (c ∷ rest) h = (or_parts (is_decimal c) (is_point c) h).0
 
-point_begins : (text : Text) → first_is begins_digits text ≡ false → first_is is_point text ≡ false
+point_begins : (text : Text) → first_meets begins_digits text ≡ false → first_meets is_point text ≡ false
 point_begins [] h = refl
 point_begins (c ∷ rest) h = (or_parts (is_decimal c) (is_point c) h).1
 
 -- ---- all
 
 -- it is no number and no timestamp
-pub without_begin : (text : Text) → first_is begins_digits (past_sign text) ≡ false → NoNumber text
+pub without_begin : (text : Text) → first_meets begins_digits (past_sign text) ≡ false → NoNumber text
 without_begin text h =
     record {
       timestamp = timestamp_begins text (whole_begins text h);
@@ -197,7 +198,7 @@ without_begin text h =
       sixties = off _ _ (groups_begin is_leading (slice_split is_colon number) (split_begins is_leading is_colon number (leading_begins number digit)));
       fine_sixties = fine_sixties_begin negative (slice_split is_point number) (split_begins is_decimal is_point number digit);
       more_points = more_points_11_begins parts (more_points_begin mantissa begun);
-      points = off _ _ (and_left (first_is is_point number) _ (point_begins number h));
+      points = off _ _ (and_left (first_meets is_point number) _ (point_begins number h));
       core_integer = off _ _ (digits_begin number digit);
       core_decimal = scientific_begins _ exponent_read parts (core_mantissa_begins negative mantissa begun);
     }
@@ -209,13 +210,13 @@ without_begin text h =
     number = past_sign text
 
     parts : List Text
-    parts = slice_split is_exponent_mark number
+    parts = slice_split is_exponent_letter number
 
     mantissa : Text
     mantissa = first_part parts
 
-    digit : first_is is_decimal number ≡ false
+    digit : first_meets is_decimal number ≡ false
     digit = digit_begins number h
 
-    begun : first_is begins_digits mantissa ≡ false
-    begun = split_begins begins_digits is_exponent_mark number h
+    begun : first_meets begins_digits mantissa ≡ false
+    begun = split_begins begins_digits is_exponent_letter number h

@@ -5,7 +5,8 @@ use Rattle.std.proofs.lemmas.List.Folds.{list_any-append}
 use Rattle.std.specs.List.{list_all, list_any, slice_split, onto_first, concat}
 use Rattle.std.specs.Prelude.{ℕ, Bool, true, false, None, List, [], ◌∷◌, ◌++◌, ◌==◌, ◌||◌, ◌&&◌, length, if◌then◌else◌}
 use Rattle.yaml_base.specs.Characters.{Text}
-use Rattle.yaml_base.specs.values.Resolved.{is_point, is_exponent_mark, is_sign, is_decimal, is_negative, first_is, past_sign, pointed, exponent_read}
+use Rattle.yaml_base.specs.values.Resolved.{is_point, is_exponent_letter, is_plus_or_minus, is_decimal, is_negative, first_meets, past_sign}
+use Rattle.yaml_base.specs.values.Resolved.{decimal_of_digits, exponent_read}
 use Rattle.yaml_base.specs.values.SchemaCore.{core_mantissa}
 use Rattle.yaml_base.specs.values.SchemaOf11.{is_leading, begins_grouped, is_colon, mantissa_11, exponent_11, has_more_points}
 use Rattle.yaml_base.specs.values.SurelyText.{is_number_letter}
@@ -17,14 +18,14 @@ use Rattle.yaml_base.proofs.no_numbers.NumbersBegin.{decimal_11_begins, groups_b
 abbrev holds_digit : Text → Bool
 holds_digit text = list_any is_decimal text
 
-first_without : (text : Text) → holds_digit text ≡ false → first_is is_decimal text ≡ false
+first_without : (text : Text) → holds_digit text ≡ false → first_meets is_decimal text ≡ false
 first_without [] h = refl
 first_without (c ∷ rest) h = (or_parts (is_decimal c) (holds_digit rest) h).0
 
 -- past its sign
 past_sign_without : (test : ℕ → Bool) (text : Text) → list_any test text ≡ false → list_any test (past_sign text) ≡ false
 past_sign_without test [] h = h
-past_sign_without test (c ∷ rest) h = by (is_sign c)
+past_sign_without test (c ∷ rest) h = by (is_plus_or_minus c)
   where
     by : (x : Bool) → list_any test (if x then rest else c ∷ rest) ≡ false
     by true = (or_parts (test c) (list_any test rest) h).1
@@ -62,12 +63,13 @@ concat_without (part ∷ parts) h =
 
 -- ---- numbers
 
-pointed_without : (negative : Bool) (whole fraction : Text) → holds_digit whole ≡ false → holds_digit fraction ≡ false → pointed negative whole fraction ≡ None
+pointed_without : (negative : Bool) (whole fraction : Text) → holds_digit whole ≡ false → holds_digit fraction ≡ false
+    → decimal_of_digits negative whole fraction ≡ None
 pointed_without negative whole fraction one two =
     off _ _ (digits_begin (whole ++ fraction) (first_without (whole ++ fraction) (list_any-append is_decimal whole fraction ∙ or_from _ _ one two)))
 
 begins_without : (text : Text) → holds_digit text ≡ false → begins_grouped is_decimal text ≡ false
-begins_without text h = and_left (first_is is_decimal text) _ (first_without text h)
+begins_without text h = and_left (first_meets is_decimal text) _ (first_without text h)
 
 core_mantissa_without : (negative : Bool) (parts : List Text) → list_any holds_digit parts ≡ false → core_mantissa negative parts ≡ None
 core_mantissa_without negative [] h = refl
@@ -137,7 +139,7 @@ without_digits text h letter =
       sixties = off _ _ (groups_begin is_leading (slice_split is_colon number) (split_begins is_leading is_colon number (leading_begins number digit)));
       fine_sixties = fine_sixties_begin negative (slice_split is_point number) (split_begins is_decimal is_point number digit);
       more_points = more_points_11_begins parts (more_points_without pieces at_point);
-      points = off _ _ (and_right (first_is is_point number) _ (not_points text letter));
+      points = off _ _ (and_right (first_meets is_point number) _ (not_points text letter));
       core_integer = off _ _ (digits_begin number digit);
       core_decimal = scientific_begins _ exponent_read parts (core_mantissa_without negative pieces at_point);
     }
@@ -149,16 +151,16 @@ without_digits text h letter =
     number = past_sign text
 
     parts : List Text
-    parts = slice_split is_exponent_mark number
+    parts = slice_split is_exponent_letter number
 
     none : holds_digit number ≡ false
     none = past_sign_without is_decimal text h
 
-    digit : first_is is_decimal number ≡ false
+    digit : first_meets is_decimal number ≡ false
     digit = first_without number none
 
     pieces : List Text
     pieces = slice_split is_point (first_part parts)
 
     at_point : list_any holds_digit pieces ≡ false
-    at_point = parts_without is_point (first_part parts) (first_part_without parts (parts_without is_exponent_mark number none))
+    at_point = parts_without is_point (first_part parts) (first_part_without parts (parts_without is_exponent_letter number none))

@@ -8,12 +8,14 @@ use Rattle.std.specs.List.{list_all, slice_split, onto_first, concat}
 use Rattle.std.specs.Prelude.{ℕ, ℤ, pos, Bool, true, false, Option, None, Some, List, [], ◌∷◌, ◌++◌, ◌==◌, ◌||◌, ◌&&◌, not, length, codes, if◌then◌else◌}
 use Rattle.yaml_base.specs.Characters.{Text, is_blank, is_between}
 use Rattle.yaml_base.specs.Words.{is_word}
-use Rattle.yaml_base.specs.values.Resolved.{Decimal, is_point, is_exponent_mark, is_sign, is_decimal, is_negative, first_is, past_sign, are_digits}
-use Rattle.yaml_base.specs.values.Resolved.{counted_digits, pointed, exponent_read, scaled, scientific}
+use Rattle.yaml_base.specs.values.Resolved.{Decimal, is_point, is_exponent_letter, is_plus_or_minus, is_decimal, is_negative, first_meets, past_sign}
+use Rattle.yaml_base.specs.values.Resolved.{are_digits}
+use Rattle.yaml_base.specs.values.Resolved.{counted_digits, decimal_of_digits, exponent_read, times_power_of_ten, scientific}
 use Rattle.yaml_base.specs.values.SchemaCore.{core_mantissa}
 use Rattle.yaml_base.specs.values.SchemaOf11.{is_underscore, ungrouped, are_grouped, begins_grouped, is_leading, octal_11, decimal_11, is_sixtieth}
 use Rattle.yaml_base.specs.values.SchemaOf11.{are_sixtieths, is_colon, fine_sixties_11, mantissa_11, exponent_11, has_more_points, more_points_11}
-use Rattle.yaml_base.specs.values.SchemaOf11.{past, is_hyphen, is_date, in_clock, is_clock, is_offset, is_zone, is_time, in_date, is_time_after_date, timestamp_11}
+use Rattle.yaml_base.specs.values.SchemaOf11.{past, is_hyphen, is_date, in_clock, is_clock, is_offset, is_zone, is_time, in_date, is_time_after_date}
+use Rattle.yaml_base.specs.values.SchemaOf11.{timestamp_11}
 use Rattle.yaml_base.specs.values.SurelyText.{in_number}
 use Rattle.yaml_base.proofs.no_numbers.NoNumbers.{NoNumber, off, filled, past_cons}
 
@@ -62,10 +64,10 @@ either_stands n m c h k e = by (or_cases (c == n) (c == m) e)
     by (inl f) = same_stands n c h f
     by (inr f) = same_stands m c k f
 
-sign_stands : (c : ℕ) → is_sign c ≡ true → in_number c ≡ true
+sign_stands : (c : ℕ) → is_plus_or_minus c ≡ true → in_number c ≡ true
 sign_stands c h = either_stands 0x2B 0x2D c refl refl h
 
-mark_stands : (c : ℕ) → is_exponent_mark c ≡ true → in_number c ≡ true
+mark_stands : (c : ℕ) → is_exponent_letter c ≡ true → in_number c ≡ true
 mark_stands c h = either_stands 0x65 0x45 c refl refl h
 
 blank_stands : (c : ℕ) → is_blank c ≡ true → in_number c ≡ true
@@ -107,7 +109,7 @@ counted_outside : (least most : ℕ) (text : Text) → within text ≡ false →
 counted_outside least most text h = and_right (is_between least most (length text)) _ (stronger in_number is_decimal digit_stands text h)
 
 begins_outside : (test : ℕ → Bool) (text : Text) → within text ≡ false → begins_grouped test text ≡ false
-begins_outside test text h = and_right (first_is test text) _ (grouped_outside 10 digit_stands text h)
+begins_outside test text h = and_right (first_meets test text) _ (grouped_outside 10 digit_stands text h)
 
 filled_outside : (text : Text) → within text ≡ false → (length text == 0) ≡ false
 filled_outside [] h = absurd (true≢false h)
@@ -169,15 +171,15 @@ past_outside test stands (c ∷ rest) h = ap within (past_cons test c rest) ∙ 
 
 sign_outside : (text : Text) → within text ≡ false → within (past_sign text) ≡ false
 sign_outside [] h = h
-sign_outside (c ∷ rest) h = by (is_sign c) refl
+sign_outside (c ∷ rest) h = by (is_plus_or_minus c) refl
   where
-    by : (x : Bool) → is_sign c ≡ x → within (if x then rest else c ∷ rest) ≡ false
+    by : (x : Bool) → is_plus_or_minus c ≡ x → within (if x then rest else c ∷ rest) ≡ false
     by true e = sym (ap (λ t. t && within rest) (sign_stands c e)) ∙ h
     by false e = h
 
 -- ---- floats
 
-scaled_none : (decimal : Option Decimal) → scaled decimal None ≡ None
+scaled_none : (decimal : Option Decimal) → times_power_of_ten decimal None ≡ None
 scaled_none None = refl
 scaled_none (Some decimal) = refl
 
@@ -185,25 +187,25 @@ scientific_outside : (mantissa : Text → Option Decimal) (exponent : Text → O
     → ((text : Text) → within text ≡ false → exponent text ≡ None) → (parts : List Text) → list_all within parts ≡ false
     → scientific mantissa exponent parts ≡ None
 scientific_outside mantissa exponent one two [] h = refl
-scientific_outside mantissa exponent one two (m ∷ []) h = ap (λ d. scaled d (Some (pos 0))) (one m (sym (and_true (within m)) ∙ h))
+scientific_outside mantissa exponent one two (m ∷ []) h = ap (λ d. times_power_of_ten d (Some (pos 0))) (one m (sym (and_true (within m)) ∙ h))
 scientific_outside mantissa exponent one two (m ∷ e ∷ []) h = by (two_cases (within m) (within e) h)
   where
-    by : (within m ≡ false) ⊎ (within e ≡ false) → scaled (mantissa m) (exponent e) ≡ None
-    by (inl f) = ap (λ d. scaled d (exponent e)) (one m f)
-    by (inr f) = ap (scaled (mantissa m)) (two e f) ∙ scaled_none (mantissa m)
+    by : (within m ≡ false) ⊎ (within e ≡ false) → times_power_of_ten (mantissa m) (exponent e) ≡ None
+    by (inl f) = ap (λ d. times_power_of_ten d (exponent e)) (one m f)
+    by (inr f) = ap (times_power_of_ten (mantissa m)) (two e f) ∙ scaled_none (mantissa m)
 scientific_outside mantissa exponent one two (m ∷ e ∷ f ∷ rest) h = refl
 
 exponent_outside : (text : Text) → within text ≡ false → exponent_read text ≡ None
 exponent_outside text h = off _ _ (digits_outside (past_sign text) (sign_outside text h))
 
 exponent_11_outside : (text : Text) → within text ≡ false → exponent_11 text ≡ None
-exponent_11_outside text h = by (first_is is_sign text)
+exponent_11_outside text h = by (first_meets is_plus_or_minus text)
   where
     by : (x : Bool) → (if x then exponent_read text else None) ≡ None
     by true = exponent_outside text h
     by false = refl
 
-pointed_outside : (negative : Bool) (whole fraction : Text) → (within whole && within fraction) ≡ false → pointed negative whole fraction ≡ None
+pointed_outside : (negative : Bool) (whole fraction : Text) → (within whole && within fraction) ≡ false → decimal_of_digits negative whole fraction ≡ None
 pointed_outside negative whole fraction h = off _ _ (digits_outside (whole ++ fraction) (list_all-append in_number whole fraction ∙ h))
 
 core_mantissa_outside : (negative : Bool) (parts : List Text) → list_all within parts ≡ false → core_mantissa negative parts ≡ None
@@ -248,9 +250,9 @@ more_points_outside (m ∷ e ∷ []) h = off _ _ (by (two_cases (within m) (with
     more : Bool
     more = has_more_points (slice_split is_point m)
 
-    by : (within m ≡ false) ⊎ (within e ≡ false) → (more && first_is is_sign e && are_digits 10 (past_sign e)) ≡ false
+    by : (within m ≡ false) ⊎ (within e ≡ false) → (more && first_meets is_plus_or_minus e && are_digits 10 (past_sign e)) ≡ false
     by (inl f) = and_left _ _ (and_left more _ (points_outside (slice_split is_point m) (parts_outside is_point point_stands m f)))
-    by (inr f) = and_right (more && first_is is_sign e) _ (digits_outside (past_sign e) (sign_outside e f))
+    by (inr f) = and_right (more && first_meets is_plus_or_minus e) _ (digits_outside (past_sign e) (sign_outside e f))
 more_points_outside (m ∷ e ∷ f ∷ rest) h = refl
 
 -- ---- integers
@@ -319,7 +321,7 @@ zone_outside [] h = refl
 zone_outside (c ∷ rest) h =
     or_from _ _
     (rest_outside c rest (c == 0x5A) (length rest == 0) (λ e. same_stands 0x5A c refl e) (filled_outside rest) h)
-    (rest_outside c rest (is_sign c) (is_offset (slice_split is_colon rest)) (sign_stands c)
+    (rest_outside c rest (is_plus_or_minus c) (is_offset (slice_split is_colon rest)) (sign_stands c)
     (λ e. offset_outside (slice_split is_colon rest) (parts_outside is_colon colon_stands rest e)) h)
 
 time_outside : (text : Text) → within text ≡ false → is_time text ≡ false
@@ -363,7 +365,7 @@ with_others text h =
       sixties = off _ _ (groups_outside is_leading (slice_split is_colon number) (parts_outside is_colon colon_stands number later));
       fine_sixties = fine_sixties_outside negative (slice_split is_point number) (at_point number later);
       more_points = more_points_outside parts at_mark;
-      points = off _ _ (and_right (first_is is_point number) _ (stronger in_number is_point point_stands number later));
+      points = off _ _ (and_right (first_meets is_point number) _ (stronger in_number is_point point_stands number later));
       core_integer = off _ _ (digits_outside number later);
       core_decimal = scientific_outside core_mantissa_read exponent_read of_core exponent_outside parts at_mark;
     }
@@ -378,10 +380,10 @@ with_others text h =
     later = sign_outside text h
 
     parts : List Text
-    parts = slice_split is_exponent_mark number
+    parts = slice_split is_exponent_letter number
 
     at_mark : list_all within parts ≡ false
-    at_mark = parts_outside is_exponent_mark mark_stands number later
+    at_mark = parts_outside is_exponent_letter mark_stands number later
 
     at_point : (m : Text) → within m ≡ false → list_all within (slice_split is_point m) ≡ false
     at_point m e = parts_outside is_point point_stands m e

@@ -84,8 +84,8 @@ stream_of documents = stream_start None ∷ (documents ++ stream_end ∷ [])
 abbrev pub alone : List Event → List Event
 alone root = stream_of (document_of root)
 
-abbrev pub laid_under : Settings → List Event → Text
-laid_under settings events = text_of (list_layout (effective settings None) events)
+abbrev pub rendered_under : Settings → List Event → Text
+rendered_under settings events = text_of (list_layout (effective settings None) events)
 
-abbrev pub laid : List Event → Text
-laid events = laid_under plain_settings events
+abbrev pub rendered : List Event → Text
+rendered events = rendered_under plain_settings events

@@ -1,13 +1,13 @@
--- Worked literal and folded scalars: what is laid out, and that each is read back.
+-- Worked literal and folded scalars: what is rendered, and that each is read back.
 use Rattle.std.proofs.Common.{◌≡◌, refl}
 use Rattle.std.specs.Prelude.{ℕ, true, false, Option, None, Some, [], ◌∷◌, ◌++◌, codes}
 use Rattle.yaml_base.specs.Characters.{Text, line_separator}
 use Rattle.yaml_base.specs.Settings.{both_break}
 use Rattle.yaml_base.specs.LineBreaks.{with_breaks_written, with_line_breaks_read}
 use Rattle.yaml_base.specs.Cursor.{first_cursor}
-use Rattle.yaml_base.specs.scalars.BlockHeader.{header_mark}
-use Rattle.yaml_base.specs.scalars.Literal.{literal_body, literal_laid}
-use Rattle.yaml_base.specs.scalars.Folded.{folded_body, folded_laid}
+use Rattle.yaml_base.specs.scalars.BlockHeader.{header_open_ended}
+use Rattle.yaml_base.specs.scalars.Literal.{literal_body, render_literal}
+use Rattle.yaml_base.specs.scalars.Folded.{folded_body, render_folded}
 use Rattle.yaml_base.specs.reading.ReadBlock.{read_block}
 
 -- at the root of a stream, with an indent of 2
@@ -49,7 +49,7 @@ unfolded-line-read : read_root (codes ">2-\n   aaaaaa b") ≡ Some (codes " aaaa
 unfolded-line-read = refl
 
 -- an item of a block sequence: the entries of the enclosing block stand at column 0
-item : (literal_laid 2 2 (codes " a") (record { column = 1; whitespace = false; indention = true })).text ≡ codes " |2-\n   a"
+item : (render_literal 2 2 (codes " a") (record { column = 1; whitespace = false; indention = true })).text ≡ codes " |2-\n   a"
 item = refl
 
 item-read : read_block false (Some 0) (codes "|2-\n   a") ≡ Some (codes " a")
@@ -124,18 +124,18 @@ tabs-keep-breaks = refl
 separator-ordinary : read_block true None (separated (codes "|\n  a") (codes "b\n")) ≡ Some (separated (codes "a") (codes "b\n"))
 separator-ordinary = refl
 
--- the cursor after the text, and the open mark
-after-literal : (literal_laid 4 2 (codes "a\nbc") first_cursor).cursor ≡ record { column = 6; whitespace = true; indention = false }
+-- the cursor after the text, and the open-ended state
+after-literal : (render_literal 4 2 (codes "a\nbc") first_cursor).cursor ≡ record { column = 6; whitespace = true; indention = false }
 after-literal = refl
 
-after-break : (folded_laid (Some 80) 4 2 (codes "a\nb\n") first_cursor).cursor ≡ record { column = 0; whitespace = true; indention = true }
+after-break : (render_folded (Some 80) 4 2 (codes "a\nb\n") first_cursor).cursor ≡ record { column = 0; whitespace = true; indention = true }
 after-break = refl
 
-mark-of-two-breaks : header_mark (codes "a\n\n") ≡ 2
-mark-of-two-breaks = refl
+open_ended-of-two-breaks : header_open_ended (codes "a\n\n") ≡ 2
+open_ended-of-two-breaks = refl
 
-mark-of-break-alone : header_mark (codes "\n") ≡ 2
-mark-of-break-alone = refl
+open_ended-of-break-alone : header_open_ended (codes "\n") ≡ 2
+open_ended-of-break-alone = refl
 
-mark-of-one-break : header_mark (codes "a\n") ≡ 0
-mark-of-one-break = refl
+open_ended-of-one-break : header_open_ended (codes "a\n") ≡ 0
+open_ended-of-one-break = refl

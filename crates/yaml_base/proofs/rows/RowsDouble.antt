@@ -3,7 +3,7 @@ use Rattle.std.proofs.Common.{◌≡◌, refl}
 use Rattle.std.specs.Prelude.{ℕ, Bool, true, false, Option, None, Some, [], ◌∷◌, ◌++◌, codes}
 use Rattle.yaml_base.specs.Characters.{Text}
 use Rattle.yaml_base.specs.Cursor.{first_cursor}
-use Rattle.yaml_base.specs.scalars.DoubleQuoted.{double_quoted_laid}
+use Rattle.yaml_base.specs.scalars.DoubleQuoted.{render_double_quoted}
 use Rattle.yaml_base.specs.reading.ReadDouble.{read_double}
 
 -- a text between two quotes
@@ -12,10 +12,10 @@ in_quotes text = codes "\"" ++ text ++ codes "\""
 
 -- as a text's root, without a width
 abbrev written : Bool → Text → Text
-written unicode value = (double_quoted_laid unicode None 2 value first_cursor).text
+written unicode value = (render_double_quoted unicode None 2 value first_cursor).text
 
 abbrev written_within : ℕ → Text → Text
-written_within width value = (double_quoted_laid false (Some width) 2 value first_cursor).text
+written_within width value = (render_double_quoted false (Some width) 2 value first_cursor).text
 
 abbrev read : Text → Option Text
 read text = read_double false text
@@ -145,11 +145,11 @@ last-of-all-written = refl
 last-of-all-read : read (in_quotes (codes "\\U0010FFFF")) ≡ Some (only 0x10FFFF)
 last-of-all-read = refl
 
-mark-written : written false (only 0xFEFF) ≡ in_quotes (codes "\\uFEFF")
-mark-written = refl
+open_ended-written : written false (only 0xFEFF) ≡ in_quotes (codes "\\uFEFF")
+open_ended-written = refl
 
-mark-read : read (in_quotes (codes "\\uFEFF")) ≡ Some (only 0xFEFF)
-mark-read = refl
+open_ended-read : read (in_quotes (codes "\\uFEFF")) ≡ Some (only 0xFEFF)
+open_ended-read = refl
 
 no-character-written : written false (only 0xFFFE) ≡ in_quotes (codes "\\uFFFE")
 no-character-written = refl
@@ -163,8 +163,8 @@ delete-written = refl
 delete-read : read (in_quotes (codes "\\x7F")) ≡ Some (only 0x7F)
 delete-read = refl
 
-mark-even-with-unicode : written true (only 0xFEFF) ≡ in_quotes (codes "\\uFEFF")
-mark-even-with-unicode = refl
+open_ended-even-with-unicode : written true (only 0xFEFF) ≡ in_quotes (codes "\\uFEFF")
+open_ended-even-with-unicode = refl
 
 no-character-even-with-unicode : written true (only 0xFFFE) ≡ in_quotes (codes "\\uFFFE")
 no-character-even-with-unicode = refl
@@ -220,11 +220,11 @@ last-space = refl
 last-spaces : written_within 5 (codes "aaaaaa  ") ≡ codes "\"aaaaaa\n  \\ \""
 last-spaces = refl
 
-first-space : (double_quoted_laid false (Some 5) 2 (codes " a") (record first_cursor { column = 7 })).text ≡ codes "\" a\""
+first-space : (render_double_quoted false (Some 5) 2 (codes " a") (record first_cursor { column = 7 })).text ≡ codes "\" a\""
 first-space = refl
 
 -- a space goes before the quote where none stands there
-lead : (double_quoted_laid false None 2 (codes "a") (record first_cursor { whitespace = false })).text ≡ codes " \"a\""
+lead : (render_double_quoted false None 2 (codes "a") (record first_cursor { whitespace = false })).text ≡ codes " \"a\""
 lead = refl
 
 many : written false (codes "\0\u{7}\"\\" ++ (0x85 ∷ 0x7F ∷ [])) ≡ codes "\"\\0\\a\\\"\\\\\\N\\x7F\""

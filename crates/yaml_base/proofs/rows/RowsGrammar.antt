@@ -4,7 +4,7 @@ use Rattle.yaml_base.specs.Characters.{Text}
 use Rattle.yaml_base.specs.Event.{any_style, any_layout, flow, Version, TagDirective, DocumentStart, Collection, Event, stream_start, stream_end}
 use Rattle.yaml_base.specs.Event.{document_start, document_end, alias, scalar, sequence_start, sequence_end, mapping_start, mapping_end}
 use Rattle.yaml_base.specs.Grammar.{Level, within_document, no_documents}
-use Rattle.yaml_base.specs.Refusal.{refusal, refusal_at, fault_if, most_open}
+use Rattle.yaml_base.specs.Refusal.{refusal, refusal_at, some_if, most_open}
 use Rattle.yaml_base.specs.Ready.{written}
 use Rattle.yaml_base.specs.declared.errors.yaml_error_t.TheVariants.{ExpectedStreamStart, ExpectedDocumentStart, ExpectedDocumentEnd, ExpectedNode}
 use Rattle.yaml_base.specs.declared.errors.yaml_error_t.TheVariants.{ExpectedNothing, IncompatibleVersion, TagHandleEmpty, TagHandleStart, TagHandleEnd}
@@ -161,12 +161,12 @@ no_collection_tag = refl
 nested_too_deep :
     (levels : List Level) → length levels ≡ 1000000
     → refusal_at false (within_document None no_documents plain_start levels) (sequence_start a_collection) ≡ Some TooDeep
-nested_too_deep levels full = ap (λ count. fault_if (not (nat_lt count most_open)) TooDeep) full
+nested_too_deep levels full = ap (λ count. some_if (not (nat_lt count most_open)) TooDeep) full
 
 nested_just_enough :
     (levels : List Level) → length levels ≡ 999999
     → refusal_at false (within_document None no_documents plain_start levels) (sequence_start a_collection) ≡ None
-nested_just_enough levels full = ap (λ count. fault_if (not (nat_lt count most_open)) TooDeep) full
+nested_just_enough levels full = ap (λ count. some_if (not (nat_lt count most_open)) TooDeep) full
 
 abbrev flow_sequence : Option Text → Event
 flow_sequence anchor = sequence_start (record { anchor = anchor; tag = None; implicit = true; style = flow })

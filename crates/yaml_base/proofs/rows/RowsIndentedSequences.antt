@@ -7,24 +7,24 @@ use Rattle.yaml_base.specs.Settings.{Settings}
 use Rattle.yaml_base.specs.Event.{literal, block, flow, Event, sequence_start, sequence_end}
 use Rattle.yaml_base.specs.streams.StreamContent.{agrees}
 use Rattle.yaml_base.specs.streams.StreamReader.{stream_trees}
-use Rattle.yaml_base.proofs.rows.RowEvents.{plain_settings, canonical_settings, of_indent, leaf, untagged, sequence, mapping, alone, laid_under, laid}
+use Rattle.yaml_base.proofs.rows.RowEvents.{plain_settings, canonical_settings, of_indent, leaf, untagged, sequence, mapping, alone, rendered_under, rendered}
 
 abbrev indented_settings : Settings
 indented_settings = record plain_settings { indented_sequences = true }
 
 abbrev indented : List Event → Text
-indented events = laid_under indented_settings (alone events)
+indented events = rendered_under indented_settings (alone events)
 
 -- with an indent of 4
 abbrev by_four : List Event → Text
-by_four events = laid_under (record indented_settings { indent = Some (pos 4) }) (alone events)
+by_four events = rendered_under (record indented_settings { indent = Some (pos 4) }) (alone events)
 
 -- without the setting, and with an indent of 4
 abbrev undented : List Event → Text
-undented events = laid (alone events)
+undented events = rendered (alone events)
 
 abbrev undented_by_four : List Event → Text
-undented_by_four events = laid_under (of_indent (pos 4)) (alone events)
+undented_by_four events = rendered_under (of_indent (pos 4)) (alone events)
 
 -- a sequence of one item, with an anchor or with a tag
 abbrev anchored : List Event
@@ -114,7 +114,7 @@ outside_of_mappings = (refl, refl, refl, refl, refl)
 unchanged : (indented (value_of (sequence block [])) ≡ codes "a: []\n")
     × (indented (value_of (sequence flow (leaf (codes "b") ∷ []))) ≡ codes "a: [b]\n")
     × (indented (value_of (mapping block (leaf (codes "b") ∷ leaf (codes "c") ∷ []))) ≡ codes "a:\n  b: c\n")
-    × (laid_under (record canonical_settings { indented_sequences = true }) (alone (value_of two_items))
+    × (rendered_under (record canonical_settings { indented_sequences = true }) (alone (value_of two_items))
     ≡ codes "---\n{\n  ? \"a\"\n  : [\n    \"b\",\n    \"c\",\n  ],\n}\n")
 unfolding encode_utf8
 unchanged = (refl, refl, refl, refl)

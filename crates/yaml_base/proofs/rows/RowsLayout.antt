@@ -4,79 +4,79 @@ use Rattle.std.specs.Prelude.{pos, negsuc, true, false, None, Some, [], ◌∷�
 use Rattle.yaml_base.specs.Event.{any_style, single_quoted, double_quoted, literal, folded, any_layout, block, flow, document_start, document_end, alias}
 use Rattle.yaml_base.specs.Event.{scalar, sequence_start, sequence_end, mapping_start, mapping_end}
 use Rattle.yaml_base.proofs.rows.RowEvents.{canonical_settings, unicode_settings, of_width, of_indent, untagged, leaf, tagged, in_style, sequence, mapping}
-use Rattle.yaml_base.proofs.rows.RowEvents.{document_of, stream_of, alone, laid_under, laid}
+use Rattle.yaml_base.proofs.rows.RowEvents.{document_of, stream_of, alone, rendered_under, rendered}
 
 -- an empty value at the root
-empty_root : laid (alone (leaf (codes "") ∷ [])) ≡ codes "\n"
+empty_root : rendered (alone (leaf (codes "") ∷ [])) ≡ codes "\n"
 empty_root = refl
 
-word : laid (alone (leaf (codes "foo") ∷ [])) ≡ codes "foo\n"
+word : rendered (alone (leaf (codes "foo") ∷ [])) ≡ codes "foo\n"
 word = refl
 
 -- final breaks that are kept leave the document open
-kept_breaks : laid (alone (untagged (codes "a\n\n") literal ∷ [])) ≡ codes "|+\n  a\n\n...\n"
+kept_breaks : rendered (alone (untagged (codes "a\n\n") literal ∷ [])) ≡ codes "|+\n  a\n\n...\n"
 kept_breaks = refl
 
-break_alone : laid (alone (untagged (codes "\n") literal ∷ [])) ≡ codes "|2+\n\n...\n"
+break_alone : rendered (alone (untagged (codes "\n") literal ∷ [])) ≡ codes "|2+\n\n...\n"
 break_alone = refl
 
-folded_lines : laid (alone (untagged (codes "a\nb\n\n c\n") folded ∷ [])) ≡ codes ">\n  a\n\n  b\n\n   c\n"
+folded_lines : rendered (alone (untagged (codes "a\nb\n\n c\n") folded ∷ [])) ≡ codes ">\n  a\n\n  b\n\n   c\n"
 folded_lines = refl
 
-spaced_line_unfolded : laid_under (of_width (pos 5)) (alone (untagged (codes " aaaaaa b") folded ∷ [])) ≡ codes ">2-\n   aaaaaa b\n"
+spaced_line_unfolded : rendered_under (of_width (pos 5)) (alone (untagged (codes " aaaaaa b") folded ∷ [])) ≡ codes ">2-\n   aaaaaa b\n"
 spaced_line_unfolded = refl
 
-double_fold : laid_under (of_width (pos 5)) (alone (untagged (codes "aaaaaa  b") double_quoted ∷ [])) ≡ codes "\"aaaaaa\n  \\ b\"\n"
+double_fold : rendered_under (of_width (pos 5)) (alone (untagged (codes "aaaaaa  b") double_quoted ∷ [])) ≡ codes "\"aaaaaa\n  \\ b\"\n"
 double_fold = refl
 
-colon_last : laid (alone (leaf (codes "a:") ∷ [])) ≡ codes "'a:'\n"
+colon_last : rendered (alone (leaf (codes "a:") ∷ [])) ≡ codes "'a:'\n"
 colon_last = refl
 
-alias_key : laid (alone (mapping block (alias (codes "a") ∷ leaf (codes "v") ∷ []))) ≡ codes "*a : v\n"
+alias_key : rendered (alone (mapping block (alias (codes "a") ∷ leaf (codes "v") ∷ []))) ≡ codes "*a : v\n"
 unfolding lib.Utf8.encode
 alias_key = refl
 
-empty_sequence_key : laid (alone (mapping block ((sequence block ([])) ++ (leaf (codes "v") ∷ [])))) ≡ codes "[]: v\n"
+empty_sequence_key : rendered (alone (mapping block ((sequence block ([])) ++ (leaf (codes "v") ∷ [])))) ≡ codes "[]: v\n"
 empty_sequence_key = refl
 
-long_key : laid (alone (mapping block (leaf (replicate 129 120) ∷ leaf (codes "v") ∷ []))) ≡ codes "? " ++ (replicate 129 120 ++ codes "\n: v\n")
+long_key : rendered (alone (mapping block (leaf (replicate 129 120) ∷ leaf (codes "v") ∷ []))) ≡ codes "? " ++ (replicate 129 120 ++ codes "\n: v\n")
 unfolding lib.Utf8.encode
 long_key = refl
 
-short_key : laid (alone (mapping block (leaf (replicate 128 120) ∷ leaf (codes "v") ∷ []))) ≡ replicate 128 120 ++ codes ": v\n"
+short_key : rendered (alone (mapping block (leaf (replicate 128 120) ∷ leaf (codes "v") ∷ []))) ≡ replicate 128 120 ++ codes ": v\n"
 unfolding lib.Utf8.encode
 short_key = refl
 
 -- 65 characters of two bytes
-long_key_in_bytes : laid_under unicode_settings (alone (mapping block (leaf (replicate 65 0xE9) ∷ leaf (codes "v") ∷ []))) ≡ codes "? "
+long_key_in_bytes : rendered_under unicode_settings (alone (mapping block (leaf (replicate 65 0xE9) ∷ leaf (codes "v") ∷ []))) ≡ codes "? "
     ++ (replicate 65 0xE9 ++ codes "\n: v\n")
 unfolding lib.Utf8.encode
 long_key_in_bytes = refl
 
-tag_directive : laid (stream_of
+tag_directive : rendered (stream_of
     (document_of (leaf (codes "a") ∷ [])
     ++ (document_start (record { version = None; directives = record { handle = codes "!e!"; prefix = codes "tag:e.com,2000:" } ∷ []; implicit = true })
     ∷ tagged None (Some (codes "tag:e.com,2000:t")) (codes "x") ∷ document_end true ∷ []))) ≡ codes "a\n...\n%TAG !e! tag:e.com,2000:\n--- !e!t x\n"
 tag_directive = refl
 
-tag_of_a_mark_alone : laid (alone (tagged None (Some (codes "!")) (codes "x") ∷ [])) ≡ codes "!<%21> x\n"
+tag_of_a_mark_alone : rendered (alone (tagged None (Some (codes "!")) (codes "x") ∷ [])) ≡ codes "!<%21> x\n"
 unfolding lib.Utf8.encode
 tag_of_a_mark_alone = refl
 
-tag_with_a_mark : laid (alone (tagged None (Some (codes "!a!b")) (codes "x") ∷ [])) ≡ codes "!a%21b x\n"
+tag_with_a_mark : rendered (alone (tagged None (Some (codes "!a!b")) (codes "x") ∷ [])) ≡ codes "!a%21b x\n"
 unfolding lib.Utf8.encode
 tag_with_a_mark = refl
 
-tag_of_a_prefix_alone : laid (alone (tagged None (Some (codes "tag:yaml.org,2002:")) (codes "x") ∷ [])) ≡ codes "!<tag:yaml.org,2002:> x\n"
+tag_of_a_prefix_alone : rendered (alone (tagged None (Some (codes "tag:yaml.org,2002:")) (codes "x") ∷ [])) ≡ codes "!<tag:yaml.org,2002:> x\n"
 tag_of_a_prefix_alone = refl
 
-default_tag : laid (alone (tagged None (Some (codes "tag:yaml.org,2002:int")) (codes "5") ∷ [])) ≡ codes "!!int 5\n"
+default_tag : rendered (alone (tagged None (Some (codes "tag:yaml.org,2002:int")) (codes "5") ∷ [])) ≡ codes "!!int 5\n"
 default_tag = refl
 
-own_tag : laid (alone (tagged None (Some (codes "!foo")) (codes "x") ∷ [])) ≡ codes "!foo x\n"
+own_tag : rendered (alone (tagged None (Some (codes "!foo")) (codes "x") ∷ [])) ≡ codes "!foo x\n"
 own_tag = refl
 
-canonical_mapping : laid_under canonical_settings
+canonical_mapping : rendered_under canonical_settings
     (alone (mapping_start (record { anchor = None; tag = Some (codes "tag:yaml.org,2002:map"); implicit = true; style = any_layout }) ∷ scalar
     (record {
       anchor = Some (codes "a");
@@ -88,113 +88,114 @@ canonical_mapping : laid_under canonical_settings
     }) ∷ alias (codes "a") ∷ mapping_end ∷ [])) ≡ codes "---\n!!map {\n  ? &a !!str \"k\"\n  : *a,\n}\n"
 canonical_mapping = refl
 
-canonical_bare_tag : laid_under canonical_settings
+canonical_bare_tag : rendered_under canonical_settings
     (alone (scalar (record { anchor = None; tag = None; value = codes "a"; plain_implicit = true; quoted_implicit = false; style = any_style }) ∷ []))
     ≡ codes "---\n! \"a\"\n"
 canonical_bare_tag = refl
 
-canonical_sequence : laid_under canonical_settings (alone (sequence any_layout (leaf (codes "a") ∷ []))) ≡ codes "---\n[\n  \"a\",\n]\n"
+canonical_sequence : rendered_under canonical_settings (alone (sequence any_layout (leaf (codes "a") ∷ []))) ≡ codes "---\n[\n  \"a\",\n]\n"
 canonical_sequence = refl
 
-canonical_root : laid_under (record canonical_settings { width = Some (negsuc 0) }) (alone (leaf (codes "a") ∷ [])) ≡ codes "---\n\"a\"\n"
+canonical_root : rendered_under (record canonical_settings { width = Some (negsuc 0) }) (alone (leaf (codes "a") ∷ [])) ≡ codes "---\n\"a\"\n"
 canonical_root = refl
 
-shared_node : laid (alone (sequence_start (in_style block) ∷ sequence_start (in_style block) ∷ scalar
+shared_node : rendered (alone (sequence_start (in_style block) ∷ sequence_start (in_style block) ∷ scalar
     (record { anchor = Some (codes "id001"); tag = None; value = codes "a"; plain_implicit = true; quoted_implicit = true; style = any_style }) ∷ alias
     (codes "id001") ∷ sequence_end ∷ sequence_end ∷ [])) ≡ codes "- - &id001 a\n  - *id001\n"
 shared_node = refl
 
-anchored_root_sequence : laid (alone
+anchored_root_sequence : rendered (alone
     (sequence_start (record { anchor = Some (codes "id001"); tag = None; implicit = true; style = block }) ∷ alias (codes "id001") ∷ sequence_end ∷ []))
     ≡ codes "&id001\n- *id001\n"
 anchored_root_sequence = refl
 
-nothing : laid (stream_of []) ≡ []
+nothing : rendered (stream_of []) ≡ []
 nothing = refl
 
 -- a sequence as a value that begins on a new line isn't indented
-undented_sequence : laid (alone (mapping block (leaf (codes "a") ∷ sequence block (leaf (codes "b") ∷ leaf (codes "c") ∷ [])))) ≡ codes "a:\n- b\n- c\n"
+undented_sequence : rendered (alone (mapping block (leaf (codes "a") ∷ sequence block (leaf (codes "b") ∷ leaf (codes "c") ∷ [])))) ≡ codes "a:\n- b\n- c\n"
 unfolding lib.Utf8.encode
 undented_sequence = refl
 
-flow_sequence : laid (alone (sequence flow (leaf (codes "a") ∷ leaf (codes "b") ∷ []))) ≡ codes "[a, b]\n"
+flow_sequence : rendered (alone (sequence flow (leaf (codes "a") ∷ leaf (codes "b") ∷ []))) ≡ codes "[a, b]\n"
 flow_sequence = refl
 
-past_ascii : laid (alone (leaf (0xE9 ∷ []) ∷ [])) ≡ codes "\"\\xE9\"\n"
+past_ascii : rendered (alone (leaf (0xE9 ∷ []) ∷ [])) ≡ codes "\"\\xE9\"\n"
 past_ascii = refl
 
-single_with_break : laid (alone (untagged (codes "a\nb") single_quoted ∷ [])) ≡ codes "'a\n\n  b'\n"
+single_with_break : rendered (alone (untagged (codes "a\nb") single_quoted ∷ [])) ≡ codes "'a\n\n  b'\n"
 single_with_break = refl
 
-plain_fold : laid_under (of_width (pos 5)) (alone (leaf (codes "aaaaaa b") ∷ [])) ≡ codes "aaaaaa\n  b\n"
+plain_fold : rendered_under (of_width (pos 5)) (alone (leaf (codes "aaaaaa b") ∷ [])) ≡ codes "aaaaaa\n  b\n"
 plain_fold = refl
 
-dash_first : laid (alone (leaf (codes "- x") ∷ [])) ≡ codes "'- x'\n"
+dash_first : rendered (alone (leaf (codes "- x") ∷ [])) ≡ codes "'- x'\n"
 dash_first = refl
 
-explicit_marks : laid (stream_of (document_start (record { version = None; directives = []; implicit = false }) ∷ leaf (codes "foo") ∷ document_end false ∷ []))
+explicit_marks : rendered (stream_of (document_start (record { version = None; directives = []; implicit = false }) ∷ leaf
+    (codes "foo") ∷ document_end false ∷ []))
     ≡ codes "--- foo\n...\n"
 explicit_marks = refl
 
-version : laid (stream_of (document_start (record { version = Some (record { major = pos 1; minor = pos 1 }); directives = []; implicit = true }) ∷ leaf
+version : rendered (stream_of (document_start (record { version = Some (record { major = pos 1; minor = pos 1 }); directives = []; implicit = true }) ∷ leaf
     (codes "foo") ∷ document_end true ∷ [])) ≡ codes "%YAML 1.1\n--- foo\n"
 version = refl
 
-flow_alias_key : laid (alone (mapping flow (alias (codes "a") ∷ leaf (codes "v") ∷ []))) ≡ codes "{*a : v}\n"
+flow_alias_key : rendered (alone (mapping flow (alias (codes "a") ∷ leaf (codes "v") ∷ []))) ≡ codes "{*a : v}\n"
 unfolding lib.Utf8.encode
 flow_alias_key = refl
 
-literal_item : laid (alone (sequence block (untagged (codes " a") literal ∷ []))) ≡ codes "- |2-\n   a\n"
+literal_item : rendered (alone (sequence block (untagged (codes " a") literal ∷ []))) ≡ codes "- |2-\n   a\n"
 literal_item = refl
 
 -- a raw U+2028 after LF
-line_separator_folded : laid_under unicode_settings (alone (untagged (codes "a\n" ++ 0x2028 ∷ codes "b") folded ∷ [])) ≡ codes ">-\n  a\n\n"
+line_separator_folded : rendered_under unicode_settings (alone (untagged (codes "a\n" ++ 0x2028 ∷ codes "b") folded ∷ [])) ≡ codes ">-\n  a\n\n"
     ++ 0x2028 ∷ codes "  b\n"
 line_separator_folded = refl
 
-wide_indent : laid_under (of_indent (pos 4)) (alone (sequence block (sequence block (leaf (codes "a") ∷ [])))) ≡ codes "-   - a\n"
+wide_indent : rendered_under (of_indent (pos 4)) (alone (sequence block (sequence block (leaf (codes "a") ∷ [])))) ≡ codes "-   - a\n"
 wide_indent = refl
 
-sequence_as_key : laid (alone (mapping block ((sequence block (leaf (codes "b") ∷ [])) ++ (leaf (codes "v") ∷ [])))) ≡ codes "? - b\n: v\n"
+sequence_as_key : rendered (alone (mapping block ((sequence block (leaf (codes "b") ∷ [])) ++ (leaf (codes "v") ∷ [])))) ≡ codes "? - b\n: v\n"
 sequence_as_key = refl
 
-anchored_undented_sequence : laid
+anchored_undented_sequence : rendered
     (alone (mapping block (leaf (codes "a") ∷ sequence_start (record { anchor = Some (codes "x"); tag = None; implicit = true; style = block }) ∷ leaf
     (codes "b") ∷ sequence_end ∷ []))) ≡ codes "a: &x\n- b\n"
 unfolding lib.Utf8.encode
 anchored_undented_sequence = refl
 
-mapping_in_sequence : laid (alone (sequence block (mapping block (leaf (codes "a") ∷ leaf (codes "b") ∷ [])))) ≡ codes "- a: b\n"
+mapping_in_sequence : rendered (alone (sequence block (mapping block (leaf (codes "a") ∷ leaf (codes "b") ∷ [])))) ≡ codes "- a: b\n"
 unfolding lib.Utf8.encode
 mapping_in_sequence = refl
 
-mapping_in_mapping : laid (alone (mapping block (leaf (codes "a") ∷ mapping block (leaf (codes "b") ∷ leaf (codes "c") ∷ [])))) ≡ codes "a:\n  b: c\n"
+mapping_in_mapping : rendered (alone (mapping block (leaf (codes "a") ∷ mapping block (leaf (codes "b") ∷ leaf (codes "c") ∷ [])))) ≡ codes "a:\n  b: c\n"
 unfolding lib.Utf8.encode
 mapping_in_mapping = refl
 
-empty_value_in_flow : laid (alone (sequence flow (leaf (codes "") ∷ []))) ≡ codes "['']\n"
+empty_value_in_flow : rendered (alone (sequence flow (leaf (codes "") ∷ []))) ≡ codes "['']\n"
 empty_value_in_flow = refl
 
-empty_value : laid (alone (mapping block (leaf (codes "a") ∷ leaf (codes "") ∷ []))) ≡ codes "a:\n"
+empty_value : rendered (alone (mapping block (leaf (codes "a") ∷ leaf (codes "") ∷ []))) ≡ codes "a:\n"
 unfolding lib.Utf8.encode
 empty_value = refl
 
-empty_key : laid (alone (mapping block (leaf (codes "") ∷ leaf (codes "v") ∷ []))) ≡ codes "'': v\n"
+empty_key : rendered (alone (mapping block (leaf (codes "") ∷ leaf (codes "v") ∷ []))) ≡ codes "'': v\n"
 empty_key = refl
 
 -- a mark before a document that follows an open one
-open_document_goes_on : laid (stream_of (document_of (untagged (codes "a\n\n") literal ∷ []) ++ document_of (leaf (codes "b") ∷ [])))
+open_document_goes_on : rendered (stream_of (document_of (untagged (codes "a\n\n") literal ∷ []) ++ document_of (leaf (codes "b") ∷ [])))
     ≡ codes "|+\n  a\n\n--- b\n"
 open_document_goes_on = refl
 
-wide_flow : laid_under (of_width (pos 5)) (alone (sequence flow (leaf (codes "aaaa") ∷ leaf (codes "bb") ∷ []))) ≡ codes "[aaaa,\n  bb]\n"
+wide_flow : rendered_under (of_width (pos 5)) (alone (sequence flow (leaf (codes "aaaa") ∷ leaf (codes "bb") ∷ []))) ≡ codes "[aaaa,\n  bb]\n"
 wide_flow = refl
 
-five_escapes : laid (alone (leaf (0 ∷ 7 ∷ 0x22 ∷ 0x5C ∷ 0x85 ∷ 0x7F ∷ []) ∷ [])) ≡ codes "\"\\0\\a\\\"\\\\\\N\\x7F\"\n"
+five_escapes : rendered (alone (leaf (0 ∷ 7 ∷ 0x22 ∷ 0x5C ∷ 0x85 ∷ 0x7F ∷ []) ∷ [])) ≡ codes "\"\\0\\a\\\"\\\\\\N\\x7F\"\n"
 five_escapes = refl
 
-long_escape : laid (alone (leaf (0x1F600 ∷ []) ∷ [])) ≡ codes "\"\\U0001F600\"\n"
+long_escape : rendered (alone (leaf (0x1F600 ∷ []) ∷ [])) ≡ codes "\"\\U0001F600\"\n"
 long_escape = refl
 
-complex_flow_key : laid (alone (mapping flow ((sequence flow (leaf (codes "a") ∷ [])) ++ (leaf (codes "v") ∷ [])))) ≡ codes "{? [a] : v}\n"
+complex_flow_key : rendered (alone (mapping flow ((sequence flow (leaf (codes "a") ∷ [])) ++ (leaf (codes "v") ∷ [])))) ≡ codes "{? [a] : v}\n"
 complex_flow_key = refl

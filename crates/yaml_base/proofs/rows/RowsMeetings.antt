@@ -7,9 +7,9 @@ use Rattle.yaml_base.specs.Event.{any_style, block}
 use Rattle.yaml_base.specs.Settings.{Settings}
 use Rattle.yaml_base.specs.graphs.Meetings.{NumberPair, GraphNode, Graph, decimal_digits, scalar_held, sequence_held, mapping_held, string_tag, sequence_tag}
 use Rattle.yaml_base.specs.graphs.Meetings.{mapping_tag, meetings, document_event_list}
-use Rattle.yaml_base.proofs.rows.RowEvents.{plain_settings, canonical_settings, stream_of, laid_under}
+use Rattle.yaml_base.proofs.rows.RowEvents.{plain_settings, canonical_settings, stream_of, rendered_under}
 
--- nodes with the tags of their kinds, in a document without directives whose marks are implicit
+-- nodes with the tags of their kinds, in a document without directives whose markers are implicit
 abbrev string_of : Text → GraphNode
 string_of value = record { tag = string_tag; held = scalar_held value any_style }
 
@@ -120,7 +120,7 @@ many_shared = (refl, refl)
 -- ---- the text of documents in a stream
 
 abbrev dumped : Settings → List (List GraphNode) → Text
-dumped settings documents = laid_under settings (stream_of (flat_map (λ nodes. document_event_list (graph_of nodes)) documents))
+dumped settings documents = rendered_under settings (stream_of (flat_map (λ nodes. document_event_list (graph_of nodes)) documents))
 
 abbrev dumped_alone : List GraphNode → Text
 dumped_alone nodes = dumped plain_settings (nodes ∷ [])

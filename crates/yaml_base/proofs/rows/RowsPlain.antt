@@ -1,19 +1,19 @@
--- Plain and single-quoted scalars, computed: what is laid out, and that it reads back.
+-- Plain and single-quoted scalars, computed: what is rendered, and that it reads back.
 use Rattle.std.proofs.Common.{◌≡◌, refl, ℕ, [], ◌∷◌, ◌++◌, false, Option, None, Some}
 use Rattle.std.specs.Prelude.{codes, replicate}
 use Rattle.yaml_base.specs.Characters.{Text}
 use Rattle.yaml_base.specs.Cursor.{Cursor, first_cursor}
-use Rattle.yaml_base.specs.scalars.Plain.{plain_laid}
-use Rattle.yaml_base.specs.scalars.SingleQuoted.{single_quoted_laid}
+use Rattle.yaml_base.specs.scalars.Plain.{render_plain}
+use Rattle.yaml_base.specs.scalars.SingleQuoted.{render_single_quoted}
 use Rattle.yaml_base.specs.reading.ReadPlain.{read_plain}
 use Rattle.yaml_base.specs.reading.ReadSingle.{read_single}
 
 -- a root in a block, indented by 2
 abbrev plain_root : Option ℕ → Text → Text
-plain_root limit value = (plain_laid false limit 2 value first_cursor).text
+plain_root limit value = (render_plain false limit 2 value first_cursor).text
 
 abbrev single_root : Option ℕ → Text → Text
-single_root limit value = (single_quoted_laid limit 2 value first_cursor).text
+single_root limit value = (render_single_quoted limit 2 value first_cursor).text
 
 -- not at the start of a line
 abbrev later : Cursor
@@ -22,23 +22,23 @@ later = record { column = 2; whitespace = false; indention = false }
 pub word : plain_root (Some 80) (codes "foo") ≡ codes "foo"
 word = refl
 
-pub nothing_in_a_block : (plain_laid false (Some 80) 2 [] later).text ≡ []
+pub nothing_in_a_block : (render_plain false (Some 80) 2 [] later).text ≡ []
 nothing_in_a_block = refl
 
-pub space_before_a_word : (plain_laid false (Some 80) 2 (codes "b") later).text ≡ codes " b"
+pub space_before_a_word : (render_plain false (Some 80) 2 (codes "b") later).text ≡ codes " b"
 space_before_a_word = refl
 
-pub space_before_a_quote : (single_quoted_laid (Some 80) 2 (codes "b") later).text ≡ codes " 'b'"
+pub space_before_a_quote : (render_single_quoted (Some 80) 2 (codes "b") later).text ≡ codes " 'b'"
 space_before_a_quote = refl
 
 -- the cursor stands after the text, with no white space
 pub cursor_after_plain :
-    (plain_laid false (Some 5) 2 (codes "aaaaaa b") first_cursor).cursor ≡
+    (render_plain false (Some 5) 2 (codes "aaaaaa b") first_cursor).cursor ≡
     record { column = 3; whitespace = false; indention = false }
 cursor_after_plain = refl
 
 pub cursor_after_single :
-    (single_quoted_laid (Some 80) 2 (codes "a\nbcd") later).cursor ≡
+    (render_single_quoted (Some 80) 2 (codes "a\nbcd") later).cursor ≡
     record { column = 6; whitespace = false; indention = false }
 cursor_after_single = refl
 
@@ -80,11 +80,11 @@ quote_alone = refl
 pub quotes_take_columns : single_root (Some 5) (codes "a''' b c") ≡ codes "'a''''''\n  b c'"
 quotes_take_columns = refl
 
-pub key_sign : single_root (Some 80) (codes "a:") ≡ codes "'a:'"
-key_sign = refl
+pub key_indicator : single_root (Some 80) (codes "a:") ≡ codes "'a:'"
+key_indicator = refl
 
-pub entry_sign : single_root (Some 80) (codes "- x") ≡ codes "'- x'"
-entry_sign = refl
+pub entry_indicator : single_root (Some 80) (codes "- x") ≡ codes "'- x'"
+entry_indicator = refl
 
 pub nothing_quoted : single_root (Some 80) [] ≡ codes "''"
 nothing_quoted = refl

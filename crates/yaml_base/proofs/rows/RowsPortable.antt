@@ -10,20 +10,20 @@ use Rattle.yaml_base.specs.Output.{output_of}
 use Rattle.yaml_base.specs.streams.StreamContent.{agrees}
 use Rattle.yaml_base.specs.streams.StreamReader.{stream_trees}
 use Rattle.yaml_base.proofs.rows.RowEvents.{plain_settings, canonical_settings, leaf, tagged, sequence, mapping, implicit_start, document_of, stream_of, alone}
-use Rattle.yaml_base.proofs.rows.RowEvents.{laid_under, laid}
+use Rattle.yaml_base.proofs.rows.RowEvents.{rendered_under, rendered}
 
 abbrev portable_settings : Settings
 portable_settings = record plain_settings { portable = true }
 
 abbrev portably : List Event → Text
-portably events = laid_under portable_settings events
+portably events = rendered_under portable_settings events
 
 -- a scalar without flags that has this tag
 abbrev of_tag : Text → Event
 of_tag tag = tagged None (Some tag) (codes "x")
 
 -- a root of nothing: a document's start is written
-nothing_at_the_root : (portably (alone (leaf [] ∷ [])) ≡ codes "---\n") × (laid (alone (leaf [] ∷ [])) ≡ codes "\n")
+nothing_at_the_root : (portably (alone (leaf [] ∷ [])) ≡ codes "---\n") × (rendered (alone (leaf [] ∷ [])) ≡ codes "\n")
 nothing_at_the_root = (refl, refl)
 
 explicit_end : portably (stream_of (implicit_start ∷ leaf [] ∷ document_end false ∷ [])) ≡ codes "---\n...\n"
@@ -43,12 +43,12 @@ roots : (portably (alone (leaf (codes "a") ∷ [])) ≡ codes "--- a\n")
 unfolding encode_utf8
 roots = (refl, refl, refl, refl)
 
-canonical_as_before : laid_under (record canonical_settings { portable = true }) (alone (leaf (codes "a") ∷ [])) ≡ codes "---\n\"a\"\n"
+canonical_as_before : rendered_under (record canonical_settings { portable = true }) (alone (leaf (codes "a") ∷ [])) ≡ codes "---\n\"a\"\n"
 canonical_as_before = refl
 
--- signs of flow after a handle, and in a verbatim tag
+-- flow indicators after a handle, and in a verbatim tag
 after_a_handle : (portably (alone (of_tag (codes "!a,b[c]") ∷ [])) ≡ codes "--- !a%2Cb%5Bc%5D x\n")
-    × (laid (alone (of_tag (codes "!a,b[c]") ∷ [])) ≡ codes "!a,b[c] x\n")
+    × (rendered (alone (of_tag (codes "!a,b[c]") ∷ [])) ≡ codes "!a,b[c] x\n")
 unfolding encode_utf8
 after_a_handle = (refl, refl)
 
@@ -78,7 +78,7 @@ with_prefix prefix tag =
 
 -- a `!` that begins a prefix, and others
 prefixes : (portably (with_prefix (codes "!x") (codes "!xy")) ≡ codes "%TAG !e! !x\n--- !e!y x\n")
-    × (laid (with_prefix (codes "!x") (codes "!xy")) ≡ codes "%TAG !e! %21x\n--- !e!y x\n")
+    × (rendered (with_prefix (codes "!x") (codes "!xy")) ≡ codes "%TAG !e! %21x\n--- !e!y x\n")
     × (portably (with_prefix (codes "!!a!") (codes "!!a!b")) ≡ codes "%TAG !e! !%21a%21\n--- !e!b x\n")
     × (portably (with_prefix (codes "a!,[") (codes "a!,[,")) ≡ codes "%TAG !e! a%21,[\n--- !e!%2C x\n")
 unfolding encode_utf8

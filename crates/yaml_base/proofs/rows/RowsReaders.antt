@@ -36,7 +36,7 @@ values rows = map (λ r. Some r.value) rows
 
 -- ---- plain
 
--- a `:` before a blank or a break, a `#` after a break, indicators and `...` at the front
+-- a `:` before a blank or a break, a `#` after a break, indicators and `...` at the start
 plain_without_reading : reads_none (read_plain false false)
     (codes "a: b" ∷ codes "a:\nb" ∷ codes "a\n# b" ∷ codes "!a" ∷ codes "? a" ∷ codes "...a" ∷ codes "{a" ∷ codes "'a'" ∷ codes "-" ∷ []) ≡ true
 plain_without_reading = refl

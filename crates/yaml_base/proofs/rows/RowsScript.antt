@@ -69,9 +69,9 @@ unfolding chars is_utf8 encode_utf8
 every_event = refl
 
 -- no bytes, and lines without any meaning
-nothing_said : (script_of [] ≡ understood unset []) × (script_of (codes "\n#\n\n") ≡ understood unset [])
+nothing_parsed : (script_of [] ≡ understood unset []) × (script_of (codes "\n#\n\n") ≡ understood unset [])
 unfolding chars is_utf8 encode_utf8
-nothing_said = (refl, refl)
+nothing_parsed = (refl, refl)
 
 -- characters stand for themselves in a text: the two bytes of U+00E9, a tab, a CR
 raw_characters : script_of (codes "=ALI \"" ++ 0xC3 ∷ 0xA9 ∷ 9 ∷ 13 ∷ codes "\"")

@@ -7,7 +7,7 @@ use Rattle.yaml_base.specs.Event.{ScalarStyle, any_style, double_quoted, block}
 use Rattle.yaml_base.specs.Grammar.{Node, alias_node, scalar_node, sequence_node, no_nodes, nodes_and}
 use Rattle.yaml_base.specs.graphs.Meetings.{Graph, GraphNode, scalar_held, sequence_held, string_tag, sequence_tag, node_numbered, children}
 use Rattle.yaml_base.specs.graphs.Unfolding.{TreeUnfolds, HasShape, node_shape_of, Label, NodeKind, scalar_kind, sequence_kind, mapping_kind, label_of}
-use Rattle.yaml_base.specs.graphs.Unfolding.{AreNamed, Occurrence, alias_occurrence, node_occurrence, carries, is_occurrence_of, number_at, occurrences}
+use Rattle.yaml_base.specs.graphs.Unfolding.{AreNamed, Occurrence, alias_occurrence, node_occurrence, has_anchor, is_occurrence_of, number_at, occurrences}
 use Rattle.yaml_base.specs.graphs.Unfolding.{IsReached, first_reached, child_reached, Placed, alias_placed, node_placed, none_placed, placed_and}
 
 abbrev string_of : Text → GraphNode
@@ -75,8 +75,8 @@ first_differs : (number first second : ℕ) → number ≡ 1 → first ∷ secon
     → value_told (option_map (label_of true) (node_numbered two_strings first)) ≡ codes "b" → ⊥
 first_differs number first second root numbers told =
     let at_root : first ∷ second ∷ [] ≡ 2 ∷ 3 ∷ [] = subst (λ n. first ∷ second ∷ [] ≡ children two_strings n) root numbers in
-    let first_is : first ≡ 2 = ap (λ xs. slice_index xs 0) at_root in
-    let is : codes "a" ≡ codes "b" = subst (λ n. value_told (option_map (label_of true) (node_numbered two_strings n)) ≡ codes "b") first_is told in
+    let first_meets : first ≡ 2 = ap (λ xs. slice_index xs 0) at_root in
+    let is : codes "a" ≡ codes "b" = subst (λ n. value_told (option_map (label_of true) (node_numbered two_strings n)) ≡ codes "b") first_meets told in
     omega (arith, ap (λ text. slice_index text 0) is)
 
 exchanged_fails : (p : Placed) → number_at p ≡ 1 → HasShape true two_strings p (node_shape_of exchanged) → ⊥
@@ -131,13 +131,14 @@ abbrev without_anchor : Node
 without_anchor = a_sequence_of_one (a_sequence None (a_string None (codes "a") any_style) (alias_node []))
 
 none_carries : (a b c : Option Text) (w x y z : ℕ) (name : Text) → a ≡ None → b ≡ None → c ≡ None
-    → count_by (carries name) (node_occurrence a w ∷ node_occurrence b x ∷ node_occurrence c y ∷ alias_occurrence name z ∷ []) ≡ 1 → ⊥
+    → count_by (has_anchor name) (node_occurrence a w ∷ node_occurrence b x ∷ node_occurrence c y ∷ alias_occurrence name z ∷ []) ≡ 1 → ⊥
 none_carries a b c w x y z name is_a is_b is_c counted =
-    let one = subst (λ o. count_by (carries name) (node_occurrence o w ∷ node_occurrence b x ∷ node_occurrence c y ∷ alias_occurrence name z ∷ []) ≡ 1) is_a
+    let one = subst (λ o. count_by (has_anchor name) (node_occurrence o w ∷ node_occurrence b x ∷ node_occurrence c y ∷ alias_occurrence name z ∷ []) ≡ 1) is_a
     counted in
-    let two = subst (λ o. count_by (carries name) (node_occurrence None w ∷ node_occurrence o x ∷ node_occurrence c y ∷ alias_occurrence name z ∷ []) ≡ 1) is_b
+    let two = subst (λ o. count_by (has_anchor name)
+    (node_occurrence None w ∷ node_occurrence o x ∷ node_occurrence c y ∷ alias_occurrence name z ∷ []) ≡ 1) is_b
     one in
-    let three : 0 ≡ 1 = subst (λ o. count_by (carries name) (node_occurrence None w ∷ node_occurrence None x ∷ node_occurrence o y ∷
+    let three : 0 ≡ 1 = subst (λ o. count_by (has_anchor name) (node_occurrence None w ∷ node_occurrence None x ∷ node_occurrence o y ∷
     alias_occurrence name z ∷ []) ≡ 1) is_c two in
     omega (arith, three)
 

@@ -1,4 +1,4 @@
--- Whole streams read, computed: marks, directives, several documents, line breaks and encodings.
+-- Whole streams read, computed: markers, directives, several documents, line breaks and encodings.
 use Rattle.std.specs.Prelude.{◌≡◌, pos, false, true, None, Some, [], ◌∷◌, ◌++◌, codes, refl}
 use Rattle.std.specs.Char.{encode_utf8}
 use Rattle.std.specs.Str.{chars, is_utf8}

@@ -5,29 +5,29 @@ use Rattle.std.specs.Str.{chars, is_utf8}
 use Rattle.yaml_base.specs.Event.{plain, double_quoted, flow}
 use Rattle.yaml_base.specs.streams.StreamContent.{agrees}
 use Rattle.yaml_base.specs.streams.StreamReader.{stream_trees}
-use Rattle.yaml_base.specs.StreamLaw.{is_portable}
+use Rattle.yaml_base.specs.StreamLaw.{reads_alike}
 use Rattle.yaml_base.proofs.rows.RowEvents.{untagged, leaf, tagged, sequence, document_of, stream_of, alone}
 
 -- a root that is written as nothing, without `---`; not so one in quotes, one after another document, one with a tag, none at all
-lost_documents : (is_portable false false (alone (leaf [] ∷ [])) ≡ false)
-    × (is_portable false false (alone (untagged [] plain ∷ [])) ≡ false)
-    × (is_portable false false (alone (untagged [] double_quoted ∷ [])) ≡ true)
-    × (is_portable false false (alone (leaf (codes "a") ∷ [])) ≡ true)
-    × (is_portable false true (alone (leaf [] ∷ [])) ≡ true)
-    × (is_portable false false (stream_of (document_of (leaf (codes "a") ∷ []) ++ document_of (leaf [] ∷ []))) ≡ true)
-    × (is_portable false false (alone (tagged None (Some (codes "!t")) [] ∷ [])) ≡ true)
-    × (is_portable false false (stream_of []) ≡ true)
+lost_documents : (reads_alike false false (alone (leaf [] ∷ [])) ≡ false)
+    × (reads_alike false false (alone (untagged [] plain ∷ [])) ≡ false)
+    × (reads_alike false false (alone (untagged [] double_quoted ∷ [])) ≡ true)
+    × (reads_alike false false (alone (leaf (codes "a") ∷ [])) ≡ true)
+    × (reads_alike false true (alone (leaf [] ∷ [])) ≡ true)
+    × (reads_alike false false (stream_of (document_of (leaf (codes "a") ∷ []) ++ document_of (leaf [] ∷ []))) ≡ true)
+    × (reads_alike false false (alone (tagged None (Some (codes "!t")) [] ∷ [])) ≡ true)
+    × (reads_alike false false (stream_of []) ≡ true)
 lost_documents = (refl, refl, refl, refl, refl, refl, refl, refl)
 
--- signs of flow after a handle, also inside collections; not so in a verbatim tag
-flow_signs : (is_portable false false (alone (tagged None (Some (codes "!a,b")) (codes "x") ∷ [])) ≡ false)
-    × (is_portable false false (alone (sequence flow (leaf (codes "a") ∷ tagged None (Some (codes "tag:yaml.org,2002:[")) (codes "x") ∷ []))) ≡ false)
-    × (is_portable false false (alone (tagged None (Some (codes "a,b")) (codes "x") ∷ [])) ≡ true)
-flow_signs = (refl, refl, refl)
+-- flow indicators after a handle, also inside collections; not so in a verbatim tag
+flow_indicators : (reads_alike false false (alone (tagged None (Some (codes "!a,b")) (codes "x") ∷ [])) ≡ false)
+    × (reads_alike false false (alone (sequence flow (leaf (codes "a") ∷ tagged None (Some (codes "tag:yaml.org,2002:[")) (codes "x") ∷ []))) ≡ false)
+    × (reads_alike false false (alone (tagged None (Some (codes "a,b")) (codes "x") ∷ [])) ≡ true)
+flow_indicators = (refl, refl, refl)
 
 -- in portable mode neither kind is left out
-all_portable : (is_portable true false (alone (leaf [] ∷ [])) ≡ true)
-    × (is_portable true false (alone (tagged None (Some (codes "!a,b")) (codes "x") ∷ [])) ≡ true)
+all_portable : (reads_alike true false (alone (leaf [] ∷ [])) ≡ true)
+    × (reads_alike true false (alone (tagged None (Some (codes "!a,b")) (codes "x") ∷ [])) ≡ true)
 all_portable = (refl, refl)
 
 -- what is read agrees with the events that it was written from, and with no others

@@ -184,7 +184,7 @@ quotes_in_flow : stream_trees false (codes "['a''b', '', \"\\\"]\\\\\"]\n") ≡ 
 unfolding chars is_utf8 encode_utf8
 quotes_in_flow = refl
 
--- What looks like a sign and is none
+-- What looks like an indicator and is none
 
 signs_inside_plain_text : stream_trees false (codes "-a: b:c -d #e\n") ≡ None
 unfolding chars is_utf8 encode_utf8

@@ -24,7 +24,7 @@ blocks : (stream_trees false (codes "-\n- a\n") ≡ only (items (bare_word [] �
 unfolding chars is_utf8 encode_utf8
 blocks = (refl, refl, refl, refl, refl, refl)
 
--- keys: two on a line, one without a value's sign, a value without a key, text of two lines, an alias glued to its `:`
+-- keys: two on a line, one without a value's indicator, a value without a key, text of two lines, an alias glued to its `:`
 keys : (stream_trees false (codes "a: b: c\n") ≡ None)
     × (stream_trees false (codes "? a\nb: c\n") ≡ None)
     × (stream_trees false (codes ": a\n") ≡ None)
@@ -43,7 +43,7 @@ long_keys : (stream_trees false (replicate 1024 120 ++ codes ": v\n") ≡ only (
 unfolding chars is_utf8 encode_utf8
 long_keys = (refl, refl, refl)
 
--- marks: directives without `...` before them, `---` glued, `...` twice, with text, or a wrong end sign
+-- markers: directives without `...` before them, `---` glued, `...` twice, with text, or a wrong end indicator
 marks : (stream_trees false (codes "a\n%YAML 1.1\n--- b\n") ≡ None)
     × (stream_trees false (codes "---a\n") ≡ None)
     × (stream_trees false (codes "--- a\n---b\n") ≡ None)
@@ -68,8 +68,8 @@ directives : (stream_trees false (codes "%YAML 1.1\na\n") ≡ None)
 unfolding chars is_utf8 encode_utf8
 directives = (refl, refl, refl, refl, refl, refl, refl, refl, refl)
 
--- tags and anchors: no blank after an anchor, a flow sign after a handle, the bare tag before plain text or a collection, a
--- tag before an anchor, an anchor before an alias, an alias without its sign, a cut `%` form, a name without a character
+-- tags and anchors: no blank after an anchor, a flow indicator after a handle, the bare tag before plain text or a collection, a
+-- tag before an anchor, an anchor before an alias, an alias without its indicator, a cut `%` form, a name without a character
 properties : (stream_trees false (codes "&a\"b\"\n") ≡ None)
     × (stream_trees false (codes "!a,b x\n") ≡ None)
     × (stream_trees false (codes "! a\n") ≡ None)
@@ -116,7 +116,7 @@ scalars : (stream_trees false (codes "a\tb\n") ≡ None)
 unfolding chars is_utf8 encode_utf8
 scalars = (refl, refl, refl, refl, refl, refl, refl, refl, refl, refl, refl, refl)
 
--- block scalars: no sign but these, a folded line that begins with a space stays, a line that isn't deep, one of spaces alone
+-- block scalars: no indicator but these, a folded line that begins with a space stays, a line that isn't deep, one of spaces alone
 block_scalars : (stream_trees false (codes "|*\n  a\n") ≡ None)
     × (stream_trees false (codes ">\n  a\n   b\n  c\n") ≡ only (in_quotes (codes "a\n b\nc\n")))
     × (stream_trees false (codes "- |\na\n") ≡ None)
@@ -125,7 +125,7 @@ block_scalars : (stream_trees false (codes "|*\n  a\n") ≡ None)
 unfolding chars is_utf8 encode_utf8
 block_scalars = (refl, refl, refl, refl, refl)
 
--- streams: a root of nothing without `---`, a break at the start, two roots, bytes that aren't UTF-8, a mark in UTF-8
+-- streams: a root of nothing without `---`, a break at the start, two roots, bytes that aren't UTF-8, a marker in UTF-8
 streams : (stream_trees false (codes "\n") ≡ Some [])
     × (stream_trees false (codes "\na\n") ≡ None)
     × (stream_trees false (codes " a\n") ≡ None)

@@ -45,7 +45,8 @@ based_stay_quoted : all_pass is_based (codes "0x1F 0X1f 0o7 0b1 0B2 +0xfg -_0x1 
 based_stay_quoted = refl
 
 -- numbers of either schema, and of readers that keep to none
-numbers_stay_quoted : (all_pass is_numeric (codes "0 -0 -_0 _0 007 12 9223372036854775808 1_000 _1 +_1 1,000 1.5 1. .5 +.5e-1 1e5 12e03 e5 E5 E-6 +e0 e2e") ≡ true)
+numbers_stay_quoted : (all_pass is_numeric
+    (codes "0 -0 -_0 _0 007 12 9223372036854775808 1_000 _1 +_1 1,000 1.5 1. .5 +.5e-1 1e5 12e03 e5 E5 E-6 +e0 e2e") ≡ true)
     × (all_pass is_numeric (codes "1.2.3 127.0.0.1 1:30 -:1 00:11:22:33:44:55 8b40 1.x 1_0x5 1x 7o ext4 1e 12-14") ≡ true)
     × (list_all is_numeric (codes "1 2" ∷ codes "1 - 3" ∷ []) ≡ true)
 numbers_stay_quoted = (refl, refl, refl)

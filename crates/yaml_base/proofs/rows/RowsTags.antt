@@ -7,7 +7,7 @@ use Rattle.yaml_base.specs.Characters.{Text}
 use Rattle.yaml_base.specs.Event.{TagDirective}
 use Rattle.yaml_base.specs.Percent.{percent_escaped}
 use Rattle.yaml_base.specs.reading.ReadPercent.{percent_read}
-use Rattle.yaml_base.specs.reading.ReadTags.{bare_said, name_said}
+use Rattle.yaml_base.specs.reading.ReadTags.{bare_parsed, name_parsed}
 use Rattle.yaml_base.specs.reading.CanonicalReader.{tag_read}
 use Rattle.yaml_base.specs.Tags.{directives_in_force, spelling, spelled, anchor_fault, alias_fault, version_fault, directives_fault, tag_fault}
 use Rattle.yaml_base.specs.declared.errors.yaml_error_t.TheVariants.{IncompatibleVersion, TagHandleEmpty, TagHandleStart, TagHandleEnd, TagHandleAlphabet}
@@ -75,28 +75,28 @@ null_and_accent : spelled false (spelling defaults (codes "!" ++ 0xE9 ∷ 0 ∷ 
 unfolding encode
 null_and_accent = refl
 
-reads_bare : tag_read [] (codes "!") ≡ Some bare_said
+reads_bare : tag_read [] (codes "!") ≡ Some bare_parsed
 reads_bare = refl
 
-reads_shorthand : tag_read (directive (codes "!e!") (codes "!x") ∷ []) (codes "!e!y%21") ≡ Some (name_said (codes "!xy!"))
+reads_shorthand : tag_read (directive (codes "!e!") (codes "!x") ∷ []) (codes "!e!y%21") ≡ Some (name_parsed (codes "!xy!"))
 unfolding is_utf8 chars encode
 reads_shorthand = refl
 
-reads_default : tag_read [] (codes "!!int") ≡ Some (name_said (codes "tag:yaml.org,2002:int"))
+reads_default : tag_read [] (codes "!!int") ≡ Some (name_parsed (codes "tag:yaml.org,2002:int"))
 unfolding is_utf8 chars encode
 reads_default = refl
 
-reads_verbatim : tag_read [] (codes "!<%21>") ≡ Some (name_said (codes "!"))
+reads_verbatim : tag_read [] (codes "!<%21>") ≡ Some (name_parsed (codes "!"))
 unfolding is_utf8 chars encode
 reads_verbatim = refl
 
 reads_no_open_verbatim : tag_read [] (codes "!<a") ≡ None
 reads_no_open_verbatim = refl
 
--- a space ends a tag in a canonical stream, so it may hold the signs of flow
-reads_flow_signs : tag_read [] (codes "!a,[b]") ≡ Some (name_said (codes "!a,[b]"))
+-- a space ends a tag in a canonical stream, so it may hold the flow indicators
+reads_flow_indicators : tag_read [] (codes "!a,[b]") ≡ Some (name_parsed (codes "!a,[b]"))
 unfolding is_utf8 chars encode
-reads_flow_signs = refl
+reads_flow_indicators = refl
 
 -- outputs of wrong writers: a sign that isn't escaped, a handle that the document doesn't give, `%` left as it was
 reads_other_tags :
@@ -107,9 +107,9 @@ reads_other_tags = (refl, refl, refl, refl, refl, refl)
 
 -- a document's own directive comes before the one assumed, and the first of two before the second
 reads_by_the_first_directive :
-    (tag_read (directive (codes "!!") (codes "x:") ∷ directive (codes "!!") (codes "y:") ∷ []) (codes "!!a") ≡ Some (name_said (codes "x:a")))
-    × (tag_read (directive (codes "!") (codes "x:") ∷ []) (codes "!a") ≡ Some (name_said (codes "x:a")))
-    × (tag_read [] (codes "!!<a>") ≡ Some (name_said (codes "tag:yaml.org,2002:<a>")))
+    (tag_read (directive (codes "!!") (codes "x:") ∷ directive (codes "!!") (codes "y:") ∷ []) (codes "!!a") ≡ Some (name_parsed (codes "x:a")))
+    × (tag_read (directive (codes "!") (codes "x:") ∷ []) (codes "!a") ≡ Some (name_parsed (codes "x:a")))
+    × (tag_read [] (codes "!!<a>") ≡ Some (name_parsed (codes "tag:yaml.org,2002:<a>")))
 unfolding is_utf8 chars encode
 reads_by_the_first_directive = (refl, refl, refl)
 

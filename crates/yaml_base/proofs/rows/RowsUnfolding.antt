@@ -122,11 +122,11 @@ third_missing : (number first second : ℕ) → number ≡ 1 → first ∷ secon
     (codes "id001") second ∷ []) ≡ 1 → ⊥
 third_missing number first second root numbers once =
     let at_root : first ∷ second ∷ [] ≡ 2 ∷ 3 ∷ [] = subst (λ n. first ∷ second ∷ [] ≡ children two_equal n) root numbers in
-    let first_is : first ≡ 2 = ap (λ xs. slice_index xs 0) at_root in
+    let first_meets : first ≡ 2 = ap (λ xs. slice_index xs 0) at_root in
     let counted : count_by (is_occurrence_of 3) (node_occurrence None 1 ∷ node_occurrence (Some (codes "id001")) 2 ∷ alias_occurrence
     (codes "id001") second ∷ []) ≡ 1 =
     subst (λ m. count_by (is_occurrence_of 3) (node_occurrence None 1 ∷ node_occurrence (Some (codes "id001")) m ∷ alias_occurrence
-    (codes "id001") second ∷ []) ≡ 1) first_is
+    (codes "id001") second ∷ []) ≡ 1) first_meets
     (subst (λ n. count_by (is_occurrence_of 3) (node_occurrence None n ∷ node_occurrence (Some (codes "id001")) first ∷ alias_occurrence
     (codes "id001") second ∷ []) ≡ 1) root
     once) in

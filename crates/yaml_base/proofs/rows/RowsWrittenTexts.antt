@@ -5,7 +5,7 @@ use Rattle.yaml_base.specs.Characters.{Text}
 use Rattle.yaml_base.specs.Event.{plain, single_quoted, double_quoted, literal, folded, block}
 use Rattle.yaml_base.specs.Settings.{Settings}
 use Rattle.yaml_base.specs.WrittenTexts.{is_separator, may_stand_raw}
-use Rattle.yaml_base.proofs.rows.RowEvents.{unicode_settings, untagged, leaf, mapping, sequence, alone, laid_under}
+use Rattle.yaml_base.proofs.rows.RowEvents.{unicode_settings, untagged, leaf, mapping, sequence, alone, rendered_under}
 
 -- U+2028 and U+2029 alone are separators
 separators : map is_separator (0xA ∷ 0x85 ∷ 0x2027 ∷ 0x2028 ∷ 0x2029 ∷ 0x202A ∷ []) ≡ false ∷ false ∷ false ∷ true ∷ true ∷ false ∷ []
@@ -28,20 +28,20 @@ abbrev parted : Text
 parted = codes "a\u{2029}b"
 
 -- at the root it is written in double quotes, whatever the style
-at_root : (laid_under breaks12_settings (alone (untagged separated single_quoted ∷ [])) ≡ codes "\"a\\Lb\"\n")
-    × (laid_under breaks12_settings (alone (untagged separated literal ∷ [])) ≡ codes "\"a\\Lb\"\n")
-    × (laid_under breaks12_settings (alone (untagged separated folded ∷ [])) ≡ codes "\"a\\Lb\"\n")
-    × (laid_under breaks12_settings (alone (untagged separated plain ∷ [])) ≡ codes "\"a\\Lb\"\n")
-    × (laid_under breaks12_settings (alone (untagged separated double_quoted ∷ [])) ≡ codes "\"a\\Lb\"\n")
-    × (laid_under breaks12_settings (alone (untagged parted single_quoted ∷ [])) ≡ codes "\"a\\Pb\"\n")
+at_root : (rendered_under breaks12_settings (alone (untagged separated single_quoted ∷ [])) ≡ codes "\"a\\Lb\"\n")
+    × (rendered_under breaks12_settings (alone (untagged separated literal ∷ [])) ≡ codes "\"a\\Lb\"\n")
+    × (rendered_under breaks12_settings (alone (untagged separated folded ∷ [])) ≡ codes "\"a\\Lb\"\n")
+    × (rendered_under breaks12_settings (alone (untagged separated plain ∷ [])) ≡ codes "\"a\\Lb\"\n")
+    × (rendered_under breaks12_settings (alone (untagged separated double_quoted ∷ [])) ≡ codes "\"a\\Lb\"\n")
+    × (rendered_under breaks12_settings (alone (untagged parted single_quoted ∷ [])) ≡ codes "\"a\\Pb\"\n")
 at_root = (refl, refl, refl, refl, refl, refl)
 
 -- and so it is as a key in a block, and in flow
-as_key : (laid_under breaks12_settings (alone (mapping block (untagged separated single_quoted ∷ leaf (codes "v") ∷ []))) ≡ codes "? \"a\\Lb\"\n: v\n")
-    × (laid_under breaks12_settings (alone (mapping block (untagged separated literal ∷ leaf (codes "v") ∷ []))) ≡ codes "? \"a\\Lb\"\n: v\n")
-    × (laid_under breaks12_settings (alone (sequence block (untagged parted literal ∷ []))) ≡ codes "- \"a\\Pb\"\n")
+as_key : (rendered_under breaks12_settings (alone (mapping block (untagged separated single_quoted ∷ leaf (codes "v") ∷ []))) ≡ codes "? \"a\\Lb\"\n: v\n")
+    × (rendered_under breaks12_settings (alone (mapping block (untagged separated literal ∷ leaf (codes "v") ∷ []))) ≡ codes "? \"a\\Lb\"\n: v\n")
+    × (rendered_under breaks12_settings (alone (sequence block (untagged parted literal ∷ []))) ≡ codes "- \"a\\Pb\"\n")
 as_key = (refl, refl, refl)
 
 -- without the option the same value keeps it raw
-kept : list_any is_separator (laid_under unicode_settings (alone (untagged separated single_quoted ∷ []))) ≡ true
+kept : list_any is_separator (rendered_under unicode_settings (alone (untagged separated single_quoted ∷ []))) ≡ true
 kept = refl

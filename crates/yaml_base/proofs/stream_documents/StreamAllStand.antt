@@ -7,17 +7,17 @@ use Rattle.yaml_base.specs.Characters.{is_printable}
 use Rattle.yaml_base.specs.Settings.{Encoding, Settings, Effective, effective_indent, effective}
 use Rattle.yaml_base.specs.Event.{Event}
 use Rattle.yaml_base.specs.Tags.{directives_in_force}
-use Rattle.yaml_base.specs.Cursor.{Laid}
+use Rattle.yaml_base.specs.Cursor.{Rendered}
 use Rattle.yaml_base.specs.Grammar.{Documents, no_documents, documents_and, tree_of}
 use Rattle.yaml_base.specs.Refusal.{IsAccepted}
-use Rattle.yaml_base.specs.Layout.{text_of, root_place, has_no_documents, documents_laid, first_standing}
+use Rattle.yaml_base.specs.Layout.{text_of, root_place, has_no_documents, render_documents, first_standing}
 use Rattle.yaml_base.specs.Pieces.{list_layout}
 use Rattle.yaml_base.specs.Output.{bytes_written, text_written}
 use Rattle.yaml_base.specs.reading.ReadBytes.{characters_read}
 use Rattle.yaml_base.specs.Meaning.{has_scalar_texts, has_scalar_values, MeaningIsKept}
 use Rattle.yaml_base.specs.WrittenTexts.{BodiesAreTidy}
 use Rattle.yaml_base.specs.streams.StreamContent.{documents_in_order}
-use Rattle.yaml_base.specs.StreamLaw.{StreamReadsBack, is_portable}
+use Rattle.yaml_base.specs.StreamLaw.{StreamReadsBack, reads_alike}
 use Rattle.yaml_base.proofs.Trees.{tree_of-stream_events}
 use Rattle.yaml_base.proofs.stream_lines.StreamClosed.{margin_cursor}
 use Rattle.yaml_base.proofs.stream_nodes.StreamStands.{BodyStands, BodiesHold}
@@ -28,15 +28,15 @@ use Rattle.yaml_base.proofs.stream_nodes.StreamBodies.{DocumentsHold, roots_stan
 use Rattle.yaml_base.proofs.stream_keys.StreamSimpleKeys.{simple_keys_fit}
 use Rattle.yaml_base.proofs.stream_nodes.StreamScalarLeaves.{scalars_fit}
 use Rattle.yaml_base.proofs.stream_keys.StreamKeysFit.{keys_fit}
-use Rattle.yaml_base.proofs.stream_documents.StreamRootsStand.{is_on_mark, DocumentsStand}
+use Rattle.yaml_base.proofs.stream_documents.StreamRootsStand.{is_on_marker, DocumentsStand}
 use Rattle.yaml_base.proofs.stream_documents.StreamRootLeaves.{root_stands}
-use Rattle.yaml_base.proofs.stream_documents.StreamDocumentTexts.{start_laid, end_cursor}
+use Rattle.yaml_base.proofs.stream_documents.StreamDocumentTexts.{start_rendered, end_cursor}
 use Rattle.yaml_base.proofs.stream_documents.StreamLawStands.{StreamStands, documents_parts, indent_deep, stream_agrees}
 
 -- Documents
 
 -- after each document a line begins
-documents_end : (s : Effective) (documents : Documents) → (documents_laid s documents first_standing).standing.cursor ≡ margin_cursor 0
+documents_end : (s : Effective) (documents : Documents) → (render_documents s documents first_standing).standing.cursor ≡ margin_cursor 0
 documents_end s no_documents = refl
 documents_end s (documents_and before document) = end_cursor document.end_implicit _
 
@@ -48,13 +48,13 @@ documents_stand s no_documents low high sound bodies = tt
 documents_stand s (documents_and before document) low high sound bodies =
     let parts = documents_parts (IsSoundDocument s.portable s.canonical) (documents_in_order before) (document ∷ []) sound in
     let own = document.start.directives in
-    let at = start_laid s (has_no_documents before) document.start (documents_laid s before first_standing).standing (documents_end s before) in (
+    let at = start_rendered s (has_no_documents before) document.start (render_documents s before first_standing).standing (documents_end s before) in (
       documents_stand s before low high parts.0 bodies.0,
       record {
-        root = root_stands s document (is_on_mark s (has_no_documents before) document.start) low (scalars_fit s own (directives_in_force own) low high)
+        root = root_stands s document (is_on_marker s (has_no_documents before) document.start) low (scalars_fit s own (directives_in_force own) low high)
             (simple_keys_fit s own (directives_in_force own))
             (keys_fit s own (directives_in_force own)) parts.1.0.names
-            (subst (λ (l : Laid). BodiesHold (BodyStands s) document.root s (directives_in_force own) root_place l.cursor) at bodies.1);
+            (subst (λ (l : Rendered). BodiesHold (BodyStands s) document.root s (directives_in_force own) root_place l.cursor) at bodies.1);
         heading = heading_stands s document.start parts.1.0.version parts.1.0.directives parts.1.0.prefixes;
       },
     )
@@ -95,7 +95,7 @@ LayoutsAreRead =
 abbrev pub StreamsStand : Type 0
 StreamsStand =
     (given : Settings) (encoding : Option Encoding) (events : List Event) (accepted : IsAccepted given.canonical events)
-    → list_all has_scalar_texts events ≡ true → is_portable given.portable given.canonical events ≡ true
+    → list_all has_scalar_texts events ≡ true → reads_alike given.portable given.canonical events ≡ true
     → StreamStands (effective given encoding) events accepted.stream
 
 -- it does where bodies are tidy and keep their meaning, and texts are printable and read from their bytes

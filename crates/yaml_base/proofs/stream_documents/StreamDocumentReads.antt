@@ -5,16 +5,17 @@ use Rattle.std.specs.Prelude.{ℕ, Bool, true, false, Option, None, Some, List, 
 use Rattle.yaml_base.specs.Characters.{Text, line_feed}
 use Rattle.yaml_base.specs.Settings.{Effective}
 use Rattle.yaml_base.specs.Event.{Version, TagDirective, DocumentStart}
-use Rattle.yaml_base.specs.Cursor.{then_laid}
-use Rattle.yaml_base.specs.Layout.{has_directives, version_laid, tag_directives_laid}
+use Rattle.yaml_base.specs.Cursor.{render_then}
+use Rattle.yaml_base.specs.Layout.{has_directives, render_version, render_tag_directives}
 use Rattle.yaml_base.specs.streams.StreamContent.{DocumentTree}
 use Rattle.yaml_base.specs.streams.StreamLines.{lines_of}
-use Rattle.yaml_base.specs.streams.StreamDocuments.{start_mark, Section, Heading, no_heading, heading_of, StreamPlace, after_root, after_heading, document_read}
-use Rattle.yaml_base.specs.streams.StreamDocuments.{heading_added, section_by_kind}
+use Rattle.yaml_base.specs.streams.StreamDocuments.{start_marker, Section, Heading, no_heading, heading_of, StreamPlace, after_root, after_heading}
+use Rattle.yaml_base.specs.streams.StreamDocuments.{document_read}
+use Rattle.yaml_base.specs.streams.StreamDocuments.{with_heading, section_by_kind}
 use Rattle.yaml_base.proofs.stream_lines.StreamLineLaws.{is_closed, OneLine}
 use Rattle.yaml_base.proofs.stream_lines.StreamClosed.{margin_cursor, lines_broken, closed_both}
 use Rattle.yaml_base.proofs.stream_documents.StreamRootsStand.{heading_text, HeadingStands}
-use Rattle.yaml_base.proofs.stream_documents.StreamSoFar.{SoFar, front_alone, one_more, Percents, percents_unmarked, percents_shown, front_heading}
+use Rattle.yaml_base.proofs.stream_documents.StreamSoFar.{WalkProgress, prefix_alone, one_more, Percents, percents_unmarked, percents_shown, prefix_heading}
 
 -- Ends
 
@@ -26,44 +27,45 @@ dots = codes "..." ++ (line_feed ∷ [])
 -- document its root is read
 abbrev pub Awaits : (breaks12 : Bool) → ℕ → Text → List DocumentTree → (ended : Bool) → Type 0
 Awaits breaks12 depth text documents true =
-    (lines : Text) (said : Heading) → is_closed breaks12 lines ≡ true → Percents (lines_of breaks12 lines) → heading_of (lines_of breaks12 lines) ≡ Some said
-    → SoFar breaks12 depth (text ++ lines) (record { documents = documents; place = after_heading said })
-Awaits breaks12 depth text documents false = SoFar breaks12 depth text (record { documents = documents; place = after_root })
+    (lines : Text) (parsed : Heading) → is_closed breaks12 lines ≡ true → Percents (lines_of breaks12 lines)
+    → heading_of (lines_of breaks12 lines) ≡ Some parsed
+    → WalkProgress breaks12 depth (text ++ lines) (record { documents = documents; place = after_heading parsed })
+Awaits breaks12 depth text documents false = WalkProgress breaks12 depth text (record { documents = documents; place = after_root })
 
 -- so it is at a stream's start
 pub awaits_first : (breaks12 : Bool) (depth : ℕ) → Awaits breaks12 depth [] [] true
-awaits_first breaks12 depth = λ lines said ends percents reads.
-    front_alone breaks12 depth lines (record { documents = []; place = after_heading said }) ends (percents_unmarked (lines_of breaks12 lines) percents)
-    (front_heading breaks12 depth (lines_of breaks12 lines) said percents reads)
+awaits_first breaks12 depth = λ lines parsed ends percents reads.
+    prefix_alone breaks12 depth lines (record { documents = []; place = after_heading parsed }) ends (percents_unmarked (lines_of breaks12 lines) percents)
+    (prefix_heading breaks12 depth (lines_of breaks12 lines) parsed percents reads)
 
--- three signs break no line
+-- three indicators break no line
 dots_line : (breaks12 : Bool) → OneLine breaks12 (codes "...")
 dots_line true = refl
 dots_line false = refl
 
 -- and behind `...`
 pub awaits_ended : (breaks12 : Bool) (depth : ℕ) (text : Text) (documents : List DocumentTree)
-    → SoFar breaks12 depth text (record { documents = documents; place = after_root })
+    → WalkProgress breaks12 depth text (record { documents = documents; place = after_root })
     → Awaits breaks12 depth (text ++ dots) documents true
-awaits_ended breaks12 depth text documents so = λ lines said ends percents reads.
-    subst (λ t. SoFar breaks12 depth t (record { documents = documents; place = after_heading said })) (sym (append_assoc text dots lines))
+awaits_ended breaks12 depth text documents so = λ lines parsed ends percents reads.
+    subst (λ t. WalkProgress breaks12 depth t (record { documents = documents; place = after_heading parsed })) (sym (append_assoc text dots lines))
     (one_more breaks12 depth text (dots ++ lines) (record { documents = documents; place = after_root })
-    (record { documents = documents; place = after_heading said })
+    (record { documents = documents; place = after_heading parsed })
     (record { text = codes "..."; ending = line_feed ∷ [] }) (lines_of breaks12 lines) so (closed_both breaks12 dots lines refl ends)
     (lines_broken breaks12 (codes "...") lines (dots_line breaks12)) refl (percents_unmarked (lines_of breaks12 lines) percents)
-    (ap (λ ls. heading_added documents (heading_of ls)) (percents_shown (lines_of breaks12 lines) percents) ∙ ap (heading_added documents) reads))
+    (ap (λ ls. with_heading documents (heading_of ls)) (percents_shown (lines_of breaks12 lines) percents) ∙ ap (with_heading documents) reads))
 
 -- Directives
 
 -- the next `---` begins a document with this heading
 pub record Headed (breaks12 : Bool) (depth : ℕ) (text : Text) (documents : List DocumentTree) (heading : Heading) : Type 0 where
   pub place : StreamPlace
-  pub so_far : SoFar breaks12 depth text (record { documents = documents; place = place })
-  pub opens : (section : Section) → section_by_kind start_mark depth breaks12 documents place section ≡ document_read depth breaks12 documents heading section
+  pub so_far : WalkProgress breaks12 depth text (record { documents = documents; place = place })
+  pub opens : (section : Section) → section_by_kind start_marker depth breaks12 documents place section ≡ document_read depth breaks12 documents heading section
 
 -- what a document's start says
-abbrev pub heading_said : DocumentStart → Heading
-heading_said start = record { version = start.version; directives = start.directives }
+abbrev pub heading_parsed : DocumentStart → Heading
+heading_parsed start = record { version = start.version; directives = start.directives }
 
 -- `...` where it is needed
 abbrev pub dots_if : Bool → Text
@@ -93,12 +95,12 @@ no_directives start h =
 pub nothing_headed : (s : Effective) (start : DocumentStart) → has_directives start ≡ false → heading_text s start ≡ []
 nothing_headed s start h =
     let parts = no_directives start h in
-    ap (λ v. (then_laid (version_laid v (margin_cursor 0)) (tag_directives_laid s.portable start.directives)).text) parts.0
-    ∙ ap (λ l. (tag_directives_laid s.portable l (margin_cursor 0)).text) parts.1
+    ap (λ v. (render_then (render_version v (margin_cursor 0)) (render_tag_directives s.portable start.directives)).text) parts.0
+    ∙ ap (λ l. (render_tag_directives s.portable l (margin_cursor 0)).text) parts.1
 
 -- and say nothing
-pub nothing_said : (start : DocumentStart) → has_directives start ≡ false → no_heading ≡ heading_said start
-nothing_said start h =
+pub nothing_parsed : (start : DocumentStart) → has_directives start ≡ false → no_heading ≡ heading_parsed start
+nothing_parsed start h =
     let parts = no_directives start h in
     sym (ap (λ v. let made : Heading = record { version = v; directives = start.directives } in made) parts.0
     ∙ ap (λ l. let made : Heading = record { version = None; directives = l } in made) parts.1)
@@ -106,12 +108,12 @@ nothing_said start h =
 -- the directives of a document, behind `...` where the document before them is open
 pub headed : (s : Effective) (depth : ℕ) (text : Text) (documents : List DocumentTree) (start : DocumentStart) (ended : Bool)
     → Awaits s.breaks12 depth text documents ended → HeadingStands s start
-    → Headed s.breaks12 depth (text ++ (dots_if (has_directives start && not ended) ++ heading_text s start)) documents (heading_said start)
+    → Headed s.breaks12 depth (text ++ (dots_if (has_directives start && not ended) ++ heading_text s start)) documents (heading_parsed start)
 headed s depth text documents start true awaits stands =
-    subst (λ x. Headed s.breaks12 depth (text ++ (dots_if x ++ heading_text s start)) documents (heading_said start)) (sym (and_no (has_directives start)))
+    subst (λ x. Headed s.breaks12 depth (text ++ (dots_if x ++ heading_text s start)) documents (heading_parsed start)) (sym (and_no (has_directives start)))
     (record {
-      place = after_heading (heading_said start);
-      so_far = awaits (heading_text s start) (heading_said start) stands.ends stands.percents stands.reads;
+      place = after_heading (heading_parsed start);
+      so_far = awaits (heading_text s start) (heading_parsed start) stands.ends stands.percents stands.reads;
       opens = λ section. refl;
     })
   where
@@ -120,18 +122,19 @@ headed s depth text documents start true awaits stands =
     and_no false = refl
 headed s depth text documents start false awaits stands = by (has_directives start) refl
   where
-    by : (x : Bool) → has_directives start ≡ x → Headed s.breaks12 depth (text ++ (dots_if (x && true) ++ heading_text s start)) documents (heading_said start)
+    by : (x : Bool) → has_directives start ≡ x
+        → Headed s.breaks12 depth (text ++ (dots_if (x && true) ++ heading_text s start)) documents (heading_parsed start)
     by true h =
-        subst (λ t. Headed s.breaks12 depth t documents (heading_said start)) (append_assoc text dots (heading_text s start))
+        subst (λ t. Headed s.breaks12 depth t documents (heading_parsed start)) (append_assoc text dots (heading_text s start))
         (record {
-          place = after_heading (heading_said start);
-          so_far = awaits_ended s.breaks12 depth text documents awaits (heading_text s start) (heading_said start) stands.ends stands.percents stands.reads;
+          place = after_heading (heading_parsed start);
+          so_far = awaits_ended s.breaks12 depth text documents awaits (heading_text s start) (heading_parsed start) stands.ends stands.percents stands.reads;
           opens = λ section. refl;
         })
     by false h =
-        subst (λ t. Headed s.breaks12 depth t documents (heading_said start)) (sym (append-nil text) ∙ ap (λ t. text ++ t) (sym (nothing_headed s start h)))
+        subst (λ t. Headed s.breaks12 depth t documents (heading_parsed start)) (sym (append-nil text) ∙ ap (λ t. text ++ t) (sym (nothing_headed s start h)))
         (record {
           place = after_root;
           so_far = awaits;
-          opens = λ section. ap (λ heading. document_read depth s.breaks12 documents heading section) (nothing_said start h);
+          opens = λ section. ap (λ heading. document_read depth s.breaks12 documents heading section) (nothing_parsed start h);
         })

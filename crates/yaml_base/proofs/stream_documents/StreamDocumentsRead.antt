@@ -14,9 +14,9 @@ use Rattle.yaml_base.specs.streams.StreamDocuments.{after_root}
 use Rattle.yaml_base.specs.StreamLaw.{is_written_as_nothing}
 use Rattle.yaml_base.proofs.stream_lines.StreamClosed.{closed}
 use Rattle.yaml_base.proofs.stream_nodes.StreamFits.{size}
-use Rattle.yaml_base.proofs.stream_documents.StreamRootsStand.{root_laid, heading_text, HeadingStands, RootStands, DocumentStands}
+use Rattle.yaml_base.proofs.stream_documents.StreamRootsStand.{render_root, heading_text, HeadingStands, RootStands, DocumentStands}
 use Rattle.yaml_base.proofs.stream_documents.StreamRootStood.{root_fits, root_stood}
-use Rattle.yaml_base.proofs.stream_documents.StreamSoFar.{SoFar}
+use Rattle.yaml_base.proofs.stream_documents.StreamSoFar.{WalkProgress}
 use Rattle.yaml_base.proofs.stream_documents.StreamDocumentReads.{Awaits, awaits_ended, dots_if, nothing_headed, headed}
 use Rattle.yaml_base.proofs.stream_documents.StreamRootAdded.{with_document, marked_added, unmarked_added}
 use Rattle.yaml_base.proofs.stream_documents.StreamDocumentTexts.{before_root, root_part, document_text}
@@ -38,13 +38,13 @@ something_canonical canonical (mapping_node start pairs) h = refl
 
 -- the end of a document, behind its root
 ended_more : (breaks12 : Bool) (depth : ℕ) (text : Text) (documents : List DocumentTree) (implicit : Bool)
-    → SoFar breaks12 depth text (record { documents = documents; place = after_root })
+    → WalkProgress breaks12 depth text (record { documents = documents; place = after_root })
     → Awaits breaks12 depth (text ++ dots_if (not implicit)) documents (not implicit)
 ended_more breaks12 depth text documents true so =
-    subst (λ t. SoFar breaks12 depth t (record { documents = documents; place = after_root })) (sym (append-nil text)) so
+    subst (λ t. WalkProgress breaks12 depth t (record { documents = documents; place = after_root })) (sym (append-nil text)) so
 ended_more breaks12 depth text documents false so = awaits_ended breaks12 depth text documents so
 
--- a document with its mark
+-- a document with its marker
 explicit_more : (s : Effective) (depth : ℕ) (text : Text) (documents : List DocumentTree) (document : Document) (ended : Bool) → 2 ≤ s.indent
     → RootStands s document (not s.canonical) → HeadingStands s document.start → size document.root ≤ depth → Awaits s.breaks12 depth text documents ended
     → Awaits s.breaks12 depth (text ++ (before_root s ended document.start ++ (root_part true s document ++ dots_if (not document.end_implicit))))
@@ -64,7 +64,7 @@ explicit_more s depth text documents document ended deep stands heading small aw
     by true h = refl
     by false h = absurd (true≢false h)
 
--- the first document, without a mark
+-- the first document, without a marker
 implicit_more : (s : Effective) (depth : ℕ) (document : Document) (ended : Bool) → 2 ≤ s.indent → RootStands s document false
     → size document.root ≤ depth → has_directives document.start ≡ false → is_written_as_nothing s.canonical document.root ≡ false
     → Awaits s.breaks12 depth (before_root s ended document.start ++ (root_part false s document ++ dots_if (not document.end_implicit)))
@@ -74,10 +74,10 @@ implicit_more s depth document ended deep stands small none some =
     subst (λ t. Awaits s.breaks12 depth (t ++ (root_part false s document ++ dots_if (not document.end_implicit))) (with_document s [] document)
     (not document.end_implicit))
     (sym (ap (λ x. dots_if (x && not ended) ++ heading_text s document.start) none ∙ nothing_headed s document.start none))
-    (ended_more s.breaks12 depth (closed (root_laid false s document)) (with_document s [] document) document.end_implicit
+    (ended_more s.breaks12 depth (closed (render_root false s document)) (with_document s [] document) document.end_implicit
     (unmarked_added s depth document none (root_fits s document false deep stands) small stood))
 
--- a document that isn't the first has its mark
+-- a document that isn't the first has its marker
 pub later_explicit : (each : Bool) (start : DocumentStart) → is_explicit each false start ≡ true
 later_explicit each start = by (not start.implicit) each (has_directives start)
   where
@@ -85,9 +85,9 @@ later_explicit each start = by (not start.implicit) each (has_directives start)
     by true y z = refl
     by false y z = refl
 
--- one without a mark has no directives
-without_mark : (each first : Bool) (start : DocumentStart) → is_explicit each first start ≡ false → has_directives start ≡ false
-without_mark each first start h = (or_parts (not start.implicit || not first || each) (has_directives start) h).1
+-- one without a marker has no directives
+without_marker : (each first : Bool) (start : DocumentStart) → is_explicit each first start ≡ false → has_directives start ≡ false
+without_marker each first start h = (or_parts (not start.implicit || not first || each) (has_directives start) h).1
 
 -- one document more, that isn't the first
 pub later_more : (s : Effective) (depth : ℕ) (text : Text) (documents : List DocumentTree) (document : Document) (ended : Bool) → 2 ≤ s.indent
@@ -115,4 +115,4 @@ first_more s depth document deep stands small some awaits = by (is_explicit (s.c
         → Awaits s.breaks12 depth (before_root s true document.start ++ (root_part x s document ++ dots_if (not document.end_implicit)))
         (with_document s [] document) (not document.end_implicit)
     by true e root = explicit_more s depth [] [] document true deep root stands.heading small awaits
-    by false e root = implicit_more s depth document true deep root small (without_mark (s.canonical || s.portable) true document.start e) (some e)
+    by false e root = implicit_more s depth document true deep root small (without_marker (s.canonical || s.portable) true document.start e) (some e)

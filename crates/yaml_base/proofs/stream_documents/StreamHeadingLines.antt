@@ -7,13 +7,13 @@ use Rattle.std.specs.Prelude.{Bool, true, false, Option, None, Some, List, [], �
 use Rattle.yaml_base.specs.Characters.{Text, space, line_feed, is_break, is_blank}
 use Rattle.yaml_base.specs.LineBreaks.{is_read_break}
 use Rattle.yaml_base.specs.Settings.{Effective}
-use Rattle.yaml_base.specs.Cursor.{Cursor, Laid, first_cursor, then_laid}
+use Rattle.yaml_base.specs.Cursor.{Cursor, Rendered, first_cursor, render_then}
 use Rattle.yaml_base.specs.Event.{Version, TagDirective, DocumentStart}
 use Rattle.yaml_base.specs.Percent.{prefix_escaped}
 use Rattle.yaml_base.specs.Tags.{directives_fault, handle_fault, directives_fault_after, next_directive_fault, directive_fault, gives_handle, prefix_fault}
 use Rattle.yaml_base.specs.Tags.{version_fault}
-use Rattle.yaml_base.specs.Indicators.{indicator_laid, yaml_directive, version_1_1, version_1_2}
-use Rattle.yaml_base.specs.Layout.{line_ended, version_laid, tag_directives_laid}
+use Rattle.yaml_base.specs.Indicators.{render_indicator, yaml_directive, version_1_1, version_1_2}
+use Rattle.yaml_base.specs.Layout.{then_line_end, render_version, render_tag_directives}
 use Rattle.yaml_base.specs.Meaning.{directive_scalars}
 use Rattle.yaml_base.specs.streams.StreamLines.{Line, lines_of, text_of_lines}
 use Rattle.yaml_base.specs.streams.StreamDocuments.{begins_with_percent, heading_of}
@@ -139,40 +139,40 @@ heading_percent portable start = by start.version
     by None = tags_percent portable start.directives
     by (Some version) = tags_percent portable start.directives
 
--- As they are laid out
+-- As they are rendered
 
 -- a text at the start of a line
-abbrev laid_as : Text → Cursor → Laid
-laid_as text cursor = record { text = text; cursor = cursor }
+abbrev render_as : Text → Cursor → Rendered
+render_as text cursor = record { text = text; cursor = cursor }
 
-version_is : (version : Option Version) → version_laid version first_cursor ≡ record { text = text_of_lines (version_lines version); cursor = first_cursor }
+version_is : (version : Option Version) → render_version version first_cursor ≡ record { text = text_of_lines (version_lines version); cursor = first_cursor }
 version_is None = refl
 version_is (Some version) = by (int_eq version.minor (pos 2))
   where
-    by : (two : Bool) → line_ended (then_laid (indicator_laid yaml_directive first_cursor) (indicator_laid (if two then version_1_2 else version_1_1)))
+    by : (two : Bool) → then_line_end (render_then (render_indicator yaml_directive first_cursor) (render_indicator (if two then version_1_2 else version_1_1)))
         ≡ (let line : Line = record { text = codes "%YAML" ++ (space ∷ (if two then version_1_2 else version_1_1).text); ending = line_feed ∷ [] } in
-        let laid : Laid = record { text = text_of_lines (line ∷ []); cursor = first_cursor } in laid)
+        let rendered : Rendered = record { text = text_of_lines (line ∷ []); cursor = first_cursor } in rendered)
     by true = refl
     by false = refl
 
 tags_are : (portable : Bool) (directives : List TagDirective)
-    → tag_directives_laid portable directives first_cursor ≡ record { text = text_of_lines (tag_lines portable directives); cursor = first_cursor }
+    → render_tag_directives portable directives first_cursor ≡ record { text = text_of_lines (tag_lines portable directives); cursor = first_cursor }
 tags_are portable [] = refl
 tags_are portable (directive ∷ rest) =
     let text = directive_text portable directive in
-    ap (λ (after : Laid). laid_as ((text ++ line_feed ∷ []) ++ after.text) after.cursor) (tags_are portable rest)
-    ∙ ap (λ t. laid_as t first_cursor) (append_assoc text (line_feed ∷ []) (text_of_lines (tag_lines portable rest)))
+    ap (λ (after : Rendered). render_as ((text ++ line_feed ∷ []) ++ after.text) after.cursor) (tags_are portable rest)
+    ∙ ap (λ t. render_as t first_cursor) (append_assoc text (line_feed ∷ []) (text_of_lines (tag_lines portable rest)))
 
--- the version and the directives are laid out as these lines
-heading_laid : (portable : Bool) (start : DocumentStart)
-    → then_laid (version_laid start.version first_cursor) (tag_directives_laid portable start.directives)
+-- the version and the directives are rendered as these lines
+heading_rendered : (portable : Bool) (start : DocumentStart)
+    → render_then (render_version start.version first_cursor) (render_tag_directives portable start.directives)
     ≡ record { text = text_of_lines (heading_lines portable start); cursor = first_cursor }
-heading_laid portable start =
-    ap (λ (laid : Laid). then_laid laid (tag_directives_laid portable start.directives)) (version_is start.version)
-    ∙ ap (λ (after : Laid). laid_as (text_of_lines (version_lines start.version) ++ after.text) after.cursor) (tags_are portable start.directives)
-    ∙ ap (λ t. laid_as t first_cursor) (sym (text_of_both (version_lines start.version) (tag_lines portable start.directives)))
+heading_rendered portable start =
+    ap (λ (rendered : Rendered). render_then rendered (render_tag_directives portable start.directives)) (version_is start.version)
+    ∙ ap (λ (after : Rendered). render_as (text_of_lines (version_lines start.version) ++ after.text) after.cursor) (tags_are portable start.directives)
+    ∙ ap (λ t. render_as t first_cursor) (sym (text_of_both (version_lines start.version) (tag_lines portable start.directives)))
 
--- A heading as it is laid out
+-- A heading as it is rendered
 
 -- the last of whole lines ends their text
 whole_closed : (breaks12 : Bool) (lines : List Line) → WholeLines breaks12 lines → is_closed breaks12 (text_of_lines lines) ≡ true
@@ -189,7 +189,7 @@ whole_closed breaks12 (line ∷ rest) h =
 heading_text_lines : (s : Effective) (start : DocumentStart) → directives_fault start.directives ≡ None
     → lines_of s.breaks12 (heading_text s start) ≡ heading_lines s.portable start
 heading_text_lines s start sound =
-    ap (λ (laid : Laid). lines_of s.breaks12 laid.text) (heading_laid s.portable start)
+    ap (λ (rendered : Rendered). lines_of s.breaks12 rendered.text) (heading_rendered s.portable start)
     ∙ ap (lines_of s.breaks12) (sym (append-nil (text_of_lines (heading_lines s.portable start))))
     ∙ heading_first s.breaks12 s.portable start [] sound
     ∙ append-nil (heading_lines s.portable start)
@@ -200,7 +200,7 @@ pub heading_stands : (s : Effective) (start : DocumentStart) → option_and_then
 heading_stands s start version directives scalars =
     let lines = heading_text_lines s start directives in
     record {
-      ends = ap (λ (laid : Laid). is_closed s.breaks12 laid.text) (heading_laid s.portable start)
+      ends = ap (λ (rendered : Rendered). is_closed s.breaks12 rendered.text) (heading_rendered s.portable start)
           ∙ whole_closed s.breaks12 (heading_lines s.portable start) (heading_whole s.breaks12 s.portable start directives);
       percents = ap (list_all (λ line. begins_with_percent line.text)) lines ∙ heading_percent s.portable start;
       reads = ap heading_of lines ∙ heading_reads s.portable start version directives scalars;

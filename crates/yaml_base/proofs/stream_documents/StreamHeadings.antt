@@ -13,14 +13,14 @@ use Rattle.yaml_base.specs.Characters.{Text, space, line_feed, is_space, is_alph
 use Rattle.yaml_base.specs.Event.{Version, TagDirective, DocumentStart}
 use Rattle.yaml_base.specs.Percent.{percent_escaped, prefix_escaped, is_tag_character, character_written, percent_sign}
 use Rattle.yaml_base.specs.reading.ReadPercent.{is_uri_character, percent_read}
-use Rattle.yaml_base.specs.reading.ReadTags.{closes_handle, is_handle_text, prefix_said, is_given}
-use Rattle.yaml_base.specs.Tags.{tag_mark, prefix_fault, handle_fault, next_directive_fault, directive_fault, gives_handle, directives_fault_after}
-use Rattle.yaml_base.specs.Tags.{version_fault, is_the_number, directives_fault}
+use Rattle.yaml_base.specs.reading.ReadTags.{closes_handle, is_handle_text, prefix_parsed, is_handle_given}
+use Rattle.yaml_base.specs.Tags.{exclamation_mark, prefix_fault, handle_fault, next_directive_fault, directive_fault, gives_handle, directives_fault_after}
+use Rattle.yaml_base.specs.Tags.{version_fault, equals_integer, directives_fault}
 use Rattle.yaml_base.specs.Meaning.{directive_scalars}
 use Rattle.yaml_base.specs.streams.StreamLines.{Line}
 use Rattle.yaml_base.specs.Indicators.{version_1_1, version_1_2}
 use Rattle.yaml_base.specs.Layout.{version_word}
-use Rattle.yaml_base.specs.streams.StreamDocuments.{Heading, with_directive, directive_by_words, directive_line, heading_of, no_heading, version_said}
+use Rattle.yaml_base.specs.streams.StreamDocuments.{Heading, with_directive, directive_by_words, directive_line, heading_of, no_heading, version_parsed}
 use Rattle.yaml_base.specs.streams.StreamDocuments.{with_version}
 use Rattle.yaml_base.proofs.PercentLaws.{escaped_stands, stands_in_prefix, prefix_stands, prefix_begins, decoded_prefix, character_stands}
 use Rattle.yaml_base.proofs.TagForms.{IsHandle, handle_form}
@@ -49,19 +49,19 @@ split_last (c ∷ word) h =
 
 -- Handles
 
-closes_letters : (middle : Text) → list_all is_alpha middle ≡ true → closes_handle (middle ++ tag_mark ∷ []) ≡ true
+closes_letters : (middle : Text) → list_all is_alpha middle ≡ true → closes_handle (middle ++ exclamation_mark ∷ []) ≡ true
 closes_letters [] h = refl
 closes_letters (c ∷ []) h = and_from (is_alpha c) true (and_parts (is_alpha c) true h).0 refl
 closes_letters (c ∷ d ∷ middle) h =
     let parts = and_parts (is_alpha c) (list_all is_alpha (d ∷ middle)) h in
-    and_from (is_alpha c) (closes_handle (d ∷ (middle ++ tag_mark ∷ []))) parts.0 (closes_letters (d ∷ middle) parts.1)
+    and_from (is_alpha c) (closes_handle (d ∷ (middle ++ exclamation_mark ∷ []))) parts.0 (closes_letters (d ∷ middle) parts.1)
 
 -- a handle without a fault is a handle to the reader
 pub handle_reads : (handle : Text) → IsHandle handle → is_handle_text handle ≡ true
 handle_reads handle (inl e) = ap is_handle_text e
 handle_reads handle (inr form) = ap is_handle_text form.1 ∙ by form.0 (closes_letters form.0 form.2)
   where
-    by : (middle : Text) → closes_handle (middle ++ tag_mark ∷ []) ≡ true → is_handle_text ((tag_mark ∷ middle) ++ tag_mark ∷ []) ≡ true
+    by : (middle : Text) → closes_handle (middle ++ exclamation_mark ∷ []) ≡ true → is_handle_text ((exclamation_mark ∷ middle) ++ exclamation_mark ∷ []) ≡ true
     by [] h = refl
     by (c ∷ middle) h = h
 
@@ -80,26 +80,27 @@ prefix_no_white (c ∷ text) h =
 -- a `!` may begin a text of a URI
 abbrev may_be_prefix : Text → Bool
 may_be_prefix [] = false
-may_be_prefix (c ∷ rest) = (c == tag_mark || is_uri_character c) && list_all is_uri_character rest
+may_be_prefix (c ∷ rest) = (c == exclamation_mark || is_uri_character c) && list_all is_uri_character rest
 
-said_if : (text : Text) → may_be_prefix text ≡ true → prefix_said text ≡ percent_read text
-said_if [] h = absurd (false≢true h)
-said_if (c ∷ rest) h = ap (λ x. if x then percent_read (c ∷ rest) else None) h
+parsed_if : (text : Text) → may_be_prefix text ≡ true → prefix_parsed text ≡ percent_read text
+parsed_if [] h = absurd (false≢true h)
+parsed_if (c ∷ rest) h = ap (λ x. if x then percent_read (c ∷ rest) else None) h
 
 uri_prefix : (c : ℕ) (text : Text) → list_all is_uri_character (c ∷ text) ≡ true → may_be_prefix (c ∷ text) ≡ true
 uri_prefix c text h =
     let parts = and_parts (is_uri_character c) (list_all is_uri_character text) h in
-    and_from (c == tag_mark || is_uri_character c) (list_all is_uri_character text) (by (c == tag_mark) parts.0) parts.1
+    and_from (c == exclamation_mark || is_uri_character c) (list_all is_uri_character text) (by (c == exclamation_mark) parts.0) parts.1
   where
     by : (x : Bool) → is_uri_character c ≡ true → (x || is_uri_character c) ≡ true
     by true h = refl
     by false h = h
 
 -- what stands as itself at the start of a prefix may stand there
-kept_first : (portable : Bool) (c : ℕ) → ((portable && c == tag_mark) || is_tag_character c) ≡ true → (c == tag_mark || is_uri_character c) ≡ true
-kept_first portable c h = by portable (c == tag_mark) (is_tag_character c) refl h
+kept_first : (portable : Bool) (c : ℕ) → ((portable && c == exclamation_mark) || is_tag_character c) ≡ true
+    → (c == exclamation_mark || is_uri_character c) ≡ true
+kept_first portable c h = by portable (c == exclamation_mark) (is_tag_character c) refl h
   where
-    by : (portable mark kept : Bool) → is_tag_character c ≡ kept → ((portable && mark) || kept) ≡ true → (mark || is_uri_character c) ≡ true
+    by : (portable marker kept : Bool) → is_tag_character c ≡ kept → ((portable && marker) || kept) ≡ true → (marker || is_uri_character c) ≡ true
     by portable true kept e h = refl
     by portable false true e h = uri_character c (ap (λ x. x || c == percent_sign) e)
     by true false false e h = absurd (false≢true h)
@@ -107,15 +108,15 @@ kept_first portable c h = by portable (c == tag_mark) (is_tag_character c) refl 
 
 -- a written prefix may be one
 written_prefix : (portable : Bool) (c : ℕ) (text : Text) → may_be_prefix (prefix_escaped portable (c ∷ text)) ≡ true
-written_prefix portable c text = by ((portable && c == tag_mark) || is_tag_character c) (kept_first portable c) (prefix_begins portable c text)
+written_prefix portable c text = by ((portable && c == exclamation_mark) || is_tag_character c) (kept_first portable c) (prefix_begins portable c text)
   where
     rest : list_all is_uri_character (percent_escaped text) ≡ true
     rest = uri_text (percent_escaped text) (escaped_stands text)
 
-    by : (kept : Bool) → (kept ≡ true → (c == tag_mark || is_uri_character c) ≡ true)
+    by : (kept : Bool) → (kept ≡ true → (c == exclamation_mark || is_uri_character c) ≡ true)
         → (d : ℕ) × (more : Text) × (character_written kept c ++ percent_escaped text ≡ d ∷ more)
         → may_be_prefix (character_written kept c ++ percent_escaped text) ≡ true
-    by true k begins = and_from (c == tag_mark || is_uri_character c) (list_all is_uri_character (percent_escaped text)) (k refl) rest
+    by true k begins = and_from (c == exclamation_mark || is_uri_character c) (list_all is_uri_character (percent_escaped text)) (k refl) rest
     by false k begins =
         let whole : list_all is_uri_character (character_written false c ++ percent_escaped text) ≡ true =
         list_all-append is_uri_character (character_written false c) (percent_escaped text)
@@ -126,10 +127,10 @@ written_prefix portable c text = by ((portable && c == tag_mark) || is_tag_chara
 
 -- a written prefix of at least one character is read as it was given
 pub prefix_reads : (portable : Bool) (prefix : Text) → prefix_fault prefix ≡ None → all_scalars prefix ≡ true
-    → prefix_said (prefix_escaped portable prefix) ≡ Some prefix
+    → prefix_parsed (prefix_escaped portable prefix) ≡ Some prefix
 prefix_reads portable [] some scalars = absurd (cc)
 prefix_reads portable (c ∷ rest) some scalars =
-    said_if (prefix_escaped portable (c ∷ rest)) (written_prefix portable c rest) ∙ decoded_prefix portable (c ∷ rest) scalars
+    parsed_if (prefix_escaped portable (c ∷ rest)) (written_prefix portable c rest) ∙ decoded_prefix portable (c ∷ rest) scalars
 
 -- Lines
 
@@ -160,7 +161,8 @@ directive_reads portable version before directive ending sound scalars =
     let made : Heading = record { version = version; directives = before } in
     ap (directive_by_words made) (directive_words portable directive parts.0)
     ∙ ap (with_directive made directive.handle) (prefix_reads portable directive.prefix parts.1 scalars)
-    ∙ ap (λ x. if x && not (is_given directive.handle before) then with_prefix else None) (handle_reads directive.handle (handle_form directive.handle parts.0))
+    ∙ ap (λ x. if x && not (is_handle_given directive.handle before) then with_prefix else None)
+    (handle_reads directive.handle (handle_form directive.handle parts.0))
     ∙ ap (λ x. if not x then with_prefix else None) fresh
   where
     with_prefix : Option Heading
@@ -203,7 +205,7 @@ version_form version h = by version.major version.minor (tests _ _ _ h)
     tests true false false h = absurd (cc)
     tests false b c h = absurd (cc)
 
-    by : (major minor : ℤ) → (is_the_number 1 major ≡ true) × ((is_the_number 1 minor ≡ true) ⊎ (is_the_number 2 minor ≡ true))
+    by : (major minor : ℤ) → (equals_integer 1 major ≡ true) × ((equals_integer 1 minor ≡ true) ⊎ (equals_integer 2 minor ≡ true))
         → (◌≡◌ {A = Version} (record { major = major; minor = minor }) (version_of 1))
         ⊎ (◌≡◌ {A = Version} (record { major = major; minor = minor }) (version_of 2))
     by (negsuc a) minor h = absurd (false≢true h.0)
@@ -213,11 +215,11 @@ version_form version h = by version.major version.minor (tests _ _ _ h)
     by (pos a) (pos b) (k, inr h) = let e : 1 ≡ a = eqb-true 1 a k in let f : 2 ≡ b = eqb-true 2 b h in inr (rw (← e, ← f) refl)
 
 -- a version without a fault is read as it was given
-version_reads : (version : Version) → version_fault version ≡ None → version_said ((version_word version).text) ≡ Some version
+version_reads : (version : Version) → version_fault version ≡ None → version_parsed ((version_word version).text) ≡ Some version
 version_reads version h = by (version_form version h)
   where
     IsRead : Version → Type 0
-    IsRead version = version_said ((version_word version).text) ≡ Some version
+    IsRead version = version_parsed ((version_word version).text) ≡ Some version
 
     by : (version ≡ version_of 1) ⊎ (version ≡ version_of 2) → IsRead version
     by (inl e) = subst IsRead (sym e) refl

@@ -14,7 +14,7 @@ use Rattle.yaml_base.specs.scalars.Style.{lacks_tag_and_flags}
 use Rattle.yaml_base.specs.Grammar.{Node, alias_node, scalar_node, sequence_node, mapping_node, Nodes, no_nodes, nodes_and, Pairs, no_pairs, pairs_and}
 use Rattle.yaml_base.specs.Grammar.{Document, Documents, no_documents, documents_and, Stream, node_events, nodes_events, pairs_events, documents_events}
 use Rattle.yaml_base.specs.Grammar.{stream_events, tree_of}
-use Rattle.yaml_base.specs.Refusal.{fault_if, name_or_tag_fault, is_sound, IsAccepted}
+use Rattle.yaml_base.specs.Refusal.{some_if, name_or_tag_fault, is_sound, IsAccepted}
 use Rattle.yaml_base.specs.Event.{scalar_tag}
 use Rattle.yaml_base.specs.Layout.{Piece, text_of, layout, has_directives, is_explicit}
 use Rattle.yaml_base.specs.Pieces.{list_layout}
@@ -23,7 +23,7 @@ use Rattle.yaml_base.specs.reading.ReadBytes.{characters_read}
 use Rattle.yaml_base.specs.streams.StreamContent.{DocumentTree, documents_in_order, document_agrees, documents_agree, agrees}
 use Rattle.yaml_base.specs.streams.StreamDocuments.{documents_of}
 use Rattle.yaml_base.specs.streams.StreamReader.{stream_trees}
-use Rattle.yaml_base.specs.StreamLaw.{is_written_as_nothing, is_lost, are_portable, document_has_flow_sign, is_portable}
+use Rattle.yaml_base.specs.StreamLaw.{is_written_as_nothing, loses_document, are_portable, document_has_flow_indicator, reads_alike}
 use Rattle.yaml_base.proofs.Trees.{tree_of-stream_events}
 use Rattle.yaml_base.proofs.stream_lines.StreamBytes.{trees_of_bytes}
 use Rattle.yaml_base.proofs.stream_nodes.StreamAgrees.{node_is_tagged, nodes_are_tagged, pairs_are_tagged, document_tree, document_tree_agrees}
@@ -42,7 +42,7 @@ sound_scalar canonical content h =
     by (name_or_tag_fault canonical (scalar content))
     (lacks_tag_and_flags (is_some (scalar_tag canonical content)) content.plain_implicit content.quoted_implicit) h
   where
-    by : (fault : Option yaml_error_t) (x : Bool) → is_none (option_or fault (fault_if x NoTagNorImplicit)) ≡ true → not x ≡ true
+    by : (fault : Option yaml_error_t) (x : Bool) → is_none (option_or fault (some_if x NoTagNorImplicit)) ≡ true → not x ≡ true
     by (Some n) x h = absurd (false≢true h)
     by None true h = absurd (false≢true h)
     by None false h = refl
@@ -137,7 +137,7 @@ indent_deep (Some (pos n)) = by (nat_le 2 n) refl (nat_le n 9)
     by false e y = omega arith
 
 -- no document is lost where all is read alike
-first_written : (s : Effective) (documents : List Document) → (s.portable ≡ false → is_lost s.canonical documents ≡ false) → FirstWritten s documents
+first_written : (s : Effective) (documents : List Document) → (s.portable ≡ false → loses_document s.canonical documents ≡ false) → FirstWritten s documents
 first_written s [] kept = tt
 first_written s (document ∷ rest) kept = by s.portable refl
   where
@@ -173,7 +173,7 @@ stream_layout s events stream is = ap (list_layout s) (sym is) ∙ ap (λ found.
 
 -- a stream that stands is read as its documents' trees
 pub stream_read_back : (given : Settings) (encoding : Option Encoding) (events : List Event) (accepted : IsAccepted given.canonical events)
-    → is_portable given.portable given.canonical events ≡ true → StreamStands (effective given encoding) events accepted.stream
+    → reads_alike given.portable given.canonical events ≡ true → StreamStands (effective given encoding) events accepted.stream
     → stream_trees given.breaks12 (bytes_written (effective given encoding) (list_layout (effective given encoding) events))
     ≡ Some (document_trees (effective given encoding) accepted.stream.documents)
 stream_read_back given encoding events accepted portable stands =
@@ -188,12 +188,13 @@ stream_read_back given encoding events accepted portable stands =
     found : tree_of events ≡ Some accepted.stream
     found = ap tree_of (sym accepted.is_stream) ∙ tree_of-stream_events accepted.stream
 
-    kept : (x : Bool) → is_portable x given.canonical events ≡ true → x ≡ false → is_lost given.canonical (documents_in_order accepted.stream.documents) ≡ false
+    kept : (x : Bool) → reads_alike x given.canonical events ≡ true → x ≡ false
+        → loses_document given.canonical (documents_in_order accepted.stream.documents) ≡ false
     kept true h e = absurd (true≢false e)
     kept false h e =
-        not_true (is_lost given.canonical (documents_in_order accepted.stream.documents))
-        (and_parts (not (is_lost given.canonical (documents_in_order accepted.stream.documents)))
-        (not (list_any (document_has_flow_sign given.canonical) (documents_in_order accepted.stream.documents)))
+        not_true (loses_document given.canonical (documents_in_order accepted.stream.documents))
+        (and_parts (not (loses_document given.canonical (documents_in_order accepted.stream.documents)))
+        (not (list_any (document_has_flow_indicator given.canonical) (documents_in_order accepted.stream.documents)))
         (sym (ap (λ found. unwrap_or (option_map (λ (stream : Stream). are_portable given.canonical (documents_in_order stream.documents)) found) false) found)
         ∙ h)).0
       where
@@ -203,7 +204,7 @@ stream_read_back given encoding events accepted portable stands =
 
 -- and these agree with its events
 pub stream_agrees : (given : Settings) (encoding : Option Encoding) (events : List Event) (accepted : IsAccepted given.canonical events)
-    → is_portable given.portable given.canonical events ≡ true → StreamStands (effective given encoding) events accepted.stream
+    → reads_alike given.portable given.canonical events ≡ true → StreamStands (effective given encoding) events accepted.stream
     → agrees given.canonical events (stream_trees given.breaks12 (bytes_written (effective given encoding) (list_layout (effective given encoding) events)))
     ≡ true
 stream_agrees given encoding events accepted portable stands =

@@ -1,4 +1,4 @@
--- No line of a leaf at the root after its first is a document's mark.
+-- No line of a leaf at the root after its first is a document's marker.
 use Rattle.std.proofs.Common.{◌≡◌, ◌≤◌, refl, ap, ◌∙◌, append_assoc, append-nil, arith}
 use Rattle.std.proofs.lemmas.Bool.{false≢true, eqb-true, and_parts, and_from}
 use Rattle.std.specs.List.{list_all}
@@ -12,11 +12,12 @@ use Rattle.yaml_base.specs.Grammar.{Node, alias_node, scalar_node, sequence_node
 use Rattle.yaml_base.specs.Event.{scalar_tag, collection_tag}
 use Rattle.yaml_base.specs.reading.TidyText.{has_deep_lines, is_tidy_style}
 use Rattle.yaml_base.specs.streams.StreamScalars.{name_read}
-use Rattle.yaml_base.specs.Cursor.{Cursor, Laid, breaks_line, new_line, nothing_laid, then_laid, indicator}
-use Rattle.yaml_base.specs.Layout.{deeper, entries_column, has_no_nodes, has_no_pairs, root_place, properties_laid, alias_laid, separation_laid, body_laid}
-use Rattle.yaml_base.specs.Layout.{choice_of, is_written_in_flow, Brackets, square, curly, empty_or_comma, end_laid}
-use Rattle.yaml_base.specs.streams.StreamLines.{character_before, lines_of, spaces}
-use Rattle.yaml_base.specs.streams.StreamDocuments.{mark_of}
+use Rattle.yaml_base.specs.Cursor.{Cursor, Rendered, breaks_line, new_line, render_nothing, render_then, indicator}
+use Rattle.yaml_base.specs.Layout.{deeper, entries_column, has_no_nodes, has_no_pairs, root_place, render_properties, render_alias, render_separation}
+use Rattle.yaml_base.specs.Layout.{render_body}
+use Rattle.yaml_base.specs.Layout.{choice_of, is_written_in_flow, Brackets, square, curly, empty_or_comma, render_end}
+use Rattle.yaml_base.specs.streams.StreamLines.{prepend_character, lines_of, spaces}
+use Rattle.yaml_base.specs.streams.StreamDocuments.{marker_of}
 use Rattle.yaml_base.proofs.stream_lines.StreamLineLaws.{OneLine, one_line_both}
 use Rattle.yaml_base.proofs.stream_lines.StreamTidyLaws.{first_text, lines_after_first, first_extended, deep_lines_inside}
 use Rattle.yaml_base.proofs.stream_lines.StreamSections.{is_unmarked, AllUnmarked}
@@ -30,7 +31,7 @@ use Rattle.yaml_base.proofs.stream_nodes.StreamOwnWords.{deep_more}
 use Rattle.yaml_base.proofs.stream_documents.StreamRootsStand.{is_leaf}
 use Rattle.yaml_base.proofs.stream_lines.StreamDeepBreaks.{after_breaks, begins_deep, Deep, Keeps, after_both, after_weaker, after_line_of, space_line}
 use Rattle.yaml_base.proofs.stream_lines.StreamDeepBreaks.{deep_keeps, lines_pass, deep_first}
-use Rattle.yaml_base.proofs.stream_flow.StreamFlowDeep.{properties_line, signs_line, brackets_line, sign_deep, alias_deep, items_deep, pairs_deep}
+use Rattle.yaml_base.proofs.stream_flow.StreamFlowDeep.{properties_line, indicators_line, brackets_line, indicator_deep, alias_deep, items_deep, pairs_deep}
 
 -- Collections in flow
 
@@ -57,41 +58,41 @@ unmarked_keeps breaks12 (c ∷ a) b h = by (begins_deep breaks12 1 (c ∷ a)) re
         or_true true y h = refl
         or_true false y h = h
 
--- a line that begins with a bracket is no mark
-bracket_unmarked : (c : ℕ) (t : Text) → (c == 0x5D || c == 0x7D) ≡ true → is_unmarked (mark_of (c ∷ t)) ≡ true
+-- a line that begins with a bracket is no marker
+bracket_unmarked : (c : ℕ) (t : Text) → (c == 0x5D || c == 0x7D) ≡ true → is_unmarked (marker_of (c ∷ t)) ≡ true
 bracket_unmarked c t h = by (c == 0x5D) (c == 0x7D) refl refl h
   where
-    first : (t : Text) → (is_unmarked (mark_of (0x5D ∷ t)) ≡ true) × (is_unmarked (mark_of (0x7D ∷ t)) ≡ true)
+    first : (t : Text) → (is_unmarked (marker_of (0x5D ∷ t)) ≡ true) × (is_unmarked (marker_of (0x7D ∷ t)) ≡ true)
     first [] = (refl, refl)
     first (a ∷ []) = (refl, refl)
     first (a ∷ b ∷ t) = (refl, refl)
 
-    by : (x y : Bool) → (c == 0x5D) ≡ x → (c == 0x7D) ≡ y → (x || y) ≡ true → is_unmarked (mark_of (c ∷ t)) ≡ true
-    by true y e f h = ap (λ d. is_unmarked (mark_of (d ∷ t))) (eqb-true c 0x5D e) ∙ (first t).0
-    by false true e f h = ap (λ d. is_unmarked (mark_of (d ∷ t))) (eqb-true c 0x7D f) ∙ (first t).1
+    by : (x y : Bool) → (c == 0x5D) ≡ x → (c == 0x7D) ≡ y → (x || y) ≡ true → is_unmarked (marker_of (c ∷ t)) ≡ true
+    by true y e f h = ap (λ d. is_unmarked (marker_of (d ∷ t))) (eqb-true c 0x5D e) ∙ (first t).0
+    by false true e f h = ap (λ d. is_unmarked (marker_of (d ∷ t))) (eqb-true c 0x7D f) ∙ (first t).1
     by false false e f h = absurd (false≢true h)
 
 -- nor is any line that begins so
 first_unmarked : (breaks12 : Bool) (u : Text) → begins_unmarked breaks12 u ≡ true
-    → is_unmarked (mark_of (first_text (lines_of breaks12 (u ++ (line_feed ∷ []))))) ≡ true
+    → is_unmarked (marker_of (first_text (lines_of breaks12 (u ++ (line_feed ∷ []))))) ≡ true
 first_unmarked breaks12 [] h = absurd (false≢true h)
 first_unmarked breaks12 (c ∷ u) h = by (begins_deep breaks12 1 (c ∷ u)) refl h
   where
     line : Text
     line = first_text (lines_of breaks12 (c ∷ (u ++ (line_feed ∷ []))))
 
-    shown : (x : Bool) → is_read_break breaks12 c ≡ x → (c == 0x5D || c == 0x7D) ≡ true → is_unmarked (mark_of line) ≡ true
-    shown true e h = ap (λ x. is_unmarked (mark_of (first_text (character_before x c (lines_of breaks12 (u ++ (line_feed ∷ []))))))) e
+    shown : (x : Bool) → is_read_break breaks12 c ≡ x → (c == 0x5D || c == 0x7D) ≡ true → is_unmarked (marker_of line) ≡ true
+    shown true e h = ap (λ x. is_unmarked (marker_of (first_text (prepend_character x c (lines_of breaks12 (u ++ (line_feed ∷ []))))))) e
     shown false e h =
-        ap (λ x. is_unmarked (mark_of (first_text (character_before x c (lines_of breaks12 (u ++ (line_feed ∷ []))))))) e
-        ∙ ap (λ t. is_unmarked (mark_of t)) (first_extended c (lines_of breaks12 (u ++ (line_feed ∷ []))))
+        ap (λ x. is_unmarked (marker_of (first_text (prepend_character x c (lines_of breaks12 (u ++ (line_feed ∷ []))))))) e
+        ∙ ap (λ t. is_unmarked (marker_of t)) (first_extended c (lines_of breaks12 (u ++ (line_feed ∷ []))))
         ∙ bracket_unmarked c (first_text (lines_of breaks12 (u ++ (line_feed ∷ [])))) h
 
-    by : (x : Bool) → begins_deep breaks12 1 (c ∷ u) ≡ x → (x || begins_closing (c ∷ u)) ≡ true → is_unmarked (mark_of line) ≡ true
+    by : (x : Bool) → begins_deep breaks12 1 (c ∷ u) ≡ x → (x || begins_closing (c ∷ u)) ≡ true → is_unmarked (marker_of line) ≡ true
     by true e h = inside_unmarked true line (deep_first breaks12 0 (c ∷ u) e)
     by false e h = shown (is_read_break breaks12 c) refl h
 
--- after each break of a text something begins a line that is no mark
+-- after each break of a text something begins a line that is no marker
 abbrev Unmarked : Bool → Text → Type 0
 Unmarked breaks12 text = after_breaks breaks12 (begins_unmarked breaks12) text ≡ true
 
@@ -117,21 +118,22 @@ bracket_below breaks12 closing one h =
 -- the end of a collection at the root
 end_unmarked : (s : Effective) (brackets : Brackets) (empty : Bool) (cursor : Cursor)
     → OneLine s.breaks12 brackets.opening → OneLine s.breaks12 brackets.closing
-    → begins_closing brackets.closing ≡ true → Unmarked s.breaks12 (end_laid s brackets true empty None cursor).text
+    → begins_closing brackets.closing ≡ true → Unmarked s.breaks12 (render_end s brackets true empty None cursor).text
 end_unmarked s brackets true cursor opening closing h =
     unmarked_text s.breaks12 (indicator brackets.opening true true false cursor).text brackets.closing
-    (deep_unmarked s.breaks12 (indicator brackets.opening true true false cursor).text (sign_deep s.breaks12 1 brackets.opening true true false cursor opening))
+    (deep_unmarked s.breaks12 (indicator brackets.opening true true false cursor).text
+    (indicator_deep s.breaks12 1 brackets.opening true true false cursor opening))
     (after_line_of s.breaks12 (begins_unmarked s.breaks12) brackets.closing closing)
 end_unmarked s brackets false cursor opening closing h = by s.canonical
   where
     alone : Unmarked s.breaks12 brackets.closing
     alone = after_line_of s.breaks12 (begins_unmarked s.breaks12) brackets.closing closing
 
-    comma : Laid
+    comma : Rendered
     comma = indicator (codes ",") false false false cursor
 
     comma_line : Unmarked s.breaks12 (codes ",")
-    comma_line = deep_unmarked s.breaks12 (codes ",") (sign_deep s.breaks12 1 (codes ",") false false false cursor (signs_line s.breaks12).0)
+    comma_line = deep_unmarked s.breaks12 (codes ",") (indicator_deep s.breaks12 1 (codes ",") false false false cursor (indicators_line s.breaks12).0)
 
     line : (x : Bool) → Unmarked s.breaks12 ((codes "," ++ (if x then line_feed ∷ spaces 0 else spaces (0 - comma.cursor.column))) ++ brackets.closing)
     line true = unmarked_text s.breaks12 (codes ",") (line_feed ∷ brackets.closing) comma_line (bracket_below s.breaks12 brackets.closing closing h)
@@ -141,33 +143,33 @@ end_unmarked s brackets false cursor opening closing h = by s.canonical
         (after_line_of s.breaks12 (begins_unmarked s.breaks12) (spaces (0 - comma.cursor.column)) (spaces_line s.breaks12 (0 - comma.cursor.column))))
         alone
 
-    by : (x : Bool) → Unmarked s.breaks12 (let laid : Laid = then_laid (if x then then_laid comma (new_line 0) else nothing_laid cursor)
-        (indicator brackets.closing false false false) in laid.text)
+    by : (x : Bool) → Unmarked s.breaks12 (let rendered : Rendered = render_then (if x then render_then comma (new_line 0) else render_nothing cursor)
+        (indicator brackets.closing false false false) in rendered.text)
     by true = line (breaks_line 0 comma.cursor)
     by false = alone
 
 -- Lines after the first
 
--- no line of a text up to its end after the first is a mark
-abbrev pub AfterUnmarked : Bool → Laid → Type 0
+-- no line of a text up to its end after the first is a marker
+abbrev pub AfterUnmarked : Bool → Rendered → Type 0
 AfterUnmarked breaks12 own = AllUnmarked (lines_after_first (lines_of breaks12 (closed own)))
 
 -- so it is for a text that is so, whose last line a break ends
-fed_unmarked : (breaks12 : Bool) (own : Laid) → own.cursor.indention ≡ false → Unmarked breaks12 own.text → AfterUnmarked breaks12 own
+fed_unmarked : (breaks12 : Bool) (own : Rendered) → own.cursor.indention ≡ false → Unmarked breaks12 own.text → AfterUnmarked breaks12 own
 fed_unmarked breaks12 own ends h =
-    ap (λ x. list_all (λ line. is_unmarked (mark_of line.text)) (lines_after_first (lines_of breaks12 (own.text ++ (if x then [] else line_feed ∷ []))))) ends
-    ∙ lines_pass breaks12 (begins_unmarked breaks12) (λ t. is_unmarked (mark_of t)) (first_unmarked breaks12) own.text h
+    ap (λ x. list_all (λ line. is_unmarked (marker_of line.text)) (lines_after_first (lines_of breaks12 (own.text ++ (if x then [] else line_feed ∷ []))))) ends
+    ∙ lines_pass breaks12 (begins_unmarked breaks12) (λ t. is_unmarked (marker_of t)) (first_unmarked breaks12) own.text h
 
 -- a collection in flow at the root, where its entries are deep
 collection_unmarked : (s : Effective) (own directives : List TagDirective) (brackets : Brackets) (anchor tag : Option Text) (empty : Bool) (cursor : Cursor)
-    (entries : Laid) → OneLine s.breaks12 brackets.opening → OneLine s.breaks12 brackets.closing → begins_closing brackets.closing ≡ true
+    (entries : Rendered) → OneLine s.breaks12 brackets.opening → OneLine s.breaks12 brackets.closing → begins_closing brackets.closing ≡ true
     → IsNamed anchor → TagStands s.portable own directives tag → Deep s.breaks12 1 entries.text
-    → (let ending : Laid = end_laid s brackets true empty None entries.cursor in
+    → (let ending : Rendered = render_end s brackets true empty None entries.cursor in
     AfterUnmarked s.breaks12
-    (record { text = ((properties_laid s.portable directives anchor tag false cursor).text ++ entries.text) ++ ending.text; cursor = ending.cursor }))
+    (record { text = ((render_properties s.portable directives anchor tag false cursor).text ++ entries.text) ++ ending.text; cursor = ending.cursor }))
 collection_unmarked s own directives brackets anchor tag empty cursor entries opening closing h named stands deep =
-    let begun = properties_laid s.portable directives anchor tag false cursor in
-    let ending = end_laid s brackets true empty None entries.cursor in
+    let begun = render_properties s.portable directives anchor tag false cursor in
+    let ending = render_end s brackets true empty None entries.cursor in
     fed_unmarked s.breaks12 (record { text = (begun.text ++ entries.text) ++ ending.text; cursor = ending.cursor })
     (and_false (empty_or_comma s brackets.opening empty None entries.cursor).cursor.indention)
     (unmarked_text s.breaks12 (begun.text ++ entries.text) ending.text
@@ -178,13 +180,13 @@ collection_unmarked s own directives brackets anchor tag empty cursor entries op
 
 -- an alias
 alias_unmarked : (s : Effective) (name : Text) (simple : Bool) (cursor : Cursor) → name_read name ≡ Some name
-    → AfterUnmarked s.breaks12 (alias_laid name simple cursor)
+    → AfterUnmarked s.breaks12 (render_alias name simple cursor)
 alias_unmarked s name simple cursor named =
-    fed_unmarked s.breaks12 (alias_laid name simple cursor) refl
-    (deep_unmarked s.breaks12 (alias_laid name simple cursor).text (alias_deep s 1 name simple cursor named))
+    fed_unmarked s.breaks12 (render_alias name simple cursor) refl
+    (deep_unmarked s.breaks12 (render_alias name simple cursor).text (alias_deep s 1 name simple cursor named))
 
 -- the break after a text, if it is there, leaves its lines deep
-closed_deep : (breaks12 : Bool) (count : ℕ) (own : Laid) → has_deep_lines breaks12 count own.text ≡ true → has_deep_lines breaks12 count (closed own) ≡ true
+closed_deep : (breaks12 : Bool) (count : ℕ) (own : Rendered) → has_deep_lines breaks12 count own.text ≡ true → has_deep_lines breaks12 count (closed own) ≡ true
 closed_deep breaks12 count own h = by own.cursor.indention
   where
     by : (x : Bool) → has_deep_lines breaks12 count (own.text ++ (if x then [] else line_feed ∷ [])) ≡ true
@@ -193,7 +195,7 @@ closed_deep breaks12 count own h = by own.cursor.indention
 
 -- the space before a scalar's body
 separation_line : (breaks12 : Bool) (style : ScalarStyle) (in_flow : Bool) (value : Text) (cursor : Cursor)
-    → OneLine breaks12 (separation_laid style in_flow value cursor).text
+    → OneLine breaks12 (render_separation style in_flow value cursor).text
 separation_line breaks12 plain in_flow value cursor = space_line breaks12 (in_flow || not (is_empty value)) cursor
 separation_line breaks12 any_style in_flow value cursor = space_line breaks12 true cursor
 separation_line breaks12 single_quoted in_flow value cursor = space_line breaks12 true cursor
@@ -208,18 +210,18 @@ scalar_unmarked : (s : Effective) (own directives : List TagDirective) (cursor :
 scalar_unmarked s own directives cursor content names stands =
     let tag = scalar_tag s.canonical content in
     let choice = choice_of s root_place false content in
-    let properties = properties_laid s.portable directives content.anchor tag choice.bare cursor in
-    let separation = separation_laid choice.style false content.value properties.cursor in
-    let body = body_laid choice.style s s.width (deeper s.indent None) content.value separation.cursor in
-    let front = properties.text ++ separation.text in
+    let properties = render_properties s.portable directives content.anchor tag choice.bare cursor in
+    let separation = render_separation choice.style false content.value properties.cursor in
+    let body = render_body choice.style s s.width (deeper s.indent None) content.value separation.cursor in
+    let prefix = properties.text ++ separation.text in
     let one = one_line_both s.breaks12 properties.text separation.text
     (properties_line s own directives content.anchor tag choice.bare cursor names.0 names.1)
     (separation_line s.breaks12 choice.style false content.value properties.cursor) in
     let tidy = and_parts (list_all is_printable body.text && has_deep_lines s.breaks12 1 body.text)
     (is_tidy_style choice.style s.breaks12 body.text) stands.tidy in
-    ap (λ t. list_all (λ line. is_unmarked (mark_of line.text)) (lines_after_first (lines_of s.breaks12 t)))
-    (append_assoc front body.text (closing body.cursor))
-    ∙ ap (list_all (λ line. is_unmarked (mark_of line.text))) (after_line s.breaks12 front (closed body) one)
+    ap (λ t. list_all (λ line. is_unmarked (marker_of line.text)) (lines_after_first (lines_of s.breaks12 t)))
+    (append_assoc prefix body.text (closing body.cursor))
+    ∙ ap (list_all (λ line. is_unmarked (marker_of line.text))) (after_line s.breaks12 prefix (closed body) one)
     ∙ all_unmarked true (lines_after_first (lines_of s.breaks12 (closed body)))
     (deep_lines_inside s.breaks12 0 (closed body)
     (closed_deep s.breaks12 1 body (and_parts (list_all is_printable body.text) (has_deep_lines s.breaks12 1 body.text) tidy.0).1))
@@ -234,8 +236,8 @@ sequence_unmarked : (s : Effective) (own directives : List TagDirective) (cursor
 sequence_unmarked s own directives cursor start items deep in_flow names bodies =
     by (is_written_in_flow s root_place start (has_no_nodes items)) in_flow bodies
   where
-    begun : Laid
-    begun = properties_laid s.portable directives start.anchor (collection_tag s.canonical start) false cursor
+    begun : Rendered
+    begun = render_properties s.portable directives start.anchor (collection_tag s.canonical start) false cursor
 
     by : (x : Bool) → x ≡ true → ItemsHold (BodyStands s) items s directives x (entries_column x false s.indent None begun.cursor) begun.cursor
         → AfterUnmarked s.breaks12 (collection_own s square x false (has_no_nodes items) None begun (items_own items s directives x))
@@ -254,8 +256,8 @@ mapping_unmarked : (s : Effective) (own directives : List TagDirective) (cursor 
 mapping_unmarked s own directives cursor start pairs deep in_flow names bodies =
     by (is_written_in_flow s root_place start (has_no_pairs pairs)) in_flow bodies
   where
-    begun : Laid
-    begun = properties_laid s.portable directives start.anchor (collection_tag s.canonical start) false cursor
+    begun : Rendered
+    begun = render_properties s.portable directives start.anchor (collection_tag s.canonical start) false cursor
 
     by : (x : Bool) → x ≡ true → PairsHold (BodyStands s) pairs s directives x (entries_column x false s.indent None begun.cursor) begun.cursor
         → AfterUnmarked s.breaks12 (collection_own s curly x false (has_no_pairs pairs) None begun (pairs_own pairs s directives x))
@@ -266,7 +268,7 @@ mapping_unmarked s own directives cursor start pairs deep in_flow names bodies =
         refl names.0 names.1
         (pairs_deep pairs s own directives 1 (deeper s.indent None) begun.cursor (omega arith) names.2 hold)
 
--- no line of a leaf at the root after its first is a mark, where its names and bodies stand
+-- no line of a leaf at the root after its first is a marker, where its names and bodies stand
 pub leaf_unmarked : (n : Node) (s : Effective) (own directives : List TagDirective) (cursor : Cursor) → 1 ≤ s.indent → is_leaf s n ≡ true
     → NamesStand s.portable own s.canonical directives n → BodiesHold (BodyStands s) n s directives root_place cursor
     → AfterUnmarked s.breaks12 (node_own n s directives root_place cursor)

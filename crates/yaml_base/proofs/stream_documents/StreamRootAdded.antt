@@ -8,24 +8,25 @@ use Rattle.yaml_base.specs.Settings.{Effective}
 use Rattle.yaml_base.specs.Grammar.{Document}
 use Rattle.yaml_base.specs.Layout.{has_directives, root_place}
 use Rattle.yaml_base.specs.streams.StreamContent.{Tree, DocumentTree}
-use Rattle.yaml_base.specs.streams.StreamLines.{Line, lines_of, ends_sign, is_spaces, without_blank_lines}
+use Rattle.yaml_base.specs.streams.StreamLines.{Line, lines_of, ends_indicator, is_spaces, without_blank_lines}
 use Rattle.yaml_base.specs.streams.StreamScalars.{Rules}
 use Rattle.yaml_base.specs.streams.StreamNodes.{node_read}
-use Rattle.yaml_base.specs.streams.StreamDocuments.{start_mark, end_mark, no_mark, begins_with_mark, mark_of, Heading, root_below, stands_at_margin, after_root}
-use Rattle.yaml_base.specs.streams.StreamDocuments.{document_added, section_by_kind, directive_lines, document_lines, front_kind, front_read}
+use Rattle.yaml_base.specs.streams.StreamDocuments.{start_marker, end_marker, no_exclamation, begins_with_marker, marker_of, Heading, root_below}
+use Rattle.yaml_base.specs.streams.StreamDocuments.{stands_at_margin, after_root}
+use Rattle.yaml_base.specs.streams.StreamDocuments.{with_read_document, section_by_kind, directive_lines, document_lines, prefix_kind, lines_before_marker_read}
 use Rattle.yaml_base.proofs.stream_nodes.StreamAgrees.{document_tree}
 use Rattle.yaml_base.proofs.stream_lines.StreamLineLaws.{OneLine}
 use Rattle.yaml_base.proofs.stream_lines.StreamTidyLaws.{lines_after_first}
 use Rattle.yaml_base.proofs.stream_lines.StreamSections.{is_unmarked, AllUnmarked}
 use Rattle.yaml_base.proofs.stream_lines.StreamClosed.{closed, lines_behind, lines_broken, closed_behind, closed_both}
-use Rattle.yaml_base.proofs.stream_nodes.StreamFits.{size, Opens, Fits, signed_ends}
+use Rattle.yaml_base.proofs.stream_nodes.StreamFits.{size, Opens, Fits, indicated_ends}
 use Rattle.yaml_base.proofs.stream_documents.StreamRoots.{root_reads, root_marked_reads}
-use Rattle.yaml_base.proofs.stream_documents.StreamRootsStand.{rules_of, root_cursor, root_laid}
+use Rattle.yaml_base.proofs.stream_documents.StreamRootsStand.{rules_of, root_cursor, render_root}
 use Rattle.yaml_base.proofs.stream_documents.StreamRootLines.{begins_shown, stands_below, Stood}
 use Rattle.yaml_base.proofs.stream_documents.StreamRootStood.{root_tree}
 use Rattle.yaml_base.proofs.stream_lines.StreamUnread.{read_unmarked, read_no_percent}
-use Rattle.yaml_base.proofs.stream_documents.StreamSoFar.{SoFar, front_alone, one_more}
-use Rattle.yaml_base.proofs.stream_documents.StreamDocumentReads.{Headed, heading_said, nothing_said}
+use Rattle.yaml_base.proofs.stream_documents.StreamSoFar.{WalkProgress, prefix_alone, one_more}
+use Rattle.yaml_base.proofs.stream_documents.StreamDocumentReads.{Headed, heading_parsed, nothing_parsed}
 
 -- The first line
 
@@ -39,7 +40,7 @@ shown_whole : (lines : List Line) → begins_shown lines ≡ true → without_bl
 shown_whole [] h = refl
 shown_whole (line ∷ rest) h = ap (λ x. if x then without_blank_lines rest else line ∷ rest) (by line.text h)
   where
-    by : (t : Text) → not (ends_sign t) ≡ true → is_spaces t ≡ false
+    by : (t : Text) → not (ends_indicator t) ≡ true → is_spaces t ≡ false
     by [] h = absurd (false≢true h)
     by (c ∷ t) h = step (c == space) refl h
       where
@@ -47,18 +48,18 @@ shown_whole (line ∷ rest) h = ap (λ x. if x then without_blank_lines rest els
         step true e h = absurd (false≢true h)
         step false e h = ap (λ y. y && is_spaces t) e
 
--- no line of what reads as a node is a mark, where none after its first is
+-- no line of what reads as a node is a marker, where none after its first is
 unmarked_whole : (lines : List Line) (depth : ℕ) (rules : Rules) (here : Bool) (column : Option ℕ) (tree : Tree)
     → node_read depth rules here column lines ≡ Some tree
     → AllUnmarked (lines_after_first lines) → AllUnmarked lines
 unmarked_whole [] depth rules here column tree reads after = refl
 unmarked_whole (line ∷ rest) depth rules here column tree reads after =
-    and_from (is_unmarked (mark_of line.text)) (list_all (λ line. is_unmarked (mark_of line.text)) rest)
+    and_from (is_unmarked (marker_of line.text)) (list_all (λ line. is_unmarked (marker_of line.text)) rest)
     (read_unmarked line rest depth rules here column tree reads) after
 
 -- Documents behind `---`
 
--- three signs break no line
+-- three indicators break no line
 dashes_line : (breaks12 : Bool) → OneLine breaks12 (codes "---")
 dashes_line true = refl
 dashes_line false = refl
@@ -68,29 +69,29 @@ abbrev pub with_document : Effective → List DocumentTree → Document → List
 with_document s documents document = documents ++ document_tree s document ∷ []
 
 -- the root of a document behind `---`, on its line or below it
-abbrev pub marked_text : (on_mark : Bool) → Effective → Document → Text
-marked_text on_mark s document = (if on_mark then codes "---" else codes "---" ++ (line_feed ∷ [])) ++ closed (root_laid on_mark s document)
+abbrev pub marked_text : (on_marker : Bool) → Effective → Document → Text
+marked_text on_marker s document = (if on_marker then codes "---" else codes "---" ++ (line_feed ∷ [])) ++ closed (render_root on_marker s document)
 
 -- a root that begins on the line of `---`
-on_mark_added : (s : Effective) (depth : ℕ) (text : Text) (documents : List DocumentTree) (document : Document)
-    → Headed s.breaks12 depth text documents (heading_said document.start)
-    → (fit : Fits (rules_of s document) (size document.root) (root_laid true s document) (root_tree s document) root_place (root_cursor true))
+on_marker_added : (s : Effective) (depth : ℕ) (text : Text) (documents : List DocumentTree) (document : Document)
+    → Headed s.breaks12 depth text documents (heading_parsed document.start)
+    → (fit : Fits (rules_of s document) (size document.root) (render_root true s document) (root_tree s document) root_place (root_cursor true))
     → size document.root ≤ depth
-    → Stood true (lines_of s.breaks12 (closed (root_laid true s document)))
-    → SoFar s.breaks12 depth (text ++ marked_text true s document) (record { documents = with_document s documents document; place = after_root })
-on_mark_added s depth text documents document headed fit deep stood =
+    → Stood true (lines_of s.breaks12 (closed (render_root true s document)))
+    → WalkProgress s.breaks12 depth (text ++ marked_text true s document) (record { documents = with_document s documents document; place = after_root })
+on_marker_added s depth text documents document headed fit deep stood =
     one_more s.breaks12 depth text (marked_text true s document) (record { documents = documents; place = headed.place })
     (record { documents = with_document s documents document; place = after_root }) line o.rest headed.so_far
-    (closed_behind s.breaks12 (codes "--") 0x2D own (signed_ends s.breaks12 0 0x2D own o fit.ends))
+    (closed_behind s.breaks12 (codes "--") 0x2D own (indicated_ends s.breaks12 0 0x2D own o fit.ends))
     (lines_behind s.breaks12 (codes "---") own o.head o.ending o.rest (dashes_line s.breaks12) o.is)
-    (ap is_unmarked marks) (ap (λ ls. list_all (λ line. is_unmarked (mark_of line.text)) (lines_after_first ls)) (sym o.is) ∙ stood.0)
-    (ap (λ m. section_by_kind m depth s.breaks12 documents headed.place (record { mark = m; line = line; rest = o.rest })) marks
-    ∙ headed.opens (record { mark = start_mark; line = line; rest = o.rest })
-    ∙ ap (document_added documents (heading_said document.start))
-    (root_marked_reads (rules_of s document) (size document.root) (root_laid true s document) (root_tree s document) fit margin depth deep))
+    (ap is_unmarked markers) (ap (λ ls. list_all (λ line. is_unmarked (marker_of line.text)) (lines_after_first ls)) (sym o.is) ∙ stood.0)
+    (ap (λ m. section_by_kind m depth s.breaks12 documents headed.place (record { marker = m; line = line; rest = o.rest })) markers
+    ∙ headed.opens (record { marker = start_marker; line = line; rest = o.rest })
+    ∙ ap (with_read_document documents (heading_parsed document.start))
+    (root_marked_reads (rules_of s document) (size document.root) (render_root true s document) (root_tree s document) fit margin depth deep))
   where
     own : Text
-    own = closed (root_laid true s document)
+    own = closed (render_root true s document)
 
     o : Opens s.breaks12 own
     o = fit.opens refl
@@ -98,32 +99,32 @@ on_mark_added s depth text documents document headed fit deep stood =
     line : Line
     line = record { text = codes "---" ++ o.head; ending = o.ending }
 
-    marks : mark_of (codes "---" ++ o.head) ≡ start_mark
-    marks = ap (λ x. if x then start_mark else (if begins_with_mark 0x2E (codes "---" ++ o.head) then end_mark else no_mark)) o.sign
+    markers : marker_of (codes "---" ++ o.head) ≡ start_marker
+    markers = ap (λ x. if x then start_marker else (if begins_with_marker 0x2E (codes "---" ++ o.head) then end_marker else no_exclamation)) o.symbol
 
     margin : is_spaces o.head ≡ true → stands_at_margin (without_blank_lines o.rest) ≡ true
     margin e = ap (λ x. not x || stands_at_margin (without_blank_lines o.rest)) (sym e) ∙ ap stands_below (sym o.is) ∙ stood.1
 
 -- a root on lines of its own below `---`
-below_mark_added : (s : Effective) (depth : ℕ) (text : Text) (documents : List DocumentTree) (document : Document)
-    → Headed s.breaks12 depth text documents (heading_said document.start)
-    → (fit : Fits (rules_of s document) (size document.root) (root_laid false s document) (root_tree s document) root_place (root_cursor false))
+below_marker_added : (s : Effective) (depth : ℕ) (text : Text) (documents : List DocumentTree) (document : Document)
+    → Headed s.breaks12 depth text documents (heading_parsed document.start)
+    → (fit : Fits (rules_of s document) (size document.root) (render_root false s document) (root_tree s document) root_place (root_cursor false))
     → size document.root ≤ depth
-    → Stood false (lines_of s.breaks12 (closed (root_laid false s document)))
-    → SoFar s.breaks12 depth (text ++ marked_text false s document) (record { documents = with_document s documents document; place = after_root })
-below_mark_added s depth text documents document headed fit deep stood =
+    → Stood false (lines_of s.breaks12 (closed (render_root false s document)))
+    → WalkProgress s.breaks12 depth (text ++ marked_text false s document) (record { documents = with_document s documents document; place = after_root })
+below_marker_added s depth text documents document headed fit deep stood =
     one_more s.breaks12 depth text (marked_text false s document) (record { documents = documents; place = headed.place })
     (record { documents = with_document s documents document; place = after_root }) line lines headed.so_far
     (closed_both s.breaks12 (codes "---" ++ (line_feed ∷ [])) own refl fit.ends)
     (lines_broken s.breaks12 (codes "---") own (dashes_line s.breaks12)) refl
     (unmarked_whole lines depth rules true None (root_tree s document) (fit.reads depth deep true 0 (λ h. (refl, refl))) stood.0)
-    (headed.opens (record { mark = start_mark; line = line; rest = lines })
-    ∙ ap (λ ls. document_added documents (heading_said document.start) (root_below depth rules ls)) (shown_whole lines stood.1)
-    ∙ ap (document_added documents (heading_said document.start))
-    (root_reads rules (size document.root) (root_laid false s document) (root_tree s document) fit (shown_margin lines stood.1) depth deep))
+    (headed.opens (record { marker = start_marker; line = line; rest = lines })
+    ∙ ap (λ ls. with_read_document documents (heading_parsed document.start) (root_below depth rules ls)) (shown_whole lines stood.1)
+    ∙ ap (with_read_document documents (heading_parsed document.start))
+    (root_reads rules (size document.root) (render_root false s document) (root_tree s document) fit (shown_margin lines stood.1) depth deep))
   where
     own : Text
-    own = closed (root_laid false s document)
+    own = closed (render_root false s document)
 
     rules : Rules
     rules = rules_of s document
@@ -135,42 +136,42 @@ below_mark_added s depth text documents document headed fit deep stood =
     line = record { text = codes "---"; ending = line_feed ∷ [] }
 
 -- either
-pub marked_added : (on_mark : Bool) (s : Effective) (depth : ℕ) (text : Text) (documents : List DocumentTree) (document : Document)
-    → Headed s.breaks12 depth text documents (heading_said document.start)
-    → (fit : Fits (rules_of s document) (size document.root) (root_laid on_mark s document) (root_tree s document) root_place (root_cursor on_mark))
+pub marked_added : (on_marker : Bool) (s : Effective) (depth : ℕ) (text : Text) (documents : List DocumentTree) (document : Document)
+    → Headed s.breaks12 depth text documents (heading_parsed document.start)
+    → (fit : Fits (rules_of s document) (size document.root) (render_root on_marker s document) (root_tree s document) root_place (root_cursor on_marker))
     → size document.root ≤ depth
-    → Stood on_mark (lines_of s.breaks12 (closed (root_laid on_mark s document)))
-    → SoFar s.breaks12 depth (text ++ marked_text on_mark s document) (record { documents = with_document s documents document; place = after_root })
-marked_added true = on_mark_added
-marked_added false = below_mark_added
+    → Stood on_marker (lines_of s.breaks12 (closed (render_root on_marker s document)))
+    → WalkProgress s.breaks12 depth (text ++ marked_text on_marker s document) (record { documents = with_document s documents document; place = after_root })
+marked_added true = on_marker_added
+marked_added false = below_marker_added
 
 -- Documents without `---`
 
 -- what a first line that reads as a node begins
-front_document : (lines : List Line) (depth : ℕ) (rules : Rules) (here : Bool) (column : Option ℕ) (tree : Tree)
+prefix_document : (lines : List Line) (depth : ℕ) (rules : Rules) (here : Bool) (column : Option ℕ) (tree : Tree)
     → node_read depth rules here column lines ≡ Some tree
-    → begins_shown lines ≡ true → front_kind lines ≡ document_lines
-front_document [] depth rules here column tree reads shown = absurd (false≢true shown)
-front_document (line ∷ rest) depth rules here column tree reads shown =
+    → begins_shown lines ≡ true → prefix_kind lines ≡ document_lines
+prefix_document [] depth rules here column tree reads shown = absurd (false≢true shown)
+prefix_document (line ∷ rest) depth rules here column tree reads shown =
     ap (λ x. if x then directive_lines else document_lines) (read_no_percent line rest depth rules here column tree reads)
 
 -- a root at the stream's start
 pub unmarked_added : (s : Effective) (depth : ℕ) (document : Document) → has_directives document.start ≡ false
-    → (fit : Fits (rules_of s document) (size document.root) (root_laid false s document) (root_tree s document) root_place (root_cursor false))
+    → (fit : Fits (rules_of s document) (size document.root) (render_root false s document) (root_tree s document) root_place (root_cursor false))
     → size document.root ≤ depth
-    → Stood false (lines_of s.breaks12 (closed (root_laid false s document)))
-    → SoFar s.breaks12 depth (closed (root_laid false s document)) (record { documents = with_document s [] document; place = after_root })
+    → Stood false (lines_of s.breaks12 (closed (render_root false s document)))
+    → WalkProgress s.breaks12 depth (closed (render_root false s document)) (record { documents = with_document s [] document; place = after_root })
 unmarked_added s depth document none fit deep stood =
-    front_alone s.breaks12 depth own (record { documents = with_document s [] document; place = after_root }) fit.ends
+    prefix_alone s.breaks12 depth own (record { documents = with_document s [] document; place = after_root }) fit.ends
     (unmarked_whole lines depth rules true None (root_tree s document) reads stood.0)
-    (ap (λ k. front_read k depth s.breaks12 lines) (front_document lines depth rules true None (root_tree s document) reads stood.1)
-    ∙ ap (λ (h : Heading). document_added [] h (root_below depth (record { breaks12 = s.breaks12; directives = h.directives }) lines))
-    (nothing_said document.start none)
-    ∙ ap (document_added [] (heading_said document.start))
-    (root_reads rules (size document.root) (root_laid false s document) (root_tree s document) fit (shown_margin lines stood.1) depth deep))
+    (ap (λ k. lines_before_marker_read k depth s.breaks12 lines) (prefix_document lines depth rules true None (root_tree s document) reads stood.1)
+    ∙ ap (λ (h : Heading). with_read_document [] h (root_below depth (record { breaks12 = s.breaks12; directives = h.directives }) lines))
+    (nothing_parsed document.start none)
+    ∙ ap (with_read_document [] (heading_parsed document.start))
+    (root_reads rules (size document.root) (render_root false s document) (root_tree s document) fit (shown_margin lines stood.1) depth deep))
   where
     own : Text
-    own = closed (root_laid false s document)
+    own = closed (render_root false s document)
 
     rules : Rules
     rules = rules_of s document

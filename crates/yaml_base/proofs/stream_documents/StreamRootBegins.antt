@@ -7,18 +7,18 @@ use Rattle.yaml_base.specs.LineBreaks.{is_read_break}
 use Rattle.yaml_base.specs.Settings.{Effective}
 use Rattle.yaml_base.specs.Event.{ScalarStyle, any_style, plain, single_quoted, double_quoted, literal, folded, TagDirective}
 use Rattle.yaml_base.specs.scalars.Analysis.{Allowances, is_empty}
-use Rattle.yaml_base.specs.scalars.Style.{is_plain, style_fitting}
-use Rattle.yaml_base.specs.scalars.Plain.{runs, runs_laid}
+use Rattle.yaml_base.specs.scalars.Style.{is_plain, fitting_style}
+use Rattle.yaml_base.specs.scalars.Plain.{runs, render_runs}
 use Rattle.yaml_base.specs.scalars.SingleQuoted.{quotes_doubled, single_quote}
-use Rattle.yaml_base.specs.scalars.DoubleQuoted.{double_inside, quote_laid}
+use Rattle.yaml_base.specs.scalars.DoubleQuoted.{double_inside, render_quote}
 use Rattle.yaml_base.specs.Meaning.{read_in_style}
 use Rattle.yaml_base.specs.reading.ReadPlain.{is_read_white, read_plain}
 use Rattle.yaml_base.specs.reading.TidyText.{has_no_space_before_break, has_clean_edges, ends_white, is_tidy_style}
 use Rattle.yaml_base.specs.streams.StreamContent.{Tree}
-use Rattle.yaml_base.specs.Cursor.{Cursor, Laid, space_if}
+use Rattle.yaml_base.specs.Cursor.{Cursor, Rendered, space_if}
 use Rattle.yaml_base.specs.Tags.{spelling, spelled}
-use Rattle.yaml_base.specs.Layout.{alias_laid, properties_laid, body_laid}
-use Rattle.yaml_base.specs.reading.ReadTags.{TagSaid}
+use Rattle.yaml_base.specs.Layout.{render_alias, render_properties, render_body}
+use Rattle.yaml_base.specs.reading.ReadTags.{ParsedTag}
 use Rattle.yaml_base.specs.streams.StreamScalars.{Rules}
 use Rattle.yaml_base.proofs.stream_nodes.StreamProperties.{IsNamed}
 use Rattle.yaml_base.proofs.stream_flow.StreamPropertyWords.{lead}
@@ -27,20 +27,20 @@ use Rattle.yaml_base.proofs.stream_flow.StreamFlowWords.{Given}
 use Rattle.yaml_base.proofs.stream_nodes.StreamBegun.{properties_whole}
 use Rattle.yaml_base.proofs.stream_flow.StreamFlowReads.{FlowContent}
 use Rattle.yaml_base.proofs.stream_flow.StreamFlowFits.{own_shows}
-use Rattle.yaml_base.proofs.stream_nodes.StreamLeads.{lead_laid, tag_is_written}
+use Rattle.yaml_base.proofs.stream_nodes.StreamLeads.{lead_rendered, tag_is_written}
 use Rattle.yaml_base.proofs.stream_flow.StreamFlowScalars.{rules_of}
-use Rattle.yaml_base.proofs.stream_nodes.StreamScalarsFit.{styled_laid, body_cursor, separation_text}
+use Rattle.yaml_base.proofs.stream_nodes.StreamScalarsFit.{render_styled, body_cursor, separation_text}
 use Rattle.yaml_base.proofs.stream_documents.StreamRootsStand.{Begins}
 
 -- Characters
 
--- the sign of an anchor and that of a tag break no line
+-- the indicator of an anchor and that of a tag break no line
 property_line : (breaks12 : Bool) → (is_read_break breaks12 0x26 ≡ false) × (is_read_break breaks12 0x21 ≡ false)
 property_line true = (refl, refl)
 property_line false = (refl, refl)
 
--- what is laid out behind a space where one is needed
-spaced_begins : (breaks12 : Bool) (cursor : Cursor) (own : Laid) (head : ℕ) (tail : Text) → own.text ≡ space_if true cursor ++ (head ∷ tail)
+-- what is rendered behind a space where one is needed
+spaced_begins : (breaks12 : Bool) (cursor : Cursor) (own : Rendered) (head : ℕ) (tail : Text) → own.text ≡ space_if true cursor ++ (head ∷ tail)
     → (head == space) ≡ false → is_read_break breaks12 head ≡ false → Begins breaks12 cursor own
 spaced_begins breaks12 cursor own head tail e shows goes_on = by cursor.whitespace refl
   where
@@ -65,15 +65,16 @@ spaced_begins breaks12 cursor own head tail e shows goes_on = by cursor.whitespa
     }
 
 -- what stands behind properties or without them
-led_begins : (rules : Rules) (cursor : Cursor) (own : Laid) (anchor tag : Option Text) (said : Option TagSaid) (c : ℕ) (t : Text) → Given rules anchor tag said
+led_begins : (rules : Rules) (cursor : Cursor) (own : Rendered) (anchor tag : Option Text) (parsed : Option ParsedTag) (c : ℕ) (t : Text)
+    → Given rules anchor tag parsed
     → (c == space) ≡ false → is_read_break rules.breaks12 c ≡ false → own.text ≡ space_if true cursor ++ (lead anchor tag ++ (c ∷ t))
     → Begins rules.breaks12 cursor own
-led_begins rules cursor own None None said c t given shows goes_on e = spaced_begins rules.breaks12 cursor own c t e shows goes_on
-led_begins rules cursor own (Some name) None said c t given shows goes_on e =
+led_begins rules cursor own None None parsed c t given shows goes_on e = spaced_begins rules.breaks12 cursor own c t e shows goes_on
+led_begins rules cursor own (Some name) None parsed c t given shows goes_on e =
     spaced_begins rules.breaks12 cursor own 0x26 ((name ++ (space ∷ [])) ++ (c ∷ t)) e refl (property_line rules.breaks12).0
-led_begins rules cursor own (Some name) (Some tag) said c t given shows goes_on e =
+led_begins rules cursor own (Some name) (Some tag) parsed c t given shows goes_on e =
     spaced_begins rules.breaks12 cursor own 0x26 (((name ++ (space ∷ tag)) ++ (space ∷ [])) ++ (c ∷ t)) e refl (property_line rules.breaks12).0
-led_begins rules cursor own None (Some tag) (Some said) c t given shows goes_on e =
+led_begins rules cursor own None (Some tag) (Some parsed) c t given shows goes_on e =
     spaced_begins rules.breaks12 cursor own 0x21 ((given.tagged.rest ++ (space ∷ [])) ++ (c ∷ t))
     (e ∙ ap (λ u. space_if true cursor ++ ((u ++ (space ∷ [])) ++ (c ∷ t))) given.tagged.begins) refl (property_line rules.breaks12).1
 led_begins rules cursor own None (Some tag) None c t given shows goes_on e = absurd given.tagged
@@ -83,25 +84,25 @@ led_begins rules cursor own None (Some tag) None c t given shows goes_on e = abs
 -- properties, if there are some
 pub properties_begin : (s : Effective) (own directives : List TagDirective) (anchor tag : Option Text) (cursor : Cursor)
     → TagStands s.portable own directives tag
-    → (anchor ≡ None → tag ≡ None → ⊥) → Begins s.breaks12 cursor (properties_laid s.portable directives anchor tag false cursor)
+    → (anchor ≡ None → tag ≡ None → ⊥) → Begins s.breaks12 cursor (render_properties s.portable directives anchor tag false cursor)
 properties_begin s own directives None None cursor stands some = absurd (some refl refl)
 properties_begin s own directives (Some name) None cursor stands some =
-    spaced_begins s.breaks12 cursor (properties_laid s.portable directives (Some name) None false cursor) 0x26 name
+    spaced_begins s.breaks12 cursor (render_properties s.portable directives (Some name) None false cursor) 0x26 name
     (properties_whole s.portable directives (Some name) None cursor 0x26 name refl) refl (property_line s.breaks12).0
 properties_begin s own directives None (Some tag) cursor stands some =
-    spaced_begins s.breaks12 cursor (properties_laid s.portable directives None (Some tag) false cursor) 0x21 stands.rest
+    spaced_begins s.breaks12 cursor (render_properties s.portable directives None (Some tag) false cursor) 0x21 stands.rest
     (properties_whole s.portable directives None (Some tag) cursor 0x21 stands.rest stands.begins) refl (property_line s.breaks12).1
 properties_begin s own directives (Some name) (Some tag) cursor stands some =
     let rest = name ++ (space ∷ spelled s.portable (spelling directives tag)) in
-    spaced_begins s.breaks12 cursor (properties_laid s.portable directives (Some name) (Some tag) false cursor) 0x26 rest
+    spaced_begins s.breaks12 cursor (render_properties s.portable directives (Some name) (Some tag) false cursor) 0x26 rest
     (properties_whole s.portable directives (Some name) (Some tag) cursor 0x26 rest refl) refl (property_line s.breaks12).0
 
 -- Aliases
 
 -- an alias
-pub alias_begins : (s : Effective) (name : Text) (cursor : Cursor) → Begins s.breaks12 cursor (alias_laid name false cursor)
+pub alias_begins : (s : Effective) (name : Text) (cursor : Cursor) → Begins s.breaks12 cursor (render_alias name false cursor)
 alias_begins s name cursor =
-    spaced_begins s.breaks12 cursor (alias_laid name false cursor) 0x2A name
+    spaced_begins s.breaks12 cursor (render_alias name false cursor) 0x2A name
     (append-nil ((space_if true cursor ++ (0x2A ∷ [])) ++ name) ∙ append_assoc (space_if true cursor) (0x2A ∷ []) name) refl (star s.breaks12)
   where
     star : (breaks12 : Bool) → is_read_break breaks12 0x2A ≡ false
@@ -111,7 +112,7 @@ alias_begins s name cursor =
 -- Collections in flow
 
 -- a collection in flow
-pub flow_begins : (rules : Rules) (cursor : Cursor) (own : Laid) (anchor tag given_tag : Option Text) (tree : Tree)
+pub flow_begins : (rules : Rules) (cursor : Cursor) (own : Rendered) (anchor tag given_tag : Option Text) (tree : Tree)
     → FlowContent rules cursor own anchor tag given_tag tree → Given rules anchor tag (tag_meant given_tag false) → Begins rules.breaks12 cursor own
 flow_begins rules cursor own anchor tag given_tag tree of given =
     led_begins rules cursor own anchor tag (tag_meant given_tag false) of.bracket (of.inside ++ (of.closing ∷ [])) given (own_shows of.bracket of.content).0
@@ -133,11 +134,11 @@ shown_head breaks12 c t h =
     let parts = or_parts (is_blank c) (is_read_break breaks12 c) h in
     record { head = c; tail = t; is = refl; shows = (or_parts (c == space) (c == tab) parts.0).0; goes_on = parts.1 }
 
--- quotes and the signs of block scalars
-sign_shows : (breaks12 : Bool) → (is_read_white breaks12 0x27 ≡ false) × (is_read_white breaks12 0x22 ≡ false) × (is_read_white breaks12 0x7C ≡ false)
+-- quotes and the indicators of block scalars
+indicator_shows : (breaks12 : Bool) → (is_read_white breaks12 0x27 ≡ false) × (is_read_white breaks12 0x22 ≡ false) × (is_read_white breaks12 0x7C ≡ false)
     × (is_read_white breaks12 0x3E ≡ false)
-sign_shows true = (refl, refl, refl, refl)
-sign_shows false = (refl, refl, refl, refl)
+indicator_shows true = (refl, refl, refl, refl)
+indicator_shows false = (refl, refl, refl, refl)
 
 -- a tidy plain text that reads as more than nothing
 plain_head : (breaks12 : Bool) (text value : Text) → is_empty value ≡ false → has_clean_edges breaks12 text ≡ true → read_plain breaks12 false text ≡ Some value
@@ -153,23 +154,24 @@ plain_head breaks12 (c ∷ text) value some clean read =
 
 -- a body that isn't empty
 pub body_head : (s : Effective) (style : ScalarStyle) (limit : Option ℕ) (indent : ℕ) (column : Option ℕ) (value : Text) (cursor : Cursor)
-    → (is_plain style && is_empty value) ≡ false → is_tidy_style style s.breaks12 (body_laid style s limit indent value cursor).text ≡ true
-    → read_in_style style s.breaks12 false column (body_laid style s limit indent value cursor).text ≡ Some value
-    → HeadShows s.breaks12 (body_laid style s limit indent value cursor).text
+    → (is_plain style && is_empty value) ≡ false → is_tidy_style style s.breaks12 (render_body style s limit indent value cursor).text ≡ true
+    → read_in_style style s.breaks12 false column (render_body style s limit indent value cursor).text ≡ Some value
+    → HeadShows s.breaks12 (render_body style s limit indent value cursor).text
 body_head s plain limit indent column value cursor some tidy read =
-    let text = (body_laid plain s limit indent value cursor).text in
+    let text = (render_body plain s limit indent value cursor).text in
     plain_head s.breaks12 text value some (and_parts (has_no_space_before_break s.breaks12 text) (has_clean_edges s.breaks12 text) tidy).1 read
 body_head s single_quoted limit indent column value cursor some tidy read =
-    shown_head s.breaks12 0x27 ((runs_laid quotes_doubled limit indent true (runs value) (single_quote cursor).cursor).text ++ (0x27 ∷ []))
-    (sign_shows s.breaks12).0
+    shown_head s.breaks12 0x27 ((render_runs quotes_doubled limit indent true (runs value) (single_quote cursor).cursor).text ++ (0x27 ∷ []))
+    (indicator_shows s.breaks12).0
 body_head s double_quoted limit indent column value cursor some tidy read =
-    shown_head s.breaks12 0x22 ((double_inside s.unicode limit indent None value (quote_laid cursor).cursor).text ++ (0x22 ∷ [])) (sign_shows s.breaks12).1
+    shown_head s.breaks12 0x22 ((double_inside s.unicode limit indent None value (render_quote cursor).cursor).text ++ (0x22 ∷ []))
+    (indicator_shows s.breaks12).1
 body_head s any_style limit indent column value cursor some tidy read = absurd (false≢true tidy)
-body_head s literal limit indent column value cursor some tidy read = shown_head s.breaks12 0x7C _ (sign_shows s.breaks12).2
-body_head s folded limit indent column value cursor some tidy read = shown_head s.breaks12 0x3E _ (sign_shows s.breaks12).3
+body_head s literal limit indent column value cursor some tidy read = shown_head s.breaks12 0x7C _ (indicator_shows s.breaks12).2
+body_head s folded limit indent column value cursor some tidy read = shown_head s.breaks12 0x3E _ (indicator_shows s.breaks12).3
 
 -- what has the same text begins alike
-begins_alike : (breaks12 : Bool) (cursor : Cursor) (own other : Laid) → other.text ≡ own.text → Begins breaks12 cursor own → Begins breaks12 cursor other
+begins_alike : (breaks12 : Bool) (cursor : Cursor) (own other : Rendered) → other.text ≡ own.text → Begins breaks12 cursor own → Begins breaks12 cursor other
 begins_alike breaks12 cursor own other e b = record {
   count = b.count;
   head = b.head;
@@ -183,11 +185,11 @@ begins_alike breaks12 cursor own other e b = record {
 -- an empty plain scalar with properties
 pub empty_begins : (s : Effective) (own directives : List TagDirective) (anchor tag : Option Text) (bare : Bool) (style : ScalarStyle) (limit : Option ℕ)
     (indent : ℕ) (value : Text) (cursor : Cursor) → TagStands s.portable own directives tag → is_plain style ≡ true → is_empty value ≡ true → bare ≡ false
-    → (anchor ≡ None → tag ≡ None → ⊥) → Begins s.breaks12 cursor (styled_laid s directives anchor tag bare style limit indent value cursor)
+    → (anchor ≡ None → tag ≡ None → ⊥) → Begins s.breaks12 cursor (render_styled s directives anchor tag bare style limit indent value cursor)
 empty_begins s own directives anchor tag true plain limit indent [] cursor stands is empty h some = absurd (true≢false h)
 empty_begins s own directives anchor tag false plain limit indent [] cursor stands is empty h some =
-    let begun = properties_laid s.portable directives anchor tag false cursor in
-    begins_alike s.breaks12 cursor begun (styled_laid s directives anchor tag false plain limit indent [] cursor)
+    let begun = render_properties s.portable directives anchor tag false cursor in
+    begins_alike s.breaks12 cursor begun (render_styled s directives anchor tag false plain limit indent [] cursor)
     (append-nil (begun.text ++ []) ∙ append-nil begun.text) (properties_begin s own directives anchor tag cursor stands some)
 empty_begins s own directives anchor tag bare plain limit indent (c ∷ value) cursor stands is empty h some = absurd (false≢true empty)
 empty_begins s own directives anchor tag bare single_quoted limit indent value cursor stands is empty h some = absurd (false≢true is)
@@ -199,23 +201,23 @@ empty_begins s own directives anchor tag bare folded limit indent value cursor s
 -- a scalar whose body isn't empty
 pub styled_begins : (s : Effective) (own directives : List TagDirective) (anchor tag : Option Text) (bare : Bool) (style : ScalarStyle) (limit : Option ℕ)
     (indent : ℕ) (value : Text) (cursor : Cursor) → IsNamed anchor → TagStands s.portable own directives tag → (is_plain style && is_empty value) ≡ false
-    → HeadShows s.breaks12 (body_laid style s limit indent value (body_cursor s directives anchor tag bare style value cursor)).text
-    → Begins s.breaks12 cursor (styled_laid s directives anchor tag bare style limit indent value cursor)
+    → HeadShows s.breaks12 (render_body style s limit indent value (body_cursor s directives anchor tag bare style value cursor)).text
+    → Begins s.breaks12 cursor (render_styled s directives anchor tag bare style limit indent value cursor)
 styled_begins s own directives anchor tag bare style limit indent value cursor named stands some h =
-    let properties = properties_laid s.portable directives anchor tag bare cursor in
-    let text = (body_laid style s limit indent value (body_cursor s directives anchor tag bare style value cursor)).text in
+    let properties = render_properties s.portable directives anchor tag bare cursor in
+    let text = (render_body style s limit indent value (body_cursor s directives anchor tag bare style value cursor)).text in
     let before = lead anchor (tag_written s.portable directives tag bare) in
-    led_begins (rules_of s own) cursor (styled_laid s directives anchor tag bare style limit indent value cursor) anchor
+    led_begins (rules_of s own) cursor (render_styled s directives anchor tag bare style limit indent value cursor) anchor
     (tag_written s.portable directives tag bare) (tag_meant tag bare) h.head h.tail
     (record { named = named; tagged = tag_is_written s.portable own directives tag bare stands }) h.shows h.goes_on
     (ap (λ t. (properties.text ++ t) ++ text) (separation_text style value properties.cursor some)
-    ∙ ap (λ t. t ++ text) (lead_laid s.portable directives anchor tag bare cursor)
+    ∙ ap (λ t. t ++ text) (lead_rendered s.portable directives anchor tag bare cursor)
     ∙ append_assoc (space_if true cursor) before text
     ∙ ap (λ t. space_if true cursor ++ (before ++ t)) h.is)
 
 -- plain is chosen only where it is asked for and fits
 pub plain_asked : (allowed : Allowances) (plain_fits block_fits : Bool) (asked : ScalarStyle)
-    → is_plain (style_fitting allowed plain_fits block_fits asked) ≡ true
+    → is_plain (fitting_style allowed plain_fits block_fits asked) ≡ true
     → (is_plain asked ≡ true) × (plain_fits ≡ true)
 plain_asked allowed true block_fits plain h = (refl, refl)
 plain_asked allowed false block_fits plain h = absurd (quotes allowed.single_quoted h)

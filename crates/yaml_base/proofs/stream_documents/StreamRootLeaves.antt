@@ -7,12 +7,12 @@ use Rattle.yaml_base.specs.Characters.{Text, is_printable}
 use Rattle.yaml_base.specs.Settings.{Effective}
 use Rattle.yaml_base.specs.Event.{TagDirective, Scalar}
 use Rattle.yaml_base.specs.scalars.Analysis.{Allowances, is_empty, allowances}
-use Rattle.yaml_base.specs.scalars.Style.{Choice, is_plain, style_asked, fits_plain}
+use Rattle.yaml_base.specs.scalars.Style.{Choice, is_plain, requested_style, fits_plain}
 use Rattle.yaml_base.specs.Tags.{directives_in_force}
 use Rattle.yaml_base.specs.Cursor.{Cursor}
 use Rattle.yaml_base.specs.Grammar.{Node, alias_node, scalar_node, sequence_node, mapping_node, Document}
 use Rattle.yaml_base.specs.Event.{scalar_tag, collection_tag}
-use Rattle.yaml_base.specs.Layout.{as_root, deeper, properties_laid, choice_of, root_place}
+use Rattle.yaml_base.specs.Layout.{as_root, deeper, render_properties, choice_of, root_place}
 use Rattle.yaml_base.specs.reading.TidyText.{has_deep_lines, is_tidy_style}
 use Rattle.yaml_base.specs.StreamLaw.{is_written_as_nothing}
 use Rattle.yaml_base.proofs.stream_nodes.StreamTexts.{node_own}
@@ -38,11 +38,11 @@ nothing_written : (s : Effective) (content : Scalar) → is_plain (choice_of s r
     → content.anchor ≡ None → scalar_tag s.canonical content ≡ None → is_written_as_nothing s.canonical (scalar_node content) ≡ true
 nothing_written s content is empty no_anchor no_tag =
     and_from (is_empty content.value && not (is_some content.anchor) && not (is_some tag) && content.plain_implicit)
-    (is_plain (style_asked s.canonical content.style))
+    (is_plain (requested_style s.canonical content.style))
     (and_from (is_empty content.value && not (is_some content.anchor) && not (is_some tag)) content.plain_implicit
     (and_from (is_empty content.value && not (is_some content.anchor)) (not (is_some tag))
     (and_from (is_empty content.value) (not (is_some content.anchor)) empty (ap (λ a. not (is_some a)) no_anchor)) (ap (λ t. not (is_some t)) no_tag)) implicit)
-    (ap (λ x. is_plain (style_asked x content.style)) (sym (or_false s.canonical)) ∙ chosen.0)
+    (ap (λ x. is_plain (requested_style x content.style)) (sym (or_false s.canonical)) ∙ chosen.0)
   where
     tag : Option Text
     tag = scalar_tag s.canonical content
@@ -54,11 +54,11 @@ nothing_written s content is empty no_anchor no_tag =
     or_false true = refl
     or_false false = refl
 
-    chosen : (is_plain (style_asked (s.canonical || false) content.style) ≡ true)
+    chosen : (is_plain (requested_style (s.canonical || false) content.style) ≡ true)
         × (fits_plain allowed (is_empty content.value) (is_some tag) content.plain_implicit false false ≡ true)
     chosen =
         plain_asked allowed (fits_plain allowed (is_empty content.value) (is_some tag) content.plain_implicit false false) (allowed.block && true && true)
-        (style_asked (s.canonical || false) content.style) is
+        (requested_style (s.canonical || false) content.style) is
 
     implicit : content.plain_implicit ≡ true
     implicit =
@@ -115,53 +115,54 @@ leaf_begins (mapping_node start pairs) s own directives cursor keys leaf names b
     (record { named = names.0; tagged = tag_is_written s.portable own directives tag false names.1 })
 
 -- a document's root that is a leaf stands
-pub leaf_stands : (s : Effective) (document : Document) (on_mark : Bool)
+pub leaf_stands : (s : Effective) (document : Document) (on_marker : Bool)
     → (let own = document.start.directives in let directives = directives_in_force own in
     1 ≤ s.indent → KeysFit s own directives → NamesStand s.portable own s.canonical directives document.root
-    → BodiesHold (BodyStands s) document.root s directives root_place (root_cursor on_mark) → is_leaf s document.root ≡ true → LeafStands on_mark s document)
-leaf_stands s document on_mark deep keys names bodies leaf =
+    → BodiesHold (BodyStands s) document.root s directives root_place (root_cursor on_marker) → is_leaf s document.root ≡ true
+    → LeafStands on_marker s document)
+leaf_stands s document on_marker deep keys names bodies leaf =
     let own = document.start.directives in
     let directives = directives_in_force own in
     record {
-      begins = λ some. leaf_begins document.root s own directives (root_cursor on_mark) keys leaf names bodies some;
-      after = leaf_unmarked document.root s own directives (root_cursor on_mark) deep leaf names bodies;
+      begins = λ some. leaf_begins document.root s own directives (root_cursor on_marker) keys leaf names bodies some;
+      after = leaf_unmarked document.root s own directives (root_cursor on_marker) deep leaf names bodies;
     }
 
--- without properties nothing is laid out for them
-nothing_laid_out : (s : Effective) (directives : List TagDirective) (anchor tag : Option Text) (cursor : Cursor) → anchor ≡ None → tag ≡ None
-    → (properties_laid s.portable directives anchor tag false cursor).text ≡ []
-nothing_laid_out s directives anchor tag cursor no_anchor no_tag =
-    ap (λ a. (properties_laid s.portable directives a tag false cursor).text) no_anchor
-    ∙ ap (λ t. (properties_laid s.portable directives None t false cursor).text) no_tag
+-- without properties nothing is rendered for them
+rendered_as_nothing : (s : Effective) (directives : List TagDirective) (anchor tag : Option Text) (cursor : Cursor) → anchor ≡ None → tag ≡ None
+    → (render_properties s.portable directives anchor tag false cursor).text ≡ []
+rendered_as_nothing s directives anchor tag cursor no_anchor no_tag =
+    ap (λ a. (render_properties s.portable directives a tag false cursor).text) no_anchor
+    ∙ ap (λ t. (render_properties s.portable directives None t false cursor).text) no_tag
 
 -- and the properties of one that isn't begin so
-pub properties_stand : (n : Node) (s : Effective) (own directives : List TagDirective) (on_mark : Bool)
-    → NamesStand s.portable own s.canonical directives n → PropertiesStand on_mark s directives n
-properties_stand (alias_node name) s own directives on_mark names = tt
-properties_stand (scalar_node content) s own directives on_mark names = tt
-properties_stand (sequence_node start items) s own directives on_mark names = λ some.
-    properties_begin s own directives start.anchor (collection_tag s.canonical start) (root_cursor on_mark) names.1
-    (λ no_anchor no_tag. some (nothing_laid_out s directives start.anchor (collection_tag s.canonical start) (root_cursor on_mark) no_anchor no_tag))
-properties_stand (mapping_node start pairs) s own directives on_mark names = λ some.
-    properties_begin s own directives start.anchor (collection_tag s.canonical start) (root_cursor on_mark) names.1
-    (λ no_anchor no_tag. some (nothing_laid_out s directives start.anchor (collection_tag s.canonical start) (root_cursor on_mark) no_anchor no_tag))
+pub properties_stand : (n : Node) (s : Effective) (own directives : List TagDirective) (on_marker : Bool)
+    → NamesStand s.portable own s.canonical directives n → PropertiesStand on_marker s directives n
+properties_stand (alias_node name) s own directives on_marker names = tt
+properties_stand (scalar_node content) s own directives on_marker names = tt
+properties_stand (sequence_node start items) s own directives on_marker names = λ some.
+    properties_begin s own directives start.anchor (collection_tag s.canonical start) (root_cursor on_marker) names.1
+    (λ no_anchor no_tag. some (rendered_as_nothing s directives start.anchor (collection_tag s.canonical start) (root_cursor on_marker) no_anchor no_tag))
+properties_stand (mapping_node start pairs) s own directives on_marker names = λ some.
+    properties_begin s own directives start.anchor (collection_tag s.canonical start) (root_cursor on_marker) names.1
+    (λ no_anchor no_tag. some (rendered_as_nothing s directives start.anchor (collection_tag s.canonical start) (root_cursor on_marker) no_anchor no_tag))
 
 -- so a root stands where it begins, where all in it fits
-pub root_stands : (s : Effective) (document : Document) (on_mark : Bool)
+pub root_stands : (s : Effective) (document : Document) (on_marker : Bool)
     → (let own = document.start.directives in let directives = directives_in_force own in
     2 ≤ s.indent → ScalarsFit s own directives → SimpleKeysFit s own directives → KeysFit s own directives
     → NamesStand s.portable own s.canonical directives document.root
-    → BodiesHold (BodyStands s) document.root s directives root_place (root_cursor on_mark) → RootStands s document on_mark)
-root_stands s document on_mark deep scalars simple_keys keys names bodies =
+    → BodiesHold (BodyStands s) document.root s directives root_place (root_cursor on_marker) → RootStands s document on_marker)
+root_stands s document on_marker deep scalars simple_keys keys names bodies =
     let own = document.start.directives in
     let directives = directives_in_force own in
     record {
       leaves =
           leaves_stand document.root s own directives scalars (flows_fit s own directives keys deep) simple_keys as_root None
-          (root_cursor on_mark) (λ h. refl) refl
-          (by on_mark) names bodies;
-      leaf = λ leaf. leaf_stands s document on_mark (omega arith) keys names bodies leaf;
-      block = λ block. properties_stand document.root s own directives on_mark names;
+          (root_cursor on_marker) (λ h. refl) refl
+          (by on_marker) names bodies;
+      leaf = λ leaf. leaf_stands s document on_marker (omega arith) keys names bodies leaf;
+      block = λ block. properties_stand document.root s own directives on_marker names;
     }
   where
     by : (x : Bool) → Stands None (root_cursor x)

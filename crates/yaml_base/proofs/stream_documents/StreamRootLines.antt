@@ -1,4 +1,4 @@
--- The lines of a root: no line after its first is a mark, and its first stands where a root may begin.
+-- The lines of a root: no line after its first is a marker, and its first stands where a root may begin.
 use Rattle.std.proofs.Common.{◌≡◌, refl, sym, ap, ◌∙◌, append_assoc, subst}
 use Rattle.std.proofs.lemmas.Bool.{true≢false, and_parts}
 use Rattle.std.specs.List.{list_all, list_any}
@@ -6,38 +6,39 @@ use Rattle.std.specs.Prelude.{ℕ, zero, suc, Bool, true, false, Option, List, [
 use Rattle.yaml_base.specs.Characters.{Text, line_feed, space}
 use Rattle.yaml_base.specs.LineBreaks.{is_read_break}
 use Rattle.yaml_base.specs.scalars.Analysis.{is_empty}
-use Rattle.yaml_base.specs.Cursor.{Laid, nothing_laid}
-use Rattle.yaml_base.specs.streams.StreamLines.{Line, character_before, extending, lines_of, ends_sign, is_spaces, without_blank_lines, spaces}
+use Rattle.yaml_base.specs.Cursor.{Rendered, render_nothing}
+use Rattle.yaml_base.specs.streams.StreamLines.{Line, prepend_character, prepend_to_first_line, lines_of, ends_indicator, is_spaces}
+use Rattle.yaml_base.specs.streams.StreamLines.{without_blank_lines, spaces}
 use Rattle.yaml_base.specs.streams.StreamScalars.{Rules}
 use Rattle.yaml_base.specs.streams.StreamNodes.{NodeKind}
-use Rattle.yaml_base.specs.streams.StreamDocuments.{mark_of, stands_at_margin}
+use Rattle.yaml_base.specs.streams.StreamDocuments.{marker_of, stands_at_margin}
 use Rattle.yaml_base.proofs.stream_lines.StreamLineLaws.{one_line_both}
 use Rattle.yaml_base.proofs.stream_lines.StreamInside.{not_blank}
 use Rattle.yaml_base.proofs.stream_lines.StreamTidyLaws.{lines_after_first}
 use Rattle.yaml_base.proofs.stream_lines.StreamSections.{is_unmarked, AllUnmarked}
 use Rattle.yaml_base.proofs.stream_lines.StreamClosed.{closing, closed, spaces_line, lines_behind, lines_broken}
 use Rattle.yaml_base.proofs.stream_nodes.StreamItems.{Lays}
-use Rattle.yaml_base.proofs.stream_nodes.StreamBlocks.{Opened, opened_shows, BegunKind, unsaid, is_said, block_own, own_closed, below}
+use Rattle.yaml_base.proofs.stream_nodes.StreamBlocks.{Opened, opened_shows, BegunKind, unsaid, is_parsed, block_own, own_closed, below}
 use Rattle.yaml_base.proofs.stream_documents.StreamRootsStand.{root_cursor, Begins}
 
 -- the first of some lines begins with a character that is no space
 abbrev pub begins_shown : List Line → Bool
 begins_shown [] = false
-begins_shown (line ∷ rest) = not (ends_sign line.text)
+begins_shown (line ∷ rest) = not (ends_indicator line.text)
 
--- behind a mark the first line isn't blank, or what follows stands at the margin
+-- behind a marker the first line isn't blank, or what follows stands at the margin
 abbrev pub stands_below : List Line → Bool
 stands_below [] = true
 stands_below (line ∷ rest) = not (is_spaces line.text) || stands_at_margin (without_blank_lines rest)
 
--- a root may begin so, behind a mark or on lines of its own
-abbrev pub FirstStands : (on_mark : Bool) → List Line → Type 0
+-- a root may begin so, behind a marker or on lines of its own
+abbrev pub FirstStands : (on_marker : Bool) → List Line → Type 0
 FirstStands true lines = stands_below lines ≡ true
 FirstStands false lines = begins_shown lines ≡ true
 
--- lines of which none after the first is a mark, where a root may begin with the first
-abbrev pub Stood : (on_mark : Bool) → List Line → Type 0
-Stood on_mark lines = AllUnmarked (lines_after_first lines) × FirstStands on_mark lines
+-- lines of which none after the first is a marker, where a root may begin with the first
+abbrev pub Stood : (on_marker : Bool) → List Line → Type 0
+Stood on_marker lines = AllUnmarked (lines_after_first lines) × FirstStands on_marker lines
 
 -- First lines
 
@@ -52,48 +53,50 @@ pub record FirstLine (breaks12 : Bool) (k head : ℕ) (t : Text) : Type 0 where
 pub first_line : (breaks12 : Bool) (k head : ℕ) (t : Text) → is_read_break breaks12 head ≡ false → FirstLine breaks12 k head t
 first_line breaks12 k head t goes_on = by (lines_of breaks12 t) refl
   where
-    front : (lines : List Line) → lines_of breaks12 t ≡ lines → lines_of breaks12 (head ∷ t) ≡ extending head lines
-    front lines e = ap (λ x. character_before x head (lines_of breaks12 t)) goes_on ∙ ap (extending head) e
+    prefix : (lines : List Line) → lines_of breaks12 t ≡ lines → lines_of breaks12 (head ∷ t) ≡ prepend_to_first_line head lines
+    prefix lines e = ap (λ x. prepend_character x head (lines_of breaks12 t)) goes_on ∙ ap (prepend_to_first_line head) e
 
     by : (lines : List Line) → lines_of breaks12 t ≡ lines → FirstLine breaks12 k head t
     by [] e = record {
       tail = [];
       ending = [];
       rest = [];
-      is = lines_behind breaks12 (spaces k) (head ∷ t) (head ∷ []) [] [] (spaces_line breaks12 k) (front [] e);
+      is = lines_behind breaks12 (spaces k) (head ∷ t) (head ∷ []) [] [] (spaces_line breaks12 k) (prefix [] e);
     }
     by (line ∷ rest) e = record {
       tail = line.text;
       ending = line.ending;
       rest = rest;
-      is = lines_behind breaks12 (spaces k) (head ∷ t) (head ∷ line.text) line.ending rest (spaces_line breaks12 k) (front (line ∷ rest) e);
+      is = lines_behind breaks12 (spaces k) (head ∷ t) (head ∷ line.text) line.ending rest (spaces_line breaks12 k) (prefix (line ∷ rest) e);
     }
 
 -- a character that is no space begins a line at the margin
-shown_at : (k head : ℕ) (t : Text) → k ≡ 0 → (head == space) ≡ false → ends_sign (spaces k ++ (head ∷ t)) ≡ false
-shown_at k head t e h = ap (λ n. ends_sign (spaces n ++ (head ∷ t))) e ∙ h
+shown_at : (k head : ℕ) (t : Text) → k ≡ 0 → (head == space) ≡ false → ends_indicator (spaces k ++ (head ∷ t)) ≡ false
+shown_at k head t e h = ap (λ n. ends_indicator (spaces n ++ (head ∷ t))) e ∙ h
 
 -- where a root may begin, by its first line
-first_stands : (on_mark : Bool) (k head : ℕ) (t ending : Text) (rest : List Line) → ((root_cursor on_mark).whitespace ≡ true → k ≡ 0) → (head == space) ≡ false
-    → FirstStands on_mark (record { text = spaces k ++ (head ∷ t); ending = ending } ∷ rest)
+first_stands : (on_marker : Bool) (k head : ℕ) (t ending : Text) (rest : List Line) → ((root_cursor on_marker).whitespace ≡ true → k ≡ 0)
+    → (head == space) ≡ false
+    → FirstStands on_marker (record { text = spaces k ++ (head ∷ t); ending = ending } ∷ rest)
 first_stands true k head t ending rest margin shows = ap (λ x. not x || stands_at_margin (without_blank_lines rest)) (not_blank k head t shows)
 first_stands false k head t ending rest margin shows = ap not (shown_at k head t (margin refl) shows)
 
 -- what begins so, up to its last line's end, may begin a root
-pub begins_stands : (breaks12 on_mark : Bool) (own : Laid) → Begins breaks12 (root_cursor on_mark) own → FirstStands on_mark (lines_of breaks12 (closed own))
-begins_stands breaks12 on_mark own b =
+pub begins_stands : (breaks12 on_marker : Bool) (own : Rendered) → Begins breaks12 (root_cursor on_marker) own
+    → FirstStands on_marker (lines_of breaks12 (closed own))
+begins_stands breaks12 on_marker own b =
     let line = first_line breaks12 b.count b.head (b.tail ++ closing own.cursor) b.goes_on in
-    subst (FirstStands on_mark)
+    subst (FirstStands on_marker)
     (sym (ap (λ t. lines_of breaks12 (t ++ closing own.cursor)) b.text
     ∙ ap (lines_of breaks12) (append_assoc (spaces b.count) (b.head ∷ b.tail) (closing own.cursor)) ∙ line.is))
-    (first_stands on_mark b.count b.head line.tail line.ending line.rest b.margin b.shows)
+    (first_stands on_marker b.count b.head line.tail line.ending line.rest b.margin b.shows)
 
 -- Collections in blocks
 
 -- the lines after the first are among all
 later_unmarked : (lines : List Line) → AllUnmarked lines → AllUnmarked (lines_after_first lines)
 later_unmarked [] h = refl
-later_unmarked (line ∷ rest) h = (and_parts (is_unmarked (mark_of line.text)) (list_all (λ line. is_unmarked (mark_of line.text)) rest) h).1
+later_unmarked (line ∷ rest) h = (and_parts (is_unmarked (marker_of line.text)) (list_all (λ line. is_unmarked (marker_of line.text)) rest) h).1
 
 -- lines that begin a node at column 0 stand at the margin
 opened_margin : (rules : Rules) (lines : List Line) (kind : NodeKind) → Opened rules 0 lines kind → begins_shown lines ≡ true
@@ -104,34 +107,34 @@ opened_below : (rules : Rules) (lines : List Line) (kind : NodeKind) → Opened 
 opened_below rules lines kind o = ap stands_at_margin ((opened_shows rules 0 lines kind o).1 ∙ o.is) ∙ ap not o.shows
 
 -- entries at column 0, behind properties or without them
-pub block_stands : (rules : Rules) (on_mark : Bool) (anchor tag : Option Text) (begun entries : Laid) (text : Text) (kind : NodeKind)
-    → BegunKind rules anchor tag (root_cursor on_mark) begun → Lays 0 begun.cursor entries text → Opened rules 0 (lines_of rules.breaks12 text) kind
-    → AllUnmarked (lines_of rules.breaks12 text) → ((begun.text ≡ [] → ⊥) → Begins rules.breaks12 (root_cursor on_mark) begun)
-    → Stood on_mark (lines_of rules.breaks12 (closed (block_own begun entries)))
-block_stands rules on_mark anchor tag begun entries text kind (is_said said) lays opened unmarked properties =
-    let core = said.head ∷ said.tail in
-    let b = properties (λ e. not_empty said.count (sym said.text ∙ e)) in
-    let is = ap (lines_of rules.breaks12) (own_closed begun entries ∙ ap (λ t. begun.text ++ t) (below rules 0 begun.cursor entries text lays said.ends))
-    ∙ lines_broken rules.breaks12 begun.text text (ap (λ t. list_any (is_read_break rules.breaks12) t) said.text
-    ∙ one_line_both rules.breaks12 (spaces said.count) core (spaces_line rules.breaks12 said.count) said.one_line) in
-    subst (Stood on_mark) (sym is) (
+pub block_stands : (rules : Rules) (on_marker : Bool) (anchor tag : Option Text) (begun entries : Rendered) (text : Text) (kind : NodeKind)
+    → BegunKind rules anchor tag (root_cursor on_marker) begun → Lays 0 begun.cursor entries text → Opened rules 0 (lines_of rules.breaks12 text) kind
+    → AllUnmarked (lines_of rules.breaks12 text) → ((begun.text ≡ [] → ⊥) → Begins rules.breaks12 (root_cursor on_marker) begun)
+    → Stood on_marker (lines_of rules.breaks12 (closed (block_own begun entries)))
+block_stands rules on_marker anchor tag begun entries text kind (is_parsed parsed) lays opened unmarked properties =
+    let core = parsed.head ∷ parsed.tail in
+    let b = properties (λ e. not_empty parsed.count (sym parsed.text ∙ e)) in
+    let is = ap (lines_of rules.breaks12) (own_closed begun entries ∙ ap (λ t. begun.text ++ t) (below rules 0 begun.cursor entries text lays parsed.ends))
+    ∙ lines_broken rules.breaks12 begun.text text (ap (λ t. list_any (is_read_break rules.breaks12) t) parsed.text
+    ∙ one_line_both rules.breaks12 (spaces parsed.count) core (spaces_line rules.breaks12 parsed.count) parsed.one_line) in
+    subst (Stood on_marker) (sym is) (
       unmarked,
-      subst (λ t. FirstStands on_mark (record { text = t; ending = line_feed ∷ [] } ∷ lines_of rules.breaks12 text)) (sym b.text)
-          (first_stands on_mark b.count b.head b.tail (line_feed ∷ []) (lines_of rules.breaks12 text) b.margin b.shows),
+      subst (λ t. FirstStands on_marker (record { text = t; ending = line_feed ∷ [] } ∷ lines_of rules.breaks12 text)) (sym b.text)
+          (first_stands on_marker b.count b.head b.tail (line_feed ∷ []) (lines_of rules.breaks12 text) b.margin b.shows),
     )
   where
-    not_empty : (k : ℕ) → spaces k ++ (said.head ∷ said.tail) ≡ [] → ⊥
+    not_empty : (k : ℕ) → spaces k ++ (parsed.head ∷ parsed.tail) ≡ [] → ⊥
     not_empty zero e = absurd (true≢false (sym (ap is_empty e)))
     not_empty (suc k) e = absurd (true≢false (sym (ap is_empty e)))
-block_stands rules on_mark anchor tag begun entries text kind (unsaid no_anchor no_tag nothing) lays opened unmarked properties =
-    subst (λ b. Stood on_mark (lines_of rules.breaks12 (closed (block_own b entries)))) (sym nothing)
-    (by on_mark (subst (λ (b : Laid). Lays 0 b.cursor entries text) nothing lays))
+block_stands rules on_marker anchor tag begun entries text kind (unsaid no_anchor no_tag nothing) lays opened unmarked properties =
+    subst (λ b. Stood on_marker (lines_of rules.breaks12 (closed (block_own b entries)))) (sym nothing)
+    (by on_marker (subst (λ (b : Rendered). Lays 0 b.cursor entries text) nothing lays))
   where
-    by : (x : Bool) → Lays 0 (root_cursor x) entries text → Stood x (lines_of rules.breaks12 (closed (block_own (nothing_laid (root_cursor x)) entries)))
+    by : (x : Bool) → Lays 0 (root_cursor x) entries text → Stood x (lines_of rules.breaks12 (closed (block_own (render_nothing (root_cursor x)) entries)))
     by true lays =
-        subst (Stood true) (sym (ap (lines_of rules.breaks12) (own_closed (nothing_laid (root_cursor true)) entries
+        subst (Stood true) (sym (ap (lines_of rules.breaks12) (own_closed (render_nothing (root_cursor true)) entries
         ∙ below rules 0 (root_cursor true) entries text lays refl)))
         (unmarked, opened_below rules (lines_of rules.breaks12 text) kind opened)
     by false lays =
-        subst (Stood false) (sym (ap (lines_of rules.breaks12) (own_closed (nothing_laid (root_cursor false)) entries ∙ lays.lays ∙ sym lays.is)))
+        subst (Stood false) (sym (ap (lines_of rules.breaks12) (own_closed (render_nothing (root_cursor false)) entries ∙ lays.lays ∙ sym lays.is)))
         (later_unmarked (lines_of rules.breaks12 text) unmarked, opened_margin rules (lines_of rules.breaks12 text) kind opened)

@@ -6,7 +6,7 @@ use Rattle.yaml_base.specs.Characters.{Text}
 use Rattle.yaml_base.specs.Settings.{Effective}
 use Rattle.yaml_base.specs.Event.{TagDirective, Collection}
 use Rattle.yaml_base.specs.Tags.{directives_in_force}
-use Rattle.yaml_base.specs.Cursor.{Laid}
+use Rattle.yaml_base.specs.Cursor.{Rendered}
 use Rattle.yaml_base.specs.Grammar.{Node, alias_node, scalar_node, sequence_node, mapping_node, Nodes, Pairs, Document}
 use Rattle.yaml_base.specs.Event.{collection_tag}
 use Rattle.yaml_base.specs.Layout.{has_no_nodes, has_no_pairs, asks_flow, is_written_in_flow, root_place, square, curly}
@@ -27,10 +27,10 @@ use Rattle.yaml_base.proofs.stream_nodes.StreamItems.{items_text, items_lay}
 use Rattle.yaml_base.proofs.stream_nodes.StreamPairs.{pairs_text}
 use Rattle.yaml_base.proofs.stream_nodes.StreamPairReads.{pairs_lay}
 use Rattle.yaml_base.proofs.stream_nodes.StreamCentral.{items_block, pairs_block}
-use Rattle.yaml_base.proofs.stream_nodes.StreamNodesFit.{EitherType, LeafFits, begun_laid, BegunReads, Leaves, ItemLeaves, PairLeaves, Stands, items_fit}
+use Rattle.yaml_base.proofs.stream_nodes.StreamNodesFit.{EitherType, LeafFits, render_begun, BegunReads, Leaves, ItemLeaves, PairLeaves, Stands, items_fit}
 use Rattle.yaml_base.proofs.stream_nodes.StreamNodesFit.{pairs_fit, node_fits}
-use Rattle.yaml_base.proofs.stream_documents.StreamRoots.{mark_cursor}
-use Rattle.yaml_base.proofs.stream_documents.StreamRootsStand.{rules_of, root_cursor, root_laid, is_leaf, PropertiesStand, RootStands}
+use Rattle.yaml_base.proofs.stream_documents.StreamRoots.{marker_cursor}
+use Rattle.yaml_base.proofs.stream_documents.StreamRootsStand.{rules_of, root_cursor, render_root, is_leaf, PropertiesStand, RootStands}
 use Rattle.yaml_base.proofs.stream_documents.StreamRootLines.{FirstStands, Stood, begins_stands, block_stands}
 
 -- Collections in blocks
@@ -40,72 +40,73 @@ not_empty : (s : Effective) (start : Collection) (empty : Bool) → is_written_i
 not_empty s start empty h = (or_parts (false || s.canonical || asks_flow start.style) empty h).1
 
 -- a sequence in a block
-sequence_stood : (start : Collection) (items : Nodes) (given : List TagDirective) (s : Effective) (directives : List TagDirective) (on_mark : Bool)
+sequence_stood : (start : Collection) (items : Nodes) (given : List TagDirective) (s : Effective) (directives : List TagDirective) (on_marker : Bool)
     → 2 ≤ s.indent
     → is_written_in_flow s root_place start (has_no_nodes items) ≡ false
-    → Leaves (sequence_node start items) (record { breaks12 = s.breaks12; directives = given }) s directives root_place (root_cursor on_mark)
-    → PropertiesStand on_mark s directives (sequence_node start items)
-    → Stood on_mark (lines_of s.breaks12 (closed (node_own (sequence_node start items) s directives root_place (root_cursor on_mark))))
-sequence_stood start items given s directives on_mark deep block leaves properties =
+    → Leaves (sequence_node start items) (record { breaks12 = s.breaks12; directives = given }) s directives root_place (root_cursor on_marker)
+    → PropertiesStand on_marker s directives (sequence_node start items)
+    → Stood on_marker (lines_of s.breaks12 (closed (node_own (sequence_node start items) s directives root_place (root_cursor on_marker))))
+sequence_stood start items given s directives on_marker deep block leaves properties =
     by (is_written_in_flow s root_place start (has_no_nodes items)) block leaves
   where
     rules : Rules
     rules = record { breaks12 = s.breaks12; directives = given }
 
-    begun : Laid
-    begun = begun_laid s directives start (root_cursor on_mark)
+    begun : Rendered
+    begun = render_begun s directives start (root_cursor on_marker)
 
     by : (x : Bool) → x ≡ false
-        → EitherType x (LeafFits rules s directives (sequence_node start items) root_place (root_cursor on_mark))
-        (BegunReads rules s directives start (root_cursor on_mark) × ItemLeaves items rules s directives 0)
-        → Stood on_mark (lines_of s.breaks12 (closed (collection_own s square x false (has_no_nodes items) None begun (items_own items s directives x))))
+        → EitherType x (LeafFits rules s directives (sequence_node start items) root_place (root_cursor on_marker))
+        (BegunReads rules s directives start (root_cursor on_marker) × ItemLeaves items rules s directives 0)
+        → Stood on_marker (lines_of s.breaks12 (closed (collection_own s square x false (has_no_nodes items) None begun (items_own items s directives x))))
     by true h each = absurd (true≢false h)
     by false h each =
         let fit = items_fit items rules s directives 0 deep each.1 in
         let some = not_empty s start (has_no_nodes items) block in
         let reads = items_block rules s directives items 0 fit some in
-        block_stands rules on_mark start.anchor (collection_tag s.canonical start) begun (items_own items s directives false 0 begun.cursor)
+        block_stands rules on_marker start.anchor (collection_tag s.canonical start) begun (items_own items s directives false 0 begun.cursor)
         (items_text items s directives 0) reads.kind
         each.0 (items_lay rules s directives items 0 begun.cursor fit some) reads.opened (items_unmarked rules s directives items fit) properties
 
 -- a mapping in a block
-mapping_stood : (start : Collection) (pairs : Pairs) (given : List TagDirective) (s : Effective) (directives : List TagDirective) (on_mark : Bool)
+mapping_stood : (start : Collection) (pairs : Pairs) (given : List TagDirective) (s : Effective) (directives : List TagDirective) (on_marker : Bool)
     → 2 ≤ s.indent
     → is_written_in_flow s root_place start (has_no_pairs pairs) ≡ false
-    → Leaves (mapping_node start pairs) (record { breaks12 = s.breaks12; directives = given }) s directives root_place (root_cursor on_mark)
-    → PropertiesStand on_mark s directives (mapping_node start pairs)
-    → Stood on_mark (lines_of s.breaks12 (closed (node_own (mapping_node start pairs) s directives root_place (root_cursor on_mark))))
-mapping_stood start pairs given s directives on_mark deep block leaves properties = by (is_written_in_flow s root_place start (has_no_pairs pairs)) block leaves
+    → Leaves (mapping_node start pairs) (record { breaks12 = s.breaks12; directives = given }) s directives root_place (root_cursor on_marker)
+    → PropertiesStand on_marker s directives (mapping_node start pairs)
+    → Stood on_marker (lines_of s.breaks12 (closed (node_own (mapping_node start pairs) s directives root_place (root_cursor on_marker))))
+mapping_stood start pairs given s directives on_marker deep block leaves properties =
+    by (is_written_in_flow s root_place start (has_no_pairs pairs)) block leaves
   where
     rules : Rules
     rules = record { breaks12 = s.breaks12; directives = given }
 
-    begun : Laid
-    begun = begun_laid s directives start (root_cursor on_mark)
+    begun : Rendered
+    begun = render_begun s directives start (root_cursor on_marker)
 
     by : (x : Bool) → x ≡ false
-        → EitherType x (LeafFits rules s directives (mapping_node start pairs) root_place (root_cursor on_mark))
-        (BegunReads rules s directives start (root_cursor on_mark) × PairLeaves pairs rules s directives 0)
-        → Stood on_mark (lines_of s.breaks12 (closed (collection_own s curly x false (has_no_pairs pairs) None begun (pairs_own pairs s directives x))))
+        → EitherType x (LeafFits rules s directives (mapping_node start pairs) root_place (root_cursor on_marker))
+        (BegunReads rules s directives start (root_cursor on_marker) × PairLeaves pairs rules s directives 0)
+        → Stood on_marker (lines_of s.breaks12 (closed (collection_own s curly x false (has_no_pairs pairs) None begun (pairs_own pairs s directives x))))
     by true h each = absurd (true≢false h)
     by false h each =
         let fit = pairs_fit pairs rules s directives 0 deep each.1 in
         let some = not_empty s start (has_no_pairs pairs) block in
         let reads = pairs_block rules s directives pairs 0 fit some in
-        block_stands rules on_mark start.anchor (collection_tag s.canonical start) begun (pairs_own pairs s directives false 0 begun.cursor)
+        block_stands rules on_marker start.anchor (collection_tag s.canonical start) begun (pairs_own pairs s directives false 0 begun.cursor)
         (pairs_text pairs s directives 0) reads.kind
         each.0 (pairs_lay rules s directives pairs 0 begun.cursor fit some) reads.opened (pairs_unmarked rules s directives pairs fit) properties
 
 -- any of them
-block_stood : (n : Node) (given : List TagDirective) (s : Effective) (directives : List TagDirective) (on_mark : Bool) → 2 ≤ s.indent → is_leaf s n ≡ false
-    → Leaves n (record { breaks12 = s.breaks12; directives = given }) s directives root_place (root_cursor on_mark) → PropertiesStand on_mark s directives n
-    → Stood on_mark (lines_of s.breaks12 (closed (node_own n s directives root_place (root_cursor on_mark))))
-block_stood (alias_node name) given s directives on_mark deep block leaves properties = absurd (true≢false block)
-block_stood (scalar_node content) given s directives on_mark deep block leaves properties = absurd (true≢false block)
-block_stood (sequence_node start items) given s directives on_mark deep block leaves properties =
-    sequence_stood start items given s directives on_mark deep block leaves properties
-block_stood (mapping_node start pairs) given s directives on_mark deep block leaves properties =
-    mapping_stood start pairs given s directives on_mark deep block leaves properties
+block_stood : (n : Node) (given : List TagDirective) (s : Effective) (directives : List TagDirective) (on_marker : Bool) → 2 ≤ s.indent → is_leaf s n ≡ false
+    → Leaves n (record { breaks12 = s.breaks12; directives = given }) s directives root_place (root_cursor on_marker) → PropertiesStand on_marker s directives n
+    → Stood on_marker (lines_of s.breaks12 (closed (node_own n s directives root_place (root_cursor on_marker))))
+block_stood (alias_node name) given s directives on_marker deep block leaves properties = absurd (true≢false block)
+block_stood (scalar_node content) given s directives on_marker deep block leaves properties = absurd (true≢false block)
+block_stood (sequence_node start items) given s directives on_marker deep block leaves properties =
+    sequence_stood start items given s directives on_marker deep block leaves properties
+block_stood (mapping_node start pairs) given s directives on_marker deep block leaves properties =
+    mapping_stood start pairs given s directives on_marker deep block leaves properties
 
 -- Scalars
 
@@ -135,9 +136,9 @@ nothing_left rules reads reads_text (line ∷ rest) anchor tagging value h = abs
     by begins_mapping h = no_scalar (mapping_tree None None) (λ a. refl) _ anchor tagging value h
     by begins_text h = none_not_some h
 
--- a scalar behind a mark: its first line isn't blank, or nothing follows
-scalar_stands : (rules : Rules) (n : ℕ) (own : Laid) (anchor : Option Text) (tagging : Tagging) (value : Text)
-    → Fits rules n own (scalar_tree anchor tagging value) root_place mark_cursor
+-- a scalar behind a marker: its first line isn't blank, or nothing follows
+scalar_stands : (rules : Rules) (n : ℕ) (own : Rendered) (anchor : Option Text) (tagging : Tagging) (value : Text)
+    → Fits rules n own (scalar_tree anchor tagging value) root_place marker_cursor
     → FirstStands true (lines_of rules.breaks12 (closed own))
 scalar_stands rules n own anchor tagging value fit = subst (FirstStands true) (sym o.is) (by (is_spaces o.head) refl)
   where
@@ -164,12 +165,12 @@ scalar_stands rules n own anchor tagging value fit = subst (FirstStands true) (s
 
 -- a root that is written as nothing
 nothing_stands : (n : Node) (given : List TagDirective) (s : Effective) (directives : List TagDirective) → is_written_as_nothing s.canonical n ≡ true
-    → Leaves n (record { breaks12 = s.breaks12; directives = given }) s directives root_place mark_cursor
-    → FirstStands true (lines_of s.breaks12 (closed (node_own n s directives root_place mark_cursor)))
+    → Leaves n (record { breaks12 = s.breaks12; directives = given }) s directives root_place marker_cursor
+    → FirstStands true (lines_of s.breaks12 (closed (node_own n s directives root_place marker_cursor)))
 nothing_stands (alias_node name) given s directives h leaves = absurd (false≢true h)
 nothing_stands (scalar_node content) given s directives h leaves =
     scalar_stands (record { breaks12 = s.breaks12; directives = given }) 1
-    (node_own (scalar_node content) s directives root_place mark_cursor) content.anchor _ content.value leaves
+    (node_own (scalar_node content) s directives root_place marker_cursor) content.anchor _ content.value leaves
 nothing_stands (sequence_node start items) given s directives h leaves = absurd (false≢true h)
 nothing_stands (mapping_node start pairs) given s directives h leaves = absurd (false≢true h)
 
@@ -180,34 +181,37 @@ abbrev pub root_tree : Effective → Document → Tree
 root_tree s document = node_tree document.root s (directives_in_force document.start.directives) root_place
 
 -- it fits
-pub root_fits : (s : Effective) (document : Document) (on_mark : Bool) → 2 ≤ s.indent → RootStands s document on_mark
-    → Fits (rules_of s document) (size document.root) (root_laid on_mark s document) (root_tree s document) root_place (root_cursor on_mark)
-root_fits s document on_mark deep root =
-    node_fits document.root (rules_of s document) s (directives_in_force document.start.directives) root_place (root_cursor on_mark) deep
-    (by on_mark) root.leaves
+pub root_fits : (s : Effective) (document : Document) (on_marker : Bool) → 2 ≤ s.indent → RootStands s document on_marker
+    → Fits (rules_of s document) (size document.root) (render_root on_marker s document) (root_tree s document) root_place (root_cursor on_marker)
+root_fits s document on_marker deep root =
+    node_fits document.root (rules_of s document) s (directives_in_force document.start.directives) root_place (root_cursor on_marker) deep
+    (by on_marker) root.leaves
   where
     by : (x : Bool) → Stands None (root_cursor x)
     by true = λ h. absurd (false≢true h)
     by false = λ h. (refl, refl)
 
 -- its lines are those of a root, where it isn't nothing on a line of its own
-pub root_stood : (s : Effective) (document : Document) (on_mark : Bool) → 2 ≤ s.indent → RootStands s document on_mark
-    → (on_mark ≡ false → is_written_as_nothing s.canonical document.root ≡ false) → Stood on_mark (lines_of s.breaks12 (closed (root_laid on_mark s document)))
-root_stood s document on_mark deep root some = by (is_leaf s document.root) refl
+pub root_stood : (s : Effective) (document : Document) (on_marker : Bool) → 2 ≤ s.indent → RootStands s document on_marker
+    → (on_marker ≡ false → is_written_as_nothing s.canonical document.root ≡ false)
+    → Stood on_marker (lines_of s.breaks12 (closed (render_root on_marker s document)))
+root_stood s document on_marker deep root some = by (is_leaf s document.root) refl
   where
-    first : (x : Bool) → on_mark ≡ x → is_leaf s document.root ≡ true → FirstStands on_mark (lines_of s.breaks12 (closed (root_laid on_mark s document)))
-    first false e leaf = begins_stands s.breaks12 on_mark (root_laid on_mark s document) ((root.leaf leaf).begins (some e))
+    first : (x : Bool) → on_marker ≡ x → is_leaf s document.root ≡ true
+        → FirstStands on_marker (lines_of s.breaks12 (closed (render_root on_marker s document)))
+    first false e leaf = begins_stands s.breaks12 on_marker (render_root on_marker s document) ((root.leaf leaf).begins (some e))
     first true e leaf = written (is_written_as_nothing s.canonical document.root) refl
       where
         written : (x : Bool) → is_written_as_nothing s.canonical document.root ≡ x
-            → FirstStands on_mark (lines_of s.breaks12 (closed (root_laid on_mark s document)))
-        written false h = begins_stands s.breaks12 on_mark (root_laid on_mark s document) ((root.leaf leaf).begins h)
+            → FirstStands on_marker (lines_of s.breaks12 (closed (render_root on_marker s document)))
+        written false h = begins_stands s.breaks12 on_marker (render_root on_marker s document) ((root.leaf leaf).begins h)
         written true h =
-            subst (λ x. FirstStands x (lines_of s.breaks12 (closed (root_laid x s document)))) (sym e)
+            subst (λ x. FirstStands x (lines_of s.breaks12 (closed (render_root x s document)))) (sym e)
             (nothing_stands document.root document.start.directives s (directives_in_force document.start.directives) h
             (subst (λ x. Leaves document.root (rules_of s document) s (directives_in_force document.start.directives) root_place (root_cursor x)) e
             root.leaves))
 
-    by : (x : Bool) → is_leaf s document.root ≡ x → Stood on_mark (lines_of s.breaks12 (closed (root_laid on_mark s document)))
-    by true h = ((root.leaf h).after, first on_mark refl h)
-    by false h = block_stood document.root document.start.directives s (directives_in_force document.start.directives) on_mark deep h root.leaves (root.block h)
+    by : (x : Bool) → is_leaf s document.root ≡ x → Stood on_marker (lines_of s.breaks12 (closed (render_root on_marker s document)))
+    by true h = ((root.leaf h).after, first on_marker refl h)
+    by false h =
+        block_stood document.root document.start.directives s (directives_in_force document.start.directives) on_marker deep h root.leaves (root.block h)

@@ -2,24 +2,24 @@
 use Rattle.std.proofs.Common.{◌≡◌, zero, suc, ◌≤◌, refl, sym, ap, ◌∙◌}
 use Rattle.std.proofs.lemmas.Bool.{false≢true}
 use Rattle.std.specs.Prelude.{ℕ, Bool, true, false, None, Some, List, [], ◌∷◌, ◌++◌, ◌||◌, not, codes, if◌then◌else◌}
-use Rattle.yaml_base.specs.Cursor.{Cursor, Laid}
+use Rattle.yaml_base.specs.Cursor.{Cursor, Rendered}
 use Rattle.yaml_base.specs.Layout.{root_place}
 use Rattle.yaml_base.specs.streams.StreamContent.{Tree}
 use Rattle.yaml_base.specs.streams.StreamLines.{Line, lines_of, is_spaces, without_blank_lines, begins_blank, indented, blanked}
 use Rattle.yaml_base.specs.streams.StreamScalars.{Rules, Properties, no_properties}
 use Rattle.yaml_base.specs.streams.StreamNodes.{NodeKind, begins_sequence, begins_mapping, begins_text, kind_of_node, Reads, ReadsText, node_by_kind, node_at}
 use Rattle.yaml_base.specs.streams.StreamNodes.{begins_properties, text_or_properties, node_read}
-use Rattle.yaml_base.specs.streams.StreamDocuments.{stands_at_margin, root_below, root_after_mark, root_marked}
+use Rattle.yaml_base.specs.streams.StreamDocuments.{stands_at_margin, root_below, root_after_marker, root_marked}
 use Rattle.yaml_base.proofs.stream_lines.StreamCuts.{none_not_some}
 use Rattle.yaml_base.proofs.stream_lines.StreamClosed.{closed, margin_cursor}
 use Rattle.yaml_base.proofs.stream_nodes.StreamFits.{Opens, Fits, blanked_lines}
 
 -- the cursor behind `---`
-abbrev pub mark_cursor : Cursor
-mark_cursor = record { column = 3; whitespace = false; indention = false }
+abbrev pub marker_cursor : Cursor
+marker_cursor = record { column = 3; whitespace = false; indention = false }
 
 -- a root on lines of its own
-pub root_reads : (rules : Rules) (n : ℕ) (own : Laid) (tree : Tree) → Fits rules n own tree root_place (margin_cursor 0)
+pub root_reads : (rules : Rules) (n : ℕ) (own : Rendered) (tree : Tree) → Fits rules n own tree root_place (margin_cursor 0)
     → stands_at_margin (lines_of rules.breaks12 (closed own)) ≡ true → (depth : ℕ) → n ≤ depth
     → root_below depth rules (lines_of rules.breaks12 (closed own)) ≡ Some tree
 root_reads rules n own tree fit margin depth deep =
@@ -65,7 +65,7 @@ below_blank (suc depth) rules line rest tree blank h =
     (sym (ap (λ x. node_at rules (node_read depth rules) by no_properties (false || x) (not x) (if x then lines else line ∷ rest)) blank) ∙ h)
 
 -- a root behind `---`, on its line or below it
-pub root_marked_reads : (rules : Rules) (n : ℕ) (own : Laid) (tree : Tree) (fit : Fits rules n own tree root_place mark_cursor)
+pub root_marked_reads : (rules : Rules) (n : ℕ) (own : Rendered) (tree : Tree) (fit : Fits rules n own tree root_place marker_cursor)
     → (is_spaces (fit.opens refl).head ≡ true → stands_at_margin (without_blank_lines (fit.opens refl).rest) ≡ true) → (depth : ℕ) → n ≤ depth
     → root_marked depth rules (record { text = codes "---" ++ (fit.opens refl).head; ending = (fit.opens refl).ending }) (fit.opens refl).rest ≡ Some tree
 root_marked_reads rules n own tree fit margin depth deep = by (is_spaces o.head) refl
@@ -77,7 +77,7 @@ root_marked_reads rules n own tree fit margin depth deep = by (is_spaces o.head)
     whole = ap (node_read depth rules false None) (sym (blanked_lines rules.breaks12 3 (closed own) o))
         ∙ fit.reads depth deep false 3 (λ h. absurd (false≢true h))
 
-    by : (x : Bool) → is_spaces o.head ≡ x → root_after_mark x depth rules (blanked 3 o.head o.ending) o.rest ≡ Some tree
+    by : (x : Bool) → is_spaces o.head ≡ x → root_after_marker x depth rules (blanked 3 o.head o.ending) o.rest ≡ Some tree
     by false e = whole
     by true e =
         ap (λ x. if x then node_read depth rules true None (without_blank_lines o.rest) else None) (margin e)

@@ -1,5 +1,5 @@
 -- What is asked of each document for its stream to be read back: that its root's parts are read, what its root begins with,
--- that its lines are no marks, and that its directives are read.
+-- that its lines are no markers, and that its directives are read.
 use Rattle.std.proofs.Common.{◌≡◌}
 use Rattle.std.specs.List.{list_all}
 use Rattle.std.specs.Prelude.{ℕ, Bool, true, false, Some, List, [], ◌∷◌, ◌++◌, ◌==◌, ◌||◌, ◌&&◌, not, if◌then◌else◌}
@@ -8,9 +8,10 @@ use Rattle.yaml_base.specs.LineBreaks.{is_read_break}
 use Rattle.yaml_base.specs.Settings.{Effective}
 use Rattle.yaml_base.specs.Event.{TagDirective, DocumentStart}
 use Rattle.yaml_base.specs.Tags.{directives_in_force}
-use Rattle.yaml_base.specs.Cursor.{Cursor, Laid, then_laid}
+use Rattle.yaml_base.specs.Cursor.{Cursor, Rendered, render_then}
 use Rattle.yaml_base.specs.Grammar.{Node, alias_node, scalar_node, sequence_node, mapping_node, Document, Documents, no_documents, documents_and}
-use Rattle.yaml_base.specs.Layout.{has_no_nodes, has_no_pairs, is_written_in_flow, is_explicit, root_place, has_no_documents, version_laid, tag_directives_laid}
+use Rattle.yaml_base.specs.Layout.{has_no_nodes, has_no_pairs, is_written_in_flow, is_explicit, root_place, has_no_documents, render_version}
+use Rattle.yaml_base.specs.Layout.{render_tag_directives}
 use Rattle.yaml_base.specs.streams.StreamLines.{lines_of, spaces}
 use Rattle.yaml_base.specs.streams.StreamScalars.{Rules}
 use Rattle.yaml_base.specs.streams.StreamDocuments.{heading_of, begins_with_percent}
@@ -20,8 +21,8 @@ use Rattle.yaml_base.proofs.stream_lines.StreamLineLaws.{is_closed}
 use Rattle.yaml_base.proofs.stream_lines.StreamTidyLaws.{lines_after_first}
 use Rattle.yaml_base.proofs.stream_lines.StreamSections.{AllUnmarked}
 use Rattle.yaml_base.proofs.stream_lines.StreamClosed.{closed, margin_cursor}
-use Rattle.yaml_base.proofs.stream_nodes.StreamNodesFit.{Leaves, begun_laid}
-use Rattle.yaml_base.proofs.stream_documents.StreamRoots.{mark_cursor}
+use Rattle.yaml_base.proofs.stream_nodes.StreamNodesFit.{Leaves, render_begun}
+use Rattle.yaml_base.proofs.stream_documents.StreamRoots.{marker_cursor}
 
 -- Places
 
@@ -30,17 +31,17 @@ abbrev pub rules_of : Effective → Document → Rules
 rules_of s document = record { breaks12 = s.breaks12; directives = document.start.directives }
 
 -- where a root begins: behind `---` on its line, or where a line does
-abbrev pub root_cursor : (on_mark : Bool) → Cursor
-root_cursor on_mark = if on_mark then mark_cursor else margin_cursor 0
+abbrev pub root_cursor : (on_marker : Bool) → Cursor
+root_cursor on_marker = if on_marker then marker_cursor else margin_cursor 0
 
--- a root as it is laid out there
-abbrev pub root_laid : (on_mark : Bool) → Effective → Document → Laid
-root_laid on_mark s document = node_own document.root s (directives_in_force document.start.directives) root_place (root_cursor on_mark)
+-- a root as it is rendered there
+abbrev pub render_root : (on_marker : Bool) → Effective → Document → Rendered
+render_root on_marker s document = node_own document.root s (directives_in_force document.start.directives) root_place (root_cursor on_marker)
 
 -- Roots
 
--- what is laid out begins, behind a space where one is needed, with a character that no reader skips
-pub record Begins (breaks12 : Bool) (cursor : Cursor) (own : Laid) : Type 0 where
+-- what is rendered begins, behind a space where one is needed, with a character that no reader skips
+pub record Begins (breaks12 : Bool) (cursor : Cursor) (own : Rendered) : Type 0 where
   pub count : ℕ
   pub head : ℕ
   pub tail : Text
@@ -50,10 +51,10 @@ pub record Begins (breaks12 : Bool) (cursor : Cursor) (own : Laid) : Type 0 wher
   pub goes_on : is_read_break breaks12 head ≡ false
 
 -- a root that is an alias, a scalar or written in flow: it begins so where anything is written, and no line after its first is
--- a mark
-pub record LeafStands (on_mark : Bool) (s : Effective) (document : Document) : Type 0 where
-  pub begins : is_written_as_nothing s.canonical document.root ≡ false → Begins s.breaks12 (root_cursor on_mark) (root_laid on_mark s document)
-  pub after : AllUnmarked (lines_after_first (lines_of s.breaks12 (closed (root_laid on_mark s document))))
+-- a marker
+pub record LeafStands (on_marker : Bool) (s : Effective) (document : Document) : Type 0 where
+  pub begins : is_written_as_nothing s.canonical document.root ≡ false → Begins s.breaks12 (root_cursor on_marker) (render_root on_marker s document)
+  pub after : AllUnmarked (lines_after_first (lines_of s.breaks12 (closed (render_root on_marker s document))))
 
 -- the root of a document is one of these
 abbrev pub is_leaf : Effective → Node → Bool
@@ -63,26 +64,26 @@ is_leaf s (sequence_node start items) = is_written_in_flow s root_place start (h
 is_leaf s (mapping_node start pairs) = is_written_in_flow s root_place start (has_no_pairs pairs)
 
 -- a collection in a block whose properties are written: these begin so
-abbrev pub PropertiesStand : (on_mark : Bool) → Effective → List TagDirective → Node → Type 0
-PropertiesStand on_mark s directives (sequence_node start items) =
-    ((begun_laid s directives start (root_cursor on_mark)).text ≡ [] → ⊥)
-    → Begins s.breaks12 (root_cursor on_mark) (begun_laid s directives start (root_cursor on_mark))
-PropertiesStand on_mark s directives (mapping_node start pairs) =
-    ((begun_laid s directives start (root_cursor on_mark)).text ≡ [] → ⊥)
-    → Begins s.breaks12 (root_cursor on_mark) (begun_laid s directives start (root_cursor on_mark))
-PropertiesStand on_mark s directives node = Unit {0}
+abbrev pub PropertiesStand : (on_marker : Bool) → Effective → List TagDirective → Node → Type 0
+PropertiesStand on_marker s directives (sequence_node start items) =
+    ((render_begun s directives start (root_cursor on_marker)).text ≡ [] → ⊥)
+    → Begins s.breaks12 (root_cursor on_marker) (render_begun s directives start (root_cursor on_marker))
+PropertiesStand on_marker s directives (mapping_node start pairs) =
+    ((render_begun s directives start (root_cursor on_marker)).text ≡ [] → ⊥)
+    → Begins s.breaks12 (root_cursor on_marker) (render_begun s directives start (root_cursor on_marker))
+PropertiesStand on_marker s directives node = Unit {0}
 
 -- the root of a document, where it begins behind `---` or on a line of its own
-pub record RootStands (s : Effective) (document : Document) (on_mark : Bool) : Type 0 where
-  pub leaves : Leaves document.root (rules_of s document) s (directives_in_force document.start.directives) root_place (root_cursor on_mark)
-  pub leaf : is_leaf s document.root ≡ true → LeafStands on_mark s document
-  pub block : is_leaf s document.root ≡ false → PropertiesStand on_mark s (directives_in_force document.start.directives) document.root
+pub record RootStands (s : Effective) (document : Document) (on_marker : Bool) : Type 0 where
+  pub leaves : Leaves document.root (rules_of s document) s (directives_in_force document.start.directives) root_place (root_cursor on_marker)
+  pub leaf : is_leaf s document.root ≡ true → LeafStands on_marker s document
+  pub block : is_leaf s document.root ≡ false → PropertiesStand on_marker s (directives_in_force document.start.directives) document.root
 
 -- Directives
 
 -- the lines of a document's directives
 abbrev pub heading_text : Effective → DocumentStart → Text
-heading_text s start = (then_laid (version_laid start.version (margin_cursor 0)) (tag_directives_laid s.portable start.directives)).text
+heading_text s start = (render_then (render_version start.version (margin_cursor 0)) (render_tag_directives s.portable start.directives)).text
 
 -- the directives are read
 pub record HeadingStands (s : Effective) (start : DocumentStart) : Type 0 where
@@ -93,12 +94,12 @@ pub record HeadingStands (s : Effective) (start : DocumentStart) : Type 0 where
 -- Documents
 
 -- a root begins on the line of `---`, where that is written and doesn't stand alone
-abbrev pub is_on_mark : Effective → (first : Bool) → DocumentStart → Bool
-is_on_mark s first start = is_explicit (s.canonical || s.portable) first start && not s.canonical
+abbrev pub is_on_marker : Effective → (first : Bool) → DocumentStart → Bool
+is_on_marker s first start = is_explicit (s.canonical || s.portable) first start && not s.canonical
 
--- a document's root, where it is laid out, and its directives
+-- a document's root, where it is rendered, and its directives
 pub record DocumentStands (s : Effective) (first : Bool) (document : Document) : Type 0 where
-  pub root : RootStands s document (is_on_mark s first document.start)
+  pub root : RootStands s document (is_on_marker s first document.start)
   pub heading : HeadingStands s document.start
 
 -- each of some documents

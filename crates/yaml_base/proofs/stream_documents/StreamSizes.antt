@@ -6,19 +6,19 @@ use Rattle.std.specs.Prelude.{ℕ, Bool, true, false, Some, List, [], ◌++◌, 
 use Rattle.yaml_base.specs.Characters.{Text}
 use Rattle.yaml_base.specs.Settings.{Effective}
 use Rattle.yaml_base.specs.Event.{TagDirective, Collection}
-use Rattle.yaml_base.specs.Cursor.{Cursor, Laid, then_laid, new_line, space_if, indicator}
+use Rattle.yaml_base.specs.Cursor.{Cursor, Rendered, render_then, new_line, space_if, indicator}
 use Rattle.yaml_base.specs.Grammar.{Node, alias_node, scalar_node, sequence_node, mapping_node, Nodes, no_nodes, nodes_and, Pairs, no_pairs, pairs_and}
 use Rattle.yaml_base.specs.Layout.{Role, as_item, as_key, as_value, Place, is_undented, entries_column, has_no_nodes, has_no_pairs, is_simple, flow_break}
-use Rattle.yaml_base.specs.Layout.{opening_or_comma, key_sign, is_written_in_flow, entry_place, place_laid, square, curly, end_laid}
+use Rattle.yaml_base.specs.Layout.{opening_or_comma, key_indicator, is_written_in_flow, entry_place, render_place, square, curly, render_end}
 use Rattle.yaml_base.specs.streams.StreamContent.{Tree}
 use Rattle.yaml_base.specs.streams.StreamScalars.{Rules}
 use Rattle.yaml_base.proofs.stream_nodes.StreamAgrees.{node_tree}
 use Rattle.yaml_base.proofs.stream_nodes.StreamTexts.{collection_own, node_own, items_own, pairs_own}
 use Rattle.yaml_base.proofs.stream_nodes.StreamFits.{size, items_size, pairs_size}
-use Rattle.yaml_base.proofs.stream_lines.StreamClosed.{sign_cursor}
+use Rattle.yaml_base.proofs.stream_lines.StreamClosed.{indicator_cursor}
 use Rattle.yaml_base.proofs.stream_nodes.StreamItems.{item_place}
-use Rattle.yaml_base.proofs.stream_nodes.StreamPairs.{KeyFits, key_place, value_place, colon_cursor, simple_key, signed_key, simple_value, signed_value}
-use Rattle.yaml_base.proofs.stream_nodes.StreamNodesFit.{EitherType, LeafFits, begun_laid, BegunReads, Leaves, ItemLeaves, PairLeaves}
+use Rattle.yaml_base.proofs.stream_nodes.StreamPairs.{KeyFits, key_place, value_place, colon_cursor, simple_key, indicated_key, simple_value, indicated_value}
+use Rattle.yaml_base.proofs.stream_nodes.StreamNodesFit.{EitherType, LeafFits, render_begun, BegunReads, Leaves, ItemLeaves, PairLeaves}
 
 -- the length of three texts one after another
 length_three : (a b c : Text) → length ((a ++ b) ++ c) ≡ length a + length b + length c
@@ -28,48 +28,48 @@ length_three a b c = length-append (a ++ b) c ∙ ap (λ n. n + length c) (lengt
 pub length_within : (a b c : Text) → length b ≤ length ((a ++ b) ++ c)
 length_within a b c = let e = length_three a b c in omega arith
 
--- the signs before an entry
-length_signs : (a b c : Text) → length (a ++ (b ++ c)) ≡ length a + (length b + length c)
-length_signs a b c = length-append a (b ++ c) ∙ ap (λ n. length a + n) (length-append b c)
+-- the indicators before an entry
+length_indicators : (a b c : Text) → length (a ++ (b ++ c)) ≡ length a + (length b + length c)
+length_indicators a b c = length-append a (b ++ c) ∙ ap (λ n. length a + n) (length-append b c)
 
--- what holds a sign isn't empty
-sign_last : (a sign : Text) → 1 ≤ length sign → 1 ≤ length (a ++ sign)
-sign_last a sign h = let e = length-append a sign in omega arith
+-- what holds an indicator isn't empty
+indicator_last : (a symbol : Text) → 1 ≤ length symbol → 1 ≤ length (a ++ symbol)
+indicator_last a symbol h = let e = length-append a symbol in omega arith
 
-sign_first : (sign a : Text) → 1 ≤ length sign → 1 ≤ length (sign ++ a)
-sign_first sign a h = let e = length-append sign a in omega arith
+indicator_first : (symbol a : Text) → 1 ≤ length symbol → 1 ≤ length (symbol ++ a)
+indicator_first symbol a h = let e = length-append symbol a in omega arith
 
-opening_sign : (bracket : Text) (first : Bool) (cursor : Cursor) → 1 ≤ length bracket → 1 ≤ length (opening_or_comma bracket first cursor).text
-opening_sign bracket true cursor h = sign_last (space_if true cursor) bracket h
-opening_sign bracket false cursor h = omega arith
+opening_indicator : (bracket : Text) (first : Bool) (cursor : Cursor) → 1 ≤ length bracket → 1 ≤ length (opening_or_comma bracket first cursor).text
+opening_indicator bracket true cursor h = indicator_last (space_if true cursor) bracket h
+opening_indicator bracket false cursor h = omega arith
 
--- before an item in flow stands a sign
-item_sign : (s : Effective) (first : Bool) (column : ℕ) (cursor : Cursor)
-    → 1 ≤ length (place_laid s (entry_place true (as_item first) column) false cursor).text
-item_sign s first column cursor =
+-- before an item in flow stands an indicator
+item_indicator : (s : Effective) (first : Bool) (column : ℕ) (cursor : Cursor)
+    → 1 ≤ length (render_place s (entry_place true (as_item first) column) false cursor).text
+item_indicator s first column cursor =
     let opening = opening_or_comma (codes "[") first cursor in
-    sign_first opening.text (flow_break s (Some column) opening.cursor).text (opening_sign (codes "[") first cursor (omega arith))
+    indicator_first opening.text (flow_break s (Some column) opening.cursor).text (opening_indicator (codes "[") first cursor (omega arith))
 
 -- before a key
-flow_key_sign : (s : Effective) (first simple : Bool) (column : ℕ) (cursor : Cursor)
-    → 1 ≤ length (place_laid s (entry_place true (as_key first) column) simple cursor).text
-flow_key_sign s first simple column cursor =
+flow_key_indicator : (s : Effective) (first simple : Bool) (column : ℕ) (cursor : Cursor)
+    → 1 ≤ length (render_place s (entry_place true (as_key first) column) simple cursor).text
+flow_key_indicator s first simple column cursor =
     let opening = opening_or_comma (codes "{") first cursor in
     let break = flow_break s (Some column) opening.cursor in
-    sign_first (opening.text ++ break.text) (key_sign simple false break.cursor).text
-    (sign_first opening.text break.text (opening_sign (codes "{") first cursor (omega arith)))
+    indicator_first (opening.text ++ break.text) (key_indicator simple false break.cursor).text
+    (indicator_first opening.text break.text (opening_indicator (codes "{") first cursor (omega arith)))
 
 -- and before a value
-flow_value_sign : (s : Effective) (simple : Bool) (column : ℕ) (cursor : Cursor)
-    → 1 ≤ length (place_laid s (entry_place true (as_value simple) column) false cursor).text
-flow_value_sign s true column cursor = omega arith
-flow_value_sign s false column cursor =
+flow_value_indicator : (s : Effective) (simple : Bool) (column : ℕ) (cursor : Cursor)
+    → 1 ≤ length (render_place s (entry_place true (as_value simple) column) false cursor).text
+flow_value_indicator s true column cursor = omega arith
+flow_value_indicator s false column cursor =
     let break = flow_break s (Some column) cursor in
-    sign_last break.text (indicator (codes ":") true false false break.cursor).text (sign_last (space_if true break.cursor) (codes ":") (omega arith))
+    indicator_last break.text (indicator (codes ":") true false false break.cursor).text (indicator_last (space_if true break.cursor) (codes ":") (omega arith))
 
 -- a pair's size, by the lengths of its parts
 pair_length : (a k m v n : Text) → length ((a ++ (k ++ m)) ++ (v ++ n)) ≡ length a + (length k + length m) + (length v + length n)
-pair_length a k m v n = length-append (a ++ (k ++ m)) (v ++ n) ∙ ap (λ x. x + length (v ++ n)) (length_signs a k m)
+pair_length a k m v n = length-append (a ++ (k ++ m)) (v ++ n) ∙ ap (λ x. x + length (v ++ n)) (length_indicators a k m)
     ∙ ap (λ x. length a + (length k + length m) + x) (length-append v n)
 
 -- In flow
@@ -80,17 +80,17 @@ mutual
   flow_node (alias_node name) s directives role column cursor = omega arith
   flow_node (scalar_node content) s directives role column cursor = omega arith
   flow_node (sequence_node start items) s directives role column cursor =
-      let begun = begun_laid s directives start cursor in
+      let begun = render_begun s directives start cursor in
       let e = entries_column true (is_undented s role) s.indent (Some column) begun.cursor in
       let entries = items_own items s directives true e begun.cursor in
-      let within = length_within begun.text entries.text (end_laid s square true (has_no_nodes items) (Some column) entries.cursor).text in
+      let within = length_within begun.text entries.text (render_end s square true (has_no_nodes items) (Some column) entries.cursor).text in
       let each = flow_items items s directives e begun.cursor in
       omega arith
   flow_node (mapping_node start pairs) s directives role column cursor =
-      let begun = begun_laid s directives start cursor in
+      let begun = render_begun s directives start cursor in
       let e = entries_column true false s.indent (Some column) begun.cursor in
       let entries = pairs_own pairs s directives true e begun.cursor in
-      let within = length_within begun.text entries.text (end_laid s curly true (has_no_pairs pairs) (Some column) entries.cursor).text in
+      let within = length_within begun.text entries.text (render_end s curly true (has_no_pairs pairs) (Some column) entries.cursor).text in
       let each = flow_pairs pairs s directives e begun.cursor in
       omega arith
 
@@ -100,12 +100,12 @@ mutual
   flow_items (nodes_and items last) s directives e cursor =
       let before = items_own items s directives true e cursor in
       let place = entry_place true (as_item (has_no_nodes items)) e in
-      let signs = place_laid s place false before.cursor in
-      let own = node_own last s directives place signs.cursor in
-      let sum = length_signs before.text signs.text own.text in
+      let symbols = render_place s place false before.cursor in
+      let own = node_own last s directives place symbols.cursor in
+      let sum = length_indicators before.text symbols.text own.text in
       let each = flow_items items s directives e cursor in
-      let one = flow_node last s directives (as_item (has_no_nodes items)) e signs.cursor in
-      let sign = item_sign s (has_no_nodes items) e before.cursor in
+      let one = flow_node last s directives (as_item (has_no_nodes items)) e symbols.cursor in
+      let symbol = item_indicator s (has_no_nodes items) e before.cursor in
       omega arith
 
   pub flow_pairs : (pairs : Pairs) (s : Effective) (directives : List TagDirective) (e : ℕ) (cursor : Cursor)
@@ -116,16 +116,16 @@ mutual
       let before = pairs_own pairs s directives true e cursor in
       let key_place = entry_place true (as_key (has_no_pairs pairs)) e in
       let value_place = entry_place true (as_value simple) e in
-      let key_signs = place_laid s key_place simple before.cursor in
-      let key_own = node_own key s directives key_place key_signs.cursor in
-      let value_signs = place_laid s value_place false key_own.cursor in
-      let value_own = node_own value s directives value_place value_signs.cursor in
-      let sum = pair_length before.text key_signs.text key_own.text value_signs.text value_own.text in
+      let key_indicators = render_place s key_place simple before.cursor in
+      let key_own = node_own key s directives key_place key_indicators.cursor in
+      let value_indicators = render_place s value_place false key_own.cursor in
+      let value_own = node_own value s directives value_place value_indicators.cursor in
+      let sum = pair_length before.text key_indicators.text key_own.text value_indicators.text value_own.text in
       let each = flow_pairs pairs s directives e cursor in
-      let one = flow_node key s directives (as_key (has_no_pairs pairs)) e key_signs.cursor in
-      let other = flow_node value s directives (as_value simple) e value_signs.cursor in
-      let key_sign = flow_key_sign s (has_no_pairs pairs) simple e before.cursor in
-      let value_sign = flow_value_sign s simple e key_own.cursor in
+      let one = flow_node key s directives (as_key (has_no_pairs pairs)) e key_indicators.cursor in
+      let other = flow_node value s directives (as_value simple) e value_indicators.cursor in
+      let key_indicator = flow_key_indicator s (has_no_pairs pairs) simple e before.cursor in
+      let value_indicator = flow_value_indicator s simple e key_own.cursor in
       omega arith
 
 -- In blocks
@@ -141,12 +141,12 @@ simple_size canonical directives (mapping_node start no_pairs) h = refl
 simple_size true directives (mapping_node start (pairs_and pairs key value)) h = absurd (false≢true h)
 simple_size false directives (mapping_node start (pairs_and pairs key value)) h = absurd (false≢true h)
 
--- a sign on a new line
-line_sign : (column : ℕ) (sign : Text) (cursor : Cursor) → 1 ≤ length sign
-    → 1 ≤ length (then_laid (new_line column cursor) (indicator sign true false true)).text
-line_sign column sign cursor h =
+-- an indicator on a new line
+line_indicator : (column : ℕ) (symbol : Text) (cursor : Cursor) → 1 ≤ length symbol
+    → 1 ≤ length (render_then (new_line column cursor) (indicator symbol true false true)).text
+line_indicator column symbol cursor h =
     let line = new_line column cursor in
-    sign_last line.text (space_if true line.cursor ++ sign) (sign_last (space_if true line.cursor) sign h)
+    indicator_last line.text (space_if true line.cursor ++ symbol) (indicator_last (space_if true line.cursor) symbol h)
 
 -- the text of a simple key isn't empty
 key_length : (rules : Rules) (text : Text) (tree : Tree) → KeyFits rules text tree → 1 ≤ length text
@@ -159,8 +159,8 @@ sequence_within : (start : Collection) (items : Nodes) (rules : Rules) (s : Effe
     → suc (items_size items) ≤ suc (length (node_own (sequence_node start items) s directives place cursor).text)
 sequence_within start items rules s directives place cursor leaves each = by (is_written_in_flow s place start (has_no_nodes items)) leaves
   where
-    begun : Laid
-    begun = begun_laid s directives start cursor
+    begun : Rendered
+    begun = render_begun s directives start cursor
 
     by : (x : Bool) → EitherType x (LeafFits rules s directives (sequence_node start items) place cursor)
         (BegunReads rules s directives start cursor
@@ -170,7 +170,7 @@ sequence_within start items rules s directives place cursor leaves each = by (is
     by true leaf =
         let e = entries_column true (is_undented s place.role) s.indent place.column begun.cursor in
         let entries = items_own items s directives true e begun.cursor in
-        let within = length_within begun.text entries.text (end_laid s square true (has_no_nodes items) place.column entries.cursor).text in
+        let within = length_within begun.text entries.text (render_end s square true (has_no_nodes items) place.column entries.cursor).text in
         let all = flow_items items s directives e begun.cursor in
         omega arith
     by false leaves =
@@ -187,8 +187,8 @@ mapping_within : (start : Collection) (pairs : Pairs) (rules : Rules) (s : Effec
     → suc (pairs_size pairs) ≤ suc (length (node_own (mapping_node start pairs) s directives place cursor).text)
 mapping_within start pairs rules s directives place cursor leaves each = by (is_written_in_flow s place start (has_no_pairs pairs)) leaves
   where
-    begun : Laid
-    begun = begun_laid s directives start cursor
+    begun : Rendered
+    begun = render_begun s directives start cursor
 
     by : (x : Bool) → EitherType x (LeafFits rules s directives (mapping_node start pairs) place cursor)
         (BegunReads rules s directives start cursor × PairLeaves pairs rules s directives (entries_column false false s.indent place.column begun.cursor))
@@ -196,7 +196,7 @@ mapping_within start pairs rules s directives place cursor leaves each = by (is_
     by true leaf =
         let e = entries_column true false s.indent place.column begun.cursor in
         let entries = pairs_own pairs s directives true e begun.cursor in
-        let within = length_within begun.text entries.text (end_laid s curly true (has_no_pairs pairs) place.column entries.cursor).text in
+        let within = length_within begun.text entries.text (render_end s curly true (has_no_pairs pairs) place.column entries.cursor).text in
         let all = flow_pairs pairs s directives e begun.cursor in
         omega arith
     by false leaves =
@@ -206,26 +206,26 @@ mapping_within start pairs rules s directives place cursor leaves each = by (is_
         let all = each e begun.cursor leaves.1 in
         omega arith
 
--- what is laid out for a pair in a block
-abbrev pair_own : (simple : Bool) → Pairs → Node → Node → Effective → List TagDirective → ℕ → Cursor → Laid
+-- what is rendered for a pair in a block
+abbrev pair_own : (simple : Bool) → Pairs → Node → Node → Effective → List TagDirective → ℕ → Cursor → Rendered
 pair_own simple pairs key value s directives e cursor =
-    then_laid
-    (then_laid (place_laid s (key_place pairs e) simple cursor) (node_own key s directives (key_place pairs e)))
-    (λ after. then_laid (place_laid s (value_place simple e) false after) (node_own value s directives (value_place simple e)))
+    render_then
+    (render_then (render_place s (key_place pairs e) simple cursor) (node_own key s directives (key_place pairs e)))
+    (λ after. render_then (render_place s (value_place simple e) false after) (node_own value s directives (value_place simple e)))
 
 -- behind the pairs before it
-pair_regrouped : (x : Bool) (pairs : Pairs) (key value : Node) (s : Effective) (directives : List TagDirective) (e : ℕ) (before : Laid)
-    → length (then_laid
-    (then_laid before (λ after. then_laid (place_laid s (key_place pairs e) x after) (node_own key s directives (key_place pairs e))))
-    (λ after. then_laid (place_laid s (value_place x e) false after) (node_own value s directives (value_place x e)))).text
+pair_regrouped : (x : Bool) (pairs : Pairs) (key value : Node) (s : Effective) (directives : List TagDirective) (e : ℕ) (before : Rendered)
+    → length (render_then
+    (render_then before (λ after. render_then (render_place s (key_place pairs e) x after) (node_own key s directives (key_place pairs e))))
+    (λ after. render_then (render_place s (value_place x e) false after) (node_own value s directives (value_place x e)))).text
     ≡ length before.text + length (pair_own x pairs key value s directives e before.cursor).text
 pair_regrouped x pairs key value s directives e before =
-    let key_signs = place_laid s (key_place pairs e) x before.cursor in
-    let k = node_own key s directives (key_place pairs e) key_signs.cursor in
-    let value_signs = place_laid s (value_place x e) false k.cursor in
-    let v = node_own value s directives (value_place x e) value_signs.cursor in
-    ap length (append_assoc before.text (key_signs.text ++ k.text) (value_signs.text ++ v.text))
-    ∙ length-append before.text ((key_signs.text ++ k.text) ++ (value_signs.text ++ v.text))
+    let key_indicators = render_place s (key_place pairs e) x before.cursor in
+    let k = node_own key s directives (key_place pairs e) key_indicators.cursor in
+    let value_indicators = render_place s (value_place x e) false k.cursor in
+    let v = node_own value s directives (value_place x e) value_indicators.cursor in
+    ap length (append_assoc before.text (key_indicators.text ++ k.text) (value_indicators.text ++ v.text))
+    ∙ length-append before.text ((key_indicators.text ++ k.text) ++ (value_indicators.text ++ v.text))
 
 -- a pair, where its key and its value are no deeper than they are long
 pair_within : (x : Bool) (pairs : Pairs) (key value : Node) (rules : Rules) (s : Effective) (directives : List TagDirective) (e : ℕ) (cursor : Cursor)
@@ -233,11 +233,11 @@ pair_within : (x : Bool) (pairs : Pairs) (key value : Node) (rules : Rules) (s :
     → EitherType x
     (KeyFits rules (simple_key pairs key s directives e).text (node_tree key s directives (key_place pairs e))
     × Leaves value rules s directives (value_place true e) (colon_cursor (simple_key pairs key s directives e).cursor))
-    (Leaves key rules s directives (key_place pairs e) (sign_cursor e) × Leaves value rules s directives (value_place false e) (sign_cursor e))
+    (Leaves key rules s directives (key_place pairs e) (indicator_cursor e) × Leaves value rules s directives (value_place false e) (indicator_cursor e))
     → ((y : Bool) (cursor : Cursor) → Leaves value rules s directives (value_place y e) cursor
     → size value ≤ suc (length (node_own value s directives (value_place y e) cursor).text))
-    → (Leaves key rules s directives (key_place pairs e) (sign_cursor e)
-    → size key ≤ suc (length (node_own key s directives (key_place pairs e) (sign_cursor e)).text))
+    → (Leaves key rules s directives (key_place pairs e) (indicator_cursor e)
+    → size key ≤ suc (length (node_own key s directives (key_place pairs e) (indicator_cursor e)).text))
     → size key + size value ≤ length (pair_own x pairs key value s directives e cursor).text
 pair_within true pairs key value rules s directives e cursor is leaves value_each key_each =
     let line = new_line e cursor in
@@ -249,15 +249,15 @@ pair_within true pairs key value rules s directives e cursor is leaves value_eac
     let other = value_each true (colon_cursor k.cursor) leaves.1 in
     omega arith
 pair_within false pairs key value rules s directives e cursor is leaves value_each key_each =
-    let key_signs = then_laid (new_line e cursor) (indicator (codes "?") true false true) in
-    let k = signed_key pairs key s directives e in
-    let value_signs = then_laid (new_line e k.cursor) (indicator (codes ":") true false true) in
-    let v = signed_value value s directives e in
-    let sum = pair_length [] key_signs.text k.text value_signs.text v.text in
+    let key_indicators = render_then (new_line e cursor) (indicator (codes "?") true false true) in
+    let k = indicated_key pairs key s directives e in
+    let value_indicators = render_then (new_line e k.cursor) (indicator (codes ":") true false true) in
+    let v = indicated_value value s directives e in
+    let sum = pair_length [] key_indicators.text k.text value_indicators.text v.text in
     let one = key_each leaves.0 in
-    let other = value_each false (sign_cursor e) leaves.1 in
-    let key_sign = line_sign e (codes "?") cursor (omega arith) in
-    let value_sign = line_sign e (codes ":") k.cursor (omega arith) in
+    let other = value_each false (indicator_cursor e) leaves.1 in
+    let key_indicator = line_indicator e (codes "?") cursor (omega arith) in
+    let value_indicator = line_indicator e (codes ":") k.cursor (omega arith) in
     omega arith
 
 -- a node in a block, whose parts are read, and the items of a sequence and the pairs of a mapping there
@@ -278,12 +278,12 @@ mutual
   block_items no_nodes rules s directives e cursor leaves = omega arith
   block_items (nodes_and items last) rules s directives e cursor leaves =
       let before = items_own items s directives false e cursor in
-      let signs = then_laid (new_line e before.cursor) (indicator (codes "-") true false true) in
-      let own = node_own last s directives (item_place items e) (sign_cursor e) in
-      let sum = length_signs before.text signs.text own.text in
+      let symbols = render_then (new_line e before.cursor) (indicator (codes "-") true false true) in
+      let own = node_own last s directives (item_place items e) (indicator_cursor e) in
+      let sum = length_indicators before.text symbols.text own.text in
       let each = block_items items rules s directives e cursor leaves.0 in
-      let one = block_node last rules s directives (item_place items e) (sign_cursor e) leaves.1 in
-      let sign = line_sign e (codes "-") before.cursor (omega arith) in
+      let one = block_node last rules s directives (item_place items e) (indicator_cursor e) leaves.1 in
+      let symbol = line_indicator e (codes "-") before.cursor (omega arith) in
       omega arith
 
   block_pairs : (pairs : Pairs) (rules : Rules) (s : Effective) (directives : List TagDirective) (e : ℕ) (cursor : Cursor)
@@ -295,7 +295,7 @@ mutual
       let before = pairs_own pairs s directives false e cursor in
       let one = pair_within x pairs key value rules s directives e before.cursor refl leaves.1
       (λ y cursor each. block_node value rules s directives (value_place y e) cursor each)
-      (λ each. block_node key rules s directives (key_place pairs e) (sign_cursor e) each) in
+      (λ each. block_node key rules s directives (key_place pairs e) (indicator_cursor e) each) in
       let each = block_pairs pairs rules s directives e cursor leaves.0 in
       let same = pair_regrouped x pairs key value s directives e before in
       omega arith

@@ -1,4 +1,4 @@
--- A stream's text as far as it is read: its lines cut into sections, whatever marks follow them, and what they are read as.
+-- A stream's text as far as it is read: its lines cut into sections, whatever markers follow them, and what they are read as.
 use Rattle.std.proofs.Common.{◌≡◌, refl, sym, ap, ◌∙◌, append_assoc, append-nil}
 use Rattle.std.proofs.lemmas.Bool.{false≢true, eqb-true, and_parts, and_from}
 use Rattle.std.proofs.lemmas.Grind.{fold-append}
@@ -6,28 +6,30 @@ use Rattle.std.specs.List.{list_all}
 use Rattle.std.specs.Prelude.{ℕ, Bool, true, false, None, Some, List, [], ◌∷◌, ◌++◌, fold, option_and_then, if◌then◌else◌}
 use Rattle.yaml_base.specs.Characters.{Text}
 use Rattle.yaml_base.specs.streams.StreamLines.{Line, lines_of, is_spaces, without_blank_lines}
-use Rattle.yaml_base.specs.streams.StreamDocuments.{mark_of, Section, sections_of, Heading, heading_of, after_heading, StreamRead, section_read}
-use Rattle.yaml_base.specs.streams.StreamDocuments.{begins_with_percent, directive_lines, document_lines, front_kind, front_read, heading_added, may_end}
+use Rattle.yaml_base.specs.streams.StreamDocuments.{marker_of, Section, sections_of, Heading, heading_of, after_heading, StreamRead, section_read}
+use Rattle.yaml_base.specs.streams.StreamDocuments.{begins_with_percent, directive_lines, document_lines, prefix_kind, lines_before_marker_read}
+use Rattle.yaml_base.specs.streams.StreamDocuments.{with_heading, may_end}
 use Rattle.yaml_base.specs.streams.StreamDocuments.{documents_at_end, sections_read}
 use Rattle.yaml_base.proofs.stream_lines.StreamLineLaws.{is_closed, lines_after_break}
 use Rattle.yaml_base.proofs.stream_lines.StreamClosed.{closed_both}
-use Rattle.yaml_base.proofs.stream_lines.StreamSections.{is_unmarked, AllUnmarked, unmarked_before, IsMark, marks_one}
+use Rattle.yaml_base.proofs.stream_lines.StreamSections.{is_unmarked, AllUnmarked, unmarked_before, IsMark, markers_one}
 
 -- a text, up to its last line's end, whose lines are read as this
-pub record SoFar (breaks12 : Bool) (depth : ℕ) (text : Text) (read : StreamRead) : Type 0 where
+pub record WalkProgress (breaks12 : Bool) (depth : ℕ) (text : Text) (read : StreamRead) : Type 0 where
   pub ends : is_closed breaks12 text ≡ true
-  pub front : List Line
+  pub prefix : List Line
   pub sections : List Section
   pub cuts : (rest : List Line) → (sections_of rest).before ≡ []
-      → sections_of (lines_of breaks12 text ++ rest) ≡ record { before = front; sections = sections ++ (sections_of rest).sections }
-  pub reads : fold (section_read depth breaks12) (front_read (front_kind front) depth breaks12 front) sections ≡ Some read
+      → sections_of (lines_of breaks12 text ++ rest) ≡ record { before = prefix; sections = sections ++ (sections_of rest).sections }
+  pub reads : fold (section_read depth breaks12) (lines_before_marker_read (prefix_kind prefix) depth breaks12 prefix) sections ≡ Some read
 
--- lines without a mark that are read by what they begin with
-pub front_alone : (breaks12 : Bool) (depth : ℕ) (text : Text) (read : StreamRead) → is_closed breaks12 text ≡ true → AllUnmarked (lines_of breaks12 text)
-    → front_read (front_kind (lines_of breaks12 text)) depth breaks12 (lines_of breaks12 text) ≡ Some read → SoFar breaks12 depth text read
-front_alone breaks12 depth text read ends unmarked reads = record {
+-- lines without a marker that are read by what they begin with
+pub prefix_alone : (breaks12 : Bool) (depth : ℕ) (text : Text) (read : StreamRead) → is_closed breaks12 text ≡ true → AllUnmarked (lines_of breaks12 text)
+    → lines_before_marker_read (prefix_kind (lines_of breaks12 text)) depth breaks12 (lines_of breaks12 text) ≡ Some read
+    → WalkProgress breaks12 depth text read
+prefix_alone breaks12 depth text read ends unmarked reads = record {
   ends = ends;
-  front = lines_of breaks12 text;
+  prefix = lines_of breaks12 text;
   sections = [];
   cuts = λ rest none.
       unmarked_before (lines_of breaks12 text) rest unmarked
@@ -37,36 +39,37 @@ front_alone breaks12 depth text read ends unmarked reads = record {
 }
 
 -- one section more
-pub one_more : (breaks12 : Bool) (depth : ℕ) (text more : Text) (read next : StreamRead) (line : Line) (body : List Line) → SoFar breaks12 depth text read
-    → is_closed breaks12 more ≡ true → lines_of breaks12 more ≡ line ∷ body → IsMark (mark_of line.text) → AllUnmarked body
-    → section_read depth breaks12 (Some read) (record { mark = mark_of line.text; line = line; rest = body }) ≡ Some next
-    → SoFar breaks12 depth (text ++ more) next
-one_more breaks12 depth text more read next line body so ends is mark unmarked reads = record {
+pub one_more : (breaks12 : Bool) (depth : ℕ) (text more : Text) (read next : StreamRead) (line : Line) (body : List Line)
+    → WalkProgress breaks12 depth text read
+    → is_closed breaks12 more ≡ true → lines_of breaks12 more ≡ line ∷ body → IsMark (marker_of line.text) → AllUnmarked body
+    → section_read depth breaks12 (Some read) (record { marker = marker_of line.text; line = line; rest = body }) ≡ Some next
+    → WalkProgress breaks12 depth (text ++ more) next
+one_more breaks12 depth text more read next line body so ends is marker unmarked reads = record {
   ends = closed_both breaks12 text more so.ends ends;
-  front = so.front;
+  prefix = so.prefix;
   sections = so.sections ++ one;
   cuts = λ rest none.
-      let after = (marks_one line body mark unmarked).marks rest none in
+      let after = (markers_one line body marker unmarked).markers rest none in
       ap (λ ls. sections_of (ls ++ rest)) (lines_after_break breaks12 text more so.ends ∙ ap (λ ls. lines_of breaks12 text ++ ls) is)
       ∙ ap sections_of (append_assoc (lines_of breaks12 text) (line ∷ body) rest)
       ∙ so.cuts ((line ∷ body) ++ rest) (ap (λ g. g.before) after)
-      ∙ ap (λ g. record { before = so.front; sections = so.sections ++ g.sections }) after
-      ∙ ap (λ g. record { before = so.front; sections = g }) (sym (append_assoc so.sections one (sections_of rest).sections));
+      ∙ ap (λ g. record { before = so.prefix; sections = so.sections ++ g.sections }) after
+      ∙ ap (λ g. record { before = so.prefix; sections = g }) (sym (append_assoc so.sections one (sections_of rest).sections));
   reads =
-      fold-append (section_read depth breaks12) (front_read (front_kind so.front) depth breaks12 so.front) so.sections one
-      ∙ ap (λ r. section_read depth breaks12 r (record { mark = mark_of line.text; line = line; rest = body })) so.reads
+      fold-append (section_read depth breaks12) (lines_before_marker_read (prefix_kind so.prefix) depth breaks12 so.prefix) so.sections one
+      ∙ ap (λ r. section_read depth breaks12 r (record { marker = marker_of line.text; line = line; rest = body })) so.reads
       ∙ reads;
 }
   where
     one : List Section
-    one = record { mark = mark_of line.text; line = line; rest = body } ∷ []
+    one = record { marker = marker_of line.text; line = line; rest = body } ∷ []
 
 -- the documents of a stream that may end so
-pub documents_so_far : (breaks12 : Bool) (depth : ℕ) (text : Text) (read : StreamRead) → SoFar breaks12 depth text read → may_end read.place ≡ true
+pub documents_so_far : (breaks12 : Bool) (depth : ℕ) (text : Text) (read : StreamRead) → WalkProgress breaks12 depth text read → may_end read.place ≡ true
     → sections_read depth breaks12 (sections_of (lines_of breaks12 text)) ≡ Some read.documents
 documents_so_far breaks12 depth text read so ends =
     ap (λ ls. sections_read depth breaks12 (sections_of ls)) (sym (append-nil (lines_of breaks12 text)))
-    ∙ ap (sections_read depth breaks12) (so.cuts [] refl ∙ ap (λ t. record { before = so.front; sections = t }) (append-nil so.sections))
+    ∙ ap (sections_read depth breaks12) (so.cuts [] refl ∙ ap (λ t. record { before = so.prefix; sections = t }) (append-nil so.sections))
     ∙ ap (option_and_then documents_at_end) so.reads
     ∙ ap (λ x. if x then Some read.documents else None) ends
 
@@ -76,12 +79,12 @@ documents_so_far breaks12 depth text read so ends =
 abbrev pub Percents : List Line → Type 0
 Percents lines = list_all (λ line. begins_with_percent line.text) lines ≡ true
 
--- such a line is no mark
-percent_unmarked : (t : Text) → begins_with_percent t ≡ true → is_unmarked (mark_of t) ≡ true
+-- such a line is no marker
+percent_unmarked : (t : Text) → begins_with_percent t ≡ true → is_unmarked (marker_of t) ≡ true
 percent_unmarked [] h = absurd (false≢true h)
-percent_unmarked (c ∷ t) h = ap (λ d. is_unmarked (mark_of (d ∷ t))) (eqb-true c 0x25 h) ∙ by t
+percent_unmarked (c ∷ t) h = ap (λ d. is_unmarked (marker_of (d ∷ t))) (eqb-true c 0x25 h) ∙ by t
   where
-    by : (t : Text) → is_unmarked (mark_of (0x25 ∷ t)) ≡ true
+    by : (t : Text) → is_unmarked (marker_of (0x25 ∷ t)) ≡ true
     by [] = refl
     by (b ∷ []) = refl
     by (b ∷ d ∷ t) = refl
@@ -91,7 +94,7 @@ pub percents_unmarked : (lines : List Line) → Percents lines → AllUnmarked l
 percents_unmarked [] h = refl
 percents_unmarked (line ∷ rest) h =
     let parts = and_parts (begins_with_percent line.text) (list_all (λ line. begins_with_percent line.text) rest) h in
-    and_from (is_unmarked (mark_of line.text)) (list_all (λ line. is_unmarked (mark_of line.text)) rest) (percent_unmarked line.text parts.0)
+    and_from (is_unmarked (marker_of line.text)) (list_all (λ line. is_unmarked (marker_of line.text)) rest) (percent_unmarked line.text parts.0)
     (percents_unmarked rest parts.1)
 
 -- nor is such a line blank
@@ -107,9 +110,9 @@ percents_shown (line ∷ rest) h =
     ap (λ x. if x then without_blank_lines rest else line ∷ rest) (percent_shows line.text parts.0)
 
 -- at a stream's start directives are read, or nothing
-pub front_heading : (breaks12 : Bool) (depth : ℕ) (lines : List Line) (said : Heading) → Percents lines → heading_of lines ≡ Some said
-    → front_read (front_kind lines) depth breaks12 lines ≡ Some (record { documents = []; place = after_heading said })
-front_heading breaks12 depth [] said percents reads = ap (heading_added []) reads
-front_heading breaks12 depth (line ∷ rest) said percents reads =
+pub prefix_heading : (breaks12 : Bool) (depth : ℕ) (lines : List Line) (parsed : Heading) → Percents lines → heading_of lines ≡ Some parsed
+    → lines_before_marker_read (prefix_kind lines) depth breaks12 lines ≡ Some (record { documents = []; place = after_heading parsed })
+prefix_heading breaks12 depth [] parsed percents reads = ap (with_heading []) reads
+prefix_heading breaks12 depth (line ∷ rest) parsed percents reads =
     let parts = and_parts (begins_with_percent line.text) (list_all (λ line. begins_with_percent line.text) rest) percents in
-    ap (λ x. front_read (if x then directive_lines else document_lines) depth breaks12 (line ∷ rest)) parts.0 ∙ ap (heading_added []) reads
+    ap (λ x. lines_before_marker_read (if x then directive_lines else document_lines) depth breaks12 (line ∷ rest)) parts.0 ∙ ap (with_heading []) reads

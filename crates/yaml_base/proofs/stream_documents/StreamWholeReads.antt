@@ -8,40 +8,41 @@ use Rattle.std.specs.Prelude.{ℕ, Bool, true, false, None, Some, List, [], ◌�
 use Rattle.yaml_base.specs.Characters.{Text, line_feed, space}
 use Rattle.yaml_base.specs.Settings.{Effective}
 use Rattle.yaml_base.specs.Tags.{directives_in_force}
-use Rattle.yaml_base.specs.Cursor.{Laid}
+use Rattle.yaml_base.specs.Cursor.{Rendered}
 use Rattle.yaml_base.specs.Grammar.{Document, Documents, no_documents, documents_and, Stream}
-use Rattle.yaml_base.specs.Layout.{piece_text, text_of, PiecesLaid, laid_if, closing_mark_laid, is_explicit, root_place, document_laid, documents_laid}
+use Rattle.yaml_base.specs.Layout.{piece_text, text_of, RenderedPieces, render_if, render_closing_marker, is_explicit, root_place, render_document}
+use Rattle.yaml_base.specs.Layout.{render_documents}
 use Rattle.yaml_base.specs.Layout.{first_standing, stream_end_piece, layout}
 use Rattle.yaml_base.specs.streams.StreamContent.{DocumentTree, documents_in_order}
-use Rattle.yaml_base.specs.streams.StreamLines.{Line, lines_of, is_spaces, all_blank, ends_sign}
+use Rattle.yaml_base.specs.streams.StreamLines.{Line, lines_of, is_spaces, all_blank, ends_indicator}
 use Rattle.yaml_base.specs.streams.StreamNodes.{node_read}
-use Rattle.yaml_base.specs.streams.StreamDocuments.{mark_of, Sections, sections_of, no_heading, document_added, sections_read, documents_at_end}
-use Rattle.yaml_base.specs.streams.StreamDocuments.{begins_with_percent, directive_lines, document_lines, front_kind, front_read, documents_of}
+use Rattle.yaml_base.specs.streams.StreamDocuments.{marker_of, Sections, sections_of, no_heading, with_read_document, sections_read, documents_at_end}
+use Rattle.yaml_base.specs.streams.StreamDocuments.{begins_with_percent, directive_lines, document_lines, prefix_kind, lines_before_marker_read, documents_of}
 use Rattle.yaml_base.specs.StreamLaw.{is_written_as_nothing}
 use Rattle.yaml_base.proofs.stream_lines.StreamCuts.{none_not_some}
 use Rattle.yaml_base.proofs.stream_lines.StreamSections.{is_unmarked, AllUnmarked, unmarked_before}
 use Rattle.yaml_base.proofs.stream_lines.StreamClosed.{closing, margin_cursor}
 use Rattle.yaml_base.proofs.stream_nodes.StreamFits.{size}
-use Rattle.yaml_base.proofs.stream_documents.StreamRootsStand.{rules_of, root_cursor, root_laid, RootStands, is_on_mark, DocumentStands, DocumentsStand}
+use Rattle.yaml_base.proofs.stream_documents.StreamRootsStand.{rules_of, root_cursor, render_root, RootStands, is_on_marker, DocumentStands, DocumentsStand}
 use Rattle.yaml_base.proofs.stream_documents.StreamRootStood.{root_fits}
 use Rattle.yaml_base.proofs.stream_documents.StreamSizes.{block_node}
 use Rattle.yaml_base.proofs.stream_documents.StreamSoFar.{documents_so_far}
 use Rattle.yaml_base.proofs.stream_documents.StreamDocumentReads.{Awaits, awaits_first, awaits_ended, dots_if}
 use Rattle.yaml_base.proofs.stream_documents.StreamRootAdded.{with_document}
-use Rattle.yaml_base.proofs.stream_documents.StreamDocumentTexts.{before_root, root_part, document_text, DocumentLaid, document_joined, dots_laid}
+use Rattle.yaml_base.proofs.stream_documents.StreamDocumentTexts.{before_root, root_part, document_text, RenderedDocument, document_joined, dots_rendered}
 use Rattle.yaml_base.proofs.stream_documents.StreamDocumentsRead.{first_more, later_more}
 
 -- Lists of documents
 
--- the first document is written as something, where no mark is written before it
+-- the first document is written as something, where no marker is written before it
 abbrev pub FirstWritten : Effective → List Document → Type 0
 FirstWritten s [] = Unit {0}
 FirstWritten s (document ∷ rest) = is_explicit (s.canonical || s.portable) true document.start ≡ false → is_written_as_nothing s.canonical document.root ≡ false
 
--- a list's first document is that of its front
-first_front : (s : Effective) (some others : List Document) → FirstWritten s (some ++ others) → FirstWritten s some
-first_front s [] others h = tt
-first_front s (document ∷ rest) others h = h
+-- a list's first document is that of its prefix
+first_prefix : (s : Effective) (some others : List Document) → FirstWritten s (some ++ others) → FirstWritten s some
+first_prefix s [] others h = tt
+first_prefix s (document ∷ rest) others h = h
 
 -- the trees of documents
 abbrev pub document_trees : Effective → Documents → List DocumentTree
@@ -51,11 +52,11 @@ document_trees s (documents_and before document) = with_document s (document_tre
 -- Sizes
 
 -- a text among others is no longer than they are
-root_length : (before mark own rest ending : Text) → length own ≤ length (before ++ ((mark ++ (own ++ rest)) ++ ending))
-root_length before mark own rest ending =
-    let a = length-append before ((mark ++ (own ++ rest)) ++ ending) in
-    let b = length-append (mark ++ (own ++ rest)) ending in
-    let c = length-append mark (own ++ rest) in
+root_length : (before marker own rest ending : Text) → length own ≤ length (before ++ ((marker ++ (own ++ rest)) ++ ending))
+root_length before marker own rest ending =
+    let a = length-append before ((marker ++ (own ++ rest)) ++ ending) in
+    let b = length-append (marker ++ (own ++ rest)) ending in
+    let c = length-append marker (own ++ rest) in
     let d = length-append own rest in
     omega arith
 
@@ -70,84 +71,85 @@ document_size s first ended document stands = by (is_explicit (s.canonical || s.
     ending : Text
     ending = dots_if (not document.end_implicit)
 
-    own : (on_mark : Bool) → RootStands s document on_mark → size document.root ≤ suc (length (root_laid on_mark s document).text)
-    own on_mark root = block_node document.root (rules_of s document) s (directives_in_force document.start.directives) root_place
-        (root_cursor on_mark) root.leaves
+    own : (on_marker : Bool) → RootStands s document on_marker → size document.root ≤ suc (length (render_root on_marker s document).text)
+    own on_marker root = block_node document.root (rules_of s document) s (directives_in_force document.start.directives) root_place
+        (root_cursor on_marker) root.leaves
 
     by : (x : Bool) → RootStands s document (x && not s.canonical) → size document.root ≤ suc (length (before ++ (root_part x s document ++ ending)))
     by true stood =
-        let root = root_laid (not s.canonical) s document in
+        let root = render_root (not s.canonical) s document in
         let deep = own (not s.canonical) stood in
         let within = root_length before (if not s.canonical then codes "---" else codes "---" ++ (line_feed ∷ [])) root.text (closing root.cursor) ending in
         omega arith
     by false stood =
-        let root = root_laid false s document in
+        let root = render_root false s document in
         let deep = own false stood in
         let within = root_length before [] root.text (closing root.cursor) ending in
         omega arith
 
 -- Documents
 
--- documents that are laid out up to here, and are read at each depth that their text has
-record SoLaid (s : Effective) (documents : Documents) (laid : PiecesLaid) : Type 0 where
-  cursor : laid.standing.cursor ≡ margin_cursor 0
-  awaits : (depth : ℕ) → suc (length (text_of laid.pieces)) ≤ depth
-      → Awaits s.breaks12 depth (text_of laid.pieces) (document_trees s documents) (laid.standing.mark == 0)
+-- documents that are rendered up to here, and are read at each depth that their text has
+record RenderedSo (s : Effective) (documents : Documents) (rendered : RenderedPieces) : Type 0 where
+  cursor : rendered.standing.cursor ≡ margin_cursor 0
+  awaits : (depth : ℕ) → suc (length (text_of rendered.pieces)) ≤ depth
+      → Awaits s.breaks12 depth (text_of rendered.pieces) (document_trees s documents) (rendered.standing.open_ended == 0)
 
 -- one document more
-document_so_laid : (s : Effective) (first : Bool) (documents : Documents) (laid : PiecesLaid) (document : Document) → 2 ≤ s.indent
-    → DocumentStands s first document → laid.standing.cursor ≡ margin_cursor 0
-    → ((depth : ℕ) → suc (length (text_of laid.pieces ++ document_text s first (laid.standing.mark == 0) document)) ≤ depth → size document.root ≤ depth
-    → Awaits s.breaks12 depth (text_of laid.pieces ++ document_text s first (laid.standing.mark == 0) document)
+document_so_rendered : (s : Effective) (first : Bool) (documents : Documents) (rendered : RenderedPieces) (document : Document) → 2 ≤ s.indent
+    → DocumentStands s first document → rendered.standing.cursor ≡ margin_cursor 0
+    → ((depth : ℕ) → suc (length (text_of rendered.pieces ++ document_text s first (rendered.standing.open_ended == 0) document)) ≤ depth
+    → size document.root ≤ depth
+    → Awaits s.breaks12 depth (text_of rendered.pieces ++ document_text s first (rendered.standing.open_ended == 0) document)
     (document_trees s (documents_and documents document)) (not document.end_implicit))
-    → SoLaid s (documents_and documents document)
+    → RenderedSo s (documents_and documents document)
     (record {
-      pieces = laid.pieces ++ (document_laid s first document laid.standing).pieces;
+      pieces = rendered.pieces ++ (render_document s first document rendered.standing).pieces;
       standing =
-          (document_laid s first document laid.standing).standing;
+          (render_document s first document rendered.standing).standing;
     })
-document_so_laid s first documents laid document deep stands at awaits = record {
+document_so_rendered s first documents rendered document deep stands at awaits = record {
   cursor = joined.cursor;
   awaits = λ depth long.
-      subst (λ t. Awaits s.breaks12 depth t (document_trees s (documents_and documents document)) (next.standing.mark == 0)) (sym same)
-      (subst (Awaits s.breaks12 depth (text_of laid.pieces ++ text) (document_trees s (documents_and documents document))) (sym joined.ended)
+      subst (λ t. Awaits s.breaks12 depth t (document_trees s (documents_and documents document)) (next.standing.open_ended == 0)) (sym same)
+      (subst (Awaits s.breaks12 depth (text_of rendered.pieces ++ text) (document_trees s (documents_and documents document))) (sym joined.ended)
       (awaits depth (subst (λ t. suc (length t) ≤ depth) same long) (small depth (subst (λ t. suc (length t) ≤ depth) same long))));
 }
   where
-    next : PiecesLaid
-    next = document_laid s first document laid.standing
+    next : RenderedPieces
+    next = render_document s first document rendered.standing
 
     text : Text
-    text = document_text s first (laid.standing.mark == 0) document
+    text = document_text s first (rendered.standing.open_ended == 0) document
 
-    joined : DocumentLaid s first document laid.standing
-    joined = document_joined s first document laid.standing at (root_fits s document (is_on_mark s first document.start) deep stands.root).settled
+    joined : RenderedDocument s first document rendered.standing
+    joined = document_joined s first document rendered.standing at (root_fits s document (is_on_marker s first document.start) deep stands.root).settled
 
-    same : text_of (laid.pieces ++ next.pieces) ≡ text_of laid.pieces ++ text
-    same = flat_map-append piece_text laid.pieces next.pieces ∙ ap (λ t. text_of laid.pieces ++ t) joined.text
+    same : text_of (rendered.pieces ++ next.pieces) ≡ text_of rendered.pieces ++ text
+    same = flat_map-append piece_text rendered.pieces next.pieces ∙ ap (λ t. text_of rendered.pieces ++ t) joined.text
 
-    small : (depth : ℕ) → suc (length (text_of laid.pieces ++ text)) ≤ depth → size document.root ≤ depth
+    small : (depth : ℕ) → suc (length (text_of rendered.pieces ++ text)) ≤ depth → size document.root ≤ depth
     small depth long =
-        let sum = length-append (text_of laid.pieces) text in
-        let own = document_size s first (laid.standing.mark == 0) document stands in
+        let sum = length-append (text_of rendered.pieces) text in
+        let own = document_size s first (rendered.standing.open_ended == 0) document stands in
         omega arith
 
 -- all documents
-documents_so_laid : (s : Effective) (documents : Documents) → 2 ≤ s.indent → DocumentsStand s documents → FirstWritten s (documents_in_order documents)
-    → SoLaid s documents (documents_laid s documents first_standing)
-documents_so_laid s no_documents deep stands written = record { cursor = refl; awaits = λ depth long. awaits_first s.breaks12 depth }
-documents_so_laid s (documents_and no_documents document) deep stands written =
-    document_so_laid s true no_documents (documents_laid s no_documents first_standing) document deep stands.1 refl
+documents_so_rendered : (s : Effective) (documents : Documents) → 2 ≤ s.indent → DocumentsStand s documents → FirstWritten s (documents_in_order documents)
+    → RenderedSo s documents (render_documents s documents first_standing)
+documents_so_rendered s no_documents deep stands written = record { cursor = refl; awaits = λ depth long. awaits_first s.breaks12 depth }
+documents_so_rendered s (documents_and no_documents document) deep stands written =
+    document_so_rendered s true no_documents (render_documents s no_documents first_standing) document deep stands.1 refl
     (λ depth long small. first_more s depth document deep stands.1 small written (awaits_first s.breaks12 depth))
-documents_so_laid s (documents_and (documents_and before last) document) deep stands written =
-    let laid = documents_laid s (documents_and before last) first_standing in
-    let so = documents_so_laid s (documents_and before last) deep stands.0
-    (first_front s (documents_in_order (documents_and before last)) (document ∷ []) written) in
-    let text = document_text s false (laid.standing.mark == 0) document in
-    document_so_laid s false (documents_and before last) laid document deep stands.1 so.cursor
-    (λ depth long small. later_more s depth (text_of laid.pieces) (document_trees s (documents_and before last)) document
-    (laid.standing.mark == 0) deep stands.1 small
-    (so.awaits depth (shorter depth (text_of laid.pieces) text long)))
+documents_so_rendered s (documents_and (documents_and before last) document) deep stands written =
+    let rendered = render_documents s (documents_and before last) first_standing in
+    let so = documents_so_rendered s (documents_and before last) deep stands.0
+    (first_prefix s (documents_in_order (documents_and before last)) (document ∷ []) written) in
+    let text = document_text s false (rendered.standing.open_ended == 0) document in
+    document_so_rendered s false (documents_and before last) rendered document deep stands.1 so.cursor
+    (λ depth long small. later_more s depth (text_of rendered.pieces) (document_trees s (documents_and before last)) document
+    (rendered.standing.open_ended == 0) deep stands.1 small
+    (so.awaits depth (shorter depth (text_of rendered.pieces) text long)))
   where
     shorter : (depth : ℕ) (a b : Text) → suc (length (a ++ b)) ≤ depth → suc (length a) ≤ depth
     shorter depth a b h = let sum = length-append a b in omega arith
@@ -155,13 +157,13 @@ documents_so_laid s (documents_and (documents_and before last) document) deep st
 -- Ends
 
 -- where a stream ends its documents are read
-ended_read : (breaks12 : Bool) (depth : ℕ) (text : Text) (documents : List DocumentTree) (mark : ℕ) → Awaits breaks12 depth text documents (mark == 0)
-    → sections_read depth breaks12 (sections_of (lines_of breaks12 (text ++ dots_if (mark == 2)))) ≡ Some documents
-ended_read breaks12 depth text documents mark awaits = by (mark == 0) refl (mark == 2) refl awaits
+ended_read : (breaks12 : Bool) (depth : ℕ) (text : Text) (documents : List DocumentTree) (marker : ℕ) → Awaits breaks12 depth text documents (marker == 0)
+    → sections_read depth breaks12 (sections_of (lines_of breaks12 (text ++ dots_if (marker == 2)))) ≡ Some documents
+ended_read breaks12 depth text documents marker awaits = by (marker == 0) refl (marker == 2) refl awaits
   where
-    by : (x : Bool) → (mark == 0) ≡ x → (y : Bool) → (mark == 2) ≡ y → Awaits breaks12 depth text documents x
+    by : (x : Bool) → (marker == 0) ≡ x → (y : Bool) → (marker == 2) ≡ y → Awaits breaks12 depth text documents x
         → sections_read depth breaks12 (sections_of (lines_of breaks12 (text ++ dots_if y))) ≡ Some documents
-    by true e true f awaits = let one = eqb-true mark 0 e in let other = eqb-true mark 2 f in absurd (omega arith)
+    by true e true f awaits = let one = eqb-true marker 0 e in let other = eqb-true marker 2 f in absurd (omega arith)
     by true e false f awaits = documents_so_far breaks12 depth (text ++ []) _ (awaits [] no_heading refl refl refl) refl
     by false e true f awaits =
         ap (λ t. sections_read depth breaks12 (sections_of (lines_of breaks12 t))) (sym (append-nil (text ++ dots_if true)))
@@ -171,14 +173,14 @@ ended_read breaks12 depth text documents mark awaits = by (mark == 0) refl (mark
 
 -- Blank lines
 
--- a blank line is no mark, and begins no text
-blank_unmarked : (t : Text) → is_spaces t ≡ true → is_unmarked (mark_of t) ≡ true
+-- a blank line is no marker, and begins no text
+blank_unmarked : (t : Text) → is_spaces t ≡ true → is_unmarked (marker_of t) ≡ true
 blank_unmarked [] h = refl
 blank_unmarked (c ∷ t) h =
     let parts = and_parts (c == space) (is_spaces t) h in
-    ap (λ d. is_unmarked (mark_of (d ∷ t))) (eqb-true c space parts.0) ∙ by t
+    ap (λ d. is_unmarked (marker_of (d ∷ t))) (eqb-true c space parts.0) ∙ by t
   where
-    by : (t : Text) → is_unmarked (mark_of (space ∷ t)) ≡ true
+    by : (t : Text) → is_unmarked (marker_of (space ∷ t)) ≡ true
     by [] = refl
     by (b ∷ []) = refl
     by (b ∷ d ∷ t) = refl
@@ -187,10 +189,10 @@ blank_lines_unmarked : (lines : List Line) → all_blank lines ≡ true → AllU
 blank_lines_unmarked [] h = refl
 blank_lines_unmarked (line ∷ rest) h =
     let parts = and_parts (is_spaces line.text) (all_blank rest) h in
-    and_from (is_unmarked (mark_of line.text)) (list_all (λ line. is_unmarked (mark_of line.text)) rest) (blank_unmarked line.text parts.0)
+    and_from (is_unmarked (marker_of line.text)) (list_all (λ line. is_unmarked (marker_of line.text)) rest) (blank_unmarked line.text parts.0)
     (blank_lines_unmarked rest parts.1)
 
-blank_no_text : (t : Text) → is_spaces t ≡ true → (begins_with_percent t ≡ false) × (ends_sign t ≡ true)
+blank_no_text : (t : Text) → is_spaces t ≡ true → (begins_with_percent t ≡ false) × (ends_indicator t ≡ true)
 blank_no_text [] h = (refl, refl)
 blank_no_text (c ∷ t) h =
     let parts = and_parts (c == space) (is_spaces t) h in
@@ -204,7 +206,8 @@ blank_read breaks12 depth lines documents blank reads =
     ∙ ap (λ b. let all : Sections = record { before = b; sections = [] } in all) (append-nil lines) in
     by lines blank (ap (sections_read depth breaks12) (sym alone) ∙ reads)
   where
-    by : (lines : List Line) → all_blank lines ≡ true → option_and_then documents_at_end (front_read (front_kind lines) depth breaks12 lines) ≡ Some documents
+    by : (lines : List Line) → all_blank lines ≡ true
+        → option_and_then documents_at_end (lines_before_marker_read (prefix_kind lines) depth breaks12 lines) ≡ Some documents
         → documents ≡ []
     by [] blank reads = sym (cc_some reads)
       where
@@ -213,24 +216,27 @@ blank_read breaks12 depth lines documents blank reads =
     by (line ∷ rest) blank reads =
         let text = blank_no_text line.text (and_parts (is_spaces line.text) (all_blank rest) blank).0 in
         absurd (none_not_some
-        (sym (ap (λ x. option_and_then documents_at_end (front_read (if x then directive_lines else document_lines) depth breaks12 (line ∷ rest))) text.0
+        (sym (ap (λ x. option_and_then documents_at_end
+        (lines_before_marker_read (if x then directive_lines else document_lines) depth breaks12 (line ∷ rest))) text.0
         ∙ ap (λ x. option_and_then documents_at_end
-        (document_added [] no_heading (if not x then node_read depth (record { breaks12 = breaks12; directives = [] }) true None (line ∷ rest) else None)))
+        (with_read_document [] no_heading (if not x then node_read depth (record { breaks12 = breaks12; directives = [] }) true None (line ∷ rest) else None)))
         text.1)
         ∙ reads))
 
 -- Streams
 
 -- the text of a whole stream
-pub stream_text : (s : Effective) (stream : Stream) → (documents_laid s stream.documents first_standing).standing.cursor ≡ margin_cursor 0
+pub stream_text : (s : Effective) (stream : Stream) → (render_documents s stream.documents first_standing).standing.cursor ≡ margin_cursor 0
     → text_of (layout s stream)
-    ≡ text_of (documents_laid s stream.documents first_standing).pieces ++ dots_if ((documents_laid s stream.documents first_standing).standing.mark == 2)
+    ≡ text_of (render_documents s stream.documents first_standing).pieces ++ dots_if
+    ((render_documents s stream.documents first_standing).standing.open_ended == 2)
 stream_text s stream at =
-    let documents = documents_laid s stream.documents first_standing in
+    let documents = render_documents s stream.documents first_standing in
     flat_map-append piece_text (record { lead = []; body = None } ∷ documents.pieces) ((stream_end_piece documents.standing).piece ∷ [])
     ∙ ap (λ t. text_of documents.pieces ++ t) (append-nil ((stream_end_piece documents.standing).piece.lead ++ [])
     ∙ append-nil (stream_end_piece documents.standing).piece.lead
-    ∙ ap (λ c. (laid_if (documents.standing.mark == 2) closing_mark_laid c).text) at ∙ ap (λ (l : Laid). l.text) (dots_laid (documents.standing.mark == 2)))
+    ∙ ap (λ c. (render_if (documents.standing.open_ended == 2) render_closing_marker c).text) at
+    ∙ ap (λ (l : Rendered). l.text) (dots_rendered (documents.standing.open_ended == 2)))
 
 -- a stream whose documents stand is read as their trees
 pub stream_reads : (s : Effective) (stream : Stream) → 2 ≤ s.indent → DocumentsStand s stream.documents → FirstWritten s (documents_in_order stream.documents)
@@ -238,28 +244,28 @@ pub stream_reads : (s : Effective) (stream : Stream) → 2 ≤ s.indent → Docu
 stream_reads s stream deep stands written =
     by (all_blank (lines_of s.breaks12 text)) refl
   where
-    documents : PiecesLaid
-    documents = documents_laid s stream.documents first_standing
+    documents : RenderedPieces
+    documents = render_documents s stream.documents first_standing
 
     text : Text
     text = text_of (layout s stream)
 
-    so : SoLaid s stream.documents documents
-    so = documents_so_laid s stream.documents deep stands written
+    so : RenderedSo s stream.documents documents
+    so = documents_so_rendered s stream.documents deep stands written
 
-    same : text ≡ text_of documents.pieces ++ dots_if (documents.standing.mark == 2)
+    same : text ≡ text_of documents.pieces ++ dots_if (documents.standing.open_ended == 2)
     same = stream_text s stream so.cursor
 
     long : suc (length (text_of documents.pieces)) ≤ suc (length text)
     long =
-        let sum = length-append (text_of documents.pieces) (dots_if (documents.standing.mark == 2)) in
+        let sum = length-append (text_of documents.pieces) (dots_if (documents.standing.open_ended == 2)) in
         let e = ap length same in
         omega arith
 
     reads : sections_read (suc (length text)) s.breaks12 (sections_of (lines_of s.breaks12 text)) ≡ Some (document_trees s stream.documents)
     reads =
         ap (λ t. sections_read (suc (length text)) s.breaks12 (sections_of (lines_of s.breaks12 t))) same
-        ∙ ended_read s.breaks12 (suc (length text)) (text_of documents.pieces) (document_trees s stream.documents) documents.standing.mark
+        ∙ ended_read s.breaks12 (suc (length text)) (text_of documents.pieces) (document_trees s stream.documents) documents.standing.open_ended
         (so.awaits (suc (length text)) long)
 
     by : (x : Bool) → all_blank (lines_of s.breaks12 text) ≡ x

@@ -8,16 +8,17 @@ use Rattle.yaml_base.specs.LineBreaks.{is_read_break}
 use Rattle.yaml_base.specs.reading.ReadPlain.{is_read_white}
 use Rattle.yaml_base.specs.Settings.{Effective}
 use Rattle.yaml_base.specs.Event.{ScalarStyle, any_style, plain, single_quoted, double_quoted, literal, folded, TagDirective, Scalar, Collection}
-use Rattle.yaml_base.specs.Cursor.{Cursor, Laid, space_if, new_line, nothing_laid, indicator, then_laid, is_past_width}
-use Rattle.yaml_base.specs.scalars.Plain.{runs, runs_laid}
+use Rattle.yaml_base.specs.Cursor.{Cursor, Rendered, space_if, new_line, render_nothing, indicator, render_then, is_past_width}
+use Rattle.yaml_base.specs.scalars.Plain.{runs, render_runs}
 use Rattle.yaml_base.specs.scalars.SingleQuoted.{quotes_doubled, single_quote}
-use Rattle.yaml_base.specs.scalars.DoubleQuoted.{double_inside, quote_laid}
+use Rattle.yaml_base.specs.scalars.DoubleQuoted.{double_inside, render_quote}
 use Rattle.yaml_base.specs.Grammar.{Node, alias_node, scalar_node, sequence_node, mapping_node, Nodes, no_nodes, nodes_and, Pairs, no_pairs, pairs_and}
 use Rattle.yaml_base.specs.Event.{scalar_tag, collection_tag}
 use Rattle.yaml_base.specs.Layout.{Role, Place, is_undented, entries_column, is_written_in_flow, as_root, as_item, as_key, as_value, is_key, line_column}
-use Rattle.yaml_base.specs.Layout.{deeper, has_no_nodes, has_no_pairs, is_simple, is_simple_at, flow_break, opening_or_comma, key_sign, flow_place_laid}
-use Rattle.yaml_base.specs.Layout.{place_laid, properties_laid, alias_laid, separation_laid, body_laid, choice_of, Brackets, square, curly, empty_or_comma}
-use Rattle.yaml_base.specs.Layout.{end_laid, entry_place}
+use Rattle.yaml_base.specs.Layout.{deeper, has_no_nodes, has_no_pairs, is_simple, is_simple_at, flow_break, opening_or_comma, key_indicator, render_flow_place}
+use Rattle.yaml_base.specs.Layout.{render_place, render_properties, render_alias, render_separation, render_body, choice_of, Brackets, square, curly}
+use Rattle.yaml_base.specs.Layout.{empty_or_comma}
+use Rattle.yaml_base.specs.Layout.{render_end, entry_place}
 use Rattle.yaml_base.specs.reading.TidyText.{has_deep_lines, has_no_space_before_break, has_clean_edges, ends_white, is_tidy_style, is_tidy}
 use Rattle.yaml_base.specs.streams.StreamScalars.{name_read}
 use Rattle.yaml_base.proofs.stream_lines.StreamLineLaws.{OneLine, one_line_both}
@@ -28,22 +29,22 @@ use Rattle.yaml_base.proofs.stream_nodes.StreamProperties.{IsNamed, name_letters
 use Rattle.yaml_base.proofs.stream_flow.StreamPropertyWords.{lead}
 use Rattle.yaml_base.proofs.stream_nodes.StreamStands.{tag_written, tag_meant, TagStands, NamesStand, AllNamesStand, PairsNamesStand, BodyStands, body_from}
 use Rattle.yaml_base.proofs.stream_nodes.StreamStands.{BodiesHold, ItemsHold, PairsHold}
-use Rattle.yaml_base.proofs.stream_nodes.StreamLeads.{lead_laid, tag_is_written}
+use Rattle.yaml_base.proofs.stream_nodes.StreamLeads.{lead_rendered, tag_is_written}
 use Rattle.yaml_base.proofs.stream_flow.StreamFlowScalars.{rules_of, is_flow_style, chosen_in_flow, separation_in_flow}
 use Rattle.yaml_base.proofs.stream_nodes.StreamBegun.{lead_line}
 use Rattle.yaml_base.proofs.stream_nodes.StreamAliasFits.{name_line}
-use Rattle.yaml_base.proofs.stream_lines.StreamDeepBreaks.{Deep, deep_both, deep_line, deep_new_line, deep_tidy, ends_as_last, line_front, space_line}
+use Rattle.yaml_base.proofs.stream_lines.StreamDeepBreaks.{Deep, deep_both, deep_line, deep_new_line, deep_tidy, ends_as_last, line_prefix, space_line}
 
 -- Properties
 
 -- the anchor and the tag are on one line
 pub properties_line : (s : Effective) (own directives : List TagDirective) (anchor tag : Option Text) (bare : Bool) (cursor : Cursor) → IsNamed anchor
-    → TagStands s.portable own directives tag → OneLine s.breaks12 (properties_laid s.portable directives anchor tag bare cursor).text
+    → TagStands s.portable own directives tag → OneLine s.breaks12 (render_properties s.portable directives anchor tag bare cursor).text
 properties_line s own directives anchor tag bare cursor named stands =
-    let laid = properties_laid s.portable directives anchor tag bare cursor in
+    let rendered = render_properties s.portable directives anchor tag bare cursor in
     let written = tag_written s.portable directives tag bare in
-    line_front s.breaks12 laid.text (space_if true laid.cursor)
-    (ap (list_any (is_read_break s.breaks12)) (lead_laid s.portable directives anchor tag bare cursor)
+    line_prefix s.breaks12 rendered.text (space_if true rendered.cursor)
+    (ap (list_any (is_read_break s.breaks12)) (lead_rendered s.portable directives anchor tag bare cursor)
     ∙ one_line_both s.breaks12 (space_if true cursor) (lead anchor written) (space_line s.breaks12 true cursor)
     (lead_line (rules_of s own) anchor written (tag_meant tag bare) named (tag_is_written s.portable own directives tag bare stands)))
 
@@ -65,43 +66,43 @@ clean_shown breaks12 (c ∷ t) h = by (ends_white breaks12 (c ∷ t)) (and_parts
 
 -- a body in a style of flow that is tidy ends with nothing white
 body_shown : (s : Effective) (style : ScalarStyle) (limit : Option ℕ) (indent : ℕ) (value : Text) (cursor : Cursor) → is_flow_style style ≡ true
-    → is_tidy_style style s.breaks12 (body_laid style s limit indent value cursor).text ≡ true
-    → ends_white s.breaks12 (body_laid style s limit indent value cursor).text ≡ false
+    → is_tidy_style style s.breaks12 (render_body style s limit indent value cursor).text ≡ true
+    → ends_white s.breaks12 (render_body style s limit indent value cursor).text ≡ false
 body_shown s plain limit indent value cursor flow tidy =
-    let text = (body_laid plain s limit indent value cursor).text in
+    let text = (render_body plain s limit indent value cursor).text in
     clean_shown s.breaks12 text (and_parts (has_no_space_before_break s.breaks12 text) (has_clean_edges s.breaks12 text) tidy).1
 body_shown s single_quoted limit indent value cursor flow tidy =
-    ends_as_last s.breaks12 (0x27 ∷ (runs_laid quotes_doubled limit indent true (runs value) (single_quote cursor).cursor).text) 0x27
+    ends_as_last s.breaks12 (0x27 ∷ (render_runs quotes_doubled limit indent true (runs value) (single_quote cursor).cursor).text) 0x27
     ∙ (quote_shown s.breaks12).0
 body_shown s double_quoted limit indent value cursor flow tidy =
-    ends_as_last s.breaks12 (0x22 ∷ (double_inside s.unicode limit indent None value (quote_laid cursor).cursor).text) 0x22 ∙ (quote_shown s.breaks12).1
+    ends_as_last s.breaks12 (0x22 ∷ (double_inside s.unicode limit indent None value (render_quote cursor).cursor).text) 0x22 ∙ (quote_shown s.breaks12).1
 body_shown s any_style limit indent value cursor flow tidy = absurd (false≢true tidy)
 body_shown s literal limit indent value cursor flow tidy = absurd (false≢true flow)
 body_shown s folded limit indent value cursor flow tidy = absurd (false≢true flow)
 
 -- the lines of such a body are deep
 body_deep : (s : Effective) (style : ScalarStyle) (limit : Option ℕ) (count indent column : ℕ) (value : Text) (cursor : Cursor) → count ≤ suc column
-    → is_flow_style style ≡ true → is_tidy style s.breaks12 (Some column) (body_laid style s limit indent value cursor).text ≡ true
-    → Deep s.breaks12 count (body_laid style s limit indent value cursor).text
+    → is_flow_style style ≡ true → is_tidy style s.breaks12 (Some column) (render_body style s limit indent value cursor).text ≡ true
+    → Deep s.breaks12 count (render_body style s limit indent value cursor).text
 body_deep s style limit count indent column value cursor le flow tidy =
-    let text = (body_laid style s limit indent value cursor).text in
+    let text = (render_body style s limit indent value cursor).text in
     let parts = and_parts (list_all is_printable text && has_deep_lines s.breaks12 (suc column) text) (is_tidy_style style s.breaks12 text) tidy in
     deep_tidy s.breaks12 count text
     (deep_lines_fewer s.breaks12 count (suc column) text le (and_parts (list_all is_printable text) (has_deep_lines s.breaks12 (suc column) text) parts.0).1)
     (body_shown s style limit indent value cursor flow parts.1)
 
--- Signs
+-- Indicators
 
--- a sign on one line, and the space before it
-pub sign_deep : (breaks12 : Bool) (count : ℕ) (sign : Text) (need white indented : Bool) (cursor : Cursor) → OneLine breaks12 sign
-    → Deep breaks12 count (indicator sign need white indented cursor).text
-sign_deep breaks12 count sign need white indented cursor one =
-    deep_line breaks12 count (space_if need cursor ++ sign) (one_line_both breaks12 (space_if need cursor) sign (space_line breaks12 need cursor) one)
+-- an indicator on one line, and the space before it
+pub indicator_deep : (breaks12 : Bool) (count : ℕ) (symbol : Text) (need white indented : Bool) (cursor : Cursor) → OneLine breaks12 symbol
+    → Deep breaks12 count (indicator symbol need white indented cursor).text
+indicator_deep breaks12 count symbol need white indented cursor one =
+    deep_line breaks12 count (space_if need cursor ++ symbol) (one_line_both breaks12 (space_if need cursor) symbol (space_line breaks12 need cursor) one)
 
--- no sign of flow breaks a line
-pub signs_line : (breaks12 : Bool) → OneLine breaks12 (codes ",") × OneLine breaks12 (codes "?") × OneLine breaks12 (codes ":")
-signs_line true = (refl, refl, refl)
-signs_line false = (refl, refl, refl)
+-- no flow indicator breaks a line
+pub indicators_line : (breaks12 : Bool) → OneLine breaks12 (codes ",") × OneLine breaks12 (codes "?") × OneLine breaks12 (codes ":")
+indicators_line true = (refl, refl, refl)
+indicators_line false = (refl, refl, refl)
 
 -- nor does a bracket
 pub brackets_line : (breaks12 : Bool) → (OneLine breaks12 square.opening × OneLine breaks12 square.closing)
@@ -113,64 +114,65 @@ brackets_line false = ((refl, refl), (refl, refl))
 break_deep : (s : Effective) (count column : ℕ) (cursor : Cursor) → count ≤ column → Deep s.breaks12 count (flow_break s (Some column) cursor).text
 break_deep s count column cursor le = by (s.canonical || is_past_width s.width cursor)
   where
-    by : (x : Bool) → Deep s.breaks12 count (let laid : Laid = if x then new_line column cursor else nothing_laid cursor in laid.text)
+    by : (x : Bool) → Deep s.breaks12 count (let rendered : Rendered = if x then new_line column cursor else render_nothing cursor in rendered.text)
     by true = deep_new_line s.breaks12 count column cursor le
     by false = refl
 
 -- what stands before a first entry, or between two
 begin_deep : (s : Effective) (count column : ℕ) (bracket : Text) (first : Bool) (cursor : Cursor) → count ≤ column → OneLine s.breaks12 bracket
-    → Deep s.breaks12 count (then_laid (opening_or_comma bracket first cursor) (flow_break s (Some column))).text
+    → Deep s.breaks12 count (render_then (opening_or_comma bracket first cursor) (flow_break s (Some column))).text
 begin_deep s count column bracket true cursor le one =
-    let sign = indicator bracket true true false cursor in
-    deep_both s.breaks12 count sign.text (flow_break s (Some column) sign.cursor).text (sign_deep s.breaks12 count bracket true true false cursor one)
-    (break_deep s count column sign.cursor le)
+    let symbol = indicator bracket true true false cursor in
+    deep_both s.breaks12 count symbol.text (flow_break s (Some column) symbol.cursor).text (indicator_deep s.breaks12 count bracket true true false cursor one)
+    (break_deep s count column symbol.cursor le)
 begin_deep s count column bracket false cursor le one =
-    let sign = indicator (codes ",") false false false cursor in
-    deep_both s.breaks12 count sign.text (flow_break s (Some column) sign.cursor).text
-    (sign_deep s.breaks12 count (codes ",") false false false cursor (signs_line s.breaks12).0) (break_deep s count column sign.cursor le)
+    let symbol = indicator (codes ",") false false false cursor in
+    deep_both s.breaks12 count symbol.text (flow_break s (Some column) symbol.cursor).text
+    (indicator_deep s.breaks12 count (codes ",") false false false cursor (indicators_line s.breaks12).0) (break_deep s count column symbol.cursor le)
 
--- the signs of a place in flow
+-- the indicators of a place in flow
 place_deep : (s : Effective) (count column : ℕ) (role : Role) (simple : Bool) (cursor : Cursor) → count ≤ column
-    → Deep s.breaks12 count (flow_place_laid s role simple (Some column) cursor).text
+    → Deep s.breaks12 count (render_flow_place s role simple (Some column) cursor).text
 place_deep s count column as_root simple cursor le = refl
 place_deep s count column (as_item first) simple cursor le = begin_deep s count column (codes "[") first cursor le (brackets_line s.breaks12).0.0
 place_deep s count column (as_key first) simple cursor le =
-    let begun = then_laid (opening_or_comma (codes "{") first cursor) (flow_break s (Some column)) in
-    deep_both s.breaks12 count begun.text (key_sign simple false begun.cursor).text
+    let begun = render_then (opening_or_comma (codes "{") first cursor) (flow_break s (Some column)) in
+    deep_both s.breaks12 count begun.text (key_indicator simple false begun.cursor).text
     (begin_deep s count column (codes "{") first cursor le (brackets_line s.breaks12).1.0)
     (by simple begun.cursor)
   where
-    by : (x : Bool) (cursor : Cursor) → Deep s.breaks12 count (key_sign x false cursor).text
+    by : (x : Bool) (cursor : Cursor) → Deep s.breaks12 count (key_indicator x false cursor).text
     by true cursor = refl
-    by false cursor = sign_deep s.breaks12 count (codes "?") true false false cursor (signs_line s.breaks12).1
-place_deep s count column (as_value true) simple cursor le = sign_deep s.breaks12 count (codes ":") false false false cursor (signs_line s.breaks12).2
+    by false cursor = indicator_deep s.breaks12 count (codes "?") true false false cursor (indicators_line s.breaks12).1
+place_deep s count column (as_value true) simple cursor le = indicator_deep s.breaks12 count (codes ":") false false false cursor (indicators_line s.breaks12).2
 place_deep s count column (as_value false) simple cursor le =
     let gap = flow_break s (Some column) cursor in
     deep_both s.breaks12 count gap.text (indicator (codes ":") true false false gap.cursor).text (break_deep s count column cursor le)
-    (sign_deep s.breaks12 count (codes ":") true false false gap.cursor (signs_line s.breaks12).2)
+    (indicator_deep s.breaks12 count (codes ":") true false false gap.cursor (indicators_line s.breaks12).2)
 
 -- the end of a collection at a column
 end_deep : (s : Effective) (count : ℕ) (brackets : Brackets) (empty : Bool) (column : Option ℕ) (cursor : Cursor) → OneLine s.breaks12 brackets.opening
     → OneLine s.breaks12 brackets.closing → (s.canonical ≡ true → count ≤ line_column column)
-    → Deep s.breaks12 count (end_laid s brackets true empty column cursor).text
+    → Deep s.breaks12 count (render_end s brackets true empty column cursor).text
 end_deep s count brackets empty column cursor opening closing le =
     let begun = empty_or_comma s brackets.opening empty column cursor in
     deep_both s.breaks12 count begun.text (indicator brackets.closing false false false begun.cursor).text (by empty)
-    (sign_deep s.breaks12 count brackets.closing false false false begun.cursor closing)
+    (indicator_deep s.breaks12 count brackets.closing false false false begun.cursor closing)
   where
-    comma : Laid
+    comma : Rendered
     comma = indicator (codes ",") false false false cursor
 
     line : (x : Bool) → s.canonical ≡ x
-        → Deep s.breaks12 count (let laid : Laid = if x then then_laid comma (new_line (line_column column)) else nothing_laid cursor in laid.text)
+        → Deep s.breaks12 count (let rendered : Rendered = if x then render_then comma
+        (new_line (line_column column)) else render_nothing cursor in rendered.text)
     line true e =
         deep_both s.breaks12 count comma.text (new_line (line_column column) comma.cursor).text
-        (sign_deep s.breaks12 count (codes ",") false false false cursor (signs_line s.breaks12).0)
+        (indicator_deep s.breaks12 count (codes ",") false false false cursor (indicators_line s.breaks12).0)
         (deep_new_line s.breaks12 count (line_column column) comma.cursor (le e))
     line false e = refl
 
     by : (x : Bool) → Deep s.breaks12 count (empty_or_comma s brackets.opening x column cursor).text
-    by true = sign_deep s.breaks12 count brackets.opening true true false cursor opening
+    by true = indicator_deep s.breaks12 count brackets.opening true true false cursor opening
     by false = line s.canonical refl
 
 -- Nodes
@@ -182,11 +184,11 @@ star_line false = refl
 
 -- an alias
 pub alias_deep : (s : Effective) (count : ℕ) (name : Text) (simple : Bool) (cursor : Cursor) → name_read name ≡ Some name
-    → Deep s.breaks12 count (alias_laid name simple cursor).text
+    → Deep s.breaks12 count (render_alias name simple cursor).text
 alias_deep s count name simple cursor named =
     let star = indicator (codes "*") true false false cursor in
     deep_both s.breaks12 count (star.text ++ name) (if simple then codes " " else [])
-    (deep_both s.breaks12 count star.text name (sign_deep s.breaks12 count (codes "*") true false false cursor (star_line s.breaks12))
+    (deep_both s.breaks12 count star.text name (indicator_deep s.breaks12 count (codes "*") true false false cursor (star_line s.breaks12))
     (deep_line s.breaks12 count name (name_line s.breaks12 name (name_letters name named))))
     (by simple)
   where
@@ -203,10 +205,10 @@ scalar_deep s own directives count column role cursor content le names body =
     let simple = is_key role && is_simple s.canonical directives (scalar_node content) in
     let tag = scalar_tag s.canonical content in
     let choice = choice_of s (entry_place true role column) simple content in
-    let properties = properties_laid s.portable directives content.anchor tag choice.bare cursor in
-    let separation = separation_laid choice.style true content.value properties.cursor in
+    let properties = render_properties s.portable directives content.anchor tag choice.bare cursor in
+    let separation = render_separation choice.style true content.value properties.cursor in
     let limit = if simple then None else s.width in
-    let text = (body_laid choice.style s limit (deeper s.indent (Some column)) content.value separation.cursor).text in
+    let text = (render_body choice.style s limit (deeper s.indent (Some column)) content.value separation.cursor).text in
     deep_both s.breaks12 count (properties.text ++ separation.text) text
     (deep_line s.breaks12 count (properties.text ++ separation.text)
     (one_line_both s.breaks12 properties.text separation.text
@@ -218,13 +220,13 @@ scalar_deep s own directives count column role cursor content le names body =
 
 -- a collection, where its entries are so
 collection_deep : (s : Effective) (own directives : List TagDirective) (count : ℕ) (brackets : Brackets) (anchor tag : Option Text) (empty : Bool)
-    (column : Option ℕ) (cursor : Cursor) (entries : Laid) → OneLine s.breaks12 brackets.opening → OneLine s.breaks12 brackets.closing
+    (column : Option ℕ) (cursor : Cursor) (entries : Rendered) → OneLine s.breaks12 brackets.opening → OneLine s.breaks12 brackets.closing
     → (s.canonical ≡ true → count ≤ line_column column) → IsNamed anchor → TagStands s.portable own directives tag → Deep s.breaks12 count entries.text
     → Deep s.breaks12 count
-    (((properties_laid s.portable directives anchor tag false cursor).text ++ entries.text) ++ (end_laid s brackets true empty column entries.cursor).text)
+    (((render_properties s.portable directives anchor tag false cursor).text ++ entries.text) ++ (render_end s brackets true empty column entries.cursor).text)
 collection_deep s own directives count brackets anchor tag empty column cursor entries opening closing le named stands deep =
-    let begun = properties_laid s.portable directives anchor tag false cursor in
-    deep_both s.breaks12 count (begun.text ++ entries.text) (end_laid s brackets true empty column entries.cursor).text
+    let begun = render_properties s.portable directives anchor tag false cursor in
+    deep_both s.breaks12 count (begun.text ++ entries.text) (render_end s brackets true empty column entries.cursor).text
     (deep_both s.breaks12 count begun.text entries.text
     (deep_line s.breaks12 count begun.text (properties_line s own directives anchor tag false cursor named stands)) deep)
     (end_deep s count brackets empty column entries.cursor opening closing le)
@@ -239,13 +241,13 @@ mutual
   node_deep (scalar_node content) s own directives count column role cursor le names bodies =
       scalar_deep s own directives count column role cursor content le names bodies
   node_deep (sequence_node start items) s own directives count column role cursor le names bodies =
-      let begun = properties_laid s.portable directives start.anchor (collection_tag s.canonical start) false cursor in
+      let begun = render_properties s.portable directives start.anchor (collection_tag s.canonical start) false cursor in
       collection_deep s own directives count square start.anchor (collection_tag s.canonical start) (has_no_nodes items) (Some column) cursor
       (items_own items s directives true (deeper s.indent (Some column)) begun.cursor) (brackets_line s.breaks12).0.0 (brackets_line s.breaks12).0.1 (λ h. le)
       names.0 names.1
       (items_deep items s own directives count (deeper s.indent (Some column)) begun.cursor (omega arith) names.2 bodies)
   node_deep (mapping_node start pairs) s own directives count column role cursor le names bodies =
-      let begun = properties_laid s.portable directives start.anchor (collection_tag s.canonical start) false cursor in
+      let begun = render_properties s.portable directives start.anchor (collection_tag s.canonical start) false cursor in
       collection_deep s own directives count curly start.anchor (collection_tag s.canonical start) (has_no_pairs pairs) (Some column) cursor
       (pairs_own pairs s directives true (deeper s.indent (Some column)) begun.cursor) (brackets_line s.breaks12).1.0 (brackets_line s.breaks12).1.1 (λ h. le)
       names.0 names.1
@@ -259,11 +261,11 @@ mutual
       let role = as_item (has_no_nodes items) in
       let place = entry_place true role column in
       let before = items_own items s directives true column cursor in
-      let signs = place_laid s place false before.cursor in
-      let laid = node_own last s directives place signs.cursor in
-      deep_both s.breaks12 count before.text (signs.text ++ laid.text) (items_deep items s own directives count column cursor le names.0 bodies.0)
-      (deep_both s.breaks12 count signs.text laid.text (place_deep s count column role false before.cursor le)
-      (node_deep last s own directives count column role signs.cursor le names.1 bodies.1))
+      let symbols = render_place s place false before.cursor in
+      let rendered = node_own last s directives place symbols.cursor in
+      deep_both s.breaks12 count before.text (symbols.text ++ rendered.text) (items_deep items s own directives count column cursor le names.0 bodies.0)
+      (deep_both s.breaks12 count symbols.text rendered.text (place_deep s count column role false before.cursor le)
+      (node_deep last s own directives count column role symbols.cursor le names.1 bodies.1))
 
   pub pairs_deep : (pairs : Pairs) (s : Effective) (own directives : List TagDirective) (count column : ℕ) (cursor : Cursor) → count ≤ column
       → PairsNamesStand s.portable own s.canonical directives pairs → PairsHold (BodyStands s) pairs s directives true column cursor
@@ -273,16 +275,16 @@ mutual
       let key_role = as_key (has_no_pairs pairs) in
       let value_role = as_value (is_simple s.canonical directives key) in
       let before = pairs_own pairs s directives true column cursor in
-      let signs = place_laid s (entry_place true key_role column) (is_simple s.canonical directives key) before.cursor in
-      let key_laid = node_own key s directives (entry_place true key_role column) signs.cursor in
-      let value_signs = place_laid s (entry_place true value_role column) false key_laid.cursor in
-      let value_laid = node_own value s directives (entry_place true value_role column) value_signs.cursor in
-      deep_both s.breaks12 count (before.text ++ (signs.text ++ key_laid.text)) (value_signs.text ++ value_laid.text)
-      (deep_both s.breaks12 count before.text (signs.text ++ key_laid.text) (pairs_deep pairs s own directives count column cursor le names.0 bodies.0)
-      (deep_both s.breaks12 count signs.text key_laid.text (place_deep s count column key_role (is_simple s.canonical directives key) before.cursor le)
-      (node_deep key s own directives count column key_role signs.cursor le names.1 bodies.1)))
-      (deep_both s.breaks12 count value_signs.text value_laid.text (place_deep s count column value_role false key_laid.cursor le)
-      (node_deep value s own directives count column value_role value_signs.cursor le names.2 bodies.2))
+      let symbols = render_place s (entry_place true key_role column) (is_simple s.canonical directives key) before.cursor in
+      let key_rendered = node_own key s directives (entry_place true key_role column) symbols.cursor in
+      let value_indicators = render_place s (entry_place true value_role column) false key_rendered.cursor in
+      let value_rendered = node_own value s directives (entry_place true value_role column) value_indicators.cursor in
+      deep_both s.breaks12 count (before.text ++ (symbols.text ++ key_rendered.text)) (value_indicators.text ++ value_rendered.text)
+      (deep_both s.breaks12 count before.text (symbols.text ++ key_rendered.text) (pairs_deep pairs s own directives count column cursor le names.0 bodies.0)
+      (deep_both s.breaks12 count symbols.text key_rendered.text (place_deep s count column key_role (is_simple s.canonical directives key) before.cursor le)
+      (node_deep key s own directives count column key_role symbols.cursor le names.1 bodies.1)))
+      (deep_both s.breaks12 count value_indicators.text value_rendered.text (place_deep s count column value_role false key_rendered.cursor le)
+      (node_deep value s own directives count column value_role value_indicators.cursor le names.2 bodies.2))
 
 -- Collections in a block
 
@@ -295,8 +297,8 @@ pub sequence_deep : (s : Effective) (own directives : List TagDirective) (count 
 sequence_deep s own directives count place cursor start items le ends in_flow names bodies =
     by (is_written_in_flow s place start (has_no_nodes items)) in_flow bodies
   where
-    begun : Laid
-    begun = properties_laid s.portable directives start.anchor (collection_tag s.canonical start) false cursor
+    begun : Rendered
+    begun = render_properties s.portable directives start.anchor (collection_tag s.canonical start) false cursor
 
     by : (x : Bool) → x ≡ true
         → ItemsHold (BodyStands s) items s directives x (entries_column x (is_undented s place.role) s.indent place.column begun.cursor) begun.cursor
@@ -317,8 +319,8 @@ pub mapping_deep : (s : Effective) (own directives : List TagDirective) (count :
 mapping_deep s own directives count place cursor start pairs le ends in_flow names bodies =
     by (is_written_in_flow s place start (has_no_pairs pairs)) in_flow bodies
   where
-    begun : Laid
-    begun = properties_laid s.portable directives start.anchor (collection_tag s.canonical start) false cursor
+    begun : Rendered
+    begun = render_properties s.portable directives start.anchor (collection_tag s.canonical start) false cursor
 
     by : (x : Bool) → x ≡ true → PairsHold (BodyStands s) pairs s directives x (entries_column x false s.indent place.column begun.cursor) begun.cursor
         → Deep s.breaks12 count (collection_own s curly x false (has_no_pairs pairs) place.column begun (pairs_own pairs s directives x)).text

@@ -8,12 +8,12 @@ use Rattle.yaml_base.specs.LineBreaks.{is_read_break}
 use Rattle.yaml_base.specs.reading.ReadPlain.{is_read_white}
 use Rattle.yaml_base.specs.Settings.{Effective}
 use Rattle.yaml_base.specs.Event.{TagDirective, Collection}
-use Rattle.yaml_base.specs.Cursor.{Cursor, Laid, space_if}
+use Rattle.yaml_base.specs.Cursor.{Cursor, Rendered, space_if}
 use Rattle.yaml_base.specs.Grammar.{alias_node, scalar_node, sequence_node, mapping_node, Nodes, Pairs}
 use Rattle.yaml_base.specs.Event.{collection_tag}
 use Rattle.yaml_base.specs.Layout.{Place, line_column, deeper, has_no_nodes, has_no_pairs, is_written_in_flow}
 use Rattle.yaml_base.specs.streams.StreamContent.{Tree}
-use Rattle.yaml_base.specs.streams.StreamLines.{Line, lines_of, text_of_lines, character_before, extending, is_inside, all_deeper, spaces}
+use Rattle.yaml_base.specs.streams.StreamLines.{Line, lines_of, text_of_lines, prepend_character, prepend_to_first_line, belongs_to_entry, all_deeper, spaces}
 use Rattle.yaml_base.specs.streams.StreamScalars.{Rules, Properties}
 use Rattle.yaml_base.specs.streams.StreamNodes.{kind_of_node, begins_properties, text_or_properties, text_read, kind_of_text, text_by_kind}
 use Rattle.yaml_base.proofs.stream_lines.StreamLineLaws.{is_closed, OneLine, text_of_lines_of}
@@ -29,7 +29,7 @@ use Rattle.yaml_base.proofs.stream_nodes.StreamLeads.{tag_is_written}
 use Rattle.yaml_base.proofs.stream_flow.StreamFlowWords.{Given}
 use Rattle.yaml_base.proofs.stream_flow.StreamFlowReads.{FlowContent, content_read, sequence_reads, mapping_reads}
 use Rattle.yaml_base.proofs.stream_nodes.StreamBegun.{lead_line}
-use Rattle.yaml_base.proofs.stream_nodes.StreamOwnTexts.{deeper_all, said_reads, headed}
+use Rattle.yaml_base.proofs.stream_nodes.StreamOwnTexts.{deeper_all, parsed_reads, headed}
 use Rattle.yaml_base.proofs.stream_nodes.StreamFits.{Fits}
 use Rattle.yaml_base.proofs.stream_nodes.StreamNodesFit.{LeafFits}
 use Rattle.yaml_base.proofs.stream_nodes.StreamLeaves.{block_place, FlowsFit}
@@ -63,7 +63,7 @@ first_line breaks12 (c ∷ t) = by (is_read_break breaks12 c) refl (first_line b
       ending = c ∷ [];
       rest = lines_of breaks12 (t ++ (line_feed ∷ []));
       more = c ∷ t;
-      is = ap (λ x. character_before x c (lines_of breaks12 (t ++ (line_feed ∷ [])))) e;
+      is = ap (λ x. prepend_character x c (lines_of breaks12 (t ++ (line_feed ∷ [])))) e;
       whole = refl;
     }
     by false e line = record {
@@ -71,7 +71,7 @@ first_line breaks12 (c ∷ t) = by (is_read_break breaks12 c) refl (first_line b
       ending = line.ending;
       rest = line.rest;
       more = line.more;
-      is = ap (λ x. character_before x c (lines_of breaks12 (t ++ (line_feed ∷ [])))) e ∙ ap (extending c) line.is;
+      is = ap (λ x. prepend_character x c (lines_of breaks12 (t ++ (line_feed ∷ [])))) e ∙ ap (prepend_to_first_line c) line.is;
       whole = ap (λ u. c ∷ u) line.whole;
     }
 
@@ -82,7 +82,7 @@ feed_white : (breaks12 : Bool) → list_all (is_read_white breaks12) (line_feed 
 feed_white breaks12 = refl
 
 -- a collection's text from its bracket on reads on its lines
-content_text : (rules : Rules) (cursor : Cursor) (own : Laid) (anchor tag given_tag : Option Text) (tree : Tree)
+content_text : (rules : Rules) (cursor : Cursor) (own : Rendered) (anchor tag given_tag : Option Text) (tree : Tree)
     (of : FlowContent rules cursor own anchor tag given_tag tree)
     (column : Option ℕ) (line : FirstLine rules.breaks12 (of.inside ++ (of.closing ∷ []))) → all_deeper column line.rest ≡ true
     → text_read rules column (record { anchor = anchor; tag = tag_meant given_tag false }) (of.bracket ∷ line.first) line.ending line.rest ≡ Some tree
@@ -95,7 +95,7 @@ content_text rules cursor own anchor tag given_tag tree of column line deep =
     ∙ append_assoc of.inside (of.closing ∷ []) (line_feed ∷ []))
     ∙ content_read rules cursor own anchor tag given_tag tree of column line.first (line_feed ∷ []) (feed_white rules.breaks12)
 
--- what begins a node's own text is no space and no sign of a property
+-- what begins a node's own text is no space and no indicator of a property
 pub own_shows : (c : ℕ) → begins_content (c ∷ []) ≡ true → ((c == space) ≡ false) × ((c == 0x26 || c == 0x21) ≡ false)
 own_shows c h = by (c == space) (c == 0x26) (c == 0x21) h
   where
@@ -106,12 +106,12 @@ own_shows c h = by (c == space) (c == 0x26) (c == 0x21) h
     by false false false h = (refl, refl)
 
 -- the text of a collection, with its properties, up to the break after it
-abbrev flow_text : (rules : Rules) (cursor : Cursor) (own : Laid) (anchor tag given_tag : Option Text) (tree : Tree)
+abbrev flow_text : (rules : Rules) (cursor : Cursor) (own : Rendered) (anchor tag given_tag : Option Text) (tree : Tree)
     → FlowContent rules cursor own anchor tag given_tag tree → Text
 flow_text rules cursor own anchor tag given_tag tree of = lead anchor tag ++ (of.bracket ∷ ((of.inside ++ (of.closing ∷ [])) ++ (line_feed ∷ [])))
 
 -- its lines
-flow_lines : (rules : Rules) (cursor : Cursor) (own : Laid) (anchor tag given_tag : Option Text) (tree : Tree)
+flow_lines : (rules : Rules) (cursor : Cursor) (own : Rendered) (anchor tag given_tag : Option Text) (tree : Tree)
     (of : FlowContent rules cursor own anchor tag given_tag tree)
     → OneLine rules.breaks12 (lead anchor tag) → (line : FirstLine rules.breaks12 (of.inside ++ (of.closing ∷ [])))
     → lines_of rules.breaks12 (flow_text rules cursor own anchor tag given_tag tree of)
@@ -122,14 +122,14 @@ flow_lines rules cursor own anchor tag given_tag tree of one line =
     (lines_behind rules.breaks12 (of.bracket ∷ []) text line.first line.ending line.rest of.one_line line.is)
 
 -- it reads on its lines, behind properties or without them
-text_reads : (rules : Rules) (cursor : Cursor) (own : Laid) (anchor tag given_tag : Option Text) (tree : Tree)
+text_reads : (rules : Rules) (cursor : Cursor) (own : Rendered) (anchor tag given_tag : Option Text) (tree : Tree)
     (of : FlowContent rules cursor own anchor tag given_tag tree) (column : Option ℕ) → Given rules anchor tag (tag_meant given_tag false)
     → (line : FirstLine rules.breaks12 (of.inside ++ (of.closing ∷ []))) → ((c : ℕ) → column ≡ Some c → AllInside true c line.rest)
     → TextReads rules column (flow_text rules cursor own anchor tag given_tag tree of) tree
 text_reads rules cursor own anchor tag given_tag tree of column given line deeper =
-    let said = tag_meant given_tag false in
-    let front = lead anchor tag ++ (of.bracket ∷ line.first) in
-    let h = headed rules anchor tag said of.bracket line.first given (own_shows of.bracket of.content).0 in
+    let parsed = tag_meant given_tag false in
+    let prefix = lead anchor tag ++ (of.bracket ∷ line.first) in
+    let h = headed rules anchor tag parsed of.bracket line.first given (own_shows of.bracket of.content).0 in
     let none : Given rules None None None = record { named = tt; tagged = tt } in
     record {
       head = h.head;
@@ -137,22 +137,22 @@ text_reads rules cursor own anchor tag given_tag tree of column given line deepe
       ending = line.ending;
       rest = line.rest;
       is =
-          flow_lines rules cursor own anchor tag given_tag tree of (lead_line rules anchor tag said given.named given.tagged) line
+          flow_lines rules cursor own anchor tag given_tag tree of (lead_line rules anchor tag parsed given.named given.tagged) line
           ∙ ap (λ t. record { text = t; ending = line.ending } ∷ line.rest) h.is;
       shows = h.shows;
-      kind = ap (kind_of_node rules) (sym h.is) ∙ of.line anchor tag said given line.first line.more line.whole;
+      kind = ap (kind_of_node rules) (sym h.is) ∙ of.line anchor tag parsed given line.first line.more line.whole;
       deeper = deeper;
       read = λ reads at.
           ap (λ t. text_or_properties (begins_properties t) rules reads column at t line.ending line.rest) (sym h.is)
-          ∙ said_reads rules reads column at anchor tag said of.bracket line.first line.ending line.rest given of.content
+          ∙ parsed_reads rules reads column at anchor tag parsed of.bracket line.first line.ending line.rest given of.content
           (of.line None None None none line.first line.more line.whole)
           ∙ content_text rules cursor own anchor tag given_tag tree of column line (deeper_all column line.rest deeper);
     }
 
 -- Fits
 
--- what is laid out, with the break after it
-closed_text : (rules : Rules) (cursor : Cursor) (own : Laid) (anchor tag given_tag : Option Text) (tree : Tree)
+-- what is rendered, with the break after it
+closed_text : (rules : Rules) (cursor : Cursor) (own : Rendered) (anchor tag given_tag : Option Text) (tree : Tree)
     (of : FlowContent rules cursor own anchor tag given_tag tree)
     → own.text ++ (line_feed ∷ []) ≡ space_if true cursor ++ flow_text rules cursor own anchor tag given_tag tree of
 closed_text rules cursor own anchor tag given_tag tree of =
@@ -162,7 +162,7 @@ closed_text rules cursor own anchor tag given_tag tree of =
     ∙ ap (λ t. space_if true cursor ++ t) (append_assoc (lead anchor tag) core (line_feed ∷ []))
 
 -- a collection whose text is read, and whose lines are deeper than the column around, fits behind some spaces
-spaced_fits : (rules : Rules) (place : Place) (cursor : Cursor) (own : Laid) (anchor tag given_tag : Option Text) (tree : Tree)
+spaced_fits : (rules : Rules) (place : Place) (cursor : Cursor) (own : Rendered) (anchor tag given_tag : Option Text) (tree : Tree)
     (of : FlowContent rules cursor own anchor tag given_tag tree) → Given rules anchor tag (tag_meant given_tag false)
     → ((c : ℕ) → place.column ≡ Some c → Deep rules.breaks12 (suc c) own.text) → (count : ℕ) → space_if true cursor ≡ spaces count
     → (cursor.whitespace ≡ false → 0 < count) → Fits rules 1 own tree place cursor
@@ -189,10 +189,10 @@ spaced_fits rules place cursor own anchor tag given_tag tree of given deep count
         (flow_lines rules cursor own anchor tag given_tag tree of (lead_line rules anchor tag (tag_meant given_tag false) given.named given.tagged) line)
 
     deeper : (c : ℕ) → place.column ≡ Some c → AllInside true c line.rest
-    deeper c e = ap (list_all (λ line. is_inside true c line.text)) (sym after) ∙ deep_inside rules.breaks12 c own.text (deep c e)
+    deeper c e = ap (list_all (λ line. belongs_to_entry true c line.text)) (sym after) ∙ deep_inside rules.breaks12 c own.text (deep c e)
 
 -- behind the space that stands before it where one is needed
-pub content_fits : (rules : Rules) (place : Place) (cursor : Cursor) (own : Laid) (anchor tag given_tag : Option Text) (tree : Tree)
+pub content_fits : (rules : Rules) (place : Place) (cursor : Cursor) (own : Rendered) (anchor tag given_tag : Option Text) (tree : Tree)
     → FlowContent rules cursor own anchor tag given_tag tree → Given rules anchor tag (tag_meant given_tag false)
     → ((c : ℕ) → place.column ≡ Some c → Deep rules.breaks12 (suc c) own.text) → Fits rules 1 own tree place cursor
 content_fits rules place cursor own anchor tag given_tag tree of given deep = by cursor.whitespace refl

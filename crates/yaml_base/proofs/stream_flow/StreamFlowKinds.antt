@@ -5,25 +5,26 @@ use Rattle.std.specs.Prelude.{ℕ, Bool, true, false, Option, None, Some, List, 
 use Rattle.yaml_base.specs.Characters.{Text, space}
 use Rattle.yaml_base.specs.Settings.{Effective}
 use Rattle.yaml_base.specs.Event.{TagDirective, Scalar, Collection}
-use Rattle.yaml_base.specs.Cursor.{Cursor, Laid, space_if}
+use Rattle.yaml_base.specs.Cursor.{Cursor, Rendered, space_if}
 use Rattle.yaml_base.specs.scalars.Style.{is_plain}
 use Rattle.yaml_base.specs.Grammar.{Node, alias_node, scalar_node, sequence_node, mapping_node, Nodes, no_nodes, nodes_and, Pairs, no_pairs, pairs_and}
 use Rattle.yaml_base.specs.Event.{scalar_tag, collection_tag}
-use Rattle.yaml_base.specs.Layout.{Role, is_key, deeper, is_simple, properties_laid, alias_laid, separation_laid, body_laid, choice_of, square, curly, end_laid}
+use Rattle.yaml_base.specs.Layout.{Role, is_key, deeper, is_simple, render_properties, render_alias, render_separation, render_body, choice_of}
+use Rattle.yaml_base.specs.Layout.{square, curly, render_end}
 use Rattle.yaml_base.specs.Layout.{entry_place}
 use Rattle.yaml_base.specs.streams.StreamContent.{Tree, alias_tree, sequence_tree, mapping_tree, no_trees, no_tree_pairs}
 use Rattle.yaml_base.specs.streams.StreamScalars.{Rules, name_read}
 use Rattle.yaml_base.specs.streams.StreamTokens.{begins_bracket, class_of}
-use Rattle.yaml_base.specs.streams.StreamFlow.{is_alias, is_key_text, no_key, key_held, Level, in_sequence, in_mapping, ColonPlace, at_once, after_blank}
+use Rattle.yaml_base.specs.streams.StreamFlow.{is_alias, is_key_text, no_key, key_held, OpenFlow, in_sequence, in_mapping, ColonPlace, at_once, after_blank}
 use Rattle.yaml_base.specs.streams.StreamFlow.{entry_awaited, comma_awaited, colon_awaited, within, with_tree, level_opened}
 use Rattle.yaml_base.proofs.stream_nodes.StreamAgrees.{node_tree, nodes_tree, pairs_tree}
 use Rattle.yaml_base.proofs.stream_flow.StreamSays.{bracket_class}
-use Rattle.yaml_base.proofs.stream_flow.StreamTakes.{Takes, takes_both, takes_simple_key}
+use Rattle.yaml_base.proofs.stream_flow.StreamTakes.{TakesBytes, takes_both, takes_simple_key}
 use Rattle.yaml_base.proofs.stream_flow.StreamWhites.{alias_blank, spaces_end_word}
 use Rattle.yaml_base.proofs.stream_nodes.StreamTexts.{node_own, items_own, pairs_own}
 use Rattle.yaml_base.proofs.stream_flow.StreamPropertyWords.{lead}
 use Rattle.yaml_base.proofs.stream_nodes.StreamStands.{tag_written, tag_meant, NamesStand, BodyStands, BodiesHold, body_from}
-use Rattle.yaml_base.proofs.stream_nodes.StreamLeads.{Ended, lead_laid, tag_is_written}
+use Rattle.yaml_base.proofs.stream_nodes.StreamLeads.{EndedCollection, lead_rendered, tag_is_written}
 use Rattle.yaml_base.proofs.stream_flow.StreamFlowWords.{opens_inside, FlowWord, Given, lead_opens, alias_flow_word, empty_sequence_word, empty_mapping_word}
 use Rattle.yaml_base.proofs.stream_flow.StreamFlowScalars.{rules_of, chosen_in_flow, bare_not_plain, body_flow_word, body_ended, scalar_whole}
 use Rattle.yaml_base.proofs.stream_flow.StreamFlowTakes.{FlowNode, FlowEntries, FlowEnd, takes_word, takes_collection, opens_more, and_false, sequence_ends}
@@ -45,8 +46,8 @@ KeysFit s own directives =
 -- Words
 
 -- a word is a node in flow, and a key where it may be one
-word_node : (rules : Rules) (simple : Bool) (cursor : Cursor) (own : Laid) (text : Text) (tree : Tree) → own.text ≡ space_if true cursor ++ text
-    → Ended own.cursor
+word_node : (rules : Rules) (simple : Bool) (cursor : Cursor) (own : Rendered) (text : Text) (tree : Tree) → own.text ≡ space_if true cursor ++ text
+    → EndedCollection own.cursor
     → FlowWord rules text tree → is_alias tree ≡ false → (simple ≡ true → is_key_text rules.breaks12 tree text ≡ true) → FlowNode rules simple cursor own tree
 word_node rules simple cursor own text tree whole ended of other fits = record {
   content = text;
@@ -55,7 +56,7 @@ word_node rules simple cursor own text tree whole ended of other fits = record {
   opens = of.opens;
   takes = λ h levels open_level spaced. takes_word rules levels spaced text tree of open_level;
   key = λ h anchor tag pairs levels.
-      let at : ColonPlace → Type 0 = λ place. Takes rules (within (in_mapping anchor tag pairs no_key ∷ levels) entry_awaited) text
+      let at : ColonPlace → Type 0 = λ place. TakesBytes rules (within (in_mapping anchor tag pairs no_key ∷ levels) entry_awaited) text
       (within (in_mapping anchor tag pairs (key_held tree) ∷ levels) (colon_awaited place)) in
       subst at (ap (λ x. if x then after_blank else at_once) other) (takes_simple_key rules anchor tag pairs levels text tree of.says of.reads (fits h));
 }
@@ -64,7 +65,7 @@ word_node rules simple cursor own text tree whole ended of other fits = record {
 pub alias_step : (s : Effective) (own directives : List TagDirective) (fits : KeysFit s own directives) (role : Role) (column : ℕ) (cursor : Cursor)
     (name : Text) → name_read name ≡ Some name
     → (simple : Bool) → (is_key role && is_simple s.canonical directives (alias_node name)) ≡ simple
-    → FlowNode (rules_of s own) simple cursor (alias_laid name simple cursor) (alias_tree name)
+    → FlowNode (rules_of s own) simple cursor (render_alias name simple cursor) (alias_tree name)
 alias_step s own directives fits role column cursor name named false e = record {
   content = 0x2A ∷ name;
   whole = append-nil ((space_if true cursor ++ (0x2A ∷ [])) ++ name) ∙ append_assoc (space_if true cursor) (0x2A ∷ []) name;
@@ -86,12 +87,12 @@ alias_step s own directives fits role column cursor name named true e = record {
       (within (in_mapping anchor tag pairs (key_held (alias_tree name)) ∷ levels) (colon_awaited after_blank))
       (within (in_mapping anchor tag pairs (key_held (alias_tree name)) ∷ levels) (colon_awaited at_once)) (0x2A ∷ name) (space ∷ [])
       (takes_simple_key (rules_of s own) anchor tag pairs levels (0x2A ∷ name) (alias_tree name) of.says of.reads
-      (fits (alias_node name) role column cursor (0x2A ∷ name) e named tt (ap (λ x. (alias_laid name x cursor).text) e ∙ whole)))
+      (fits (alias_node name) role column cursor (0x2A ∷ name) e named tt (ap (λ x. (render_alias name x cursor).text) e ∙ whole)))
       (alias_blank (rules_of s own) (in_mapping anchor tag pairs (key_held (alias_tree name)) ∷ levels))
       (spaces_end_word s.breaks12 1);
 }
   where
-    whole : (alias_laid name true cursor).text ≡ space_if true cursor ++ ((0x2A ∷ name) ++ (space ∷ []))
+    whole : (render_alias name true cursor).text ≡ space_if true cursor ++ ((0x2A ∷ name) ++ (space ∷ []))
     whole =
         ap (λ t. t ++ (space ∷ [])) (append_assoc (space_if true cursor) (0x2A ∷ []) name)
         ∙ append_assoc (space_if true cursor) (0x2A ∷ name) (space ∷ [])
@@ -108,10 +109,10 @@ scalar_step s own directives fits role column cursor content names body =
     let simple = is_key role && is_simple s.canonical directives (scalar_node content) in
     let tag = scalar_tag s.canonical content in
     let choice = choice_of s place simple content in
-    let properties = properties_laid s.portable directives content.anchor tag choice.bare cursor in
-    let separation = separation_laid choice.style true content.value properties.cursor in
+    let properties = render_properties s.portable directives content.anchor tag choice.bare cursor in
+    let separation = render_separation choice.style true content.value properties.cursor in
     let limit = if simple then None else s.width in
-    let text = (body_laid choice.style s limit (deeper s.indent (Some column)) content.value separation.cursor).text in
+    let text = (render_body choice.style s limit (deeper s.indent (Some column)) content.value separation.cursor).text in
     let whole = scalar_whole s.portable directives content.anchor tag choice.bare choice.style content.value cursor text in
     let flow = chosen_in_flow s role column simple content in
     word_node (rules_of s own) simple cursor (node_own (scalar_node content) s directives place cursor)
@@ -130,7 +131,7 @@ scalar_step s own directives fits role column cursor content names body =
 -- Collections
 
 -- an empty collection's text
-pub empty_whole : (properties : Laid) (cursor : Cursor) (before : Text) (a b : ℕ)
+pub empty_whole : (properties : Rendered) (cursor : Cursor) (before : Text) (a b : ℕ)
     → properties.text ++ space_if true properties.cursor ≡ space_if true cursor ++ before
     → (properties.text ++ []) ++ ((space_if true properties.cursor ++ (a ∷ [])) ++ (b ∷ [])) ≡ space_if true cursor ++ (before ++ (a ∷ b ∷ []))
 empty_whole properties cursor before a b e =
@@ -141,7 +142,7 @@ empty_whole properties cursor before a b e =
     ∙ append_assoc (space_if true cursor) before (a ∷ b ∷ [])
 
 -- the text of a collection that holds something
-pub collection_whole : (properties : Laid) (cursor : Cursor) (before : Text) (bracket : ℕ) (inside entries ending : Text)
+pub collection_whole : (properties : Rendered) (cursor : Cursor) (before : Text) (bracket : ℕ) (inside entries ending : Text)
     → properties.text ++ space_if true properties.cursor ≡ space_if true cursor ++ before
     → entries ≡ space_if true properties.cursor ++ (bracket ∷ inside)
     → (properties.text ++ entries) ++ ending ≡ space_if true cursor ++ (before ++ (bracket ∷ (inside ++ ending)))
@@ -154,11 +155,11 @@ collection_whole properties cursor before bracket inside entries ending e whole 
     ∙ ap (λ t. space_if true cursor ++ t) (append_assoc before (bracket ∷ inside) ending)
 
 -- such a collection is a node in flow
-collection_node : (rules : Rules) (simple : Bool) (cursor : Cursor) (properties entries ending : Laid) (bracket : ℕ) (anchor tag given_tag : Option Text)
-    (last : Option Text → Option Text → Level) (tree : Tree) → Given rules anchor tag (tag_meant given_tag false)
+collection_node : (rules : Rules) (simple : Bool) (cursor : Cursor) (properties entries ending : Rendered) (bracket : ℕ) (anchor tag given_tag : Option Text)
+    (last : Option Text → Option Text → OpenFlow) (tree : Tree) → Given rules anchor tag (tag_meant given_tag false)
     → properties.text ++ space_if true properties.cursor ≡ space_if true cursor ++ lead anchor tag → class_of rules.breaks12 bracket ≡ begins_bracket
     → opens_inside (bracket ∷ []) ≡ true → FlowEntries rules bracket properties.cursor entries (level_opened bracket) last
-    → ((levels : List Level) → FlowEnd rules ending (last anchor given_tag ∷ levels) (with_tree levels tree)) → simple ≡ false
+    → ((levels : List OpenFlow) → FlowEnd rules ending (last anchor given_tag ∷ levels) (with_tree levels tree)) → simple ≡ false
     → FlowNode rules simple cursor (record { text = (properties.text ++ entries.text) ++ ending.text; cursor = ending.cursor }) tree
 collection_node rules simple cursor properties entries ending bracket anchor tag given_tag last tree given e class open_bracket of end other = record {
   content = lead anchor tag ++ (bracket ∷ (of.inside ++ ending.text));
@@ -199,17 +200,17 @@ pub sequence_step : (s : Effective) (own directives : List TagDirective) (fits :
     (start : Collection) (items : Nodes)
     → NamesStand s.portable own s.canonical directives (sequence_node start items)
     → BodiesHold (BodyStands s) (sequence_node start items) s directives (entry_place true role column) cursor
-    → ItemsTake s own directives items (deeper s.indent (Some column)) (properties_laid s.portable directives start.anchor
+    → ItemsTake s own directives items (deeper s.indent (Some column)) (render_properties s.portable directives start.anchor
     (collection_tag s.canonical start) false cursor).cursor
     → FlowNode (rules_of s own) (is_key role && is_simple s.canonical directives (sequence_node start items)) cursor
     (node_own (sequence_node start items) s directives (entry_place true role column) cursor)
     (node_tree (sequence_node start items) s directives (entry_place true role 0))
 sequence_step s own directives fits role column cursor start no_nodes names bodies take =
     let tag = collection_tag s.canonical start in
-    let properties = properties_laid s.portable directives start.anchor tag false cursor in
+    let properties = render_properties s.portable directives start.anchor tag false cursor in
     let text = lead start.anchor (tag_written s.portable directives tag false) ++ (0x5B ∷ 0x5D ∷ []) in
     let whole = empty_whole properties cursor (lead start.anchor (tag_written s.portable directives tag false)) 0x5B 0x5D
-    (lead_laid s.portable directives start.anchor tag false cursor) in
+    (lead_rendered s.portable directives start.anchor tag false cursor) in
     word_node (rules_of s own) (is_key role && is_simple s.canonical directives (sequence_node start no_nodes)) cursor
     (node_own (sequence_node start no_nodes) s directives (entry_place true role column) cursor) text (sequence_tree start.anchor tag no_trees)
     whole
@@ -220,14 +221,14 @@ sequence_step s own directives fits role column cursor start no_nodes names bodi
     (λ h. fits (sequence_node start no_nodes) role column cursor text h names bodies (whole ∙ ap (λ t. space_if true cursor ++ t) (sym (append-nil text))))
 sequence_step s own directives fits role column cursor start (nodes_and items last) names bodies take =
     let tag = collection_tag s.canonical start in
-    let properties = properties_laid s.portable directives start.anchor tag false cursor in
+    let properties = render_properties s.portable directives start.anchor tag false cursor in
     let entries = items_own (nodes_and items last) s directives true (deeper s.indent (Some column)) properties.cursor in
     let trees = nodes_tree (nodes_and items last) s directives true in
     collection_node (rules_of s own) (is_key role && is_simple s.canonical directives (sequence_node start (nodes_and items last))) cursor properties entries
-    (end_laid s square true false (Some column) entries.cursor) 0x5B start.anchor (tag_written s.portable directives tag false) tag
+    (render_end s square true false (Some column) entries.cursor) 0x5B start.anchor (tag_written s.portable directives tag false) tag
     (λ anchor tag. in_sequence anchor tag trees) (sequence_tree start.anchor tag trees)
     (record { named = names.0; tagged = tag_is_written s.portable own directives tag false names.1 })
-    (lead_laid s.portable directives start.anchor tag false cursor) (bracket_class s.breaks12).0 refl take
+    (lead_rendered s.portable directives start.anchor tag false cursor) (bracket_class s.breaks12).0 refl take
     (λ levels. sequence_ends (rules_of s own) s start.anchor tag trees levels (Some column) entries.cursor)
     (neither_holds (is_key role) (not s.canonical))
 
@@ -236,17 +237,17 @@ pub mapping_step : (s : Effective) (own directives : List TagDirective) (fits : 
     (start : Collection) (pairs : Pairs)
     → NamesStand s.portable own s.canonical directives (mapping_node start pairs)
     → BodiesHold (BodyStands s) (mapping_node start pairs) s directives (entry_place true role column) cursor
-    → PairsTake s own directives pairs (deeper s.indent (Some column)) (properties_laid s.portable directives start.anchor
+    → PairsTake s own directives pairs (deeper s.indent (Some column)) (render_properties s.portable directives start.anchor
     (collection_tag s.canonical start) false cursor).cursor
     → FlowNode (rules_of s own) (is_key role && is_simple s.canonical directives (mapping_node start pairs)) cursor
     (node_own (mapping_node start pairs) s directives (entry_place true role column) cursor)
     (node_tree (mapping_node start pairs) s directives (entry_place true role 0))
 mapping_step s own directives fits role column cursor start no_pairs names bodies take =
     let tag = collection_tag s.canonical start in
-    let properties = properties_laid s.portable directives start.anchor tag false cursor in
+    let properties = render_properties s.portable directives start.anchor tag false cursor in
     let text = lead start.anchor (tag_written s.portable directives tag false) ++ (0x7B ∷ 0x7D ∷ []) in
     let whole = empty_whole properties cursor (lead start.anchor (tag_written s.portable directives tag false)) 0x7B 0x7D
-    (lead_laid s.portable directives start.anchor tag false cursor) in
+    (lead_rendered s.portable directives start.anchor tag false cursor) in
     word_node (rules_of s own) (is_key role && is_simple s.canonical directives (mapping_node start no_pairs)) cursor
     (node_own (mapping_node start no_pairs) s directives (entry_place true role column) cursor) text (mapping_tree start.anchor tag no_tree_pairs)
     whole
@@ -257,14 +258,14 @@ mapping_step s own directives fits role column cursor start no_pairs names bodie
     (λ h. fits (mapping_node start no_pairs) role column cursor text h names bodies (whole ∙ ap (λ t. space_if true cursor ++ t) (sym (append-nil text))))
 mapping_step s own directives fits role column cursor start (pairs_and pairs key value) names bodies take =
     let tag = collection_tag s.canonical start in
-    let properties = properties_laid s.portable directives start.anchor tag false cursor in
+    let properties = render_properties s.portable directives start.anchor tag false cursor in
     let entries = pairs_own (pairs_and pairs key value) s directives true (deeper s.indent (Some column)) properties.cursor in
     let trees = pairs_tree (pairs_and pairs key value) s directives true in
     collection_node (rules_of s own) (is_key role && is_simple s.canonical directives
     (mapping_node start (pairs_and pairs key value))) cursor properties entries
-    (end_laid s curly true false (Some column) entries.cursor) 0x7B start.anchor (tag_written s.portable directives tag false) tag
+    (render_end s curly true false (Some column) entries.cursor) 0x7B start.anchor (tag_written s.portable directives tag false) tag
     (λ anchor tag. in_mapping anchor tag trees no_key) (mapping_tree start.anchor tag trees)
     (record { named = names.0; tagged = tag_is_written s.portable own directives tag false names.1 })
-    (lead_laid s.portable directives start.anchor tag false cursor) (bracket_class s.breaks12).1 refl take
+    (lead_rendered s.portable directives start.anchor tag false cursor) (bracket_class s.breaks12).1 refl take
     (λ levels. mapping_ends (rules_of s own) s start.anchor tag trees levels (Some column) entries.cursor)
     (neither_holds (is_key role) (not s.canonical))

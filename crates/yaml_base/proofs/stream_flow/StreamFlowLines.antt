@@ -8,11 +8,11 @@ use Rattle.std.specs.Prelude.{if◌then◌else◌}
 use Rattle.yaml_base.specs.Characters.{Text, space}
 use Rattle.yaml_base.specs.Event.{plain}
 use Rattle.yaml_base.specs.reading.ReadPlain.{read_plain}
-use Rattle.yaml_base.specs.reading.ReadTags.{TagSaid}
+use Rattle.yaml_base.specs.reading.ReadTags.{ParsedTag}
 use Rattle.yaml_base.specs.reading.TidyText.{is_tidy}
 use Rattle.yaml_base.specs.streams.StreamContent.{stood_plain, Tree}
-use Rattle.yaml_base.specs.streams.StreamLines.{ends_sign, begins_with_sign}
-use Rattle.yaml_base.specs.streams.StreamScalars.{Rules, Properties, no_properties, scalar_said, scalar_of_style, empty_sequence, empty_mapping, a_scalar}
+use Rattle.yaml_base.specs.streams.StreamLines.{ends_indicator, begins_with_indicator}
+use Rattle.yaml_base.specs.streams.StreamScalars.{Rules, Properties, no_properties, scalar_parsed, scalar_of_style, empty_sequence, empty_mapping, a_scalar}
 use Rattle.yaml_base.specs.streams.StreamScalars.{word_by_kind, word_after}
 use Rattle.yaml_base.specs.streams.StreamFlow.{is_alias, longest_key}
 use Rattle.yaml_base.specs.streams.StreamNodes.{without_last_space, word_of_alias, key_of_text, key_ends, key_from, begins_text, kind_of_node}
@@ -33,15 +33,15 @@ abbrev pub keeps_open : Text → Bool
 keeps_open [] = true
 keeps_open (c ∷ rest) = opens_inside (c ∷ rest)
 
--- the front of what keeps a bracket open does so too
-pub keeps_front : (a b : Text) → keeps_open (a ++ b) ≡ true → keeps_open a ≡ true
-keeps_front [] b h = refl
-keeps_front (c ∷ a) b h = h
+-- the prefix of what keeps a bracket open does so too
+pub keeps_prefix : (a b : Text) → keeps_open (a ++ b) ≡ true → keeps_open a ≡ true
+keeps_prefix [] b h = refl
+keeps_prefix (c ∷ a) b h = h
 
 -- No words
 
 -- nothing is said of no plain value
-nothing_plain : (properties : Properties) (x : Bool) → ◌≡◌ {A = Option Tree} (scalar_said properties stood_plain (if x then None else None)) None
+nothing_plain : (properties : Properties) (x : Bool) → ◌≡◌ {A = Option Tree} (scalar_parsed properties stood_plain (if x then None else None)) None
 nothing_plain properties true = refl
 nothing_plain properties false = refl
 
@@ -57,7 +57,7 @@ no_plain_read breaks12 false (c ∷ d ∷ t) = refl
 -- so no plain scalar does
 no_scalar : (rules : Rules) (q : Bool) (properties : Properties) (t : Text) → scalar_of_style plain rules false None properties (opening q ∷ t) ≡ None
 no_scalar rules q properties t =
-    ap (λ v. scalar_said properties stood_plain (if is_tidy plain rules.breaks12 None (opening q ∷ t) then v else None)) (no_plain_read rules.breaks12 q t)
+    ap (λ v. scalar_parsed properties stood_plain (if is_tidy plain rules.breaks12 None (opening q ∷ t) then v else None)) (no_plain_read rules.breaks12 q t)
     ∙ nothing_plain properties (is_tidy plain rules.breaks12 None (opening q ∷ t))
 
 -- a character that closes nothing is no closing bracket
@@ -108,14 +108,14 @@ bracket_shows true = refl
 bracket_shows false = refl
 
 -- nor does one with properties
-no_alias_led : (rules : Rules) (anchor tag : Option Text) (said : Option TagSaid) (q : Bool) (t : Text) → Given rules anchor tag said
+no_alias_led : (rules : Rules) (anchor tag : Option Text) (parsed : Option ParsedTag) (q : Bool) (t : Text) → Given rules anchor tag parsed
     → option_and_then (word_of_alias rules) (without_last_space (lead anchor tag ++ (opening q ∷ t))) ≡ None
-no_alias_led rules None None said q t given = no_alias_before rules (opening q) t (bracket_shows q) (no_alias rules q)
-no_alias_led rules (Some name) None said q t given =
+no_alias_led rules None None parsed q t given = no_alias_before rules (opening q) t (bracket_shows q) (no_alias rules q)
+no_alias_led rules (Some name) None parsed q t given =
     no_alias_before rules 0x26 ((name ++ (space ∷ [])) ++ (opening q ∷ t)) refl (anchor_no_alias rules)
-no_alias_led rules (Some name) (Some tag) said q t given =
+no_alias_led rules (Some name) (Some tag) parsed q t given =
     no_alias_before rules 0x26 (((name ++ (space ∷ tag)) ++ (space ∷ [])) ++ (opening q ∷ t)) refl (anchor_no_alias rules)
-no_alias_led rules None (Some tag) (Some said) q t given =
+no_alias_led rules None (Some tag) (Some parsed) q t given =
     ap (λ u. option_and_then (word_of_alias rules) (without_last_space ((u ++ (space ∷ [])) ++ (opening q ∷ t)))) given.tagged.begins
     ∙ no_alias_before rules 0x21 ((given.tagged.rest ++ (space ∷ [])) ++ (opening q ∷ t)) refl (tag_no_alias rules)
 no_alias_led rules None (Some tag) None q t given = absurd given.tagged
@@ -128,14 +128,14 @@ bracket_content true t = refl
 bracket_content false t = refl
 
 -- such a text is no key
-no_key_text : (rules : Rules) (anchor tag : Option Text) (said : Option TagSaid) (q : Bool) (t : Text) → Given rules anchor tag said → keeps_open t ≡ true
+no_key_text : (rules : Rules) (anchor tag : Option Text) (parsed : Option ParsedTag) (q : Bool) (t : Text) → Given rules anchor tag parsed → keeps_open t ≡ true
     → key_of_text rules (lead anchor tag ++ (opening q ∷ t)) ≡ None
-no_key_text rules anchor tag said q t given h =
+no_key_text rules anchor tag parsed q t given h =
     key_by_word rules (lead anchor tag ++ (opening q ∷ t)) None
     (ap (option_and_then (λ tree. if is_alias tree then None else Some tree))
-    (given_reads rules false anchor tag said (opening q ∷ t) given (bracket_content q t)
-    ∙ no_word rules q (record { anchor = anchor; tag = said }) t h))
-    (no_alias_led rules anchor tag said q t given)
+    (given_reads rules false anchor tag parsed (opening q ∷ t) given (bracket_content q t)
+    ∙ no_word rules q (record { anchor = anchor; tag = parsed }) t h))
+    (no_alias_led rules anchor tag parsed q t given)
     ∙ neither (nat_le (length (lead anchor tag ++ (opening q ∷ t))) longest_key)
   where
     neither : (x : Bool) → ◌≡◌ {A = Option Tree} (if x then None else None) None
@@ -143,16 +143,16 @@ no_key_text rules anchor tag said q t given h =
     neither false = refl
 
 -- no `:` after it ends a key
-no_key_from : (rules : Rules) (anchor tag : Option Text) (said : Option TagSaid) (q : Bool) (b t : Text)
-    → Given rules anchor tag said → keeps_open (b ++ t) ≡ true
+no_key_from : (rules : Rules) (anchor tag : Option Text) (parsed : Option ParsedTag) (q : Bool) (b t : Text)
+    → Given rules anchor tag parsed → keeps_open (b ++ t) ≡ true
     → key_from rules (lead anchor tag ++ (opening q ∷ b)) t ≡ None
-no_key_from rules anchor tag said q b [] given h = refl
-no_key_from rules anchor tag said q b (x ∷ t) given h =
+no_key_from rules anchor tag parsed q b [] given h = refl
+no_key_from rules anchor tag parsed q b (x ∷ t) given h =
     let before = lead anchor tag ++ (opening q ∷ b) in
     ap (λ r. option_or r (key_from rules (before ++ (x ∷ [])) t))
-    (ends (x == 0x3A && ends_sign t) (no_key_text rules anchor tag said q b given (keeps_front b (x ∷ t) h)))
+    (ends (x == 0x3A && ends_indicator t) (no_key_text rules anchor tag parsed q b given (keeps_prefix b (x ∷ t) h)))
     ∙ ap (λ u. key_from rules u t) (append_assoc (lead anchor tag) (opening q ∷ b) (x ∷ []))
-    ∙ no_key_from rules anchor tag said q (b ++ (x ∷ [])) t given (ap keeps_open (append_assoc b (x ∷ []) t) ∙ h)
+    ∙ no_key_from rules anchor tag parsed q (b ++ (x ∷ [])) t given (ap keeps_open (append_assoc b (x ∷ []) t) ∙ h)
   where
     ends : (e : Bool) → key_of_text rules (lead anchor tag ++ (opening q ∷ b)) ≡ None → key_ends rules e (lead anchor tag ++ (opening q ∷ b)) t ≡ None
     ends true none = ap (option_map (λ k. record { key = k; length = length (lead anchor tag ++ (opening q ∷ b)); after = t })) none
@@ -160,24 +160,25 @@ no_key_from rules anchor tag said q b (x ∷ t) given h =
 
 -- Kinds
 
--- a bracket is no sign of an item and none of a key
-bracket_sign : (q : Bool) (t : Text) → (begins_with_sign 0x2D (opening q ∷ t) ≡ false) × (begins_with_sign 0x3F (opening q ∷ t) ≡ false)
-bracket_sign true t = (refl, refl)
-bracket_sign false t = (refl, refl)
+-- a bracket is no indicator of an item and none of a key
+bracket_indicator : (q : Bool) (t : Text) → (begins_with_indicator 0x2D (opening q ∷ t) ≡ false) × (begins_with_indicator 0x3F (opening q ∷ t) ≡ false)
+bracket_indicator true t = (refl, refl)
+bracket_indicator false t = (refl, refl)
 
 -- the first line of a collection in flow that holds something is a text
-pub collection_kind : (rules : Rules) (anchor tag : Option Text) (said : Option TagSaid) (q : Bool) (t : Text)
-    → Given rules anchor tag said → keeps_open t ≡ true
+pub collection_kind : (rules : Rules) (anchor tag : Option Text) (parsed : Option ParsedTag) (q : Bool) (t : Text)
+    → Given rules anchor tag parsed → keeps_open t ≡ true
     → kind_of_node rules (lead anchor tag ++ (opening q ∷ t)) ≡ begins_text
-collection_kind rules anchor tag said q t given h =
-    own_kind rules anchor tag said (opening q) t given (bracket_sign q t).0 (bracket_sign q t).1 (at q ∙ no_key_from rules anchor tag said q [] t given h)
+collection_kind rules anchor tag parsed q t given h =
+    own_kind rules anchor tag parsed (opening q) t given (bracket_indicator q t).0 (bracket_indicator q t).1
+    (at q ∙ no_key_from rules anchor tag parsed q [] t given h)
   where
     at : (q : Bool) → key_from rules (lead anchor tag) (opening q ∷ t) ≡ key_from rules (lead anchor tag ++ (opening q ∷ [])) t
     at true = refl
     at false = refl
 
 -- and so is an empty one
-pub empty_kind : (rules : Rules) (anchor tag : Option Text) (said : Option TagSaid) → Given rules anchor tag said
+pub empty_kind : (rules : Rules) (anchor tag : Option Text) (parsed : Option ParsedTag) → Given rules anchor tag parsed
     → (kind_of_node rules (lead anchor tag ++ (0x5B ∷ 0x5D ∷ [])) ≡ begins_text) × (kind_of_node rules (lead anchor tag ++ (0x7B ∷ 0x7D ∷ [])) ≡ begins_text)
-empty_kind rules anchor tag said given =
-    (own_kind rules anchor tag said 0x5B (0x5D ∷ []) given refl refl refl, own_kind rules anchor tag said 0x7B (0x7D ∷ []) given refl refl refl)
+empty_kind rules anchor tag parsed given =
+    (own_kind rules anchor tag parsed 0x5B (0x5D ∷ []) given refl refl refl, own_kind rules anchor tag parsed 0x7B (0x7D ∷ []) given refl refl refl)

@@ -4,11 +4,11 @@ use Rattle.std.specs.Prelude.{ℕ, Bool, true, false, Option, Some, List, [], �
 use Rattle.yaml_base.specs.Characters.{Text}
 use Rattle.yaml_base.specs.Settings.{Effective}
 use Rattle.yaml_base.specs.Event.{TagDirective}
-use Rattle.yaml_base.specs.Cursor.{Cursor, Laid, space_if, indicator}
+use Rattle.yaml_base.specs.Cursor.{Cursor, Rendered, space_if, indicator}
 use Rattle.yaml_base.specs.Grammar.{Node, alias_node, scalar_node, sequence_node, mapping_node, Nodes, no_nodes, nodes_and, Pairs, no_pairs, pairs_and}
 use Rattle.yaml_base.specs.Event.{collection_tag}
-use Rattle.yaml_base.specs.Layout.{Role, as_item, as_key, as_value, is_key, deeper, has_no_nodes, has_no_pairs, is_simple, flow_break, key_sign}
-use Rattle.yaml_base.specs.Layout.{flow_place_laid, place_laid, properties_laid, entry_place}
+use Rattle.yaml_base.specs.Layout.{Role, as_item, as_key, as_value, is_key, deeper, has_no_nodes, has_no_pairs, is_simple, flow_break, key_indicator}
+use Rattle.yaml_base.specs.Layout.{render_flow_place, render_place, render_properties, entry_place}
 use Rattle.yaml_base.specs.streams.StreamContent.{Tree, no_trees, TreePairs, no_tree_pairs, tree_pairs_and}
 use Rattle.yaml_base.specs.streams.StreamScalars.{Rules}
 use Rattle.yaml_base.specs.streams.StreamFlow.{no_key, in_sequence, in_mapping}
@@ -24,41 +24,43 @@ use Rattle.yaml_base.proofs.stream_flow.StreamFlowKinds.{KeysFit, alias_step, sc
 items_step : (s : Effective) (own directives : List TagDirective) (items : Nodes) (last : Node) (column : ℕ) (cursor : Cursor)
     → ItemsTake s own directives items column cursor
     → (let place = entry_place true (as_item (has_no_nodes items)) column in
-    let signs = place_laid s place false (items_own items s directives true column cursor).cursor in
-    FlowNode (rules_of s own) false signs.cursor (node_own last s directives place signs.cursor)
+    let symbols = render_place s place false (items_own items s directives true column cursor).cursor in
+    FlowNode (rules_of s own) false symbols.cursor (node_own last s directives place symbols.cursor)
     (node_tree last s directives (entry_place true (as_item (has_no_nodes items)) 0)))
     → ItemsTake s own directives (nodes_and items last) column cursor
 items_step s own directives no_nodes last column cursor take node =
     let open_cursor = (indicator (codes "[") true true false cursor).cursor in
     let gap = flow_break s (Some column) open_cursor in
-    let laid = node_own last s directives (entry_place true (as_item true) column) gap.cursor in
+    let rendered = node_own last s directives (entry_place true (as_item true) column) gap.cursor in
     let tree = node_tree last s directives (entry_place true (as_item true) 0) in
-    first_entry (rules_of s own) 0x5B cursor (items_own (nodes_and no_nodes last) s directives true column cursor) (gap.text ++ laid.text)
+    first_entry (rules_of s own) 0x5B cursor (items_own (nodes_and no_nodes last) s directives true column cursor) (gap.text ++ rendered.text)
     (λ anchor tag. in_sequence anchor tag (nodes_tree (nodes_and no_nodes last) s directives true))
-    (ap (λ t. t ++ laid.text) (append_assoc (space_if true cursor) (0x5B ∷ []) gap.text) ∙ append_assoc (space_if true cursor) (0x5B ∷ gap.text) laid.text)
+    (ap (λ t. t ++ rendered.text) (append_assoc (space_if true cursor) (0x5B ∷ []) gap.text)
+    ∙ append_assoc (space_if true cursor) (0x5B ∷ gap.text) rendered.text)
     node.ended
-    (λ anchor tag. item_entry (rules_of s own) s (Some column) open_cursor laid tree node anchor tag no_trees)
+    (λ anchor tag. item_entry (rules_of s own) s (Some column) open_cursor rendered tree node anchor tag no_trees)
 items_step s own directives (nodes_and items prev) last column cursor take node =
     let before = items_own (nodes_and items prev) s directives true column cursor in
     let comma_cursor = (indicator (codes ",") false false false before.cursor).cursor in
     let gap = flow_break s (Some column) comma_cursor in
-    let laid = node_own last s directives (entry_place true (as_item false) column) gap.cursor in
+    let rendered = node_own last s directives (entry_place true (as_item false) column) gap.cursor in
     let tree = node_tree last s directives (entry_place true (as_item false) 0) in
     let trees = nodes_tree (nodes_and items prev) s directives true in
-    next_entry (rules_of s own) 0x5B cursor before (items_own (nodes_and (nodes_and items prev) last) s directives true column cursor) (gap.text ++ laid.text)
+    next_entry (rules_of s own) 0x5B cursor before (items_own (nodes_and (nodes_and items prev) last) s directives true column cursor)
+    (gap.text ++ rendered.text)
     (λ anchor tag. in_sequence anchor tag trees)
     (λ anchor tag. in_sequence anchor tag (nodes_tree (nodes_and (nodes_and items prev) last) s directives true))
     take refl node.ended
-    (λ anchor tag. item_entry (rules_of s own) s (Some column) comma_cursor laid tree node anchor tag trees)
+    (λ anchor tag. item_entry (rules_of s own) s (Some column) comma_cursor rendered tree node anchor tag trees)
 
--- a pair with its key's sign, if it has one
-pair_entry : (rules : Rules) (s : Effective) (column : Option ℕ) (simple : Bool) (cursor : Cursor) (own value : Laid) (key_tree value_tree : Tree)
-    → FlowNode rules simple (key_sign simple false (flow_break s column cursor).cursor).cursor own key_tree
-    → FlowNode rules false (flow_place_laid s (as_value simple) false column own.cursor).cursor value value_tree
+-- a pair with its key's indicator, if it has one
+pair_entry : (rules : Rules) (s : Effective) (column : Option ℕ) (simple : Bool) (cursor : Cursor) (own value : Rendered) (key_tree value_tree : Tree)
+    → FlowNode rules simple (key_indicator simple false (flow_break s column cursor).cursor).cursor own key_tree
+    → FlowNode rules false (render_flow_place s (as_value simple) false column own.cursor).cursor value value_tree
     → (anchor tag : Option Text) (pairs : TreePairs)
     → FlowEntry rules
-    ((((flow_break s column cursor).text ++ (key_sign simple false (flow_break s column cursor).cursor).text) ++ own.text)
-    ++ ((flow_place_laid s (as_value simple) false column own.cursor).text ++ value.text))
+    ((((flow_break s column cursor).text ++ (key_indicator simple false (flow_break s column cursor).cursor).text) ++ own.text)
+    ++ ((render_flow_place s (as_value simple) false column own.cursor).text ++ value.text))
     (in_mapping anchor tag pairs no_key) (in_mapping anchor tag (tree_pairs_and pairs key_tree value_tree) no_key)
 pair_entry rules s column false cursor own value key_tree value_tree key node anchor tag pairs =
     long_pair_entry rules s column cursor own value key_tree value_tree key node anchor tag pairs
@@ -69,42 +71,42 @@ pair_entry rules s column true cursor own value key_tree value_tree key node anc
     (simple_pair_entry rules s column cursor own value key_tree value_tree key node anchor tag pairs)
 
 -- the text of the first pair
-first_pair : (blank : Text) (bracket : ℕ) (gap sign key rest : Text)
-    → ((((blank ++ (bracket ∷ [])) ++ gap) ++ sign) ++ key) ++ rest ≡ blank ++ (bracket ∷ (((gap ++ sign) ++ key) ++ rest))
-first_pair blank bracket gap sign key rest =
-    ap (λ t. ((t ++ sign) ++ key) ++ rest) (append_assoc blank (bracket ∷ []) gap)
-    ∙ ap (λ t. (t ++ key) ++ rest) (append_assoc blank (bracket ∷ gap) sign)
-    ∙ ap (λ t. t ++ rest) (append_assoc blank (bracket ∷ (gap ++ sign)) key)
-    ∙ append_assoc blank (bracket ∷ ((gap ++ sign) ++ key)) rest
+first_pair : (blank : Text) (bracket : ℕ) (gap symbol key rest : Text)
+    → ((((blank ++ (bracket ∷ [])) ++ gap) ++ symbol) ++ key) ++ rest ≡ blank ++ (bracket ∷ (((gap ++ symbol) ++ key) ++ rest))
+first_pair blank bracket gap symbol key rest =
+    ap (λ t. ((t ++ symbol) ++ key) ++ rest) (append_assoc blank (bracket ∷ []) gap)
+    ∙ ap (λ t. (t ++ key) ++ rest) (append_assoc blank (bracket ∷ gap) symbol)
+    ∙ ap (λ t. t ++ rest) (append_assoc blank (bracket ∷ (gap ++ symbol)) key)
+    ∙ append_assoc blank (bracket ∷ ((gap ++ symbol) ++ key)) rest
 
 -- one more pair
 pairs_step : (s : Effective) (own directives : List TagDirective) (pairs : Pairs) (key value : Node) (column : ℕ) (cursor : Cursor)
     → PairsTake s own directives pairs column cursor
     → (let key_place = entry_place true (as_key (has_no_pairs pairs)) column in
-    let signs = place_laid s key_place (is_simple s.canonical directives key) (pairs_own pairs s directives true column cursor).cursor in
-    FlowNode (rules_of s own) (is_simple s.canonical directives key) signs.cursor (node_own key s directives key_place signs.cursor)
+    let symbols = render_place s key_place (is_simple s.canonical directives key) (pairs_own pairs s directives true column cursor).cursor in
+    FlowNode (rules_of s own) (is_simple s.canonical directives key) symbols.cursor (node_own key s directives key_place symbols.cursor)
     (node_tree key s directives (entry_place true (as_key (has_no_pairs pairs)) 0)))
     → (let key_place = entry_place true (as_key (has_no_pairs pairs)) column in
     let value_place = entry_place true (as_value (is_simple s.canonical directives key)) column in
-    let signs = place_laid s key_place (is_simple s.canonical directives key) (pairs_own pairs s directives true column cursor).cursor in
-    let value_signs = place_laid s value_place false (node_own key s directives key_place signs.cursor).cursor in
-    FlowNode (rules_of s own) false value_signs.cursor (node_own value s directives value_place value_signs.cursor)
+    let symbols = render_place s key_place (is_simple s.canonical directives key) (pairs_own pairs s directives true column cursor).cursor in
+    let value_indicators = render_place s value_place false (node_own key s directives key_place symbols.cursor).cursor in
+    FlowNode (rules_of s own) false value_indicators.cursor (node_own value s directives value_place value_indicators.cursor)
     (node_tree value s directives (entry_place true (as_value (is_simple s.canonical directives key)) 0)))
     → PairsTake s own directives (pairs_and pairs key value) column cursor
 pairs_step s own directives no_pairs key value column cursor take key_node value_node =
     let simple = is_simple s.canonical directives key in
     let open_cursor = (indicator (codes "{") true true false cursor).cursor in
     let gap = flow_break s (Some column) open_cursor in
-    let signs = key_sign simple false gap.cursor in
-    let key_laid = node_own key s directives (entry_place true (as_key true) column) signs.cursor in
-    let value_signs = flow_place_laid s (as_value simple) false (Some column) key_laid.cursor in
-    let value_laid = node_own value s directives (entry_place true (as_value simple) column) value_signs.cursor in
+    let symbols = key_indicator simple false gap.cursor in
+    let key_rendered = node_own key s directives (entry_place true (as_key true) column) symbols.cursor in
+    let value_indicators = render_flow_place s (as_value simple) false (Some column) key_rendered.cursor in
+    let value_rendered = node_own value s directives (entry_place true (as_value simple) column) value_indicators.cursor in
     first_entry (rules_of s own) 0x7B cursor (pairs_own (pairs_and no_pairs key value) s directives true column cursor)
-    (((gap.text ++ signs.text) ++ key_laid.text) ++ (value_signs.text ++ value_laid.text))
+    (((gap.text ++ symbols.text) ++ key_rendered.text) ++ (value_indicators.text ++ value_rendered.text))
     (λ anchor tag. in_mapping anchor tag (pairs_tree (pairs_and no_pairs key value) s directives true) no_key)
-    (first_pair (space_if true cursor) 0x7B gap.text signs.text key_laid.text (value_signs.text ++ value_laid.text))
+    (first_pair (space_if true cursor) 0x7B gap.text symbols.text key_rendered.text (value_indicators.text ++ value_rendered.text))
     value_node.ended
-    (λ anchor tag. pair_entry (rules_of s own) s (Some column) simple open_cursor key_laid value_laid
+    (λ anchor tag. pair_entry (rules_of s own) s (Some column) simple open_cursor key_rendered value_rendered
     (node_tree key s directives (entry_place true (as_key true) 0)) (node_tree value s directives (entry_place true (as_value simple) 0))
     key_node value_node anchor tag no_tree_pairs)
 pairs_step s own directives (pairs_and pairs prev_key prev_value) key value column cursor take key_node value_node =
@@ -112,19 +114,19 @@ pairs_step s own directives (pairs_and pairs prev_key prev_value) key value colu
     let before = pairs_own (pairs_and pairs prev_key prev_value) s directives true column cursor in
     let comma_cursor = (indicator (codes ",") false false false before.cursor).cursor in
     let gap = flow_break s (Some column) comma_cursor in
-    let signs = key_sign simple false gap.cursor in
-    let key_laid = node_own key s directives (entry_place true (as_key false) column) signs.cursor in
-    let value_signs = flow_place_laid s (as_value simple) false (Some column) key_laid.cursor in
-    let value_laid = node_own value s directives (entry_place true (as_value simple) column) value_signs.cursor in
+    let symbols = key_indicator simple false gap.cursor in
+    let key_rendered = node_own key s directives (entry_place true (as_key false) column) symbols.cursor in
+    let value_indicators = render_flow_place s (as_value simple) false (Some column) key_rendered.cursor in
+    let value_rendered = node_own value s directives (entry_place true (as_value simple) column) value_indicators.cursor in
     let trees = pairs_tree (pairs_and pairs prev_key prev_value) s directives true in
     next_entry (rules_of s own) 0x7B cursor before (pairs_own (pairs_and (pairs_and pairs prev_key prev_value) key value) s directives true column cursor)
-    (((gap.text ++ signs.text) ++ key_laid.text) ++ (value_signs.text ++ value_laid.text))
+    (((gap.text ++ symbols.text) ++ key_rendered.text) ++ (value_indicators.text ++ value_rendered.text))
     (λ anchor tag. in_mapping anchor tag trees no_key)
     (λ anchor tag. in_mapping anchor tag (pairs_tree (pairs_and (pairs_and pairs prev_key prev_value) key value) s directives true) no_key)
     take
-    (append_assoc before.text (0x2C ∷ ((gap.text ++ signs.text) ++ key_laid.text)) (value_signs.text ++ value_laid.text))
+    (append_assoc before.text (0x2C ∷ ((gap.text ++ symbols.text) ++ key_rendered.text)) (value_indicators.text ++ value_rendered.text))
     value_node.ended
-    (λ anchor tag. pair_entry (rules_of s own) s (Some column) simple comma_cursor key_laid value_laid
+    (λ anchor tag. pair_entry (rules_of s own) s (Some column) simple comma_cursor key_rendered value_rendered
     (node_tree key s directives (entry_place true (as_key false) 0)) (node_tree value s directives (entry_place true (as_value simple) 0))
     key_node value_node anchor tag trees)
 
@@ -143,11 +145,11 @@ mutual
   node_flow (sequence_node start items) s own directives fits role column cursor names bodies =
       sequence_step s own directives fits role column cursor start items names bodies
       (items_flow items s own directives fits (deeper s.indent (Some column))
-      (properties_laid s.portable directives start.anchor (collection_tag s.canonical start) false cursor).cursor names.2 bodies)
+      (render_properties s.portable directives start.anchor (collection_tag s.canonical start) false cursor).cursor names.2 bodies)
   node_flow (mapping_node start pairs) s own directives fits role column cursor names bodies =
       mapping_step s own directives fits role column cursor start pairs names bodies
       (pairs_flow pairs s own directives fits (deeper s.indent (Some column))
-      (properties_laid s.portable directives start.anchor (collection_tag s.canonical start) false cursor).cursor names.2 bodies)
+      (render_properties s.portable directives start.anchor (collection_tag s.canonical start) false cursor).cursor names.2 bodies)
 
   pub items_flow : (items : Nodes) (s : Effective) (own directives : List TagDirective) → KeysFit s own directives → (column : ℕ) (cursor : Cursor)
       → AllNamesStand s.portable own s.canonical directives items → ItemsHold (BodyStands s) items s directives true column cursor
@@ -156,7 +158,7 @@ mutual
   items_flow (nodes_and items last) s own directives fits column cursor names bodies =
       items_step s own directives items last column cursor (items_flow items s own directives fits column cursor names.0 bodies.0)
       (node_flow last s own directives fits (as_item (has_no_nodes items)) column
-      (place_laid s (entry_place true (as_item (has_no_nodes items)) column) false
+      (render_place s (entry_place true (as_item (has_no_nodes items)) column) false
       (items_own items s directives true column cursor).cursor).cursor names.1 bodies.1)
 
   pub pairs_flow : (pairs : Pairs) (s : Effective) (own directives : List TagDirective) → KeysFit s own directives → (column : ℕ) (cursor : Cursor)
@@ -165,9 +167,9 @@ mutual
   pairs_flow no_pairs s own directives fits column cursor names bodies = tt
   pairs_flow (pairs_and pairs key value) s own directives fits column cursor names bodies =
       let key_place = entry_place true (as_key (has_no_pairs pairs)) column in
-      let signs = place_laid s key_place (is_simple s.canonical directives key) (pairs_own pairs s directives true column cursor).cursor in
+      let symbols = render_place s key_place (is_simple s.canonical directives key) (pairs_own pairs s directives true column cursor).cursor in
       pairs_step s own directives pairs key value column cursor (pairs_flow pairs s own directives fits column cursor names.0 bodies.0)
-      (node_flow key s own directives fits (as_key (has_no_pairs pairs)) column signs.cursor names.1 bodies.1)
+      (node_flow key s own directives fits (as_key (has_no_pairs pairs)) column symbols.cursor names.1 bodies.1)
       (node_flow value s own directives fits (as_value (is_simple s.canonical directives key)) column
-      (place_laid s (entry_place true (as_value (is_simple s.canonical directives key)) column) false
-      (node_own key s directives key_place signs.cursor).cursor).cursor names.2 bodies.2)
+      (render_place s (entry_place true (as_value (is_simple s.canonical directives key)) column) false
+      (node_own key s directives key_place symbols.cursor).cursor).cursor names.2 bodies.2)

@@ -4,18 +4,18 @@ use Rattle.std.proofs.lemmas.Bool.{false≢true, eqb-true, and_parts}
 use Rattle.std.specs.Prelude.{ℕ, Bool, true, false, Option, None, List, [], ◌∷◌, ◌++◌, ◌==◌, ◌||◌}
 use Rattle.yaml_base.specs.Characters.{Text, space, line_feed}
 use Rattle.yaml_base.specs.Settings.{Effective}
-use Rattle.yaml_base.specs.Cursor.{Cursor, Laid, space_if}
-use Rattle.yaml_base.specs.Layout.{as_value, flow_break, key_sign, flow_place_laid}
+use Rattle.yaml_base.specs.Cursor.{Cursor, Rendered, space_if}
+use Rattle.yaml_base.specs.Layout.{as_value, flow_break, key_indicator, render_flow_place}
 use Rattle.yaml_base.specs.streams.StreamContent.{Tree, Trees, trees_and, TreePairs, tree_pairs_and}
 use Rattle.yaml_base.specs.streams.StreamScalars.{Rules}
-use Rattle.yaml_base.specs.streams.StreamTokens.{is_flow_sign, class_of}
-use Rattle.yaml_base.specs.streams.StreamFlow.{no_key, key_due, key_held, Level, in_sequence, in_mapping, at_once, after_white, entry_awaited, node_awaited}
+use Rattle.yaml_base.specs.streams.StreamTokens.{is_flow_indicator, class_of}
+use Rattle.yaml_base.specs.streams.StreamFlow.{no_key, key_due, key_held, OpenFlow, in_sequence, in_mapping, at_once, after_white, entry_awaited, node_awaited}
 use Rattle.yaml_base.specs.streams.StreamFlow.{comma_awaited, colon_awaited, within, level_opened}
 use Rattle.yaml_base.proofs.stream_flow.StreamPlainWords.{ends_by, ends_word}
 use Rattle.yaml_base.proofs.stream_flow.StreamWhites.{space_class, line_feed_class}
-use Rattle.yaml_base.proofs.stream_flow.StreamSays.{EndsWord, sign_ends, comma_class, colon_class}
-use Rattle.yaml_base.proofs.stream_flow.StreamTakes.{Takes, takes_both}
-use Rattle.yaml_base.proofs.stream_nodes.StreamLeads.{Ended}
+use Rattle.yaml_base.proofs.stream_flow.StreamSays.{EndsWord, indicator_ends, comma_class, colon_class}
+use Rattle.yaml_base.proofs.stream_flow.StreamTakes.{TakesBytes, takes_both}
+use Rattle.yaml_base.proofs.stream_nodes.StreamLeads.{EndedCollection}
 use Rattle.yaml_base.proofs.stream_flow.StreamPasses.{passes_both, passes_then, takes_text, passes_comma, passes_colon, passes_late_colon, passes_question}
 use Rattle.yaml_base.proofs.stream_flow.StreamPasses.{passes_node_space, passes_entry_white, passes_colon_white, is_white_text, flow_break_white, space_white}
 use Rattle.yaml_base.proofs.stream_flow.StreamPasses.{white_both, WhiteThen, late_colon}
@@ -23,14 +23,14 @@ use Rattle.yaml_base.proofs.stream_flow.StreamFlowTakes.{FlowNode, FlowEntries, 
 use Rattle.yaml_base.proofs.stream_flow.StreamFlowWords.{opens_inside}
 
 -- what stands for one entry after `[`, `{` or a comma, and what it does to the collection's level
-pub record FlowEntry (rules : Rules) (text : Text) (from to : Level) : Type 0 where
+pub record FlowEntry (rules : Rules) (text : Text) (from to : OpenFlow) : Type 0 where
   pub opens : opens_inside text ≡ true
-  pub takes : (levels : List Level) → Takes rules (within (from ∷ levels) entry_awaited) text (within (to ∷ levels) comma_awaited)
+  pub takes : (levels : List OpenFlow) → TakesBytes rules (within (from ∷ levels) entry_awaited) text (within (to ∷ levels) comma_awaited)
 
 -- Items
 
 -- white space and an item
-pub item_entry : (rules : Rules) (s : Effective) (column : Option ℕ) (cursor : Cursor) (own : Laid) (tree : Tree)
+pub item_entry : (rules : Rules) (s : Effective) (column : Option ℕ) (cursor : Cursor) (own : Rendered) (tree : Tree)
     → FlowNode rules false (flow_break s column cursor).cursor own tree
     → (anchor tag : Option Text) (trees : Trees)
     → FlowEntry rules ((flow_break s column cursor).text ++ own.text) (in_sequence anchor tag trees) (in_sequence anchor tag (trees_and trees tree))
@@ -60,15 +60,15 @@ item_entry rules s column cursor own tree node anchor tag trees = record {
 
 -- Pairs
 
--- white space and a sign end a word
-white_sign_ends : (breaks12 : Bool) (white : Text) (c : ℕ) (text : Text) → is_white_text white ≡ true → class_of breaks12 c ≡ is_flow_sign
+-- white space and an indicator end a word
+white_indicator_ends : (breaks12 : Bool) (white : Text) (c : ℕ) (text : Text) → is_white_text white ≡ true → class_of breaks12 c ≡ is_flow_indicator
     → EndsWord breaks12 (white ++ (c ∷ text))
-white_sign_ends breaks12 [] c text h class rest k = sign_ends breaks12 c text class rest k
-white_sign_ends breaks12 (d ∷ white) c text h class rest k =
+white_indicator_ends breaks12 [] c text h class rest k = indicator_ends breaks12 c text class rest k
+white_indicator_ends breaks12 (d ∷ white) c text h class rest k =
     let parts = and_parts (d == space || d == line_feed) (is_white_text white) h in
     ap (λ w. ends_by w (ends_word breaks12 ((white ++ (c ∷ text)) ++ rest))) refl
     ∙ by (d == space) (d == line_feed) refl refl parts.0 (ends_word breaks12 ((white ++ (c ∷ text)) ++ rest))
-    ∙ white_sign_ends breaks12 white c text parts.1 class rest k
+    ∙ white_indicator_ends breaks12 white c text parts.1 class rest k
   where
     eqb : (n : ℕ) → (d == n) ≡ true → d ≡ n
     eqb n e = eqb-true d n e
@@ -79,17 +79,17 @@ white_sign_ends breaks12 (d ∷ white) c text h class rest k =
     by false false e f h more = absurd (false≢true h)
 
 -- the level of a mapping after a pair
-abbrev after_pair : Option Text → Option Text → TreePairs → Tree → Tree → Level
+abbrev after_pair : Option Text → Option Text → TreePairs → Tree → Tree → OpenFlow
 after_pair anchor tag pairs key value = in_mapping anchor tag (tree_pairs_and pairs key value) no_key
 
 -- the reading while a key is held
-abbrev held : Option Text → Option Text → TreePairs → Tree → List Level → List Level
+abbrev held : Option Text → Option Text → TreePairs → Tree → List OpenFlow → List OpenFlow
 held anchor tag pairs key levels = in_mapping anchor tag pairs (key_held key) ∷ levels
 
 -- a simple key and its value, after white space
-pub simple_pair_entry : (rules : Rules) (s : Effective) (column : Option ℕ) (cursor : Cursor) (own : Laid) (value : Laid) (key_tree value_tree : Tree)
+pub simple_pair_entry : (rules : Rules) (s : Effective) (column : Option ℕ) (cursor : Cursor) (own : Rendered) (value : Rendered) (key_tree value_tree : Tree)
     → FlowNode rules true (flow_break s column cursor).cursor own key_tree
-    → FlowNode rules false (flow_place_laid s (as_value true) false column own.cursor).cursor value value_tree
+    → FlowNode rules false (render_flow_place s (as_value true) false column own.cursor).cursor value value_tree
     → (anchor tag : Option Text) (pairs : TreePairs)
     → FlowEntry rules (((flow_break s column cursor).text ++ own.text) ++ ((0x3A ∷ []) ++ value.text)) (in_mapping anchor tag pairs no_key)
     (after_pair anchor tag pairs key_tree value_tree)
@@ -112,7 +112,7 @@ simple_pair_entry rules s column cursor own value key_tree value_tree key node a
       (passes_both rules through before ready (0x3A ∷ []) (space ∷ []) (passes_colon rules (held anchor tag pairs key_tree levels))
       (passes_node_space rules (held anchor tag pairs key_tree levels)))
       (node.takes refl (held anchor tag pairs key_tree levels) refl true)))
-      (sign_ends rules.breaks12 0x3A value.text (colon_class rules.breaks12));
+      (indicator_ends rules.breaks12 0x3A value.text (colon_class rules.breaks12));
 }
   where
     gap : Text
@@ -128,13 +128,13 @@ simple_pair_entry rules s column cursor own value key_tree value_tree key node a
     whole = ap (λ t. gap ++ t) key.whole ∙ sym (append_assoc gap blank key.content)
 
 -- a long key with its `?`, and its value
-pub long_pair_entry : (rules : Rules) (s : Effective) (column : Option ℕ) (cursor : Cursor) (own : Laid) (value : Laid) (key_tree value_tree : Tree)
-    → FlowNode rules false (key_sign false false (flow_break s column cursor).cursor).cursor own key_tree
-    → FlowNode rules false (flow_place_laid s (as_value false) false column own.cursor).cursor value value_tree
+pub long_pair_entry : (rules : Rules) (s : Effective) (column : Option ℕ) (cursor : Cursor) (own : Rendered) (value : Rendered) (key_tree value_tree : Tree)
+    → FlowNode rules false (key_indicator false false (flow_break s column cursor).cursor).cursor own key_tree
+    → FlowNode rules false (render_flow_place s (as_value false) false column own.cursor).cursor value value_tree
     → (anchor tag : Option Text) (pairs : TreePairs)
     → FlowEntry rules
-    ((((flow_break s column cursor).text ++ (key_sign false false (flow_break s column cursor).cursor).text) ++ own.text)
-    ++ ((flow_place_laid s (as_value false) false column own.cursor).text ++ value.text))
+    ((((flow_break s column cursor).text ++ (key_indicator false false (flow_break s column cursor).cursor).text) ++ own.text)
+    ++ ((render_flow_place s (as_value false) false column own.cursor).text ++ value.text))
     (in_mapping anchor tag pairs no_key) (after_pair anchor tag pairs key_tree value_tree)
 long_pair_entry rules s column cursor own value key_tree value_tree key node anchor tag pairs = record {
   opens = ap opens_inside (ap (λ t. t ++ (late ++ value.text)) whole)
@@ -169,7 +169,7 @@ long_pair_entry rules s column cursor own value key_tree value_tree key node anc
       (λ rest k.
       ap (λ t. ends_word rules.breaks12 (t ++ rest))
       (late_whole ∙ append_assoc (colon.first ∷ colon.more) (0x3A ∷ space ∷ []) node.content)
-      ∙ white_sign_ends rules.breaks12 (colon.first ∷ colon.more) 0x3A (space ∷ node.content) colon.white (colon_class rules.breaks12) rest k);
+      ∙ white_indicator_ends rules.breaks12 (colon.first ∷ colon.more) 0x3A (space ∷ node.content) colon.white (colon_class rules.breaks12) rest k);
 }
   where
     gap : Text
@@ -179,7 +179,7 @@ long_pair_entry rules s column cursor own value key_tree value_tree key node anc
     blank = space_if true (flow_break s column cursor).cursor
 
     late : Text
-    late = (flow_place_laid s (as_value false) false column own.cursor).text
+    late = (render_flow_place s (as_value false) false column own.cursor).text
 
     white : is_white_text (gap ++ blank) ≡ true
     white = white_both gap blank (flow_break_white s column cursor) (space_white (flow_break s column cursor).cursor)
@@ -204,8 +204,8 @@ long_pair_entry rules s column cursor own value key_tree value_tree key node anc
 -- Entries together
 
 -- the first entry, after its bracket
-pub first_entry : (rules : Rules) (bracket : ℕ) (cursor : Cursor) (own : Laid) (entry : Text) (last : Option Text → Option Text → Level)
-    → own.text ≡ space_if true cursor ++ (bracket ∷ entry) → Ended own.cursor
+pub first_entry : (rules : Rules) (bracket : ℕ) (cursor : Cursor) (own : Rendered) (entry : Text) (last : Option Text → Option Text → OpenFlow)
+    → own.text ≡ space_if true cursor ++ (bracket ∷ entry) → EndedCollection own.cursor
     → ((anchor tag : Option Text) → FlowEntry rules entry (level_opened bracket anchor tag) (last anchor tag))
     → FlowEntries rules bracket cursor own (level_opened bracket) last
 first_entry rules bracket cursor own entry last whole ended one = record {
@@ -217,9 +217,9 @@ first_entry rules bracket cursor own entry last whole ended one = record {
 }
 
 -- one more, after a comma
-pub next_entry : (rules : Rules) (bracket : ℕ) (cursor : Cursor) (before own : Laid) (entry : Text) (middle last : Option Text → Option Text → Level)
+pub next_entry : (rules : Rules) (bracket : ℕ) (cursor : Cursor) (before own : Rendered) (entry : Text) (middle last : Option Text → Option Text → OpenFlow)
     → FlowEntries rules bracket cursor before (level_opened bracket) middle
-    → own.text ≡ before.text ++ (0x2C ∷ entry) → Ended own.cursor
+    → own.text ≡ before.text ++ (0x2C ∷ entry) → EndedCollection own.cursor
     → ((anchor tag : Option Text) → FlowEntry rules entry (middle anchor tag) (last anchor tag))
     → FlowEntries rules bracket cursor own (level_opened bracket) last
 next_entry rules bracket cursor before own entry middle last entries whole ended one = record {
@@ -235,5 +235,5 @@ next_entry rules bracket cursor before own entry middle last entries whole ended
       (entries.takes anchor tag levels)
       (passes_then rules (within (middle anchor tag ∷ levels) comma_awaited) (within (middle anchor tag ∷ levels) entry_awaited)
       (within (last anchor tag ∷ levels) comma_awaited) (0x2C ∷ []) entry (passes_comma rules (middle anchor tag ∷ levels)) ((one anchor tag).takes levels))
-      (sign_ends rules.breaks12 0x2C entry (comma_class rules.breaks12));
+      (indicator_ends rules.breaks12 0x2C entry (comma_class rules.breaks12));
 }

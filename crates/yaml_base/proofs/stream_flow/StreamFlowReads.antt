@@ -6,71 +6,72 @@ use Rattle.std.specs.Prelude.{ℕ, Bool, true, false, Option, None, Some, List, 
 use Rattle.yaml_base.specs.Characters.{Text}
 use Rattle.yaml_base.specs.Settings.{Effective}
 use Rattle.yaml_base.specs.Event.{TagDirective, Collection}
-use Rattle.yaml_base.specs.Cursor.{Cursor, Laid, space_if, new_line, indicator}
+use Rattle.yaml_base.specs.Cursor.{Cursor, Rendered, space_if, new_line, indicator}
 use Rattle.yaml_base.specs.Grammar.{sequence_node, mapping_node, Nodes, no_nodes, nodes_and, Pairs, no_pairs, pairs_and}
 use Rattle.yaml_base.specs.Event.{collection_tag}
-use Rattle.yaml_base.specs.Layout.{Place, is_undented, line_column, deeper, entries_column, has_no_nodes, has_no_pairs, properties_laid, is_written_in_flow}
-use Rattle.yaml_base.specs.Layout.{Brackets, square, curly, end_laid}
+use Rattle.yaml_base.specs.Layout.{Place, is_undented, line_column, deeper, entries_column, has_no_nodes, has_no_pairs, render_properties, is_written_in_flow}
+use Rattle.yaml_base.specs.Layout.{Brackets, square, curly, render_end}
 use Rattle.yaml_base.specs.reading.ReadPlain.{is_read_white}
-use Rattle.yaml_base.specs.reading.ReadTags.{TagSaid}
+use Rattle.yaml_base.specs.reading.ReadTags.{ParsedTag}
 use Rattle.yaml_base.specs.streams.StreamContent.{Tree, sequence_tree, mapping_tree, no_trees, no_tree_pairs}
 use Rattle.yaml_base.specs.streams.StreamScalars.{Rules, Properties, word_after}
-use Rattle.yaml_base.specs.streams.StreamTokens.{sign, free, is_flow_sign, begins_bracket, class_of, is_pair, FlowTurn, begun, bracket_turn, flow_tokens}
-use Rattle.yaml_base.specs.streams.StreamFlow.{no_key, Level, in_sequence, in_mapping, Awaited, collection_awaited, entry_awaited, comma_awaited, FlowReading}
+use Rattle.yaml_base.specs.streams.StreamTokens.{symbol, free, is_flow_indicator, begins_bracket, class_of, is_pair, FlowStep, begun, bracket_step, flow_tokens}
+use Rattle.yaml_base.specs.streams.StreamFlow.{no_key, OpenFlow, in_sequence, in_mapping, Awaited, collection_awaited, entry_awaited, comma_awaited}
+use Rattle.yaml_base.specs.streams.StreamFlow.{FlowReading}
 use Rattle.yaml_base.specs.streams.StreamFlow.{done, within, level_opened, opened, word_step, flow_step, tree_at_end, flow_read}
-use Rattle.yaml_base.specs.streams.StreamNodes.{before_trimmed, trimmed, flow_text, kind_of_text, text_by_kind, begins_text, kind_of_node}
+use Rattle.yaml_base.specs.streams.StreamNodes.{prepend_to_trimmed, trimmed, flow_text, kind_of_text, text_by_kind, begins_text, kind_of_node}
 use Rattle.yaml_base.proofs.stream_lines.StreamLineLaws.{OneLine}
 use Rattle.yaml_base.proofs.stream_nodes.StreamProperties.{begins_content}
 use Rattle.yaml_base.proofs.stream_nodes.StreamAgrees.{node_tree, nodes_tree, pairs_tree}
-use Rattle.yaml_base.proofs.stream_flow.StreamSays.{opens_before, bracket_class, square_class, curly_class, comma_class, sign_ends}
-use Rattle.yaml_base.proofs.stream_flow.StreamTakes.{Takes, steps, takes_both, flow_reads}
+use Rattle.yaml_base.proofs.stream_flow.StreamSays.{opens_before, bracket_class, square_class, curly_class, comma_class, indicator_ends}
+use Rattle.yaml_base.proofs.stream_flow.StreamTakes.{TakesBytes, steps, takes_both, flow_reads}
 use Rattle.yaml_base.proofs.stream_nodes.StreamTexts.{collection_own, node_own, items_own, pairs_own}
 use Rattle.yaml_base.proofs.stream_flow.StreamPropertyWords.{lead}
 use Rattle.yaml_base.proofs.stream_nodes.StreamStands.{tag_written, tag_meant, NamesStand, BodyStands, BodiesHold, ItemsHold, PairsHold}
-use Rattle.yaml_base.proofs.stream_nodes.StreamLeads.{Ended, lead_laid}
+use Rattle.yaml_base.proofs.stream_nodes.StreamLeads.{EndedCollection, lead_rendered}
 use Rattle.yaml_base.proofs.stream_flow.StreamPasses.{passes_both, passes_comma, passes_entry_white, takes_text, new_line_white}
 use Rattle.yaml_base.proofs.stream_flow.StreamFlowWords.{opens_inside, Given, tag_of_collection}
 use Rattle.yaml_base.proofs.stream_flow.StreamFlowTakes.{FlowEntries, opens_more, and_false, no_pair}
 use Rattle.yaml_base.proofs.stream_flow.StreamFlowScalars.{rules_of}
 use Rattle.yaml_base.proofs.stream_flow.StreamFlowKinds.{KeysFit, empty_whole, collection_whole, ItemsTake, PairsTake}
-use Rattle.yaml_base.proofs.stream_flow.StreamFlowLines.{keeps_open, keeps_front, collection_kind, empty_kind}
+use Rattle.yaml_base.proofs.stream_flow.StreamFlowLines.{keeps_open, keeps_prefix, collection_kind, empty_kind}
 use Rattle.yaml_base.proofs.stream_flow.StreamFlowNodes.{items_flow, pairs_flow}
 
 -- the text of a collection in flow: a space where one is needed, its properties, and from a bracket to a bracket what is
 -- read as its tree
-pub record FlowContent (rules : Rules) (cursor : Cursor) (own : Laid) (anchor tag given_tag : Option Text) (tree : Tree) : Type 0 where
+pub record FlowContent (rules : Rules) (cursor : Cursor) (own : Rendered) (anchor tag given_tag : Option Text) (tree : Tree) : Type 0 where
   pub bracket : ℕ
   pub inside : Text
   pub closing : ℕ
   pub begins : class_of rules.breaks12 bracket ≡ begins_bracket
-  pub closes : class_of rules.breaks12 closing ≡ is_flow_sign
+  pub closes : class_of rules.breaks12 closing ≡ is_flow_indicator
   pub kind : (rest : Text) → kind_of_text (bracket ∷ rest) ≡ flow_text
   pub shown : is_read_white rules.breaks12 closing ≡ false
   pub one_line : OneLine rules.breaks12 (bracket ∷ [])
   pub content : begins_content (bracket ∷ []) ≡ true
-  pub line : (before_anchor before_tag : Option Text) (said : Option TagSaid) → Given rules before_anchor before_tag said → (first more : Text)
+  pub line : (before_anchor before_tag : Option Text) (parsed : Option ParsedTag) → Given rules before_anchor before_tag parsed → (first more : Text)
       → inside ++ (closing ∷ []) ≡ first ++ more → kind_of_node rules (lead before_anchor before_tag ++ (bracket ∷ first)) ≡ begins_text
   pub whole : own.text ≡ space_if true cursor ++ (lead anchor tag ++ ((bracket ∷ inside) ++ (closing ∷ [])))
-  pub ended : Ended own.cursor
+  pub ended : EndedCollection own.cursor
   pub reads : flow_read rules (record { anchor = anchor; tag = tag_meant given_tag false }) ((bracket ∷ inside) ++ (closing ∷ [])) ≡ Some tree
 
 -- a bracket that begins a collection in flow and one that ends it
 record AreBrackets (rules : Rules) (bracket closing : ℕ) : Type 0 where
   pub begins : class_of rules.breaks12 bracket ≡ begins_bracket
-  pub closes : class_of rules.breaks12 closing ≡ is_flow_sign
+  pub closes : class_of rules.breaks12 closing ≡ is_flow_indicator
   pub kind : (rest : Text) → kind_of_text (bracket ∷ rest) ≡ flow_text
   pub shown : is_read_white rules.breaks12 closing ≡ false
   pub one_line : OneLine rules.breaks12 (bracket ∷ [])
   pub content : begins_content (bracket ∷ []) ≡ true
-  pub line : (anchor tag : Option Text) (said : Option TagSaid) (first : Text) → Given rules anchor tag said → keeps_open first ≡ true
+  pub line : (anchor tag : Option Text) (parsed : Option ParsedTag) (first : Text) → Given rules anchor tag parsed → keeps_open first ≡ true
       → kind_of_node rules (lead anchor tag ++ (bracket ∷ first)) ≡ begins_text
-  pub empty : (anchor tag : Option Text) (said : Option TagSaid) → Given rules anchor tag said
+  pub empty : (anchor tag : Option Text) (parsed : Option ParsedTag) → Given rules anchor tag parsed
       → kind_of_node rules (lead anchor tag ++ (bracket ∷ closing ∷ [])) ≡ begins_text
 
 -- a bracket that closes isn't white
-sign_shown : (breaks12 : Bool) → (is_read_white breaks12 0x5D ≡ false) × (is_read_white breaks12 0x7D ≡ false)
-sign_shown true = (refl, refl)
-sign_shown false = (refl, refl)
+indicator_shown : (breaks12 : Bool) → (is_read_white breaks12 0x5D ≡ false) × (is_read_white breaks12 0x7D ≡ false)
+indicator_shown true = (refl, refl)
+indicator_shown false = (refl, refl)
 
 -- one that opens breaks no line
 bracket_line : (breaks12 : Bool) → OneLine breaks12 (0x5B ∷ []) × OneLine breaks12 (0x7B ∷ [])
@@ -83,11 +84,11 @@ square_brackets rules = record {
   begins = (bracket_class rules.breaks12).0;
   closes = square_class rules.breaks12;
   kind = λ rest. refl;
-  shown = (sign_shown rules.breaks12).0;
+  shown = (indicator_shown rules.breaks12).0;
   one_line = (bracket_line rules.breaks12).0;
   content = refl;
-  line = λ anchor tag said first given h. collection_kind rules anchor tag said true first given h;
-  empty = λ anchor tag said given. (empty_kind rules anchor tag said given).0;
+  line = λ anchor tag parsed first given h. collection_kind rules anchor tag parsed true first given h;
+  empty = λ anchor tag parsed given. (empty_kind rules anchor tag parsed given).0;
 }
 
 -- and those of mappings
@@ -96,11 +97,11 @@ curly_brackets rules = record {
   begins = (bracket_class rules.breaks12).1;
   closes = curly_class rules.breaks12;
   kind = λ rest. refl;
-  shown = (sign_shown rules.breaks12).1;
+  shown = (indicator_shown rules.breaks12).1;
   one_line = (bracket_line rules.breaks12).1;
   content = refl;
-  line = λ anchor tag said first given h. collection_kind rules anchor tag said false first given h;
-  empty = λ anchor tag said given. (empty_kind rules anchor tag said given).1;
+  line = λ anchor tag parsed first given h. collection_kind rules anchor tag parsed false first given h;
+  empty = λ anchor tag parsed given. (empty_kind rules anchor tag parsed given).1;
 }
 
 -- Empty ones
@@ -116,17 +117,17 @@ holds_two (c ∷ d ∷ rest) = true
 holds_two _ = false
 
 -- the first line of two brackets
-empty_line : (rules : Rules) (b c : ℕ) → AreBrackets rules b c → (anchor tag : Option Text) (said : Option TagSaid) → Given rules anchor tag said
+empty_line : (rules : Rules) (b c : ℕ) → AreBrackets rules b c → (anchor tag : Option Text) (parsed : Option ParsedTag) → Given rules anchor tag parsed
     → (first more : Text) → c ∷ [] ≡ first ++ more → kind_of_node rules (lead anchor tag ++ (b ∷ first)) ≡ begins_text
-empty_line rules b c brackets anchor tag said given [] more e = brackets.line anchor tag said [] given refl
-empty_line rules b c brackets anchor tag said given (x ∷ []) more e =
-    ap (λ n. kind_of_node rules (lead anchor tag ++ (b ∷ n ∷ []))) (sym (ap first_of e)) ∙ brackets.empty anchor tag said given
-empty_line rules b c brackets anchor tag said given (x ∷ y ∷ first) more e = absurd (false≢true (ap holds_two e))
+empty_line rules b c brackets anchor tag parsed given [] more e = brackets.line anchor tag parsed [] given refl
+empty_line rules b c brackets anchor tag parsed given (x ∷ []) more e =
+    ap (λ n. kind_of_node rules (lead anchor tag ++ (b ∷ n ∷ []))) (sym (ap first_of e)) ∙ brackets.empty anchor tag parsed given
+empty_line rules b c brackets anchor tag parsed given (x ∷ y ∷ first) more e = absurd (false≢true (ap holds_two e))
 
 -- two brackets that are a word
-empty_content : (rules : Rules) (cursor : Cursor) (properties own : Laid) (anchor tag given_tag : Option Text) (b c : ℕ) (tree : Tree)
+empty_content : (rules : Rules) (cursor : Cursor) (properties own : Rendered) (anchor tag given_tag : Option Text) (b c : ℕ) (tree : Tree)
     → properties.text ++ space_if true properties.cursor ≡ space_if true cursor ++ lead anchor tag
-    → own.text ≡ (properties.text ++ []) ++ ((space_if true properties.cursor ++ (b ∷ [])) ++ (c ∷ [])) → Ended own.cursor
+    → own.text ≡ (properties.text ++ []) ++ ((space_if true properties.cursor ++ (b ∷ [])) ++ (c ∷ [])) → EndedCollection own.cursor
     → AreBrackets rules b c → is_pair b c ≡ true
     → word_after rules true None (record { anchor = anchor; tag = tag_meant given_tag false }) (b ∷ c ∷ []) ≡ Some tree
     → FlowContent rules cursor own anchor tag given_tag tree
@@ -144,9 +145,9 @@ empty_content rules cursor properties own anchor tag given_tag b c tree e text e
   whole = text ∙ empty_whole properties cursor (lead anchor tag) b c e;
   ended = ended;
   reads =
-      ap (λ k. (let here : FlowTurn = begun k [] b in tree_at_end (steps rules from
+      ap (λ k. (let here : FlowStep = begun k [] b in tree_at_end (steps rules from
       (here.tokens ++ flow_tokens rules.breaks12 here.place (c ∷ []))))) brackets.begins
-      ∙ ap (λ x. (let here : FlowTurn = bracket_turn x (class_of rules.breaks12 c) [] b c in tree_at_end
+      ∙ ap (λ x. (let here : FlowStep = bracket_step x (class_of rules.breaks12 c) [] b c in tree_at_end
       (steps rules from (here.tokens ++ flow_tokens rules.breaks12 here.place [])))) pair
       ∙ ap (λ r. tree_at_end (word_step rules.breaks12 [] (b ∷ c ∷ []) r)) read;
 }
@@ -158,8 +159,8 @@ empty_content rules cursor properties own anchor tag given_tag b c tree e text e
 
 -- a bracket opens the collection that all is in
 takes_first : (rules : Rules) (bracket : ℕ) (anchor tag : Option Text) (inside : Text) (to : FlowReading) → class_of rules.breaks12 bracket ≡ begins_bracket
-    → opens_inside inside ≡ true → Takes rules (within (level_opened bracket anchor tag ∷ []) entry_awaited) inside to
-    → Takes rules (within [] (collection_awaited (record { anchor = anchor; tag = tag_meant tag false }))) (bracket ∷ inside) to
+    → opens_inside inside ≡ true → TakesBytes rules (within (level_opened bracket anchor tag ∷ []) entry_awaited) inside to
+    → TakesBytes rules (within [] (collection_awaited (record { anchor = anchor; tag = tag_meant tag false }))) (bracket ∷ inside) to
 takes_first rules bracket anchor tag [] to class opens_it takes = absurd (false≢true opens_it)
 takes_first rules bracket anchor tag (c ∷ inside) to class opens_it takes = record {
   takes = λ rest ends.
@@ -170,26 +171,26 @@ takes_first rules bracket anchor tag (c ∷ inside) to class opens_it takes = re
 }
 
 -- the end of a collection from its last entry on: what stands before the last bracket, by which the collection is done
-record Closing (rules : Rules) (level : Level) (closing : ℕ) (tree : Tree) (ending : Laid) : Type 0 where
+record Closing (rules : Rules) (level : OpenFlow) (closing : ℕ) (tree : Tree) (ending : Rendered) : Type 0 where
   pub before : Text
   pub whole : ending.text ≡ before ++ (closing ∷ [])
-  pub ended : Ended ending.cursor
+  pub ended : EndedCollection ending.cursor
   pub awaited : Awaited
-  pub goes : (from : FlowReading) (text : Text) → Takes rules from text (within (level ∷ []) comma_awaited) → Takes rules from (text ++ before)
+  pub goes : (from : FlowReading) (text : Text) → TakesBytes rules from text (within (level ∷ []) comma_awaited) → TakesBytes rules from (text ++ before)
       (within (level ∷ []) awaited)
-  pub closes : flow_step rules (within (level ∷ []) awaited) (sign closing) ≡ done tree
+  pub closes : flow_step rules (within (level ∷ []) awaited) (symbol closing) ≡ done tree
 
 -- a bracket closes at once or, in canonical mode, after a comma and a line
-closing_laid : (rules : Rules) (s : Effective) (level : Level) (brackets : Brackets) (closing : ℕ) (tree : Tree) (column : Option ℕ) (cursor : Cursor)
-    → brackets.closing ≡ closing ∷ [] → flow_step rules (within (level ∷ []) comma_awaited) (sign closing) ≡ done tree
-    → flow_step rules (within (level ∷ []) entry_awaited) (sign closing) ≡ done tree
-    → Closing rules level closing tree (end_laid s brackets true false column cursor)
-closing_laid rules s level brackets closing tree column cursor e at_once_done after_comma = by s.canonical
+closing_rendered : (rules : Rules) (s : Effective) (level : OpenFlow) (brackets : Brackets) (closing : ℕ) (tree : Tree) (column : Option ℕ) (cursor : Cursor)
+    → brackets.closing ≡ closing ∷ [] → flow_step rules (within (level ∷ []) comma_awaited) (symbol closing) ≡ done tree
+    → flow_step rules (within (level ∷ []) entry_awaited) (symbol closing) ≡ done tree
+    → Closing rules level closing tree (render_end s brackets true false column cursor)
+closing_rendered rules s level brackets closing tree column cursor e at_once_done after_comma = by s.canonical
   where
     line : Text
     line = (new_line (line_column column) (indicator (codes ",") false false false cursor).cursor).text
 
-    by : (canonical : Bool) → Closing rules level closing tree (end_laid (record s { canonical = canonical }) brackets true false column cursor)
+    by : (canonical : Bool) → Closing rules level closing tree (render_end (record s { canonical = canonical }) brackets true false column cursor)
     by true = record {
       before = 0x2C ∷ line;
       whole = ap (λ t. (0x2C ∷ line) ++ t) e;
@@ -202,7 +203,7 @@ closing_laid rules s level brackets closing tree column cursor e at_once_done af
           (passes_entry_white rules (level ∷ []) line (new_line_white (line_column column) (indicator (codes ",") false false false cursor).cursor)) in
           takes_both rules from (within (level ∷ []) comma_awaited) (within (level ∷ []) entry_awaited) text (0x2C ∷ line) takes
           (record { takes = λ rest h. passed.passes rest })
-          (sign_ends rules.breaks12 0x2C line (comma_class rules.breaks12));
+          (indicator_ends rules.breaks12 0x2C line (comma_class rules.breaks12));
       closes = after_comma;
     }
     by false = record {
@@ -220,8 +221,8 @@ opens_kept [] h = absurd (false≢true h)
 opens_kept (c ∷ t) h = h
 
 -- a collection that holds something
-whole_content : (rules : Rules) (cursor : Cursor) (properties entries ending : Laid) (bracket closing : ℕ) (anchor tag given_tag : Option Text)
-    (last : Option Text → Option Text → Level) (tree : Tree) → properties.text ++ space_if true properties.cursor ≡ space_if true cursor ++ lead anchor tag
+whole_content : (rules : Rules) (cursor : Cursor) (properties entries ending : Rendered) (bracket closing : ℕ) (anchor tag given_tag : Option Text)
+    (last : Option Text → Option Text → OpenFlow) (tree : Tree) → properties.text ++ space_if true properties.cursor ≡ space_if true cursor ++ lead anchor tag
     → AreBrackets rules bracket closing
     → FlowEntries rules bracket properties.cursor entries (level_opened bracket) last → Closing rules (last anchor given_tag) closing tree ending
     → FlowContent rules cursor (record { text = (properties.text ++ entries.text) ++ ending.text; cursor = ending.cursor }) anchor tag given_tag tree
@@ -235,9 +236,9 @@ whole_content rules cursor properties entries ending bracket closing anchor tag 
   shown = brackets.shown;
   one_line = brackets.one_line;
   content = brackets.content;
-  line = λ before_anchor before_tag said given first more same.
-      brackets.line before_anchor before_tag said first given
-      (keeps_front first more
+  line = λ before_anchor before_tag parsed given first more same.
+      brackets.line before_anchor before_tag parsed first given
+      (keeps_prefix first more
       (ap keeps_open (sym same) ∙ opens_kept ((of.inside ++ end.before) ++ (closing ∷ []))
       (opens_more (of.inside ++ end.before) (closing ∷ []) (opens_more of.inside end.before of.opens))));
   whole =
@@ -258,7 +259,7 @@ whole_content rules cursor properties entries ending bracket closing anchor tag 
 -- White space after it
 
 -- a character before a text that isn't empty
-kept_before : (x : Bool) (d : ℕ) (text : Text) (c : ℕ) → before_trimmed x d (text ++ (c ∷ [])) ≡ d ∷ (text ++ (c ∷ []))
+kept_before : (x : Bool) (d : ℕ) (text : Text) (c : ℕ) → prepend_to_trimmed x d (text ++ (c ∷ [])) ≡ d ∷ (text ++ (c ∷ []))
 kept_before true d [] c = refl
 kept_before true d (e ∷ text) c = refl
 kept_before false d text c = refl
@@ -268,18 +269,18 @@ white_trimmed : (breaks12 : Bool) (white : Text) → list_all (is_read_white bre
 white_trimmed breaks12 [] h = refl
 white_trimmed breaks12 (c ∷ white) h =
     let parts = and_parts (is_read_white breaks12 c) (list_all (is_read_white breaks12) white) h in
-    ap (before_trimmed (is_read_white breaks12 c) c) (white_trimmed breaks12 white parts.1) ∙ ap (λ x. before_trimmed x c []) parts.0
+    ap (prepend_to_trimmed (is_read_white breaks12 c) c) (white_trimmed breaks12 white parts.1) ∙ ap (λ x. prepend_to_trimmed x c []) parts.0
 
 -- white space after a text whose last character isn't white is cut off
 pub shown_trimmed : (breaks12 : Bool) (text : Text) (c : ℕ) (white : Text) → is_read_white breaks12 c ≡ false → list_all (is_read_white breaks12) white ≡ true
     → trimmed breaks12 (text ++ (c ∷ white)) ≡ text ++ (c ∷ [])
 shown_trimmed breaks12 [] c white shown h =
-    ap (λ x. before_trimmed x c (trimmed breaks12 white)) shown ∙ ap (λ t. c ∷ t) (white_trimmed breaks12 white h)
+    ap (λ x. prepend_to_trimmed x c (trimmed breaks12 white)) shown ∙ ap (λ t. c ∷ t) (white_trimmed breaks12 white h)
 shown_trimmed breaks12 (d ∷ text) c white shown h =
-    ap (before_trimmed (is_read_white breaks12 d) d) (shown_trimmed breaks12 text c white shown h) ∙ kept_before (is_read_white breaks12 d) d text c
+    ap (prepend_to_trimmed (is_read_white breaks12 d) d) (shown_trimmed breaks12 text c white shown h) ∙ kept_before (is_read_white breaks12 d) d text c
 
 -- a collection's text is read by its first character, whatever white space follows it
-pub content_read : (rules : Rules) (cursor : Cursor) (own : Laid) (anchor tag given_tag : Option Text) (tree : Tree)
+pub content_read : (rules : Rules) (cursor : Cursor) (own : Rendered) (anchor tag given_tag : Option Text) (tree : Tree)
     (of : FlowContent rules cursor own anchor tag given_tag tree)
     (column : Option ℕ) (begun white : Text) → list_all (is_read_white rules.breaks12) white ≡ true
     → text_by_kind (kind_of_text (of.bracket ∷ begun)) rules column (record { anchor = anchor; tag = tag_meant given_tag false })
@@ -293,62 +294,62 @@ content_read rules cursor own anchor tag given_tag tree of column begun white h 
 -- Nodes
 
 -- a collection that starts so is read as a tree in flow
-abbrev pub FlowReads : Effective → List TagDirective → List TagDirective → Collection → Cursor → Laid → Tree → Type 0
-FlowReads s own directives start cursor laid tree =
-    FlowContent (rules_of s own) cursor laid start.anchor (tag_written s.portable directives (collection_tag s.canonical start) false)
+abbrev pub FlowReads : Effective → List TagDirective → List TagDirective → Collection → Cursor → Rendered → Tree → Type 0
+FlowReads s own directives start cursor rendered tree =
+    FlowContent (rules_of s own) cursor rendered start.anchor (tag_written s.portable directives (collection_tag s.canonical start) false)
     (collection_tag s.canonical start) tree
 
 -- a sequence, where its items take the reader on
 sequence_content : (s : Effective) (own directives : List TagDirective) (column : Option ℕ) (undented : Bool) (cursor : Cursor) (start : Collection)
     (items : Nodes)
-    → (let begun : Laid = properties_laid s.portable directives start.anchor (collection_tag s.canonical start) false cursor in
+    → (let begun : Rendered = render_properties s.portable directives start.anchor (collection_tag s.canonical start) false cursor in
     ItemsTake s own directives items (deeper s.indent column) begun.cursor
     → FlowReads s own directives start cursor (collection_own s square true undented (has_no_nodes items) column begun (items_own items s directives true))
     (sequence_tree start.anchor (collection_tag s.canonical start) (nodes_tree items s directives true)))
 sequence_content s own directives column undented cursor start no_nodes take =
     let tag = collection_tag s.canonical start in
-    let properties = properties_laid s.portable directives start.anchor tag false cursor in
+    let properties = render_properties s.portable directives start.anchor tag false cursor in
     empty_content (rules_of s own) cursor properties (collection_own s square true undented true column properties (items_own no_nodes s directives true))
     start.anchor (tag_written s.portable directives tag false) tag 0x5B 0x5D (sequence_tree start.anchor tag no_trees)
-    (lead_laid s.portable directives start.anchor tag false cursor) refl
+    (lead_rendered s.portable directives start.anchor tag false cursor) refl
     (record { white = refl; indention = and_false (properties.cursor.indention && false) })
     (square_brackets (rules_of s own)) refl
     (ap (option_map (λ tag. sequence_tree start.anchor tag no_trees)) (tag_of_collection tag))
 sequence_content s own directives column undented cursor start (nodes_and items last) take =
     let tag = collection_tag s.canonical start in
-    let properties = properties_laid s.portable directives start.anchor tag false cursor in
+    let properties = render_properties s.portable directives start.anchor tag false cursor in
     let entries = items_own (nodes_and items last) s directives true (deeper s.indent column) properties.cursor in
     let trees = nodes_tree (nodes_and items last) s directives true in
-    whole_content (rules_of s own) cursor properties entries (end_laid s square true false column entries.cursor) 0x5B 0x5D
+    whole_content (rules_of s own) cursor properties entries (render_end s square true false column entries.cursor) 0x5B 0x5D
     start.anchor (tag_written s.portable directives tag false) tag (λ anchor tag. in_sequence anchor tag trees) (sequence_tree start.anchor tag trees)
-    (lead_laid s.portable directives start.anchor tag false cursor) (square_brackets (rules_of s own)) take
-    (closing_laid (rules_of s own) s (in_sequence start.anchor tag trees) square 0x5D
+    (lead_rendered s.portable directives start.anchor tag false cursor) (square_brackets (rules_of s own)) take
+    (closing_rendered (rules_of s own) s (in_sequence start.anchor tag trees) square 0x5D
     (sequence_tree start.anchor tag trees) column entries.cursor refl refl refl)
 
 -- a mapping, where its pairs do
 mapping_content : (s : Effective) (own directives : List TagDirective) (column : Option ℕ) (cursor : Cursor) (start : Collection) (pairs : Pairs)
-    → (let begun : Laid = properties_laid s.portable directives start.anchor (collection_tag s.canonical start) false cursor in
+    → (let begun : Rendered = render_properties s.portable directives start.anchor (collection_tag s.canonical start) false cursor in
     PairsTake s own directives pairs (deeper s.indent column) begun.cursor
     → FlowReads s own directives start cursor (collection_own s curly true false (has_no_pairs pairs) column begun (pairs_own pairs s directives true))
     (mapping_tree start.anchor (collection_tag s.canonical start) (pairs_tree pairs s directives true)))
 mapping_content s own directives column cursor start no_pairs take =
     let tag = collection_tag s.canonical start in
-    let properties = properties_laid s.portable directives start.anchor tag false cursor in
+    let properties = render_properties s.portable directives start.anchor tag false cursor in
     empty_content (rules_of s own) cursor properties (collection_own s curly true false true column properties (pairs_own no_pairs s directives true))
     start.anchor (tag_written s.portable directives tag false) tag 0x7B 0x7D (mapping_tree start.anchor tag no_tree_pairs)
-    (lead_laid s.portable directives start.anchor tag false cursor) refl
+    (lead_rendered s.portable directives start.anchor tag false cursor) refl
     (record { white = refl; indention = and_false (properties.cursor.indention && false) })
     (curly_brackets (rules_of s own)) refl
     (ap (option_map (λ tag. mapping_tree start.anchor tag no_tree_pairs)) (tag_of_collection tag))
 mapping_content s own directives column cursor start (pairs_and pairs key value) take =
     let tag = collection_tag s.canonical start in
-    let properties = properties_laid s.portable directives start.anchor tag false cursor in
+    let properties = render_properties s.portable directives start.anchor tag false cursor in
     let entries = pairs_own (pairs_and pairs key value) s directives true (deeper s.indent column) properties.cursor in
     let trees = pairs_tree (pairs_and pairs key value) s directives true in
-    whole_content (rules_of s own) cursor properties entries (end_laid s curly true false column entries.cursor) 0x7B 0x7D
+    whole_content (rules_of s own) cursor properties entries (render_end s curly true false column entries.cursor) 0x7B 0x7D
     start.anchor (tag_written s.portable directives tag false) tag (λ anchor tag. in_mapping anchor tag trees no_key) (mapping_tree start.anchor tag trees)
-    (lead_laid s.portable directives start.anchor tag false cursor) (curly_brackets (rules_of s own)) take
-    (closing_laid (rules_of s own) s (in_mapping start.anchor tag trees no_key) curly 0x7D
+    (lead_rendered s.portable directives start.anchor tag false cursor) (curly_brackets (rules_of s own)) take
+    (closing_rendered (rules_of s own) s (in_mapping start.anchor tag trees no_key) curly 0x7D
     (mapping_tree start.anchor tag trees) column entries.cursor refl refl refl)
 
 -- a sequence that is written in flow is read as its tree after its properties, wherever it stands
@@ -361,8 +362,8 @@ pub sequence_reads : (s : Effective) (own directives : List TagDirective) → Ke
 sequence_reads s own directives fits place cursor start items in_flow names bodies =
     by (is_written_in_flow s place start (has_no_nodes items)) in_flow bodies
   where
-    begun : Laid
-    begun = properties_laid s.portable directives start.anchor (collection_tag s.canonical start) false cursor
+    begun : Rendered
+    begun = render_properties s.portable directives start.anchor (collection_tag s.canonical start) false cursor
 
     by : (x : Bool) → x ≡ true
         → ItemsHold (BodyStands s) items s directives x (entries_column x (is_undented s place.role) s.indent place.column begun.cursor) begun.cursor
@@ -384,8 +385,8 @@ pub mapping_reads : (s : Effective) (own directives : List TagDirective) → Key
 mapping_reads s own directives fits place cursor start pairs in_flow names bodies =
     by (is_written_in_flow s place start (has_no_pairs pairs)) in_flow bodies
   where
-    begun : Laid
-    begun = properties_laid s.portable directives start.anchor (collection_tag s.canonical start) false cursor
+    begun : Rendered
+    begun = render_properties s.portable directives start.anchor (collection_tag s.canonical start) false cursor
 
     by : (x : Bool) → x ≡ true → PairsHold (BodyStands s) pairs s directives x (entries_column x false s.indent place.column begun.cursor) begun.cursor
         → FlowReads s own directives start cursor (collection_own s curly x false (has_no_pairs pairs) place.column begun (pairs_own pairs s directives x))

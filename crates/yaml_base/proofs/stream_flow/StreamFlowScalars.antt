@@ -4,23 +4,23 @@ use Rattle.std.proofs.lemmas.Bool.{true≢false, false≢true, and_parts}
 use Rattle.std.specs.Prelude.{ℕ, Bool, true, false, Option, None, Some, List, [], ◌∷◌, ◌++◌, ◌||◌, ◌&&◌, not, is_some, if◌then◌else◌}
 use Rattle.yaml_base.specs.Characters.{Text}
 use Rattle.yaml_base.specs.Settings.{Effective}
-use Rattle.yaml_base.specs.Cursor.{Cursor, Laid, space_if}
+use Rattle.yaml_base.specs.Cursor.{Cursor, Rendered, space_if}
 use Rattle.yaml_base.specs.Event.{ScalarStyle, any_style, plain, single_quoted, double_quoted, literal, folded, TagDirective, Scalar}
 use Rattle.yaml_base.specs.scalars.Analysis.{Allowances, is_empty, allowances}
-use Rattle.yaml_base.specs.scalars.Style.{is_plain, style_asked, style_quoted, style_fitting, fits_plain}
-use Rattle.yaml_base.specs.scalars.Plain.{runs, runs_laid}
+use Rattle.yaml_base.specs.scalars.Style.{is_plain, requested_style, quoted_style, fitting_style, fits_plain}
+use Rattle.yaml_base.specs.scalars.Plain.{runs, render_runs}
 use Rattle.yaml_base.specs.scalars.SingleQuoted.{quotes_doubled, single_quote}
-use Rattle.yaml_base.specs.scalars.DoubleQuoted.{double_inside, quote_laid}
+use Rattle.yaml_base.specs.scalars.DoubleQuoted.{double_inside, render_quote}
 use Rattle.yaml_base.specs.Meaning.{read_in_style}
 use Rattle.yaml_base.specs.reading.ReadPlain.{read_plain}
-use Rattle.yaml_base.specs.Layout.{properties_laid, separation_laid, body_laid, choice_of, entry_place, Role}
+use Rattle.yaml_base.specs.Layout.{render_properties, render_separation, render_body, choice_of, entry_place, Role}
 use Rattle.yaml_base.specs.Event.{scalar_tag}
 use Rattle.yaml_base.specs.reading.TidyText.{is_tidy}
 use Rattle.yaml_base.specs.streams.StreamScalars.{Rules}
 use Rattle.yaml_base.proofs.stream_lines.StreamCuts.{none_not_some}
 use Rattle.yaml_base.proofs.stream_flow.StreamPropertyWords.{lead}
 use Rattle.yaml_base.proofs.stream_nodes.StreamStands.{tag_written, tag_meant}
-use Rattle.yaml_base.proofs.stream_nodes.StreamLeads.{Ended, lead_laid}
+use Rattle.yaml_base.proofs.stream_nodes.StreamLeads.{EndedCollection, lead_rendered}
 use Rattle.yaml_base.proofs.stream_flow.StreamFlowWords.{FlowWord, Given, scalar_in, double_flow_word, single_flow_word, plain_flow_word}
 use Rattle.yaml_base.proofs.stream_flow.StreamFlowTakes.{and_false}
 
@@ -34,7 +34,7 @@ is_flow_style literal = false
 is_flow_style folded = false
 is_flow_style _ = true
 
-quotes_in_flow : (allowed : Allowances) → is_flow_style (style_quoted allowed) ≡ true
+quotes_in_flow : (allowed : Allowances) → is_flow_style (quoted_style allowed) ≡ true
 quotes_in_flow allowed = by allowed.single_quoted
   where
     by : (x : Bool) → is_flow_style (if x then single_quoted else double_quoted) ≡ true
@@ -43,7 +43,7 @@ quotes_in_flow allowed = by allowed.single_quoted
 
 -- where no block style fits the style is one of flow
 style_in_flow : (allowed : Allowances) (fits x : Bool) (asked : ScalarStyle)
-    → is_flow_style (style_fitting allowed fits (allowed.block && not true && not x) asked) ≡ true
+    → is_flow_style (fitting_style allowed fits (allowed.block && not true && not x) asked) ≡ true
 style_in_flow allowed true x plain = refl
 style_in_flow allowed false x plain = quotes_in_flow allowed
 style_in_flow allowed fits x single_quoted = quotes_in_flow allowed
@@ -67,7 +67,7 @@ chosen_in_flow s role column simple content =
     let allowed = allowances (record { unicode = s.unicode; breaks12 = s.breaks12 }) content.value in
     style_in_flow allowed
     (fits_plain allowed (is_empty content.value) (is_some (scalar_tag s.canonical content)) content.plain_implicit true simple) simple
-    (style_asked (s.canonical || (simple && allowed.multiline)) content.style)
+    (requested_style (s.canonical || (simple && allowed.multiline)) content.style)
 
 -- the bare tag stands before no plain scalar
 pub bare_not_plain : (tag quoted plain_style : Bool) → (not tag && not quoted && not plain_style) ≡ true → plain_style ≡ false
@@ -83,48 +83,48 @@ plain_case s own anchor tag given_tag column [] value given tidy read = absurd (
 plain_case s own anchor tag given_tag column (c ∷ t) value given tidy read =
     plain_flow_word (rules_of s own) anchor tag given_tag (Some column) c t value given tidy read
 
--- a body that is laid out in a style of flow is a word with what leads it
+-- a body that is rendered in a style of flow is a word with what leads it
 pub body_flow_word : (s : Effective) (own : List TagDirective) (anchor tag given_tag : Option Text) (style : ScalarStyle) (bare : Bool) (limit : Option ℕ)
     (indent column : ℕ)
     (value : Text) (cursor : Cursor) → Given (rules_of s own) anchor tag (tag_meant given_tag bare) → is_flow_style style ≡ true
     → (bare ≡ true → is_plain style ≡ false)
-    → is_tidy style s.breaks12 (Some column) (body_laid style s limit indent value cursor).text ≡ true
-    → read_in_style style s.breaks12 true (Some column) (body_laid style s limit indent value cursor).text ≡ Some value
-    → FlowWord (rules_of s own) (lead anchor tag ++ (body_laid style s limit indent value cursor).text) (scalar_in anchor given_tag style bare value)
+    → is_tidy style s.breaks12 (Some column) (render_body style s limit indent value cursor).text ≡ true
+    → read_in_style style s.breaks12 true (Some column) (render_body style s limit indent value cursor).text ≡ Some value
+    → FlowWord (rules_of s own) (lead anchor tag ++ (render_body style s limit indent value cursor).text) (scalar_in anchor given_tag style bare value)
 body_flow_word s own anchor tag given_tag plain true limit indent column value cursor given flow h tidy read = absurd (true≢false (h refl))
 body_flow_word s own anchor tag given_tag plain false limit indent column value cursor given flow h tidy read =
-    plain_case s own anchor tag given_tag column (body_laid plain s limit indent value cursor).text value given tidy read
+    plain_case s own anchor tag given_tag column (render_body plain s limit indent value cursor).text value given tidy read
 body_flow_word s own anchor tag given_tag single_quoted bare limit indent column value cursor given flow h tidy read =
     single_flow_word (rules_of s own) anchor tag given_tag bare (Some column)
-    ((runs_laid quotes_doubled limit indent true (runs value) (single_quote cursor).cursor).text ++ (0x27 ∷ [])) value given tidy read
+    ((render_runs quotes_doubled limit indent true (runs value) (single_quote cursor).cursor).text ++ (0x27 ∷ [])) value given tidy read
 body_flow_word s own anchor tag given_tag double_quoted bare limit indent column value cursor given flow h tidy read =
     double_flow_word (rules_of s own) anchor tag given_tag bare (Some column)
-    ((double_inside s.unicode limit indent None value (quote_laid cursor).cursor).text ++ (0x22 ∷ [])) value given tidy read
+    ((double_inside s.unicode limit indent None value (render_quote cursor).cursor).text ++ (0x22 ∷ [])) value given tidy read
 body_flow_word s own anchor tag given_tag any_style bare limit indent column value cursor given flow h tidy read = absurd (none_not_some read)
 body_flow_word s own anchor tag given_tag literal bare limit indent column value cursor given flow h tidy read = absurd (false≢true flow)
 body_flow_word s own anchor tag given_tag folded bare limit indent column value cursor given flow h tidy read = absurd (false≢true flow)
 
 -- after such a body white space has ended
 pub body_ended : (s : Effective) (style : ScalarStyle) (limit : Option ℕ) (indent : ℕ) (value : Text) (cursor : Cursor) → is_flow_style style ≡ true
-    → Ended (body_laid style s limit indent value cursor).cursor
+    → EndedCollection (render_body style s limit indent value cursor).cursor
 body_ended s plain limit indent value cursor h = record { white = refl; indention = refl }
 body_ended s single_quoted limit indent value cursor h = record {
   white = refl;
-  indention = and_false (runs_laid quotes_doubled limit indent true (runs value) (single_quote cursor).cursor).cursor.indention;
+  indention = and_false (render_runs quotes_doubled limit indent true (runs value) (single_quote cursor).cursor).cursor.indention;
 }
 body_ended s double_quoted limit indent value cursor h = record {
   white = refl;
-  indention = and_false (double_inside s.unicode limit indent None value (quote_laid cursor).cursor).cursor.indention;
+  indention = and_false (double_inside s.unicode limit indent None value (render_quote cursor).cursor).cursor.indention;
 }
 body_ended s any_style limit indent value cursor h = record {
   white = refl;
-  indention = and_false (double_inside s.unicode limit indent None value (quote_laid cursor).cursor).cursor.indention;
+  indention = and_false (double_inside s.unicode limit indent None value (render_quote cursor).cursor).cursor.indention;
 }
 body_ended s literal limit indent value cursor h = absurd (false≢true h)
 body_ended s folded limit indent value cursor h = absurd (false≢true h)
 
 -- in flow a space stands before each body, where none stands there
-pub separation_in_flow : (style : ScalarStyle) (value : Text) (cursor : Cursor) → (separation_laid style true value cursor).text ≡ space_if true cursor
+pub separation_in_flow : (style : ScalarStyle) (value : Text) (cursor : Cursor) → (render_separation style true value cursor).text ≡ space_if true cursor
 separation_in_flow plain value cursor = refl
 separation_in_flow single_quoted value cursor = refl
 separation_in_flow double_quoted value cursor = refl
@@ -135,11 +135,11 @@ separation_in_flow folded value cursor = refl
 -- a scalar's text is a space where one is needed, and what leads its body, and the body
 pub scalar_whole : (portable : Bool) (directives : List TagDirective) (anchor tag : Option Text) (bare : Bool) (style : ScalarStyle) (value : Text)
     (cursor : Cursor) (body : Text)
-    → (let properties : Laid = properties_laid portable directives anchor tag bare cursor in
-    (properties.text ++ (separation_laid style true value properties.cursor).text) ++ body)
+    → (let properties : Rendered = render_properties portable directives anchor tag bare cursor in
+    (properties.text ++ (render_separation style true value properties.cursor).text) ++ body)
     ≡ space_if true cursor ++ (lead anchor (tag_written portable directives tag bare) ++ body)
 scalar_whole portable directives anchor tag bare style value cursor body =
-    let properties = properties_laid portable directives anchor tag bare cursor in
+    let properties = render_properties portable directives anchor tag bare cursor in
     ap (λ t. (properties.text ++ t) ++ body) (separation_in_flow style value properties.cursor)
-    ∙ ap (λ t. t ++ body) (lead_laid portable directives anchor tag bare cursor)
+    ∙ ap (λ t. t ++ body) (lead_rendered portable directives anchor tag bare cursor)
     ∙ append_assoc (space_if true cursor) (lead anchor (tag_written portable directives tag bare)) body

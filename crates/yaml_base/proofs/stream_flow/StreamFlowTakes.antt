@@ -4,24 +4,24 @@ use Rattle.std.proofs.lemmas.Bool.{false≢true, eqb-true, and_parts}
 use Rattle.std.specs.Prelude.{ℕ, Bool, true, false, Option, List, [], ◌∷◌, ◌++◌, ◌==◌, ◌||◌, ◌&&◌, ◌+◌, not, length, codes, if◌then◌else◌}
 use Rattle.yaml_base.specs.Characters.{Text, space, line_feed}
 use Rattle.yaml_base.specs.Settings.{Effective}
-use Rattle.yaml_base.specs.Cursor.{Cursor, Laid, space_if, new_line, indicator}
-use Rattle.yaml_base.specs.Layout.{line_column, Brackets, square, curly, end_laid}
-use Rattle.yaml_base.specs.reading.ReadTags.{TagSaid}
+use Rattle.yaml_base.specs.Cursor.{Cursor, Rendered, space_if, new_line, indicator}
+use Rattle.yaml_base.specs.Layout.{line_column, Brackets, square, curly, render_end}
+use Rattle.yaml_base.specs.reading.ReadTags.{ParsedTag}
 use Rattle.yaml_base.specs.streams.StreamContent.{Tree, sequence_tree, mapping_tree, Trees, TreePairs}
-use Rattle.yaml_base.specs.streams.StreamLines.{spaces, is_spaces, ends_sign}
-use Rattle.yaml_base.specs.streams.StreamScalars.{Rules, properties_read, collection_tag_said}
-use Rattle.yaml_base.specs.streams.StreamTokens.{word, opens, sign, begins_bracket, class_of, is_pair, flow_tokens, free}
-use Rattle.yaml_base.specs.streams.StreamFlow.{no_key, key_due, key_held, Level, in_sequence, in_mapping, at_once, Awaited, entry_awaited, node_awaited}
+use Rattle.yaml_base.specs.streams.StreamLines.{spaces, is_spaces, ends_indicator}
+use Rattle.yaml_base.specs.streams.StreamScalars.{Rules, properties_read, collection_tag_parsed}
+use Rattle.yaml_base.specs.streams.StreamTokens.{word, opens, symbol, begins_bracket, class_of, is_pair, flow_tokens, free}
+use Rattle.yaml_base.specs.streams.StreamFlow.{no_key, key_due, key_held, OpenFlow, in_sequence, in_mapping, at_once, Awaited, entry_awaited, node_awaited}
 use Rattle.yaml_base.specs.streams.StreamFlow.{comma_awaited, colon_awaited, FlowReading, failed, within, with_tree, with_word, word_step, level_opened, opened}
 use Rattle.yaml_base.specs.streams.StreamFlow.{may_open, opened_with}
 use Rattle.yaml_base.proofs.stream_lines.StreamInside.{blank_spaces}
 use Rattle.yaml_base.proofs.stream_flow.StreamPlainWords.{ends_word}
-use Rattle.yaml_base.proofs.stream_flow.StreamSays.{EndsWord, sign_ends, says_sign, comma_class, square_class, curly_class}
-use Rattle.yaml_base.proofs.stream_flow.StreamTakes.{Takes, steps, takes_to, takes_sequence_end, takes_mapping_end}
-use Rattle.yaml_base.proofs.stream_nodes.StreamProperties.{properties_text, has_properties, read_as, properties_said}
+use Rattle.yaml_base.proofs.stream_flow.StreamSays.{EndsWord, indicator_ends, says_indicator, comma_class, square_class, curly_class}
+use Rattle.yaml_base.proofs.stream_flow.StreamTakes.{TakesBytes, steps, takes_to, takes_sequence_end, takes_mapping_end}
+use Rattle.yaml_base.proofs.stream_nodes.StreamProperties.{properties_text, has_properties, read_as, properties_parsed}
 use Rattle.yaml_base.proofs.stream_flow.StreamPropertyWords.{lead, opens_after}
 use Rattle.yaml_base.proofs.stream_nodes.StreamStands.{tag_meant}
-use Rattle.yaml_base.proofs.stream_nodes.StreamLeads.{Ended, lead_spaces, lead_then}
+use Rattle.yaml_base.proofs.stream_nodes.StreamLeads.{EndedCollection, lead_spaces, lead_then}
 use Rattle.yaml_base.proofs.stream_flow.StreamPasses.{takes_text, passes_both, passes_then, passes_comma, passes_entry_white, is_white_text, new_line_white}
 use Rattle.yaml_base.proofs.stream_flow.StreamFlowWords.{opens_inside, FlowWord, Given, given_leads, tag_of_collection}
 
@@ -30,32 +30,32 @@ abbrev pub awaited_of : (spaced : Bool) → Awaited
 awaited_of true = node_awaited true
 awaited_of false = entry_awaited
 
--- a node's text after its place's signs: a space where one is needed, and a word or collection that takes the reader to that
+-- a node's text after its place's indicators: a space where one is needed, and a word or collection that takes the reader to that
 -- place with the node's tree; as a simple key it takes it to the `:`
-pub record FlowNode (rules : Rules) (simple : Bool) (cursor : Cursor) (own : Laid) (tree : Tree) : Type 0 where
+pub record FlowNode (rules : Rules) (simple : Bool) (cursor : Cursor) (own : Rendered) (tree : Tree) : Type 0 where
   pub content : Text
   pub whole : own.text ≡ space_if true cursor ++ content
-  pub ended : Ended own.cursor
+  pub ended : EndedCollection own.cursor
   pub opens : opens_inside content ≡ true
-  pub takes : simple ≡ false → (levels : List Level) → may_open levels ≡ true → (spaced : Bool)
-      → Takes rules (within levels (awaited_of spaced)) content (with_tree levels tree)
-  pub key : simple ≡ true → (anchor tag : Option Text) (pairs : TreePairs) (levels : List Level)
-      → Takes rules (within (in_mapping anchor tag pairs no_key ∷ levels) entry_awaited) content
+  pub takes : simple ≡ false → (levels : List OpenFlow) → may_open levels ≡ true → (spaced : Bool)
+      → TakesBytes rules (within levels (awaited_of spaced)) content (with_tree levels tree)
+  pub key : simple ≡ true → (anchor tag : Option Text) (pairs : TreePairs) (levels : List OpenFlow)
+      → TakesBytes rules (within (in_mapping anchor tag pairs no_key ∷ levels) entry_awaited) content
       (within (in_mapping anchor tag pairs (key_held tree) ∷ levels) (colon_awaited at_once))
 
 -- the text of a collection's entries: a space where one is needed, the bracket, and what takes the reader over the entries
-pub record FlowEntries (rules : Rules) (bracket : ℕ) (cursor : Cursor) (own : Laid) (first last : Option Text → Option Text → Level) : Type 0 where
+pub record FlowEntries (rules : Rules) (bracket : ℕ) (cursor : Cursor) (own : Rendered) (first last : Option Text → Option Text → OpenFlow) : Type 0 where
   pub inside : Text
   pub whole : own.text ≡ space_if true cursor ++ (bracket ∷ inside)
-  pub ended : Ended own.cursor
+  pub ended : EndedCollection own.cursor
   pub opens : opens_inside inside ≡ true
-  pub takes : (anchor tag : Option Text) (levels : List Level)
-      → Takes rules (within (first anchor tag ∷ levels) entry_awaited) inside (within (last anchor tag ∷ levels) comma_awaited)
+  pub takes : (anchor tag : Option Text) (levels : List OpenFlow)
+      → TakesBytes rules (within (first anchor tag ∷ levels) entry_awaited) inside (within (last anchor tag ∷ levels) comma_awaited)
 
 -- Words
 
 -- where a mapping awaits no key a word is a node
-with_word_open : (breaks12 : Bool) (levels : List Level) (text : Text) (tree : Tree) → may_open levels ≡ true
+with_word_open : (breaks12 : Bool) (levels : List OpenFlow) (text : Text) (tree : Tree) → may_open levels ≡ true
     → with_word breaks12 levels text tree ≡ with_tree levels tree
 with_word_open breaks12 [] text tree h = refl
 with_word_open breaks12 (in_sequence anchor tag trees ∷ levels) text tree h = refl
@@ -64,8 +64,8 @@ with_word_open breaks12 (in_mapping anchor tag pairs key_due ∷ levels) text tr
 with_word_open breaks12 (in_mapping anchor tag pairs (key_held key) ∷ levels) text tree h = refl
 
 -- a word takes its place
-pub takes_word : (rules : Rules) (levels : List Level) (spaced : Bool) (text : Text) (tree : Tree) → FlowWord rules text tree → may_open levels ≡ true
-    → Takes rules (within levels (awaited_of spaced)) text (with_tree levels tree)
+pub takes_word : (rules : Rules) (levels : List OpenFlow) (spaced : Bool) (text : Text) (tree : Tree) → FlowWord rules text tree → may_open levels ≡ true
+    → TakesBytes rules (within levels (awaited_of spaced)) text (with_tree levels tree)
 takes_word rules levels true text tree of h =
     takes_to rules (within levels (node_awaited true)) (with_tree levels tree) text (word text ∷ []) of.says
     (ap (word_step rules.breaks12 levels text) of.reads ∙ with_word_open rules.breaks12 levels text tree h)
@@ -76,25 +76,25 @@ takes_word rules levels false text tree of h =
 -- Collections
 
 -- properties before a bracket fill their text
-lead_reads : (rules : Rules) (anchor tag : Option Text) (said : Option TagSaid) → Given rules anchor tag said
-    → properties_read rules.directives (lead anchor tag) ≡ read_as anchor said (length (properties_text anchor tag) + lead_spaces anchor tag) []
-lead_reads rules anchor tag said given =
+lead_reads : (rules : Rules) (anchor tag : Option Text) (parsed : Option ParsedTag) → Given rules anchor tag parsed
+    → properties_read rules.directives (lead anchor tag) ≡ read_as anchor parsed (length (properties_text anchor tag) + lead_spaces anchor tag) []
+lead_reads rules anchor tag parsed given =
     ap (properties_read rules.directives) (sym (append-nil (lead anchor tag)) ∙ lead_then anchor tag [])
-    ∙ properties_said rules.directives anchor tag said (lead_spaces anchor tag) [] given.named given.tagged refl (by (has_properties anchor tag))
+    ∙ properties_parsed rules.directives anchor tag parsed (lead_spaces anchor tag) [] given.named given.tagged refl (by (has_properties anchor tag))
   where
-    by : (x : Bool) → x ≡ true → ends_sign (spaces (if x then 1 else 0) ++ []) ≡ true
+    by : (x : Bool) → x ≡ true → ends_indicator (spaces (if x then 1 else 0) ++ []) ≡ true
     by true h = refl
     by false h = absurd (false≢true h)
 
 -- a collection opens where a node may begin
-opens_level : (rules : Rules) (levels : List Level) (bracket : ℕ) (anchor tag given_tag : Option Text) → Given rules anchor tag (tag_meant given_tag false)
+opens_level : (rules : Rules) (levels : List OpenFlow) (bracket : ℕ) (anchor tag given_tag : Option Text) → Given rules anchor tag (tag_meant given_tag false)
     → may_open levels ≡ true
     → opened_with levels bracket (properties_read rules.directives (lead anchor tag)) ≡ within (level_opened bracket anchor given_tag ∷ levels) entry_awaited
 opens_level rules levels bracket anchor tag given_tag given h =
     let count = length (properties_text anchor tag) + lead_spaces anchor tag in
     ap (opened_with levels bracket) (lead_reads rules anchor tag (tag_meant given_tag false) given)
-    ∙ ap (λ x. if x && is_spaces (spaces count ++ []) then opened levels bracket anchor (collection_tag_said (tag_meant given_tag false)) else failed) h
-    ∙ ap (λ x. if x then opened levels bracket anchor (collection_tag_said (tag_meant given_tag false)) else failed)
+    ∙ ap (λ x. if x && is_spaces (spaces count ++ []) then opened levels bracket anchor (collection_tag_parsed (tag_meant given_tag false)) else failed) h
+    ∙ ap (λ x. if x then opened levels bracket anchor (collection_tag_parsed (tag_meant given_tag false)) else failed)
     (ap is_spaces (append-nil (spaces count)) ∙ blank_spaces count)
     ∙ ap (opened levels bracket anchor) (tag_of_collection given_tag)
 
@@ -112,12 +112,12 @@ no_pair bracket c rest h =
     by false false false false h k = refl
 
 -- a collection takes its place
-pub takes_collection : (rules : Rules) (levels : List Level) (spaced : Bool) (bracket : ℕ) (anchor tag given_tag : Option Text) (inside : Text)
+pub takes_collection : (rules : Rules) (levels : List OpenFlow) (spaced : Bool) (bracket : ℕ) (anchor tag given_tag : Option Text) (inside : Text)
     (to : FlowReading)
     → Given rules anchor tag (tag_meant given_tag false) → may_open levels ≡ true → class_of rules.breaks12 bracket ≡ begins_bracket
     → opens_inside inside ≡ true
-    → Takes rules (within (level_opened bracket anchor given_tag ∷ levels) entry_awaited) inside to
-    → Takes rules (within levels (awaited_of spaced)) (lead anchor tag ++ (bracket ∷ inside)) to
+    → TakesBytes rules (within (level_opened bracket anchor given_tag ∷ levels) entry_awaited) inside to
+    → TakesBytes rules (within levels (awaited_of spaced)) (lead anchor tag ++ (bracket ∷ inside)) to
 takes_collection rules levels spaced bracket anchor tag given_tag [] to given h class opens_it takes = absurd (false≢true opens_it)
 takes_collection rules levels spaced bracket anchor tag given_tag (c ∷ inside) to given h class opens_it takes = record {
   takes = λ rest ends.
@@ -156,29 +156,29 @@ white_opens (c ∷ a) b h k = by (c == space) (c == line_feed) refl refl (and_pa
 -- Ends
 
 -- the end of a collection that holds something, from its last entry on
-pub record FlowEnd (rules : Rules) (ending : Laid) (levels : List Level) (to : FlowReading) : Type 0 where
-  pub ended : Ended ending.cursor
+pub record FlowEnd (rules : Rules) (ending : Rendered) (levels : List OpenFlow) (to : FlowReading) : Type 0 where
+  pub ended : EndedCollection ending.cursor
   pub ends : EndsWord rules.breaks12 ending.text
-  pub takes : Takes rules (within levels comma_awaited) ending.text to
+  pub takes : TakesBytes rules (within levels comma_awaited) ending.text to
 
 pub and_false : (x : Bool) → (x && false) ≡ false
 and_false true = refl
 and_false false = refl
 
 -- a bracket that closes, after the last entry or after a comma and white space
-closes : (rules : Rules) (s : Effective) (levels : List Level) (to : FlowReading) (brackets : Brackets) (bracket : ℕ) (column : Option ℕ) (cursor : Cursor)
+closes : (rules : Rules) (s : Effective) (levels : List OpenFlow) (to : FlowReading) (brackets : Brackets) (bracket : ℕ) (column : Option ℕ) (cursor : Cursor)
     → brackets.closing ≡ bracket ∷ [] → EndsWord rules.breaks12 (bracket ∷ [])
-    → Takes rules (within levels comma_awaited) (bracket ∷ []) to → Takes rules (within levels entry_awaited) (bracket ∷ []) to
-    → FlowEnd rules (end_laid s brackets true false column cursor) levels to
+    → TakesBytes rules (within levels comma_awaited) (bracket ∷ []) to → TakesBytes rules (within levels entry_awaited) (bracket ∷ []) to
+    → FlowEnd rules (render_end s brackets true false column cursor) levels to
 closes rules s levels to brackets bracket column cursor e ends at_once_taken after_comma = by s.canonical
   where
     line : Text
     line = (new_line (line_column column) (indicator (codes ",") false false false cursor).cursor).text
 
-    by : (canonical : Bool) → FlowEnd rules (end_laid (record s { canonical = canonical }) brackets true false column cursor) levels to
+    by : (canonical : Bool) → FlowEnd rules (render_end (record s { canonical = canonical }) brackets true false column cursor) levels to
     by true = record {
       ended = record { white = refl; indention = refl };
-      ends = λ rest h. sign_ends rules.breaks12 0x2C (line ++ brackets.closing) (comma_class rules.breaks12) rest h;
+      ends = λ rest h. indicator_ends rules.breaks12 0x2C (line ++ brackets.closing) (comma_class rules.breaks12) rest h;
       takes =
           takes_text rules (within levels comma_awaited) to ((0x2C ∷ line) ++ brackets.closing) ((0x2C ∷ line) ++ (bracket ∷ []))
           (ap (λ t. (0x2C ∷ line) ++ t) e)
@@ -195,21 +195,22 @@ closes rules s levels to brackets bracket column cursor e ends at_once_taken aft
     }
 
 -- a sequence that holds something ends
-pub sequence_ends : (rules : Rules) (s : Effective) (anchor tag : Option Text) (items : Trees) (levels : List Level) (column : Option ℕ) (cursor : Cursor)
-    → FlowEnd rules (end_laid s square true false column cursor) (in_sequence anchor tag items ∷ levels) (with_tree levels (sequence_tree anchor tag items))
+pub sequence_ends : (rules : Rules) (s : Effective) (anchor tag : Option Text) (items : Trees) (levels : List OpenFlow) (column : Option ℕ) (cursor : Cursor)
+    → FlowEnd rules (render_end s square true false column cursor) (in_sequence anchor tag items ∷ levels) (with_tree levels (sequence_tree anchor tag items))
 sequence_ends rules s anchor tag items levels column cursor =
     closes rules s (in_sequence anchor tag items ∷ levels) (with_tree levels (sequence_tree anchor tag items)) square 0x5D column cursor refl
-    (sign_ends rules.breaks12 0x5D [] (square_class rules.breaks12))
+    (indicator_ends rules.breaks12 0x5D [] (square_class rules.breaks12))
     (takes_sequence_end rules anchor tag items levels)
     (takes_to rules (within (in_sequence anchor tag items ∷ levels) entry_awaited) (with_tree levels (sequence_tree anchor tag items))
-    (0x5D ∷ []) (sign 0x5D ∷ []) (says_sign rules.breaks12 0x5D (square_class rules.breaks12)) refl)
+    (0x5D ∷ []) (symbol 0x5D ∷ []) (says_indicator rules.breaks12 0x5D (square_class rules.breaks12)) refl)
 
 -- and a mapping
-pub mapping_ends : (rules : Rules) (s : Effective) (anchor tag : Option Text) (pairs : TreePairs) (levels : List Level) (column : Option ℕ) (cursor : Cursor)
-    → FlowEnd rules (end_laid s curly true false column cursor) (in_mapping anchor tag pairs no_key ∷ levels) (with_tree levels (mapping_tree anchor tag pairs))
+pub mapping_ends : (rules : Rules) (s : Effective) (anchor tag : Option Text) (pairs : TreePairs) (levels : List OpenFlow) (column : Option ℕ) (cursor : Cursor)
+    → FlowEnd rules (render_end s curly true false column cursor) (in_mapping anchor tag pairs no_key ∷ levels)
+    (with_tree levels (mapping_tree anchor tag pairs))
 mapping_ends rules s anchor tag pairs levels column cursor =
     closes rules s (in_mapping anchor tag pairs no_key ∷ levels) (with_tree levels (mapping_tree anchor tag pairs)) curly 0x7D column cursor refl
-    (sign_ends rules.breaks12 0x7D [] (curly_class rules.breaks12))
+    (indicator_ends rules.breaks12 0x7D [] (curly_class rules.breaks12))
     (takes_mapping_end rules anchor tag pairs levels)
     (takes_to rules (within (in_mapping anchor tag pairs no_key ∷ levels) entry_awaited) (with_tree levels (mapping_tree anchor tag pairs))
-    (0x7D ∷ []) (sign 0x7D ∷ []) (says_sign rules.breaks12 0x7D (curly_class rules.breaks12)) refl)
+    (0x7D ∷ []) (symbol 0x7D ∷ []) (says_indicator rules.breaks12 0x7D (curly_class rules.breaks12)) refl)

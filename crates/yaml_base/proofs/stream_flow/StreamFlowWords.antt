@@ -8,16 +8,17 @@ use Rattle.yaml_base.specs.Characters.{Text, space, is_alpha, is_among, is_blank
 use Rattle.yaml_base.specs.LineBreaks.{is_read_break}
 use Rattle.yaml_base.specs.Event.{ScalarStyle, any_style, plain, single_quoted, double_quoted, literal, folded}
 use Rattle.yaml_base.specs.scalars.Style.{is_plain}
-use Rattle.yaml_base.specs.reading.ReadTags.{TagSaid}
+use Rattle.yaml_base.specs.reading.ReadTags.{ParsedTag}
 use Rattle.yaml_base.specs.reading.ReadPlain.{is_read_white, begins_white, begins_with_hash, holds_no_plain, read_plain}
 use Rattle.yaml_base.specs.reading.ReadSingle.{read_single}
 use Rattle.yaml_base.specs.reading.ReadDouble.{read_double}
 use Rattle.yaml_base.specs.reading.TidyText.{is_tidy, has_deep_lines, has_no_space_before_break, has_clean_edges}
 use Rattle.yaml_base.specs.streams.StreamContent.{Tree, alias_tree, scalar_tree, sequence_tree, mapping_tree, no_trees, no_tree_pairs}
-use Rattle.yaml_base.specs.streams.StreamLines.{spaces, ends_sign}
-use Rattle.yaml_base.specs.streams.StreamScalars.{Rules, name_read, tagging_said, standing_of, scalar_said, scalar_of_style, collection_tag_said, a_scalar}
+use Rattle.yaml_base.specs.streams.StreamLines.{spaces, ends_indicator}
+use Rattle.yaml_base.specs.streams.StreamScalars.{Rules, name_read, tagging_parsed, standing_of, scalar_parsed, scalar_of_style}
+use Rattle.yaml_base.specs.streams.StreamScalars.{collection_tag_parsed, a_scalar}
 use Rattle.yaml_base.specs.streams.StreamScalars.{word_by_kind, kind_of_word, word_after, word_read}
-use Rattle.yaml_base.specs.streams.StreamTokens.{word, begins_plain, class_of, flow_tokens, begun, FlowTurn}
+use Rattle.yaml_base.specs.streams.StreamTokens.{word, begins_plain, class_of, flow_tokens, begun, FlowStep}
 use Rattle.yaml_base.proofs.stream_nodes.StreamAgrees.{tagging_in}
 use Rattle.yaml_base.proofs.stream_lines.StreamTidyLaws.{tidy_at_root}
 use Rattle.yaml_base.proofs.stream_flow.StreamPlainWords.{all_stay, ends_shown, stays_plain, is_white_class, plain_text_word}
@@ -42,40 +43,41 @@ pub record FlowWord (rules : Rules) (text : Text) (tree : Tree) : Type 0 where
   pub opens : opens_inside text ≡ true
 
 -- an anchor and a tag, as they are written and as they are meant
-pub record Given (rules : Rules) (anchor tag : Option Text) (said : Option TagSaid) : Type 0 where
+pub record Given (rules : Rules) (anchor tag : Option Text) (parsed : Option ParsedTag) : Type 0 where
   pub named : IsNamed anchor
-  pub tagged : IsTagged rules.directives tag said
+  pub tagged : IsTagged rules.directives tag parsed
 
 -- they are passed by the tokens
-pub given_leads : (rules : Rules) (anchor tag : Option Text) (said : Option TagSaid) → Given rules anchor tag said → Leads rules.breaks12 (lead anchor tag)
-given_leads rules anchor tag said given rest = lead_passes rules.breaks12 rules.directives anchor tag said rest given.named given.tagged
+pub given_leads : (rules : Rules) (anchor tag : Option Text) (parsed : Option ParsedTag) → Given rules anchor tag parsed
+    → Leads rules.breaks12 (lead anchor tag)
+given_leads rules anchor tag parsed given rest = lead_passes rules.breaks12 rules.directives anchor tag parsed rest given.named given.tagged
 
 -- what follows them is read with them
-pub given_reads : (rules : Rules) (flow : Bool) (anchor tag : Option Text) (said : Option TagSaid) (rest : Text) → Given rules anchor tag said
-    → begins_content rest ≡ true → word_read rules flow (lead anchor tag ++ rest) ≡ word_after rules flow None (record { anchor = anchor; tag = said }) rest
-given_reads rules flow anchor tag said rest given own =
+pub given_reads : (rules : Rules) (flow : Bool) (anchor tag : Option Text) (parsed : Option ParsedTag) (rest : Text) → Given rules anchor tag parsed
+    → begins_content rest ≡ true → word_read rules flow (lead anchor tag ++ rest) ≡ word_after rules flow None (record { anchor = anchor; tag = parsed }) rest
+given_reads rules flow anchor tag parsed rest given own =
     ap (word_read rules flow) (lead_then anchor tag rest)
-    ∙ word_with_properties rules flow anchor tag said (lead_spaces anchor tag) rest given.named given.tagged own (by (has_properties anchor tag))
+    ∙ word_with_properties rules flow anchor tag parsed (lead_spaces anchor tag) rest given.named given.tagged own (by (has_properties anchor tag))
   where
-    by : (x : Bool) → x ≡ true → ends_sign (spaces (if x then 1 else 0) ++ rest) ≡ true
+    by : (x : Bool) → x ≡ true → ends_indicator (spaces (if x then 1 else 0) ++ rest) ≡ true
     by true h = refl
     by false h = absurd (false≢true h)
 
 -- properties begin with `&` or `!`, and else it is what follows them
-pub lead_opens : (rules : Rules) (anchor tag : Option Text) (said : Option TagSaid) (rest : Text) → Given rules anchor tag said → opens_inside rest ≡ true
+pub lead_opens : (rules : Rules) (anchor tag : Option Text) (parsed : Option ParsedTag) (rest : Text) → Given rules anchor tag parsed → opens_inside rest ≡ true
     → opens_inside (lead anchor tag ++ rest) ≡ true
 lead_opens rules None None None rest given h = h
-lead_opens rules (Some name) None said rest given h = refl
-lead_opens rules (Some name) (Some tag) said rest given h = refl
-lead_opens rules None (Some tag) (Some said) rest given h = ap (λ t. opens_inside ((t ++ (space ∷ [])) ++ rest)) given.tagged.begins
+lead_opens rules (Some name) None parsed rest given h = refl
+lead_opens rules (Some name) (Some tag) parsed rest given h = refl
+lead_opens rules None (Some tag) (Some parsed) rest given h = ap (λ t. opens_inside ((t ++ (space ∷ [])) ++ rest)) given.tagged.begins
 lead_opens rules None (Some tag) None rest given h = absurd given.tagged
-lead_opens rules None None (Some said) rest given h = absurd given.tagged
+lead_opens rules None None (Some parsed) rest given h = absurd given.tagged
 
 -- Scalars
 
 -- how a scalar is tagged that is written so
 pub tagging_meant : (tag : Option Text) (style : ScalarStyle) (bare : Bool) → (bare ≡ true → is_plain style ≡ false)
-    → tagging_said (tag_meant tag bare) (standing_of style) ≡ Some (tagging_in tag (record { style = style; bare = bare }))
+    → tagging_parsed (tag_meant tag bare) (standing_of style) ≡ Some (tagging_in tag (record { style = style; bare = bare }))
 tagging_meant (Some tag) style bare h = refl
 tagging_meant None plain true h = absurd (true≢false (h refl))
 tagging_meant None any_style true h = refl
@@ -98,11 +100,12 @@ scalar_in anchor tag style bare value = scalar_tree anchor (tagging_in tag (reco
 pub scalar_meant : (rules : Rules) (flow : Bool) (anchor tag : Option Text) (style : ScalarStyle) (bare : Bool) (column : Option ℕ) (text v : Text)
     (value : Option Text)
     → (bare ≡ true → is_plain style ≡ false) → is_tidy style rules.breaks12 column text ≡ true → value ≡ Some v
-    → scalar_said (record { anchor = anchor; tag = tag_meant tag bare }) (standing_of style) (if is_tidy style rules.breaks12 column text then value else None)
+    → scalar_parsed (record { anchor = anchor; tag = tag_meant tag bare }) (standing_of style)
+    (if is_tidy style rules.breaks12 column text then value else None)
     ≡ Some (scalar_in anchor tag style bare v)
 scalar_meant rules flow anchor tag style bare column text v value h tidy read =
-    ap (λ x. scalar_said (record { anchor = anchor; tag = tag_meant tag bare }) (standing_of style) (if x then value else None)) tidy
-    ∙ ap (scalar_said (record { anchor = anchor; tag = tag_meant tag bare }) (standing_of style)) read
+    ap (λ x. scalar_parsed (record { anchor = anchor; tag = tag_meant tag bare }) (standing_of style) (if x then value else None)) tidy
+    ∙ ap (scalar_parsed (record { anchor = anchor; tag = tag_meant tag bare }) (standing_of style)) read
     ∙ ap (option_map (λ tagging. scalar_tree anchor tagging v)) (tagging_meant tag style bare h)
 
 -- a text in quotes is a scalar
@@ -149,9 +152,9 @@ single_flow_word rules anchor tag given_tag bare column t v given tidy read = re
 -- what begins plain text in flow is of that class
 plain_class : (breaks12 : Bool) (c : ℕ) → is_read_white breaks12 c ≡ false → Begins c → is_among (codes ",?:[]{}") c ≡ false
     → class_of breaks12 c ≡ begins_plain
-plain_class breaks12 c white b sign =
+plain_class breaks12 c white b symbol =
     let parts = or_parts (is_blank c) (is_read_break breaks12 c) white in
-    let is_not : (n : ℕ) → is_among (codes ",?:[]{}") n ≡ true → (c == n) ≡ false = λ n member. not_among (codes ",?:[]{}") c n member sign in
+    let is_not : (n : ℕ) → is_among (codes ",?:[]{}") n ≡ true → (c == n) ≡ false = λ n member. not_among (codes ",?:[]{}") c n member symbol in
     rw (
       parts.0,
       parts.1,
@@ -168,9 +171,9 @@ plain_class breaks12 c white b sign =
       is_not 0x7B refl,
     ) refl
 
--- what holds no sign of flow doesn't begin with one
-first_no_sign : (breaks12 : Bool) (c : ℕ) (t : Text) → holds_no_plain breaks12 true (c ∷ t) ≡ false → is_among (codes ",?:[]{}") c ≡ false
-first_no_sign breaks12 c t h =
+-- what holds no flow indicator doesn't begin with one
+first_no_indicator : (breaks12 : Bool) (c : ℕ) (t : Text) → holds_no_plain breaks12 true (c ∷ t) ≡ false → is_among (codes ",?:[]{}") c ≡ false
+first_no_indicator breaks12 c t h =
     let parts = or_parts ((c == 58 && begins_white breaks12 t) || (is_read_white breaks12 c && begins_with_hash t) || is_among (codes ",?:[]{}") c)
     (holds_no_plain breaks12 true t) h in
     (or_parts ((c == 58 && begins_white breaks12 t) || (is_read_white breaks12 c && begins_with_hash t)) (is_among (codes ",?:[]{}") c) parts.0).1
@@ -191,25 +194,25 @@ plain_flow_word rules anchor tag given_tag column c t v given tidy read =
     let white = tidy_begins rules.breaks12 c t at_root in
     let parts = reads_plain rules.breaks12 true c t v read in
     let b = begins rules.breaks12 c t parts.0 white in
-    let sign = first_no_sign rules.breaks12 c t parts.1 in
+    let symbol = first_no_indicator rules.breaks12 c t parts.1 in
     record {
       says =
           says_plain_after rules.breaks12 (lead anchor tag) c t v (given_leads rules anchor tag (tag_meant given_tag false) given)
-          (plain_class rules.breaks12 c white b sign) read (tidy_clean rules.breaks12 (c ∷ t) at_root);
+          (plain_class rules.breaks12 c white b symbol) read (tidy_clean rules.breaks12 (c ∷ t) at_root);
       reads =
           given_reads rules true anchor tag (tag_meant given_tag false) (c ∷ t) given (own b)
           ∙ ap (λ kind. word_by_kind kind rules true None (record { anchor = anchor; tag = tag_meant given_tag false }) (c ∷ t)) (plain_kind c t b)
           ∙ ap (λ style. scalar_of_style style rules true None (record { anchor = anchor; tag = tag_meant given_tag false }) (c ∷ t)) (plain_style c t b)
           ∙ scalar_meant rules true anchor given_tag plain false None (c ∷ t) v (read_plain rules.breaks12 true (c ∷ t))
           (λ h. absurd (false≢true h)) at_root read;
-      opens = lead_opens rules anchor tag (tag_meant given_tag false) (c ∷ t) given (opened sign);
+      opens = lead_opens rules anchor tag (tag_meant given_tag false) (c ∷ t) given (opened symbol);
     }
   where
     own : Begins c → begins_content (c ∷ t) ≡ true
     own b = rw (b.blank, b.anchor, b.tag) refl
 
     opened : is_among (codes ",?:[]{}") c ≡ false → opens_inside (c ∷ t) ≡ true
-    opened sign = rw (not_among (codes ",?:[]{}") c 0x5D refl sign, not_among (codes ",?:[]{}") c 0x7D refl sign) refl
+    opened symbol = rw (not_among (codes ",?:[]{}") c 0x5D refl symbol, not_among (codes ",?:[]{}") c 0x7D refl symbol) refl
 
 -- Aliases
 
@@ -217,12 +220,12 @@ plain_flow_word rules anchor tag given_tag column c t v given tidy read =
 letter_class : (breaks12 : Bool) (c : ℕ) → is_alpha c ≡ true → class_of breaks12 c ≡ begins_plain
 letter_class breaks12 c h =
     let blank : is_blank c ≡ false = grind (arith, nat_tests, h) in
-    let sign : is_among (codes "]},:?") c ≡ false = grind (arith, nat_tests, h) in
+    let symbol : is_among (codes "]},:?") c ≡ false = grind (arith, nat_tests, h) in
     let property : is_among (codes "&!") c ≡ false = grind (arith, nat_tests, h) in
     let double : (c == 0x22) ≡ false = grind (arith, nat_tests, h) in
     let single : (c == 0x27) ≡ false = grind (arith, nat_tests, h) in
     let bracket : is_among (codes "[{") c ≡ false = grind (arith, nat_tests, h) in
-    rw (blank, no_break breaks12, sign, property, double, single, bracket) refl
+    rw (blank, no_break breaks12, symbol, property, double, single, bracket) refl
   where
     no_break : (breaks12 : Bool) → is_read_break breaks12 c ≡ false
     no_break true = grind (arith, nat_tests, h)
@@ -252,7 +255,7 @@ alias_flow_word rules [] h = absurd (none_not_some h)
 alias_flow_word rules (n ∷ name) h = record {
   says = record {
     says = λ rest ends.
-        ap (λ class. (let here : FlowTurn = begun class [] 0x2A in here.tokens ++ flow_tokens rules.breaks12 here.place ((n ∷ name) ++ rest)))
+        ap (λ class. (let here : FlowStep = begun class [] 0x2A in here.tokens ++ flow_tokens rules.breaks12 here.place ((n ∷ name) ++ rest)))
         (star_class rules.breaks12)
         ∙ plain_text_word rules.breaks12 [] 0x2A (n ∷ name) rest (letters_stay rules.breaks12 (n ∷ name) (name_letters (n ∷ name) h))
         (letters_shown rules.breaks12 n name (name_letters (n ∷ name) h)) ends;
@@ -264,7 +267,7 @@ alias_flow_word rules (n ∷ name) h = record {
 -- Empty collections
 
 -- the tag of a collection, if it has one
-pub tag_of_collection : (tag : Option Text) → collection_tag_said (tag_meant tag false) ≡ Some tag
+pub tag_of_collection : (tag : Option Text) → collection_tag_parsed (tag_meant tag false) ≡ Some tag
 tag_of_collection None = refl
 tag_of_collection (Some tag) = refl
 

@@ -1,4 +1,4 @@
--- Signs and white space in flow, which take the reader of flow collections on whatever follows them.
+-- Indicators and white space in flow, which take the reader of flow collections on whatever follows them.
 use Rattle.std.proofs.Common.{◌≡◌, zero, suc, refl, ap, ◌∙◌, append_assoc}
 use Rattle.std.proofs.lemmas.Bool.{true≢false, false≢true, eqb-true, and_parts, and_from}
 use Rattle.std.proofs.lemmas.List.Folds.{list_all-append}
@@ -6,15 +6,15 @@ use Rattle.std.specs.List.{list_all}
 use Rattle.std.specs.Prelude.{ℕ, Bool, true, false, Option, List, [], ◌∷◌, ◌++◌, ◌==◌, ◌||◌, ◌&&◌, ◌-◌, not, nat_lt, replicate, codes, if◌then◌else◌}
 use Rattle.yaml_base.specs.Characters.{Text, space, line_feed}
 use Rattle.yaml_base.specs.Settings.{Effective}
-use Rattle.yaml_base.specs.Cursor.{Cursor, Laid, nothing_laid, then_laid, new_line, breaks_line, space_if, indicator, is_past_width}
+use Rattle.yaml_base.specs.Cursor.{Cursor, Rendered, render_nothing, render_then, new_line, breaks_line, space_if, indicator, is_past_width}
 use Rattle.yaml_base.specs.Layout.{line_column, flow_break}
 use Rattle.yaml_base.specs.streams.StreamScalars.{Rules}
-use Rattle.yaml_base.specs.streams.StreamTokens.{sign, blank, line_end, free, is_flow_sign, class_of, FlowTurn, begun, flow_tokens}
-use Rattle.yaml_base.specs.streams.StreamFlow.{Level, at_once, after_white, entry_awaited, node_awaited, comma_awaited, colon_awaited, FlowReading, within}
+use Rattle.yaml_base.specs.streams.StreamTokens.{symbol, blank, line_end, free, is_flow_indicator, class_of, FlowStep, begun, flow_tokens}
+use Rattle.yaml_base.specs.streams.StreamFlow.{OpenFlow, at_once, after_white, entry_awaited, node_awaited, comma_awaited, colon_awaited, FlowReading, within}
 use Rattle.yaml_base.specs.streams.StreamFlow.{flow_step}
 use Rattle.yaml_base.proofs.stream_flow.StreamWhites.{space_class, line_feed_class}
 use Rattle.yaml_base.proofs.stream_flow.StreamSays.{comma_class, colon_class, question_class}
-use Rattle.yaml_base.proofs.stream_flow.StreamTakes.{Takes, steps}
+use Rattle.yaml_base.proofs.stream_flow.StreamTakes.{TakesBytes, steps}
 
 -- a text takes the reader from a reading to another, before anything
 pub record Passes (rules : Rules) (from : FlowReading) (text : Text) (to : FlowReading) : Type 0 where
@@ -33,8 +33,8 @@ passes_both rules from through to a b one two = record {
 }
 
 -- and then one that takes it on before what ends a word
-pub passes_then : (rules : Rules) (from through to : FlowReading) (a b : Text) → Passes rules from a through → Takes rules through b to
-    → Takes rules from (a ++ b) to
+pub passes_then : (rules : Rules) (from through to : FlowReading) (a b : Text) → Passes rules from a through → TakesBytes rules through b to
+    → TakesBytes rules from (a ++ b) to
 passes_then rules from through to a b one two = record {
   takes = λ rest h.
       ap (λ t. steps rules from (flow_tokens rules.breaks12 free t)) (append_assoc a b rest) ∙ one.passes (b ++ rest) ∙ two.takes rest h;
@@ -46,25 +46,25 @@ passes_text rules from to a b e one = record {
   passes = λ rest. ap (λ t. steps rules from (flow_tokens rules.breaks12 free (t ++ rest))) e ∙ one.passes rest;
 }
 
-pub takes_text : (rules : Rules) (from to : FlowReading) (a b : Text) → a ≡ b → Takes rules from b to → Takes rules from a to
+pub takes_text : (rules : Rules) (from to : FlowReading) (a b : Text) → a ≡ b → TakesBytes rules from b to → TakesBytes rules from a to
 takes_text rules from to a b e one = record {
   takes = λ rest h. ap (λ t. steps rules from (flow_tokens rules.breaks12 free (t ++ rest))) e ∙ one.takes rest h;
 }
 
 -- One character
 
-passes_sign : (rules : Rules) (from to : FlowReading) (c : ℕ) → class_of rules.breaks12 c ≡ is_flow_sign → flow_step rules from (sign c) ≡ to
+passes_indicator : (rules : Rules) (from to : FlowReading) (c : ℕ) → class_of rules.breaks12 c ≡ is_flow_indicator → flow_step rules from (symbol c) ≡ to
     → Passes rules from (c ∷ []) to
-passes_sign rules from to c e step = record {
+passes_indicator rules from to c e step = record {
   passes = λ rest.
-      ap (λ class. steps rules from (let here : FlowTurn = begun class [] c in here.tokens ++ flow_tokens rules.breaks12 here.place rest)) e
+      ap (λ class. steps rules from (let here : FlowStep = begun class [] c in here.tokens ++ flow_tokens rules.breaks12 here.place rest)) e
       ∙ ap (λ r. steps rules r (flow_tokens rules.breaks12 free rest)) step;
 }
 
 passes_space : (rules : Rules) (from to : FlowReading) → flow_step rules from blank ≡ to → Passes rules from (space ∷ []) to
 passes_space rules from to step = record {
   passes = λ rest.
-      ap (λ class. steps rules from (let here : FlowTurn = begun class [] space in here.tokens ++ flow_tokens rules.breaks12 here.place rest))
+      ap (λ class. steps rules from (let here : FlowStep = begun class [] space in here.tokens ++ flow_tokens rules.breaks12 here.place rest))
       (space_class rules.breaks12)
       ∙ ap (λ r. steps rules r (flow_tokens rules.breaks12 free rest)) step;
 }
@@ -72,33 +72,34 @@ passes_space rules from to step = record {
 passes_line_feed : (rules : Rules) (from to : FlowReading) → flow_step rules from line_end ≡ to → Passes rules from (line_feed ∷ []) to
 passes_line_feed rules from to step = record {
   passes = λ rest.
-      ap (λ class. steps rules from (let here : FlowTurn = begun class [] line_feed in here.tokens ++ flow_tokens rules.breaks12 here.place rest))
+      ap (λ class. steps rules from (let here : FlowStep = begun class [] line_feed in here.tokens ++ flow_tokens rules.breaks12 here.place rest))
       (line_feed_class rules.breaks12)
       ∙ ap (λ r. steps rules r (flow_tokens rules.breaks12 free rest)) step;
 }
 
 -- a comma after an entry
-pub passes_comma : (rules : Rules) (levels : List Level) → Passes rules (within levels comma_awaited) (0x2C ∷ []) (within levels entry_awaited)
-passes_comma rules levels = passes_sign rules (within levels comma_awaited) (within levels entry_awaited) 0x2C (comma_class rules.breaks12) refl
+pub passes_comma : (rules : Rules) (levels : List OpenFlow) → Passes rules (within levels comma_awaited) (0x2C ∷ []) (within levels entry_awaited)
+passes_comma rules levels = passes_indicator rules (within levels comma_awaited) (within levels entry_awaited) 0x2C (comma_class rules.breaks12) refl
 
 -- a `:` at once
-pub passes_colon : (rules : Rules) (levels : List Level) → Passes rules (within levels (colon_awaited at_once)) (0x3A ∷ []) (within levels (node_awaited false))
-passes_colon rules levels = passes_sign rules (within levels (colon_awaited at_once)) (within levels (node_awaited false)) 0x3A
+pub passes_colon : (rules : Rules) (levels : List OpenFlow)
+    → Passes rules (within levels (colon_awaited at_once)) (0x3A ∷ []) (within levels (node_awaited false))
+passes_colon rules levels = passes_indicator rules (within levels (colon_awaited at_once)) (within levels (node_awaited false)) 0x3A
     (colon_class rules.breaks12) refl
 
 -- a `:` after something white
-pub passes_late_colon : (rules : Rules) (levels : List Level)
+pub passes_late_colon : (rules : Rules) (levels : List OpenFlow)
     → Passes rules (within levels (colon_awaited (after_white true))) (0x3A ∷ []) (within levels (node_awaited false))
 passes_late_colon rules levels =
-    passes_sign rules (within levels (colon_awaited (after_white true))) (within levels (node_awaited false)) 0x3A (colon_class rules.breaks12) refl
+    passes_indicator rules (within levels (colon_awaited (after_white true))) (within levels (node_awaited false)) 0x3A (colon_class rules.breaks12) refl
 
 -- a `?` where a key may stand
-pub passes_question : (rules : Rules) (levels : List Level) (to : FlowReading) → flow_step rules (within levels entry_awaited) (sign 0x3F) ≡ to
+pub passes_question : (rules : Rules) (levels : List OpenFlow) (to : FlowReading) → flow_step rules (within levels entry_awaited) (symbol 0x3F) ≡ to
     → Passes rules (within levels entry_awaited) (0x3F ∷ []) to
-passes_question rules levels to step = passes_sign rules (within levels entry_awaited) to 0x3F (question_class rules.breaks12) step
+passes_question rules levels to step = passes_indicator rules (within levels entry_awaited) to 0x3F (question_class rules.breaks12) step
 
 -- the space between `?` or `:` and a node
-pub passes_node_space : (rules : Rules) (levels : List Level)
+pub passes_node_space : (rules : Rules) (levels : List OpenFlow)
     → Passes rules (within levels (node_awaited false)) (space ∷ []) (within levels (node_awaited true))
 passes_node_space rules levels = passes_space rules (within levels (node_awaited false)) (within levels (node_awaited true)) refl
 
@@ -124,12 +125,12 @@ white_passes rules reading (c ∷ text) one two h =
     by false false e f h = absurd (false≢true h)
 
 -- white space before an entry
-pub passes_entry_white : (rules : Rules) (levels : List Level) (text : Text) → is_white_text text ≡ true
+pub passes_entry_white : (rules : Rules) (levels : List OpenFlow) (text : Text) → is_white_text text ≡ true
     → Passes rules (within levels entry_awaited) text (within levels entry_awaited)
 passes_entry_white rules levels text h = white_passes rules (within levels entry_awaited) text refl refl h
 
 -- white space before the `:` after a key with `?`
-pub passes_colon_white : (rules : Rules) (levels : List Level) (c : ℕ) (text : Text) → is_white_text (c ∷ text) ≡ true
+pub passes_colon_white : (rules : Rules) (levels : List OpenFlow) (c : ℕ) (text : Text) → is_white_text (c ∷ text) ≡ true
     → Passes rules (within levels (colon_awaited (after_white false))) (c ∷ text) (within levels (colon_awaited (after_white true)))
 passes_colon_white rules levels c text h =
     let parts = and_parts (c == space || c == line_feed) (is_white_text text) h in
@@ -168,7 +169,8 @@ new_line_white at cursor = by (breaks_line at cursor)
 pub flow_break_white : (s : Effective) (column : Option ℕ) (cursor : Cursor) → is_white_text (flow_break s column cursor).text ≡ true
 flow_break_white s column cursor = by (s.canonical || is_past_width s.width cursor)
   where
-    by : (x : Bool) → is_white_text (let laid : Laid = if x then new_line (line_column column) cursor else nothing_laid cursor in laid.text) ≡ true
+    by : (x : Bool) → is_white_text (let rendered : Rendered = if x then new_line
+        (line_column column) cursor else render_nothing cursor in rendered.text) ≡ true
     by true = new_line_white (line_column column) cursor
     by false = refl
 
@@ -193,7 +195,7 @@ pub record WhiteThen (text : Text) (c : ℕ) : Type 0 where
 
 -- after a node the `:` of a long key stands after white space
 pub late_colon : (s : Effective) (column : Option ℕ) (cursor : Cursor) → cursor.whitespace ≡ false → cursor.indention ≡ false
-    → WhiteThen (then_laid (flow_break s column cursor) (indicator (codes ":") true false false)).text 0x3A
+    → WhiteThen (render_then (flow_break s column cursor) (indicator (codes ":") true false false)).text 0x3A
 late_colon s column cursor white indention = by (s.canonical || is_past_width s.width cursor)
   where
     line : (x : Bool) → x ≡ true
@@ -208,7 +210,7 @@ late_colon s column cursor white indention = by (s.canonical || is_past_width s.
     same true e = absurd (true≢false e)
     same false e = record { first = space; more = []; whole = refl; white = refl }
 
-    by : (x : Bool) → WhiteThen (let laid : Laid = then_laid (if x then new_line (line_column column) cursor else nothing_laid cursor)
-        (indicator (codes ":") true false false) in laid.text) 0x3A
+    by : (x : Bool) → WhiteThen (let rendered : Rendered = render_then (if x then new_line (line_column column) cursor else render_nothing cursor)
+        (indicator (codes ":") true false false) in rendered.text) 0x3A
     by true = line (breaks_line (line_column column) cursor) breaks
     by false = same cursor.whitespace white

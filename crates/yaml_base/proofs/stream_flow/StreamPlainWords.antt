@@ -1,4 +1,4 @@
--- Plain text is one word among the tokens of flow, before white space and a sign of flow.
+-- Plain text is one word among the tokens of flow, before white space and a flow indicator.
 use Rattle.std.proofs.Common.{◌≡◌, refl, sym, ap, ◌∙◌, append_assoc, append-nil}
 use Rattle.std.proofs.lemmas.Bool.{true≢false, false≢true, and_parts, or_parts}
 use Rattle.std.proofs.lemmas.List.{map-append}
@@ -9,8 +9,8 @@ use Rattle.yaml_base.specs.LineBreaks.{is_read_break}
 use Rattle.yaml_base.specs.reading.ReadFolding.{unit_of, folding_read}
 use Rattle.yaml_base.specs.reading.ReadPlain.{is_read_white, begins_white, begins_with_hash, begins_no_plain, holds_no_plain, read_plain}
 use Rattle.yaml_base.specs.reading.TidyText.{ends_white, has_clean_edges}
-use Rattle.yaml_base.specs.streams.StreamTokens.{FlowToken, word, free, in_plain, FlowClass, is_white_blank, is_white_break, is_flow_sign, begins_property}
-use Rattle.yaml_base.specs.streams.StreamTokens.{begins_double, begins_single, begins_bracket, begins_plain, class_of, FlowTurn, begun, plain_turn}
+use Rattle.yaml_base.specs.streams.StreamTokens.{FlowToken, word, free, in_plain, FlowClass, is_white_blank, is_white_break, is_flow_indicator, begins_property}
+use Rattle.yaml_base.specs.streams.StreamTokens.{begins_double, begins_single, begins_bracket, begins_plain, class_of, FlowStep, begun, plain_step}
 use Rattle.yaml_base.specs.streams.StreamTokens.{white_of_class, white_token, flow_tokens}
 use Rattle.yaml_base.proofs.stream_lines.StreamCuts.{none_not_some}
 use Rattle.yaml_base.proofs.stream_flow.StreamWords.{GivesWord}
@@ -19,11 +19,11 @@ use Rattle.yaml_base.proofs.stream_flow.StreamWords.{GivesWord}
 abbrev pub ends_by : FlowClass → Bool → Bool
 ends_by is_white_blank more = more
 ends_by is_white_break more = more
-ends_by is_flow_sign more = true
+ends_by is_flow_indicator more = true
 ends_by begins_bracket more = true
 ends_by _ more = false
 
--- a word ends before white space and then a sign of flow or a bracket
+-- a word ends before white space and then a flow indicator or a bracket
 abbrev pub ends_word : Bool → Text → Bool
 ends_word breaks12 [] = false
 ends_word breaks12 (c ∷ rest) = ends_by (class_of breaks12 c) (ends_word breaks12 rest)
@@ -49,13 +49,13 @@ plain_ends breaks12 text white (c ∷ rest) h = by (class_of breaks12 c) refl h 
         → (ends_word breaks12 rest ≡ true
         → flow_tokens breaks12 (in_plain text (white ++ (c ∷ []))) rest
         ≡ word text ∷ (white_tokens breaks12 (white ++ (c ∷ [])) ++ flow_tokens breaks12 free rest))
-        → (let here : FlowTurn = plain_turn class breaks12 text white c in here.tokens ++ flow_tokens breaks12 here.place rest)
-        ≡ word text ∷ (white_tokens breaks12 white ++ (let here : FlowTurn = begun class [] c in here.tokens ++ flow_tokens breaks12 here.place rest))
+        → (let here : FlowStep = plain_step class breaks12 text white c in here.tokens ++ flow_tokens breaks12 here.place rest)
+        ≡ word text ∷ (white_tokens breaks12 white ++ (let here : FlowStep = begun class [] c in here.tokens ++ flow_tokens breaks12 here.place rest))
     by is_white_blank e h ih = ih h ∙ ap (λ t. word text ∷ t) (one_more is_white_blank (white_of_class is_white_blank) e refl)
     by is_white_break e h ih = ih h ∙ ap (λ t. word text ∷ t) (one_more is_white_break (white_of_class is_white_break) e refl)
-    by is_flow_sign e h ih =
+    by is_flow_indicator e h ih =
         ap (λ t. word text ∷ t)
-        (append_assoc (white_tokens breaks12 white) (begun is_flow_sign [] c).tokens (flow_tokens breaks12 (begun is_flow_sign [] c).place rest))
+        (append_assoc (white_tokens breaks12 white) (begun is_flow_indicator [] c).tokens (flow_tokens breaks12 (begun is_flow_indicator [] c).place rest))
     by begins_bracket e h ih =
         ap (λ t. word text ∷ t)
         (append_assoc (white_tokens breaks12 white) (begun begins_bracket [] c).tokens (flow_tokens breaks12 (begun begins_bracket [] c).place rest))
@@ -66,7 +66,7 @@ plain_ends breaks12 text white (c ∷ rest) h = by (class_of breaks12 c) refl h 
 
 -- a class of characters that plain text goes on over
 abbrev pub stays_plain : FlowClass → Bool
-stays_plain is_flow_sign = false
+stays_plain is_flow_indicator = false
 stays_plain begins_bracket = false
 stays_plain _ = true
 
@@ -76,7 +76,7 @@ is_white_class is_white_blank = true
 is_white_class is_white_break = true
 is_white_class _ = false
 
--- no sign of flow stands in a text
+-- no flow indicator stands in a text
 abbrev pub all_stay : Bool → Text → Bool
 all_stay breaks12 text = list_all (λ c. stays_plain (class_of breaks12 c)) text
 
@@ -88,11 +88,11 @@ ends_shown breaks12 (c ∷ d ∷ rest) = ends_shown breaks12 (d ∷ rest)
 
 -- one character that isn't white
 passes_one : (breaks12 : Bool) (c : ℕ) (text white rest : Text) → (class : FlowClass) → stays_plain class ≡ true → not (is_white_class class) ≡ true
-    → (let here : FlowTurn = plain_turn class breaks12 text white c in here.tokens ++ flow_tokens breaks12 here.place rest)
+    → (let here : FlowStep = plain_step class breaks12 text white c in here.tokens ++ flow_tokens breaks12 here.place rest)
     ≡ flow_tokens breaks12 (in_plain (text ++ (white ++ (c ∷ []))) []) rest
 passes_one breaks12 c text white rest is_white_blank h k = absurd (false≢true k)
 passes_one breaks12 c text white rest is_white_break h k = absurd (false≢true k)
-passes_one breaks12 c text white rest is_flow_sign h k = absurd (false≢true h)
+passes_one breaks12 c text white rest is_flow_indicator h k = absurd (false≢true h)
 passes_one breaks12 c text white rest begins_bracket h k = absurd (false≢true h)
 passes_one breaks12 c text white rest begins_property h k = refl
 passes_one breaks12 c text white rest begins_double h k = refl
@@ -112,7 +112,7 @@ plain_passes breaks12 c (d ∷ t) text white rest h k =
     by : (w : Bool) (class : FlowClass) → is_white_class class ≡ w → stays_plain class ≡ true
         → ((text white : Text) → flow_tokens breaks12 (in_plain text white) ((d ∷ t) ++ rest)
         ≡ flow_tokens breaks12 (in_plain (text ++ (white ++ (d ∷ t))) []) rest)
-        → (let here : FlowTurn = plain_turn class breaks12 text white c in here.tokens ++ flow_tokens breaks12 here.place ((d ∷ t) ++ rest))
+        → (let here : FlowStep = plain_step class breaks12 text white c in here.tokens ++ flow_tokens breaks12 here.place ((d ∷ t) ++ rest))
         ≡ flow_tokens breaks12 (in_plain (text ++ (white ++ (c ∷ d ∷ t))) []) rest
     by false class e h ih =
         passes_one breaks12 c text white ((d ∷ t) ++ rest) class h (ap not e)
@@ -123,14 +123,14 @@ plain_passes breaks12 c (d ∷ t) text white rest h k =
         ih text (white ++ (c ∷ [])) ∙ ap (λ s. flow_tokens breaks12 (in_plain (text ++ s) []) rest) (append_assoc white (c ∷ []) (d ∷ t))
     by true is_white_break e h ih =
         ih text (white ++ (c ∷ [])) ∙ ap (λ s. flow_tokens breaks12 (in_plain (text ++ s) []) rest) (append_assoc white (c ∷ []) (d ∷ t))
-    by true is_flow_sign e h ih = absurd (false≢true h)
+    by true is_flow_indicator e h ih = absurd (false≢true h)
     by true begins_bracket e h ih = absurd (false≢true h)
     by true begins_property e h ih = absurd (false≢true e)
     by true begins_double e h ih = absurd (false≢true e)
     by true begins_single e h ih = absurd (false≢true e)
     by true begins_plain e h ih = absurd (false≢true e)
 
--- a text without signs of flow, whose last character isn't white, is a word after its first character
+-- a text without flow indicators, whose last character isn't white, is a word after its first character
 pub plain_text_word : (breaks12 : Bool) (before : Text) (c : ℕ) (t rest : Text) → all_stay breaks12 t ≡ true → ends_shown breaks12 (c ∷ t) ≡ true
     → ends_word breaks12 rest ≡ true → GivesWord breaks12 (in_plain (before ++ (c ∷ [])) []) (before ++ (c ∷ [])) t rest
 plain_text_word breaks12 before c [] rest h k ends =
@@ -141,7 +141,7 @@ plain_text_word breaks12 before c (d ∷ t) rest h k ends =
 
 -- What reads as plain
 
--- what is none of the signs of flow
+-- what is none of the flow indicators
 stays_at : (breaks12 : Bool) (c : ℕ) → is_among (codes ",?:[]{}") c ≡ false → stays_plain (class_of breaks12 c) ≡ true
 stays_at breaks12 c h =
     let comma = or_parts (c == 0x2C) (is_among (codes "?:[]{}") c) h in
@@ -159,26 +159,26 @@ stays_at breaks12 c h =
     none {x} {y} e f = ap (λ b. b || y) e ∙ f
 
     by : (blank line_break property double single : Bool) → is_among (codes "]},:?") c ≡ false → is_among (codes "[{") c ≡ false
-        → stays_plain (if blank then is_white_blank else (if line_break then is_white_break else (if is_among (codes "]},:?") c then is_flow_sign
+        → stays_plain (if blank then is_white_blank else (if line_break then is_white_break else (if is_among (codes "]},:?") c then is_flow_indicator
         else (if property then begins_property else (if double then begins_double else (if single then begins_single
         else (if is_among (codes "[{") c then begins_bracket else begins_plain))))))) ≡ true
     by true l p d s e f = refl
     by false true l d s e f = refl
-    by false false true d s e f = ap (λ x. stays_plain (if x then is_flow_sign else begins_property)) e
-    by false false false true s e f = ap (λ x. stays_plain (if x then is_flow_sign else begins_double)) e
-    by false false false false true e f = ap (λ x. stays_plain (if x then is_flow_sign else begins_single)) e
+    by false false true d s e f = ap (λ x. stays_plain (if x then is_flow_indicator else begins_property)) e
+    by false false false true s e f = ap (λ x. stays_plain (if x then is_flow_indicator else begins_double)) e
+    by false false false false true e f = ap (λ x. stays_plain (if x then is_flow_indicator else begins_single)) e
     by false false false false false e f =
-        ap (λ x. stays_plain (if x then is_flow_sign else (if is_among (codes "[{") c then begins_bracket else begins_plain))) e
+        ap (λ x. stays_plain (if x then is_flow_indicator else (if is_among (codes "[{") c then begins_bracket else begins_plain))) e
         ∙ ap (λ x. stays_plain (if x then begins_bracket else begins_plain)) f
 
--- what plain text in flow holds is no sign of flow
+-- what plain text in flow holds is no flow indicator
 pub plain_stays : (breaks12 : Bool) (t : Text) → holds_no_plain breaks12 true t ≡ false → all_stay breaks12 t ≡ true
 plain_stays breaks12 [] h = refl
 plain_stays breaks12 (c ∷ t) h =
     let parts = or_parts ((c == 58 && begins_white breaks12 t) || (is_read_white breaks12 c && begins_with_hash t) || is_among (codes ",?:[]{}") c)
     (holds_no_plain breaks12 true t) h in
-    let sign = or_parts ((c == 58 && begins_white breaks12 t) || (is_read_white breaks12 c && begins_with_hash t)) (is_among (codes ",?:[]{}") c) parts.0 in
-    ap (λ x. x && all_stay breaks12 t) (stays_at breaks12 c sign.1) ∙ plain_stays breaks12 t parts.1
+    let symbol = or_parts ((c == 58 && begins_white breaks12 t) || (is_read_white breaks12 c && begins_with_hash t)) (is_among (codes ",?:[]{}") c) parts.0 in
+    ap (λ x. x && all_stay breaks12 t) (stays_at breaks12 c symbol.1) ∙ plain_stays breaks12 t parts.1
 
 -- a character that isn't white is of no white class
 pub shown_at : (breaks12 : Bool) (c : ℕ) → is_read_white breaks12 c ≡ false → is_white_class (class_of breaks12 c) ≡ false
@@ -187,8 +187,8 @@ shown_at breaks12 c h =
     by (is_blank c) (is_read_break breaks12 c) (is_among (codes "]},:?") c) (is_among (codes "&!") c) (c == 0x22) (c == 0x27)
     (is_among (codes "[{") c) parts.0 parts.1
   where
-    by : (blank line_break sign property double single bracket : Bool) → blank ≡ false → line_break ≡ false
-        → is_white_class (if blank then is_white_blank else (if line_break then is_white_break else (if sign then is_flow_sign
+    by : (blank line_break symbol property double single bracket : Bool) → blank ≡ false → line_break ≡ false
+        → is_white_class (if blank then is_white_blank else (if line_break then is_white_break else (if symbol then is_flow_indicator
         else (if property then begins_property else (if double then begins_double else (if single then begins_single
         else (if bracket then begins_bracket else begins_plain))))))) ≡ false
     by true l g p d s b e f = absurd (true≢false e)

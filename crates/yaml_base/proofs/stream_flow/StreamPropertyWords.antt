@@ -5,14 +5,15 @@ use Rattle.std.proofs.lemmas.Bool.Decides.{nat_tests}
 use Rattle.std.specs.Prelude.{ℕ, Bool, true, false, Option, None, Some, List, [], ◌∷◌, ◌++◌, ◌||◌}
 use Rattle.yaml_base.specs.Characters.{Text, space, is_blank, is_break}
 use Rattle.yaml_base.specs.Event.{TagDirective}
-use Rattle.yaml_base.specs.reading.ReadTags.{TagSaid}
+use Rattle.yaml_base.specs.reading.ReadTags.{ParsedTag}
 use Rattle.yaml_base.specs.reading.ReadPlain.{is_read_white, read_plain}
 use Rattle.yaml_base.specs.reading.ReadSingle.{read_single}
 use Rattle.yaml_base.specs.reading.ReadDouble.{read_double}
 use Rattle.yaml_base.specs.reading.TidyText.{has_clean_edges}
 use Rattle.yaml_base.specs.streams.StreamTokens.{word, opens, FlowPlace, free, in_property, after_property, FlowClass, is_white_blank, is_white_break}
-use Rattle.yaml_base.specs.streams.StreamTokens.{is_flow_sign, begins_property, begins_double, begins_single, begins_bracket, begins_plain, class_of, FlowTurn}
-use Rattle.yaml_base.specs.streams.StreamTokens.{begun, begun_after_property, property_turn, bracket_turn, is_pair, flow_tokens}
+use Rattle.yaml_base.specs.streams.StreamTokens.{is_flow_indicator, begins_property, begins_double, begins_single, begins_bracket, begins_plain}
+use Rattle.yaml_base.specs.streams.StreamTokens.{class_of, FlowStep}
+use Rattle.yaml_base.specs.streams.StreamTokens.{begun, begun_after_property, property_step, bracket_step, is_pair, flow_tokens}
 use Rattle.yaml_base.proofs.stream_flow.StreamWords.{shifted, double_quoted_word, single_quoted_word}
 use Rattle.yaml_base.proofs.stream_flow.StreamPlainWords.{is_white_class, shown_at, plain_word}
 use Rattle.yaml_base.proofs.stream_flow.StreamWhites.{space_class}
@@ -42,10 +43,10 @@ not_white breaks12 c h = shown_at breaks12 c (by breaks12)
 
 -- a character of a property is passed
 property_passes : (class : FlowClass) (text : Text) (c : ℕ) → is_white_class class ≡ false
-    → property_turn class text c ≡ record { tokens = []; place = in_property (text ++ (c ∷ [])) }
+    → property_step class text c ≡ record { tokens = []; place = in_property (text ++ (c ∷ [])) }
 property_passes is_white_blank text c h = absurd (true≢false h)
 property_passes is_white_break text c h = absurd (true≢false h)
-property_passes is_flow_sign text c h = refl
+property_passes is_flow_indicator text c h = refl
 property_passes begins_property text c h = refl
 property_passes begins_double text c h = refl
 property_passes begins_single text c h = refl
@@ -58,7 +59,7 @@ rest_passes : (breaks12 : Bool) (before text rest : Text) → holds_white text �
 rest_passes breaks12 before [] rest h = ap (λ t. flow_tokens breaks12 (in_property t) rest) (sym (append-nil before))
 rest_passes breaks12 before (c ∷ text) rest h =
     let parts = or_parts (is_blank c || is_break c) (holds_white text) h in
-    ap (λ (here : FlowTurn). here.tokens ++ flow_tokens breaks12 here.place (text ++ rest))
+    ap (λ (here : FlowStep). here.tokens ++ flow_tokens breaks12 here.place (text ++ rest))
     (property_passes (class_of breaks12 c) before c (not_white breaks12 c parts.0))
     ∙ rest_passes breaks12 (before ++ (c ∷ [])) text rest parts.1
     ∙ ap (λ t. flow_tokens breaks12 (in_property t) rest) (append_assoc before (c ∷ []) text)
@@ -72,27 +73,28 @@ property_class false = (refl, refl)
 begin_property : (breaks12 : Bool) (c : ℕ) (rest : Text) → class_of breaks12 c ≡ begins_property
     → flow_tokens breaks12 free (c ∷ rest) ≡ flow_tokens breaks12 (in_property (c ∷ [])) rest
 begin_property breaks12 c rest e =
-    ap (λ class. (let here : FlowTurn = begun class [] c in here.tokens ++ flow_tokens breaks12 here.place rest)) e
+    ap (λ class. (let here : FlowStep = begun class [] c in here.tokens ++ flow_tokens breaks12 here.place rest)) e
 
 next_property : (breaks12 : Bool) (before : Text) (c : ℕ) (rest : Text) → class_of breaks12 c ≡ begins_property
     → flow_tokens breaks12 (after_property before) (c ∷ rest) ≡ flow_tokens breaks12 (in_property (before ++ (c ∷ []))) rest
 next_property breaks12 before c rest e =
-    ap (λ class. (let here : FlowTurn = begun_after_property class before c in here.tokens ++ flow_tokens breaks12 here.place rest)) e
+    ap (λ class. (let here : FlowStep = begun_after_property class before c in here.tokens ++ flow_tokens breaks12 here.place rest)) e
 
 -- the rest of a tag isn't white
-rest_not_white : (directives : List TagDirective) (tag : Text) (said : TagSaid) (tagged : WrittenTag directives tag said) → holds_white tagged.rest ≡ false
-rest_not_white directives tag said tagged =
+rest_not_white : (directives : List TagDirective) (tag : Text) (parsed : ParsedTag) (tagged : WrittenTag directives tag parsed)
+    → holds_white tagged.rest ≡ false
+rest_not_white directives tag parsed tagged =
     (or_parts (is_blank 0x21 || is_break 0x21) (holds_white tagged.rest) (ap holds_white (sym tagged.begins) ∙ tagged.no_white)).1
 
 -- the space after it ends it
 property_ends : (breaks12 : Bool) (before rest : Text)
     → flow_tokens breaks12 (in_property before) (space ∷ rest) ≡ flow_tokens breaks12 (after_property (before ++ (space ∷ []))) rest
 property_ends breaks12 before rest =
-    ap (λ class. (let here : FlowTurn = property_turn class before space in here.tokens ++ flow_tokens breaks12 here.place rest)) (space_class breaks12)
+    ap (λ class. (let here : FlowStep = property_step class before space in here.tokens ++ flow_tokens breaks12 here.place rest)) (space_class breaks12)
 
 -- tokens after an anchor and a tag, and the space after them
-pub lead_passes : (breaks12 : Bool) (directives : List TagDirective) (anchor tag : Option Text) (said : Option TagSaid) (rest : Text)
-    → IsNamed anchor → IsTagged directives tag said
+pub lead_passes : (breaks12 : Bool) (directives : List TagDirective) (anchor tag : Option Text) (parsed : Option ParsedTag) (rest : Text)
+    → IsNamed anchor → IsTagged directives tag parsed
     → flow_tokens breaks12 free (lead anchor tag ++ rest) ≡ flow_tokens breaks12 (lead_place (lead anchor tag)) rest
 lead_passes breaks12 directives None None None rest named tagged = refl
 lead_passes breaks12 directives (Some name) None None rest named tagged =
@@ -100,14 +102,14 @@ lead_passes breaks12 directives (Some name) None None rest named tagged =
     ∙ ap (flow_tokens breaks12 (in_property (0x26 ∷ []))) (append_assoc name (space ∷ []) rest)
     ∙ rest_passes breaks12 (0x26 ∷ []) name (space ∷ rest) (letters_end_no_word name (name_letters name named))
     ∙ property_ends breaks12 (0x26 ∷ name) rest
-lead_passes breaks12 directives None (Some tag) (Some said) rest named tagged =
+lead_passes breaks12 directives None (Some tag) (Some parsed) rest named tagged =
     ap (λ t. flow_tokens breaks12 free ((t ++ (space ∷ [])) ++ rest)) tagged.begins
     ∙ begin_property breaks12 0x21 ((tagged.rest ++ (space ∷ [])) ++ rest) (property_class breaks12).1
     ∙ ap (flow_tokens breaks12 (in_property (0x21 ∷ []))) (append_assoc tagged.rest (space ∷ []) rest)
-    ∙ rest_passes breaks12 (0x21 ∷ []) tagged.rest (space ∷ rest) (rest_not_white directives tag said tagged)
+    ∙ rest_passes breaks12 (0x21 ∷ []) tagged.rest (space ∷ rest) (rest_not_white directives tag parsed tagged)
     ∙ property_ends breaks12 (0x21 ∷ tagged.rest) rest
     ∙ ap (λ t. flow_tokens breaks12 (lead_place (t ++ (space ∷ []))) rest) (sym tagged.begins)
-lead_passes breaks12 directives (Some name) (Some tag) (Some said) rest named tagged =
+lead_passes breaks12 directives (Some name) (Some tag) (Some parsed) rest named tagged =
     ap (λ t. flow_tokens breaks12 free (((0x26 ∷ (name ++ (space ∷ t))) ++ (space ∷ [])) ++ rest)) tagged.begins
     ∙ begin_property breaks12 0x26 (((name ++ (space ∷ 0x21 ∷ tagged.rest)) ++ (space ∷ [])) ++ rest) (property_class breaks12).0
     ∙ ap (flow_tokens breaks12 (in_property (0x26 ∷ []))) (moved name (space ∷ 0x21 ∷ tagged.rest) (space ∷ []) rest)
@@ -115,7 +117,7 @@ lead_passes breaks12 directives (Some name) (Some tag) (Some said) rest named ta
     ∙ property_ends breaks12 (0x26 ∷ name) (0x21 ∷ ((tagged.rest ++ (space ∷ [])) ++ rest))
     ∙ next_property breaks12 ((0x26 ∷ name) ++ (space ∷ [])) 0x21 ((tagged.rest ++ (space ∷ [])) ++ rest) (property_class breaks12).1
     ∙ ap (flow_tokens breaks12 (in_property (((0x26 ∷ name) ++ (space ∷ [])) ++ (0x21 ∷ [])))) (append_assoc tagged.rest (space ∷ []) rest)
-    ∙ rest_passes breaks12 (((0x26 ∷ name) ++ (space ∷ [])) ++ (0x21 ∷ [])) tagged.rest (space ∷ rest) (rest_not_white directives tag said tagged)
+    ∙ rest_passes breaks12 (((0x26 ∷ name) ++ (space ∷ [])) ++ (0x21 ∷ [])) tagged.rest (space ∷ rest) (rest_not_white directives tag parsed tagged)
     ∙ property_ends breaks12 ((((0x26 ∷ name) ++ (space ∷ [])) ++ (0x21 ∷ [])) ++ tagged.rest) rest
     ∙ ap (λ t. flow_tokens breaks12 (after_property (t ++ (space ∷ []))) rest)
     (append_assoc ((0x26 ∷ name) ++ (space ∷ [])) (0x21 ∷ []) tagged.rest
@@ -124,9 +126,9 @@ lead_passes breaks12 directives (Some name) (Some tag) (Some said) rest named ta
   where
     moved : (a b c d : Text) → ((a ++ b) ++ c) ++ d ≡ a ++ ((b ++ c) ++ d)
     moved a b c d = ap (λ t. t ++ d) (append_assoc a b c) ∙ append_assoc a (b ++ c) d
-lead_passes breaks12 directives None None (Some said) rest named tagged = absurd tagged
+lead_passes breaks12 directives None None (Some parsed) rest named tagged = absurd tagged
 lead_passes breaks12 directives None (Some tag) None rest named tagged = absurd tagged
-lead_passes breaks12 directives (Some name) None (Some said) rest named tagged = absurd tagged
+lead_passes breaks12 directives (Some name) None (Some parsed) rest named tagged = absurd tagged
 lead_passes breaks12 directives (Some name) (Some tag) None rest named tagged = absurd tagged
 
 -- Words after properties
@@ -141,11 +143,11 @@ begins_own _ = false
 
 -- after properties or without them, it begins a word with these
 begun_with : (breaks12 : Bool) (before : Text) (c : ℕ) (rest : Text) (class : FlowClass) → class_of breaks12 c ≡ class → begins_own class ≡ true
-    → flow_tokens breaks12 (lead_place before) (c ∷ rest) ≡ (let here : FlowTurn = begun class before c in here.tokens ++ flow_tokens breaks12 here.place rest)
-begun_with breaks12 [] c rest class e own = ap (λ class. (let here : FlowTurn = begun class [] c in here.tokens ++ flow_tokens breaks12 here.place rest)) e
+    → flow_tokens breaks12 (lead_place before) (c ∷ rest) ≡ (let here : FlowStep = begun class before c in here.tokens ++ flow_tokens breaks12 here.place rest)
+begun_with breaks12 [] c rest class e own = ap (λ class. (let here : FlowStep = begun class [] c in here.tokens ++ flow_tokens breaks12 here.place rest)) e
 begun_with breaks12 (x ∷ before) c rest class e own =
-    ap (λ class. (let here : FlowTurn = begun_after_property class (x ∷ before) c in here.tokens ++ flow_tokens breaks12 here.place rest)) e
-    ∙ ap (λ (here : FlowTurn). here.tokens ++ flow_tokens breaks12 here.place rest) (by class own)
+    ap (λ class. (let here : FlowStep = begun_after_property class (x ∷ before) c in here.tokens ++ flow_tokens breaks12 here.place rest)) e
+    ∙ ap (λ (here : FlowStep). here.tokens ++ flow_tokens breaks12 here.place rest) (by class own)
   where
     by : (class : FlowClass) → begins_own class ≡ true → begun_after_property class (x ∷ before) c ≡ begun class (x ∷ before) c
     by begins_double own = refl
@@ -154,7 +156,7 @@ begun_with breaks12 (x ∷ before) c rest class e own =
     by begins_plain own = refl
     by is_white_blank own = absurd (false≢true own)
     by is_white_break own = absurd (false≢true own)
-    by is_flow_sign own = absurd (false≢true own)
+    by is_flow_indicator own = absurd (false≢true own)
     by begins_property own = absurd (false≢true own)
 
 -- a text is passed by the tokens, to where what follows it begins a word with it
@@ -165,7 +167,7 @@ Leads breaks12 before = (rest : Text) → flow_tokens breaks12 free (before ++ r
 begun_after : (breaks12 : Bool) (before : Text) (c : ℕ) (t rest : Text) (class : FlowClass) → Leads breaks12 before → class_of breaks12 c ≡ class
     → begins_own class ≡ true
     → flow_tokens breaks12 free ((before ++ (c ∷ t)) ++ rest)
-    ≡ (let here : FlowTurn = begun class before c in here.tokens ++ flow_tokens breaks12 here.place (t ++ rest))
+    ≡ (let here : FlowStep = begun class before c in here.tokens ++ flow_tokens breaks12 here.place (t ++ rest))
 begun_after breaks12 before c t rest class leads e own =
     ap (flow_tokens breaks12 free) (append_assoc before (c ∷ t) rest) ∙ leads (c ∷ (t ++ rest)) ∙ begun_with breaks12 before c (t ++ rest) class e own
 
@@ -203,7 +205,7 @@ pub says_empty_after : (breaks12 : Bool) (before : Text) (b c : ℕ) → Leads b
 says_empty_after breaks12 before b c leads e pair = record {
   says = λ rest h.
       begun_after breaks12 before b (c ∷ []) rest begins_bracket leads e refl
-      ∙ ap (λ x. (let here : FlowTurn = bracket_turn x (class_of breaks12 c) before b c in here.tokens ++ flow_tokens breaks12 here.place rest)) pair;
+      ∙ ap (λ x. (let here : FlowStep = bracket_step x (class_of breaks12 c) before b c in here.tokens ++ flow_tokens breaks12 here.place rest)) pair;
 }
 
 -- a bracket opens a collection with its properties, where the next character doesn't close it
@@ -212,4 +214,4 @@ pub opens_after : (breaks12 : Bool) (before : Text) (b c : ℕ) (rest : Text) �
 opens_after breaks12 before b c rest leads e pair =
     leads (b ∷ c ∷ rest)
     ∙ begun_with breaks12 before b (c ∷ rest) begins_bracket e refl
-    ∙ ap (λ x. (let here : FlowTurn = bracket_turn x (class_of breaks12 c) before b c in here.tokens ++ flow_tokens breaks12 here.place rest)) pair
+    ∙ ap (λ x. (let here : FlowStep = bracket_step x (class_of breaks12 c) before b c in here.tokens ++ flow_tokens breaks12 here.place rest)) pair

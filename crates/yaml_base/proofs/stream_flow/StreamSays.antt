@@ -7,8 +7,8 @@ use Rattle.yaml_base.specs.reading.ReadPlain.{read_plain}
 use Rattle.yaml_base.specs.reading.ReadSingle.{read_single}
 use Rattle.yaml_base.specs.reading.ReadDouble.{read_double}
 use Rattle.yaml_base.specs.reading.TidyText.{has_clean_edges}
-use Rattle.yaml_base.specs.streams.StreamTokens.{FlowToken, word, opens, sign, blank, line_end, free, is_white_blank, is_white_break, is_flow_sign}
-use Rattle.yaml_base.specs.streams.StreamTokens.{begins_double, begins_single, begins_bracket, begins_plain, class_of, FlowTurn, begun, bracket_turn, is_pair}
+use Rattle.yaml_base.specs.streams.StreamTokens.{FlowToken, word, opens, symbol, blank, line_end, free, is_white_blank, is_white_break, is_flow_indicator}
+use Rattle.yaml_base.specs.streams.StreamTokens.{begins_double, begins_single, begins_bracket, begins_plain, class_of, FlowStep, begun, bracket_step, is_pair}
 use Rattle.yaml_base.specs.streams.StreamTokens.{flow_tokens}
 use Rattle.yaml_base.proofs.stream_flow.StreamWords.{begins_unquoted, double_quoted_word, single_quoted_word}
 use Rattle.yaml_base.proofs.stream_flow.StreamPlainWords.{ends_by, ends_word, plain_word}
@@ -29,42 +29,42 @@ says_nothing breaks12 = record { says = λ rest h. refl }
 pub ends_anyhow : (breaks12 : Bool) (c : ℕ) (text : Text) → ((more : Bool) → ends_by (class_of breaks12 c) more ≡ true) → EndsWord breaks12 (c ∷ text)
 ends_anyhow breaks12 c text h rest k = h (ends_word breaks12 (text ++ rest))
 
--- a sign of flow
-pub says_sign : (breaks12 : Bool) (c : ℕ) → class_of breaks12 c ≡ is_flow_sign → Says breaks12 (c ∷ []) (sign c ∷ [])
-says_sign breaks12 c e = record {
-  says = λ rest h. ap (λ class. (let here : FlowTurn = begun class [] c in here.tokens ++ flow_tokens breaks12 here.place rest)) e;
+-- a flow indicator
+pub says_indicator : (breaks12 : Bool) (c : ℕ) → class_of breaks12 c ≡ is_flow_indicator → Says breaks12 (c ∷ []) (symbol c ∷ [])
+says_indicator breaks12 c e = record {
+  says = λ rest h. ap (λ class. (let here : FlowStep = begun class [] c in here.tokens ++ flow_tokens breaks12 here.place rest)) e;
 }
 
 -- a blank
 pub says_blank : (breaks12 : Bool) (c : ℕ) → class_of breaks12 c ≡ is_white_blank → Says breaks12 (c ∷ []) (blank ∷ [])
 says_blank breaks12 c e = record {
-  says = λ rest h. ap (λ class. (let here : FlowTurn = begun class [] c in here.tokens ++ flow_tokens breaks12 here.place rest)) e;
+  says = λ rest h. ap (λ class. (let here : FlowStep = begun class [] c in here.tokens ++ flow_tokens breaks12 here.place rest)) e;
 }
 
 -- a break
 pub says_break : (breaks12 : Bool) (c : ℕ) → class_of breaks12 c ≡ is_white_break → Says breaks12 (c ∷ []) (line_end ∷ [])
 says_break breaks12 c e = record {
-  says = λ rest h. ap (λ class. (let here : FlowTurn = begun class [] c in here.tokens ++ flow_tokens breaks12 here.place rest)) e;
+  says = λ rest h. ap (λ class. (let here : FlowStep = begun class [] c in here.tokens ++ flow_tokens breaks12 here.place rest)) e;
 }
 
--- The signs of flow, with either rule of breaks
-pub comma_class : (breaks12 : Bool) → class_of breaks12 0x2C ≡ is_flow_sign
+-- The flow indicators, with either rule of breaks
+pub comma_class : (breaks12 : Bool) → class_of breaks12 0x2C ≡ is_flow_indicator
 comma_class true = refl
 comma_class false = refl
 
-pub colon_class : (breaks12 : Bool) → class_of breaks12 0x3A ≡ is_flow_sign
+pub colon_class : (breaks12 : Bool) → class_of breaks12 0x3A ≡ is_flow_indicator
 colon_class true = refl
 colon_class false = refl
 
-pub question_class : (breaks12 : Bool) → class_of breaks12 0x3F ≡ is_flow_sign
+pub question_class : (breaks12 : Bool) → class_of breaks12 0x3F ≡ is_flow_indicator
 question_class true = refl
 question_class false = refl
 
-pub square_class : (breaks12 : Bool) → class_of breaks12 0x5D ≡ is_flow_sign
+pub square_class : (breaks12 : Bool) → class_of breaks12 0x5D ≡ is_flow_indicator
 square_class true = refl
 square_class false = refl
 
-pub curly_class : (breaks12 : Bool) → class_of breaks12 0x7D ≡ is_flow_sign
+pub curly_class : (breaks12 : Bool) → class_of breaks12 0x7D ≡ is_flow_indicator
 curly_class true = refl
 curly_class false = refl
 
@@ -76,9 +76,9 @@ pub single_class : (breaks12 : Bool) → class_of breaks12 0x27 ≡ begins_singl
 single_class true = refl
 single_class false = refl
 
--- a sign ends a word
-pub sign_ends : (breaks12 : Bool) (c : ℕ) (text : Text) → class_of breaks12 c ≡ is_flow_sign → EndsWord breaks12 (c ∷ text)
-sign_ends breaks12 c text e = ends_anyhow breaks12 c text (λ more. ap (λ class. ends_by class more) e)
+-- an indicator ends a word
+pub indicator_ends : (breaks12 : Bool) (c : ℕ) (text : Text) → class_of breaks12 c ≡ is_flow_indicator → EndsWord breaks12 (c ∷ text)
+indicator_ends breaks12 c text e = ends_anyhow breaks12 c text (λ more. ap (λ class. ends_by class more) e)
 
 -- what ends a word is no quote
 pub ends_unquoted : (breaks12 : Bool) (rest : Text) → ends_word breaks12 rest ≡ true → begins_unquoted rest ≡ true
@@ -100,5 +100,5 @@ bracket_class false = (refl, refl)
 pub opens_before : (breaks12 : Bool) (b c : ℕ) (rest : Text) → class_of breaks12 b ≡ begins_bracket → is_pair b c ≡ false
     → flow_tokens breaks12 free (b ∷ c ∷ rest) ≡ opens [] b ∷ flow_tokens breaks12 free (c ∷ rest)
 opens_before breaks12 b c rest e h =
-    ap (λ class. (let here : FlowTurn = begun class [] b in here.tokens ++ flow_tokens breaks12 here.place (c ∷ rest))) e
-    ∙ ap (λ x. (let here : FlowTurn = bracket_turn x (class_of breaks12 c) [] b c in here.tokens ++ flow_tokens breaks12 here.place rest)) h
+    ap (λ class. (let here : FlowStep = begun class [] b in here.tokens ++ flow_tokens breaks12 here.place (c ∷ rest))) e
+    ∙ ap (λ x. (let here : FlowStep = bracket_step x (class_of breaks12 c) [] b c in here.tokens ++ flow_tokens breaks12 here.place rest)) h

@@ -4,19 +4,19 @@ use Rattle.std.specs.Prelude.{ℕ, true, false, Option, Some, List, [], ◌∷�
 use Rattle.yaml_base.specs.Characters.{Text}
 use Rattle.yaml_base.specs.streams.StreamContent.{Tree, sequence_tree, mapping_tree, Trees, trees_and, TreePairs, tree_pairs_and}
 use Rattle.yaml_base.specs.streams.StreamScalars.{Rules, Properties, word_read}
-use Rattle.yaml_base.specs.streams.StreamTokens.{FlowToken, word, sign, free, is_flow_sign, class_of, begun, FlowTurn, flow_tokens}
-use Rattle.yaml_base.specs.streams.StreamFlow.{is_key_text, no_key, key_due, key_held, Level, in_sequence, in_mapping, at_once, after_white, Awaited}
+use Rattle.yaml_base.specs.streams.StreamTokens.{FlowToken, word, symbol, free, is_flow_indicator, class_of, begun, FlowStep, flow_tokens}
+use Rattle.yaml_base.specs.streams.StreamFlow.{is_key_text, no_key, key_due, key_held, OpenFlow, in_sequence, in_mapping, at_once, after_white, Awaited}
 use Rattle.yaml_base.specs.streams.StreamFlow.{collection_awaited, entry_awaited, node_awaited, comma_awaited, colon_awaited, FlowReading, failed, done, within}
 use Rattle.yaml_base.specs.streams.StreamFlow.{with_tree, word_step, colon_after, flow_step, tree_at_end, flow_read}
 use Rattle.yaml_base.proofs.stream_flow.StreamPlainWords.{ends_by, ends_word}
-use Rattle.yaml_base.proofs.stream_flow.StreamSays.{Says, EndsWord, says_sign, comma_class, colon_class, question_class, square_class, curly_class}
+use Rattle.yaml_base.proofs.stream_flow.StreamSays.{Says, EndsWord, says_indicator, comma_class, colon_class, question_class, square_class, curly_class}
 
 -- the readings of some tokens
 abbrev pub steps : Rules → FlowReading → List FlowToken → FlowReading
 steps rules from tokens = fold (flow_step rules) from tokens
 
 -- a text takes the reader from a reading to another, before anything that ends a word
-pub record Takes (rules : Rules) (from : FlowReading) (text : Text) (to : FlowReading) : Type 0 where
+pub record TakesBytes (rules : Rules) (from : FlowReading) (text : Text) (to : FlowReading) : Type 0 where
   pub takes : (rest : Text) → ends_word rules.breaks12 rest ≡ true
       → steps rules from (flow_tokens rules.breaks12 free (text ++ rest)) ≡ steps rules to (flow_tokens rules.breaks12 free rest)
 
@@ -26,25 +26,25 @@ steps_both rules from (token ∷ a) b = steps_both rules (flow_step rules from t
 
 -- a text that is these tokens takes the reader where they do
 pub takes_tokens : (rules : Rules) (from : FlowReading) (text : Text) (tokens : List FlowToken) → Says rules.breaks12 text tokens
-    → Takes rules from text (steps rules from tokens)
+    → TakesBytes rules from text (steps rules from tokens)
 takes_tokens rules from text tokens says = record {
   takes = λ rest h. ap (steps rules from) (says.says rest h) ∙ steps_both rules from tokens (flow_tokens rules.breaks12 free rest);
 }
 
 -- a text that is these tokens takes the reader to a reading that equals theirs
 pub takes_to : (rules : Rules) (from to : FlowReading) (text : Text) (tokens : List FlowToken) → Says rules.breaks12 text tokens
-    → steps rules from tokens ≡ to → Takes rules from text to
+    → steps rules from tokens ≡ to → TakesBytes rules from text to
 takes_to rules from to text tokens says e = record {
   takes = λ rest h. (takes_tokens rules from text tokens says).takes rest h ∙ ap (λ r. steps rules r (flow_tokens rules.breaks12 free rest)) e;
 }
 
 -- no text
-pub takes_nothing : (rules : Rules) (from : FlowReading) → Takes rules from [] from
+pub takes_nothing : (rules : Rules) (from : FlowReading) → TakesBytes rules from [] from
 takes_nothing rules from = record { takes = λ rest h. refl }
 
 -- a text, and then one that ends a word
-pub takes_both : (rules : Rules) (from through to : FlowReading) (a b : Text) → Takes rules from a through → Takes rules through b to
-    → EndsWord rules.breaks12 b → Takes rules from (a ++ b) to
+pub takes_both : (rules : Rules) (from through to : FlowReading) (a b : Text) → TakesBytes rules from a through → TakesBytes rules through b to
+    → EndsWord rules.breaks12 b → TakesBytes rules from (a ++ b) to
 takes_both rules from through to a b one two ends = record {
   takes = λ rest h.
       ap (λ t. steps rules from (flow_tokens rules.breaks12 free t)) (append_assoc a b rest)
@@ -54,9 +54,9 @@ takes_both rules from through to a b one two ends = record {
 -- Words
 
 -- one after a `?` is a key
-pub takes_key : (rules : Rules) (anchor tag : Option Text) (pairs : TreePairs) (levels : List Level) (text : Text) (tree : Tree)
+pub takes_key : (rules : Rules) (anchor tag : Option Text) (pairs : TreePairs) (levels : List OpenFlow) (text : Text) (tree : Tree)
     → Says rules.breaks12 text (word text ∷ []) → word_read rules true text ≡ Some tree
-    → Takes rules (within (in_mapping anchor tag pairs key_due ∷ levels) (node_awaited true)) text
+    → TakesBytes rules (within (in_mapping anchor tag pairs key_due ∷ levels) (node_awaited true)) text
     (within (in_mapping anchor tag pairs (key_held tree) ∷ levels) (colon_awaited (after_white false)))
 takes_key rules anchor tag pairs levels text tree says read =
     takes_to rules (within (in_mapping anchor tag pairs key_due ∷ levels) (node_awaited true))
@@ -64,9 +64,9 @@ takes_key rules anchor tag pairs levels text tree says read =
     text (word text ∷ []) says (ap (word_step rules.breaks12 (in_mapping anchor tag pairs key_due ∷ levels) text) read)
 
 -- a short one on a line, where a key may stand, is a simple key
-pub takes_simple_key : (rules : Rules) (anchor tag : Option Text) (pairs : TreePairs) (levels : List Level) (text : Text) (tree : Tree)
+pub takes_simple_key : (rules : Rules) (anchor tag : Option Text) (pairs : TreePairs) (levels : List OpenFlow) (text : Text) (tree : Tree)
     → Says rules.breaks12 text (word text ∷ []) → word_read rules true text ≡ Some tree → is_key_text rules.breaks12 tree text ≡ true
-    → Takes rules (within (in_mapping anchor tag pairs no_key ∷ levels) entry_awaited) text
+    → TakesBytes rules (within (in_mapping anchor tag pairs no_key ∷ levels) entry_awaited) text
     (within (in_mapping anchor tag pairs (key_held tree) ∷ levels) (colon_awaited (colon_after tree)))
 takes_simple_key rules anchor tag pairs levels text tree says read short =
     takes_to rules (within (in_mapping anchor tag pairs no_key ∷ levels) entry_awaited)
@@ -75,30 +75,30 @@ takes_simple_key rules anchor tag pairs levels text tree says read short =
     (ap (word_step rules.breaks12 (in_mapping anchor tag pairs no_key ∷ levels) text) read
     ∙ ap (λ x. if x then within (in_mapping anchor tag pairs (key_held tree) ∷ levels) (colon_awaited (colon_after tree)) else failed) short)
 
--- Signs
+-- Indicators
 
 -- a `]` after an item
-pub takes_sequence_end : (rules : Rules) (anchor tag : Option Text) (items : Trees) (levels : List Level)
-    → Takes rules (within (in_sequence anchor tag items ∷ levels) comma_awaited) (0x5D ∷ []) (with_tree levels (sequence_tree anchor tag items))
+pub takes_sequence_end : (rules : Rules) (anchor tag : Option Text) (items : Trees) (levels : List OpenFlow)
+    → TakesBytes rules (within (in_sequence anchor tag items ∷ levels) comma_awaited) (0x5D ∷ []) (with_tree levels (sequence_tree anchor tag items))
 takes_sequence_end rules anchor tag items levels =
     takes_to rules (within (in_sequence anchor tag items ∷ levels) comma_awaited) (with_tree levels (sequence_tree anchor tag items))
-    (0x5D ∷ []) (sign 0x5D ∷ []) (says_sign rules.breaks12 0x5D (square_class rules.breaks12)) refl
+    (0x5D ∷ []) (symbol 0x5D ∷ []) (says_indicator rules.breaks12 0x5D (square_class rules.breaks12)) refl
 
 -- a `}` after a pair
-pub takes_mapping_end : (rules : Rules) (anchor tag : Option Text) (pairs : TreePairs) (levels : List Level)
-    → Takes rules (within (in_mapping anchor tag pairs no_key ∷ levels) comma_awaited) (0x7D ∷ []) (with_tree levels (mapping_tree anchor tag pairs))
+pub takes_mapping_end : (rules : Rules) (anchor tag : Option Text) (pairs : TreePairs) (levels : List OpenFlow)
+    → TakesBytes rules (within (in_mapping anchor tag pairs no_key ∷ levels) comma_awaited) (0x7D ∷ []) (with_tree levels (mapping_tree anchor tag pairs))
 takes_mapping_end rules anchor tag pairs levels =
     takes_to rules (within (in_mapping anchor tag pairs no_key ∷ levels) comma_awaited) (with_tree levels (mapping_tree anchor tag pairs))
-    (0x7D ∷ []) (sign 0x7D ∷ []) (says_sign rules.breaks12 0x7D (curly_class rules.breaks12)) refl
+    (0x7D ∷ []) (symbol 0x7D ∷ []) (says_indicator rules.breaks12 0x7D (curly_class rules.breaks12)) refl
 
 -- The whole
 
--- a text that takes the reader to before its last sign, by which the collection is done, is that collection
-pub flow_reads : (rules : Rules) (properties : Properties) (text : Text) (levels : List Level) (awaited : Awaited) (c : ℕ) (tree : Tree)
-    → class_of rules.breaks12 c ≡ is_flow_sign → Takes rules (within [] (collection_awaited properties)) text (within levels awaited)
-    → flow_step rules (within levels awaited) (sign c) ≡ done tree → flow_read rules properties (text ++ (c ∷ [])) ≡ Some tree
+-- a text that takes the reader to before its last indicator, by which the collection is done, is that collection
+pub flow_reads : (rules : Rules) (properties : Properties) (text : Text) (levels : List OpenFlow) (awaited : Awaited) (c : ℕ) (tree : Tree)
+    → class_of rules.breaks12 c ≡ is_flow_indicator → TakesBytes rules (within [] (collection_awaited properties)) text (within levels awaited)
+    → flow_step rules (within levels awaited) (symbol c) ≡ done tree → flow_read rules properties (text ++ (c ∷ [])) ≡ Some tree
 flow_reads rules properties text levels awaited c tree class takes e =
     ap tree_at_end
     (takes.takes (c ∷ []) (ap (λ k. ends_by k false) class)
-    ∙ ap (λ k. (let here : FlowTurn = begun k [] c in steps rules (within levels awaited) (here.tokens ++ flow_tokens rules.breaks12 here.place []))) class
+    ∙ ap (λ k. (let here : FlowStep = begun k [] c in steps rules (within levels awaited) (here.tokens ++ flow_tokens rules.breaks12 here.place []))) class
     ∙ e)

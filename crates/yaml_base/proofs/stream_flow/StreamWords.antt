@@ -8,8 +8,8 @@ use Rattle.yaml_base.specs.reading.ReadDouble.{QuotePlace, between, after_backsl
 use Rattle.yaml_base.specs.reading.ReadDouble.{has_no_reading, escape_step, digit_step, is_scalar_number, letter_meaning, digits_after_first, digit_meaning}
 use Rattle.yaml_base.specs.reading.ReadDouble.{Quoted, with_unit, after_step, quoted_from, quoted_reading, value_before, value_alone, read_double}
 use Rattle.yaml_base.specs.reading.ReadSingle.{unquoted, read_single}
-use Rattle.yaml_base.specs.streams.StreamTokens.{FlowToken, word, FlowPlace, free, in_double, after_backslash, in_single, after_quote, FlowTurn, goes_to}
-use Rattle.yaml_base.specs.streams.StreamTokens.{completes, tokens_before, class_of, begun, flow_tokens}
+use Rattle.yaml_base.specs.streams.StreamTokens.{FlowToken, word, FlowPlace, free, in_double, after_backslash, in_single, after_quote, FlowStep, goes_to}
+use Rattle.yaml_base.specs.streams.StreamTokens.{completes, prepend_tokens, class_of, begun, flow_tokens}
 use Rattle.yaml_base.proofs.stream_lines.StreamCuts.{none_not_some}
 
 -- a character more at the end of what stands before a text
@@ -62,7 +62,7 @@ at_between breaks12 c t ih ends before rest = by (c == 0x22) (c == 0x5C) ends
   where
     by : (x y : Bool) → Ends (after_step (if x then ends_quotes else (if y then goes_on backslash_place else gives (unit_of breaks12 c)))
         (λ next. quoted_from breaks12 next t) t)
-        → (let here : FlowTurn = if x then completes (word (before ++ (c ∷ []))) else
+        → (let here : FlowStep = if x then completes (word (before ++ (c ∷ []))) else
         goes_to (if y then after_backslash (before ++ (c ∷ [])) else in_double (before ++ (c ∷ []))) in here.tokens
         ++ flow_tokens breaks12 here.place (t ++ rest))
         ≡ word (before ++ (c ∷ t)) ∷ flow_tokens breaks12 free rest
@@ -144,7 +144,7 @@ after_quote_ends breaks12 text [] h = absurd (false≢true h)
 after_quote_ends breaks12 text (c ∷ rest) h = by (c == 0x27) h
   where
     by : (x : Bool) → (if x then false else true) ≡ true
-        → (let here : FlowTurn = if x then goes_to (in_single (text ++ (c ∷ []))) else tokens_before (word text ∷ []) (begun (class_of breaks12 c) [] c) in
+        → (let here : FlowStep = if x then goes_to (in_single (text ++ (c ∷ []))) else prepend_tokens (word text ∷ []) (begun (class_of breaks12 c) [] c) in
         here.tokens ++ flow_tokens breaks12 here.place rest)
         ≡ word text ∷ flow_tokens breaks12 free (c ∷ rest)
     by true h = absurd (false≢true h)

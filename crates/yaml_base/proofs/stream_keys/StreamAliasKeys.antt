@@ -6,7 +6,7 @@ use Rattle.std.specs.List.{list_all}
 use Rattle.std.specs.Prelude.{ℕ, Bool, true, false, None, Some, [], ◌∷◌, ◌++◌, ◌==◌, ◌&&◌, nat_le, length, option_map, option_and_then, if◌then◌else◌}
 use Rattle.yaml_base.specs.Characters.{Text, space, is_alpha}
 use Rattle.yaml_base.specs.streams.StreamContent.{alias_tree}
-use Rattle.yaml_base.specs.streams.StreamLines.{ends_sign}
+use Rattle.yaml_base.specs.streams.StreamLines.{ends_indicator}
 use Rattle.yaml_base.specs.streams.StreamScalars.{Rules, name_read, word_read}
 use Rattle.yaml_base.specs.streams.StreamFlow.{is_alias, longest_key}
 use Rattle.yaml_base.specs.streams.StreamNodes.{without_last_space, word_but_alias, word_of_alias, key_of_line}
@@ -29,7 +29,7 @@ name_no_key : (rules : Rules) (before name after : Text) → list_all is_alpha n
 name_no_key rules before [] after h = ((λ e. absurd (false≢true e)), tt)
 name_no_key rules before (c ∷ name) after h =
     let parts = and_parts (is_alpha c) (list_all is_alpha name) h in (
-      (λ e. absurd (true≢false (sym (and_parts (c == 0x3A) (ends_sign (spaced name ++ (0x3A ∷ after))) e).0 ∙ no_colon c parts.0))),
+      (λ e. absurd (true≢false (sym (and_parts (c == 0x3A) (ends_indicator (spaced name ++ (0x3A ∷ after))) e).0 ∙ no_colon c parts.0))),
       name_no_key rules (before ++ (c ∷ [])) name after parts.1,
     )
 
@@ -65,7 +65,7 @@ named_word rules n t h =
 
 -- an alias that isn't too long is a simple key, with the space before `:`
 pub alias_key : (rules : Rules) (n : ℕ) (t after : Text) → list_all is_alpha (n ∷ t) ≡ true → nat_le (length (0x2A ∷ n ∷ spaced t)) longest_key ≡ true
-    → ends_sign after ≡ true
+    → ends_indicator after ≡ true
     → key_of_line rules ((0x2A ∷ n ∷ spaced t) ++ (0x3A ∷ after)) ≡ found (alias_tree (n ∷ t)) (0x2A ∷ n ∷ spaced t) after
 alias_key rules n t after name short h =
     key_found rules [] (0x2A ∷ n ∷ spaced t) after (alias_tree (n ∷ t))

@@ -9,12 +9,12 @@ use Rattle.yaml_base.specs.Characters.{Text, space, is_space, is_break, hex_digi
 use Rattle.yaml_base.specs.LineBreaks.{is_read_break}
 use Rattle.yaml_base.specs.Settings.{Effective}
 use Rattle.yaml_base.specs.Event.{ScalarStyle, any_style, plain, single_quoted, double_quoted, literal, folded}
-use Rattle.yaml_base.specs.Cursor.{Cursor, then_laid, text_laid}
-use Rattle.yaml_base.specs.scalars.Plain.{Kind, spaces, breaks, others, is_same_kind, Run, joined_to, runs, run_text, runs_laid}
+use Rattle.yaml_base.specs.Cursor.{Cursor, render_then, render_text}
+use Rattle.yaml_base.specs.scalars.Plain.{Kind, spaces, breaks, others, is_same_kind, Run, cons_run, runs, run_text, render_runs}
 use Rattle.yaml_base.specs.scalars.SingleQuoted.{quotes_doubled, single_quote}
 use Rattle.yaml_base.specs.scalars.DoubleQuoted.{ShortEscape, quote, short_escapes, letter_among, escape_after_backslash, escape_text, needs_escape}
-use Rattle.yaml_base.specs.scalars.DoubleQuoted.{character_text, may_fold, double_fold, double_inside, quote_laid}
-use Rattle.yaml_base.specs.Layout.{body_laid}
+use Rattle.yaml_base.specs.scalars.DoubleQuoted.{character_text, may_fold, double_fold, double_inside, render_quote}
+use Rattle.yaml_base.specs.Layout.{render_body}
 use Rattle.yaml_base.proofs.stream_lines.StreamLineLaws.{OneLine}
 use Rattle.yaml_base.proofs.stream_flow.StreamFlowScalars.{is_flow_style}
 
@@ -33,17 +33,17 @@ run_texts written indent (run ∷ more) = run_text written false indent run.kind
 
 -- without a limit no fold stands
 unfolded_runs : (written : Text → Text) (indent : ℕ) (edge : Bool) (all : List Run) (cursor : Cursor)
-    → (runs_laid written None indent edge all cursor).text ≡ run_texts written indent all
+    → (render_runs written None indent edge all cursor).text ≡ run_texts written indent all
 unfolded_runs written indent edge [] cursor = refl
 unfolded_runs written indent edge (run ∷ more) cursor =
     ap (λ t. run_text written false indent run.kind run.text ++ t) (unfolded_runs written indent false more _)
 
 -- a character that is no break before runs
 run_joined : (written : Text → Text) (one : ℕ → Text) (writes : Writes written one) (indent c : ℕ) (all : List Run) → is_break c ≡ false
-    → run_texts written indent (joined_to c all) ≡ one c ++ run_texts written indent all
+    → run_texts written indent (cons_run c all) ≡ one c ++ run_texts written indent all
 run_joined written one writes indent c all h = by (is_space c) refl all
   where
-    by : (x : Bool) → is_space c ≡ x → (all : List Run) → run_texts written indent (joined_to c all) ≡ one c ++ run_texts written indent all
+    by : (x : Bool) → is_space c ≡ x → (all : List Run) → run_texts written indent (cons_run c all) ≡ one c ++ run_texts written indent all
     by true e [] = rw (e) (sym (ap (λ t. t ++ []) (writes.space c e)))
     by true e (first ∷ more) = rw (e) (same first.kind)
       where
@@ -69,7 +69,7 @@ run_joined written one writes indent c all h = by (is_space c) refl all
         same others =
             ap (λ t. t ++ run_texts written indent more) (writes.more c first.text) ∙ append_assoc (one c) (written first.text) (run_texts written indent more)
 
--- a value without a break is laid out as it is written
+-- a value without a break is rendered as it is written
 written_alone : (written : Text → Text) (one : ℕ → Text) (writes : Writes written one) (indent : ℕ) (value : Text) → list_any is_break value ≡ false
     → run_texts written indent (runs value) ≡ written value
 written_alone written one writes indent [] h = sym writes.nothing
@@ -80,7 +80,7 @@ written_alone written one writes indent (c ∷ value) h =
     ∙ sym (writes.more c value)
 
 runs_alone : (written : Text → Text) (one : ℕ → Text) (writes : Writes written one) (indent : ℕ) (value : Text) (cursor : Cursor)
-    → list_any is_break value ≡ false → (runs_laid written None indent true (runs value) cursor).text ≡ written value
+    → list_any is_break value ≡ false → (render_runs written None indent true (runs value) cursor).text ≡ written value
 runs_alone written one writes indent value cursor h =
     unfolded_runs written indent true (runs value) cursor ∙ written_alone written one writes indent value h
 
@@ -100,9 +100,9 @@ double_alone : (unicode : Bool) (indent : ℕ) (before : Option ℕ) (value : Te
     → (double_inside unicode None indent before value cursor).text ≡ flat_map (character_text unicode) value
 double_alone unicode indent before [] cursor = refl
 double_alone unicode indent before (c ∷ value) cursor =
-    ap (λ x. (then_laid (if x then double_fold indent value cursor else text_laid (character_text unicode c) cursor)
+    ap (λ x. (render_then (if x then double_fold indent value cursor else render_text (character_text unicode c) cursor)
     (double_inside unicode None indent (Some c) value)).text) (never (is_space c && may_fold before value))
-    ∙ ap (λ t. character_text unicode c ++ t) (double_alone unicode indent (Some c) value (text_laid (character_text unicode c) cursor).cursor)
+    ∙ ap (λ t. character_text unicode c ++ t) (double_alone unicode indent (Some c) value (render_text (character_text unicode c) cursor).cursor)
   where
     never : (x : Bool) → (x && false) ≡ false
     never true = refl
@@ -114,16 +114,16 @@ key_body plain unicode value = value
 key_body single_quoted unicode value = 39 ∷ (quotes_doubled value ++ (39 ∷ []))
 key_body _ unicode value = quote ∷ (flat_map (character_text unicode) value ++ (quote ∷ []))
 
--- so it is laid out
+-- so it is rendered
 pub body_alone : (s : Effective) (style : ScalarStyle) (indent : ℕ) (value : Text) (cursor : Cursor) → is_flow_style style ≡ true
-    → list_any is_break value ≡ false → (body_laid style s None indent value cursor).text ≡ key_body style s.unicode value
+    → list_any is_break value ≡ false → (render_body style s None indent value cursor).text ≡ key_body style s.unicode value
 body_alone s plain indent value cursor flow h = runs_alone (λ text. text) (λ c. c ∷ []) plain_writes indent value cursor h
 body_alone s single_quoted indent value cursor flow h =
     ap (λ t. 39 ∷ (t ++ (39 ∷ []))) (runs_alone quotes_doubled quote_doubled quotes_write indent value (single_quote cursor).cursor h)
 body_alone s double_quoted indent value cursor flow h =
-    ap (λ t. quote ∷ (t ++ (quote ∷ []))) (double_alone s.unicode indent None value (quote_laid cursor).cursor)
+    ap (λ t. quote ∷ (t ++ (quote ∷ []))) (double_alone s.unicode indent None value (render_quote cursor).cursor)
 body_alone s any_style indent value cursor flow h =
-    ap (λ t. quote ∷ (t ++ (quote ∷ []))) (double_alone s.unicode indent None value (quote_laid cursor).cursor)
+    ap (λ t. quote ∷ (t ++ (quote ∷ []))) (double_alone s.unicode indent None value (render_quote cursor).cursor)
 body_alone s literal indent value cursor flow h = absurd (false≢true flow)
 body_alone s folded indent value cursor flow h = absurd (false≢true flow)
 

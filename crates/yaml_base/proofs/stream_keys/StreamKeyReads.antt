@@ -5,14 +5,14 @@ use Rattle.std.specs.Prelude.{ℕ, Bool, true, false, Option, None, Some, [], �
 use Rattle.std.specs.Prelude.{if◌then◌else◌}
 use Rattle.yaml_base.specs.Characters.{Text, space}
 use Rattle.yaml_base.specs.Event.{plain, single_quoted, double_quoted}
-use Rattle.yaml_base.specs.reading.ReadTags.{TagSaid}
+use Rattle.yaml_base.specs.reading.ReadTags.{ParsedTag}
 use Rattle.yaml_base.specs.reading.ReadPlain.{read_plain}
 use Rattle.yaml_base.specs.reading.ReadSingle.{read_single}
 use Rattle.yaml_base.specs.reading.ReadDouble.{read_double}
 use Rattle.yaml_base.specs.reading.TidyText.{is_tidy}
 use Rattle.yaml_base.specs.streams.StreamContent.{stood_quoted, Tree, sequence_tree, mapping_tree, no_trees, no_tree_pairs}
-use Rattle.yaml_base.specs.streams.StreamLines.{ends_sign}
-use Rattle.yaml_base.specs.streams.StreamScalars.{Rules, Properties, scalar_said, scalar_of_style, an_alias, empty_sequence, empty_mapping, a_scalar}
+use Rattle.yaml_base.specs.streams.StreamLines.{ends_indicator}
+use Rattle.yaml_base.specs.streams.StreamScalars.{Rules, Properties, scalar_parsed, scalar_of_style, an_alias, empty_sequence, empty_mapping, a_scalar}
 use Rattle.yaml_base.specs.streams.StreamScalars.{kind_of_word, word_by_kind, word_after, word_read}
 use Rattle.yaml_base.specs.streams.StreamFlow.{is_alias, longest_key}
 use Rattle.yaml_base.specs.streams.StreamNodes.{key_of_text, word_of_alias, without_last_space}
@@ -56,7 +56,7 @@ content_other : (rules : Rules) (properties : Properties) (c : ℕ) (t : Text) �
 content_other rules properties c t star = kind_other (kind_of_word (c ∷ t)) rules false properties (c ∷ t) (not_star c t star)
 
 -- no alias stands before the last space
-lead_no_alias : (rules : Rules) (anchor tag : Option Text) (said : Option TagSaid) (c : ℕ) (t : Text) → Given rules anchor tag said
+lead_no_alias : (rules : Rules) (anchor tag : Option Text) (parsed : Option ParsedTag) (c : ℕ) (t : Text) → Given rules anchor tag parsed
     → begins_content (c ∷ t) ≡ true → (c == 0x2A) ≡ false → option_and_then (word_of_alias rules) (without_last_space (lead anchor tag ++ (c ∷ t))) ≡ None
 lead_no_alias rules None None None c t given own star =
     no_alias_before rules c t (no_space (c == space) (and_parts (not (c == space)) (not (c == 0x26) && not (c == 0x21)) own).0)
@@ -66,45 +66,45 @@ lead_no_alias rules None None None c t given own star =
     no_space : (x : Bool) → not x ≡ true → x ≡ false
     no_space true h = absurd (false≢true h)
     no_space false h = refl
-lead_no_alias rules (Some name) None said c t given own star =
+lead_no_alias rules (Some name) None parsed c t given own star =
     no_alias_before rules 0x26 ((name ++ (space ∷ [])) ++ (c ∷ t)) refl (anchor_no_alias rules)
-lead_no_alias rules (Some name) (Some tag) said c t given own star =
+lead_no_alias rules (Some name) (Some tag) parsed c t given own star =
     no_alias_before rules 0x26 (((name ++ (space ∷ tag)) ++ (space ∷ [])) ++ (c ∷ t)) refl (anchor_no_alias rules)
-lead_no_alias rules None (Some tag) (Some said) c t given own star =
+lead_no_alias rules None (Some tag) (Some parsed) c t given own star =
     subst (λ b. option_and_then (word_of_alias rules) (without_last_space ((b ++ (space ∷ [])) ++ (c ∷ t))) ≡ None) (sym given.tagged.begins)
     (no_alias_before rules 0x21 ((given.tagged.rest ++ (space ∷ [])) ++ (c ∷ t)) refl (tag_no_alias rules))
 lead_no_alias rules None (Some tag) None c t given own star = absurd given.tagged
-lead_no_alias rules None None (Some said) c t given own star = absurd given.tagged
+lead_no_alias rules None None (Some parsed) c t given own star = absurd given.tagged
 
 -- a text after properties is a key where it is a word after them
-lead_key_text : (rules : Rules) (anchor tag : Option Text) (said : Option TagSaid) (c : ℕ) (t : Text) (read : Option Tree) → Given rules anchor tag said
-    → begins_content (c ∷ t) ≡ true → (c == 0x2A) ≡ false → word_after rules false None (record { anchor = anchor; tag = said }) (c ∷ t) ≡ read
+lead_key_text : (rules : Rules) (anchor tag : Option Text) (parsed : Option ParsedTag) (c : ℕ) (t : Text) (read : Option Tree) → Given rules anchor tag parsed
+    → begins_content (c ∷ t) ≡ true → (c == 0x2A) ≡ false → word_after rules false None (record { anchor = anchor; tag = parsed }) (c ∷ t) ≡ read
     → key_of_text rules (lead anchor tag ++ (c ∷ t)) ≡ (if nat_le (length (lead anchor tag ++ (c ∷ t))) longest_key then read else None)
-lead_key_text rules anchor tag said c t read given own star e =
+lead_key_text rules anchor tag parsed c t read given own star e =
     key_by_word rules (lead anchor tag ++ (c ∷ t)) read
-    (ap (option_and_then (λ tree. if is_alias tree then None else Some tree)) (given_reads rules false anchor tag said (c ∷ t) given own)
-    ∙ other_kept (word_after rules false None (record { anchor = anchor; tag = said }) (c ∷ t))
-    (content_other rules (record { anchor = anchor; tag = said }) c t star)
+    (ap (option_and_then (λ tree. if is_alias tree then None else Some tree)) (given_reads rules false anchor tag parsed (c ∷ t) given own)
+    ∙ other_kept (word_after rules false None (record { anchor = anchor; tag = parsed }) (c ∷ t))
+    (content_other rules (record { anchor = anchor; tag = parsed }) c t star)
     ∙ e)
-    (lead_no_alias rules anchor tag said c t given own star)
+    (lead_no_alias rules anchor tag parsed c t given own star)
 
 -- where it is none it is no key
-lead_no_text : (rules : Rules) (anchor tag : Option Text) (said : Option TagSaid) (c : ℕ) (t : Text) → Given rules anchor tag said
-    → begins_content (c ∷ t) ≡ true → (c == 0x2A) ≡ false → word_after rules false None (record { anchor = anchor; tag = said }) (c ∷ t) ≡ None
+lead_no_text : (rules : Rules) (anchor tag : Option Text) (parsed : Option ParsedTag) (c : ℕ) (t : Text) → Given rules anchor tag parsed
+    → begins_content (c ∷ t) ≡ true → (c == 0x2A) ≡ false → word_after rules false None (record { anchor = anchor; tag = parsed }) (c ∷ t) ≡ None
     → key_of_text rules (lead anchor tag ++ (c ∷ t)) ≡ None
-lead_no_text rules anchor tag said c t given own star none =
-    lead_key_text rules anchor tag said c t None given own star none ∙ neither (nat_le (length (lead anchor tag ++ (c ∷ t))) longest_key)
+lead_no_text rules anchor tag parsed c t given own star none =
+    lead_key_text rules anchor tag parsed c t None given own star none ∙ neither (nat_le (length (lead anchor tag ++ (c ∷ t))) longest_key)
   where
     neither : (x : Bool) → ◌≡◌ {A = Option Tree} (if x then None else None) None
     neither true = refl
     neither false = refl
 
 -- where it is one that isn't too long it is a key
-lead_text : (rules : Rules) (anchor tag : Option Text) (said : Option TagSaid) (c : ℕ) (t : Text) (tree : Tree) → Given rules anchor tag said
-    → begins_content (c ∷ t) ≡ true → (c == 0x2A) ≡ false → word_after rules false None (record { anchor = anchor; tag = said }) (c ∷ t) ≡ Some tree
+lead_text : (rules : Rules) (anchor tag : Option Text) (parsed : Option ParsedTag) (c : ℕ) (t : Text) (tree : Tree) → Given rules anchor tag parsed
+    → begins_content (c ∷ t) ≡ true → (c == 0x2A) ≡ false → word_after rules false None (record { anchor = anchor; tag = parsed }) (c ∷ t) ≡ Some tree
     → nat_le (length (lead anchor tag ++ (c ∷ t))) longest_key ≡ true → key_of_text rules (lead anchor tag ++ (c ∷ t)) ≡ Some tree
-lead_text rules anchor tag said c t tree given own star e short =
-    lead_key_text rules anchor tag said c t (Some tree) given own star e ∙ ap (λ x. if x then Some tree else None) short
+lead_text rules anchor tag parsed c t tree given own star e short =
+    lead_key_text rules anchor tag parsed c t (Some tree) given own star e ∙ ap (λ x. if x then Some tree else None) short
 
 -- what a text after properties is to a line
 pub record KeyRead (rules : Rules) (text : Text) (tree : Tree) : Type 0 where
@@ -114,46 +114,46 @@ pub record KeyRead (rules : Rules) (text : Text) (tree : Tree) : Type 0 where
 -- Quotes
 
 -- of a word in quotes that doesn't read nothing is said
-nothing_said_quoted : (properties : Properties) (x : Bool) → ◌≡◌ {A = Option Tree} (scalar_said properties stood_quoted (if x then None else None)) None
-nothing_said_quoted properties true = refl
-nothing_said_quoted properties false = refl
+nothing_parsed_quoted : (properties : Properties) (x : Bool) → ◌≡◌ {A = Option Tree} (scalar_parsed properties stood_quoted (if x then None else None)) None
+nothing_parsed_quoted properties true = refl
+nothing_parsed_quoted properties false = refl
 
-double_no_text : (rules : Rules) (anchor tag : Option Text) (said : Option TagSaid) (b : Text) → Given rules anchor tag said
+double_no_text : (rules : Rules) (anchor tag : Option Text) (parsed : Option ParsedTag) (b : Text) → Given rules anchor tag parsed
     → read_double rules.breaks12 (0x22 ∷ b) ≡ None → key_of_text rules (lead anchor tag ++ (0x22 ∷ b)) ≡ None
-double_no_text rules anchor tag said b given none =
-    lead_no_text rules anchor tag said 0x22 b given refl refl
-    (ap (λ kind. word_by_kind kind rules false None (record { anchor = anchor; tag = said }) (0x22 ∷ b)) (double_kind b)
-    ∙ ap (λ v. scalar_said (record { anchor = anchor; tag = said }) stood_quoted (if is_tidy double_quoted rules.breaks12 None
+double_no_text rules anchor tag parsed b given none =
+    lead_no_text rules anchor tag parsed 0x22 b given refl refl
+    (ap (λ kind. word_by_kind kind rules false None (record { anchor = anchor; tag = parsed }) (0x22 ∷ b)) (double_kind b)
+    ∙ ap (λ v. scalar_parsed (record { anchor = anchor; tag = parsed }) stood_quoted (if is_tidy double_quoted rules.breaks12 None
     (0x22 ∷ b) then v else None)) none
-    ∙ nothing_said_quoted (record { anchor = anchor; tag = said }) (is_tidy double_quoted rules.breaks12 None (0x22 ∷ b)))
+    ∙ nothing_parsed_quoted (record { anchor = anchor; tag = parsed }) (is_tidy double_quoted rules.breaks12 None (0x22 ∷ b)))
 
-double_no_key : (rules : Rules) (anchor tag : Option Text) (said : Option TagSaid) (b t after v : Text) → Given rules anchor tag said
+double_no_key : (rules : Rules) (anchor tag : Option Text) (parsed : Option ParsedTag) (b t after v : Text) → Given rules anchor tag parsed
     → read_double rules.breaks12 ((0x22 ∷ b) ++ t) ≡ Some v → NoKey rules (lead anchor tag ++ (0x22 ∷ b)) t after
-double_no_key rules anchor tag said b [] after v given read = tt
-double_no_key rules anchor tag said b (c ∷ t) after v given read = (
-  λ h. double_no_text rules anchor tag said b given (double_quoted_whole rules.breaks12 (0x22 ∷ b) c t v read),
+double_no_key rules anchor tag parsed b [] after v given read = tt
+double_no_key rules anchor tag parsed b (c ∷ t) after v given read = (
+  λ h. double_no_text rules anchor tag parsed b given (double_quoted_whole rules.breaks12 (0x22 ∷ b) c t v read),
   subst (λ u. NoKey rules u t after) (sym (append_assoc (lead anchor tag) (0x22 ∷ b) (c ∷ [])))
-      (double_no_key rules anchor tag said (b ++ (c ∷ [])) t after v given (ap (read_double rules.breaks12) (append_assoc (0x22 ∷ b) (c ∷ []) t) ∙ read)),
+      (double_no_key rules anchor tag parsed (b ++ (c ∷ [])) t after v given (ap (read_double rules.breaks12) (append_assoc (0x22 ∷ b) (c ∷ []) t) ∙ read)),
 )
 
-single_no_text : (rules : Rules) (anchor tag : Option Text) (said : Option TagSaid) (b : Text) → Given rules anchor tag said
+single_no_text : (rules : Rules) (anchor tag : Option Text) (parsed : Option ParsedTag) (b : Text) → Given rules anchor tag parsed
     → read_single rules.breaks12 (0x27 ∷ b) ≡ None → key_of_text rules (lead anchor tag ++ (0x27 ∷ b)) ≡ None
-single_no_text rules anchor tag said b given none =
-    lead_no_text rules anchor tag said 0x27 b given refl refl
-    (ap (λ kind. word_by_kind kind rules false None (record { anchor = anchor; tag = said }) (0x27 ∷ b)) (single_kind b)
-    ∙ ap (λ v. scalar_said (record { anchor = anchor; tag = said }) stood_quoted (if is_tidy single_quoted rules.breaks12 None
+single_no_text rules anchor tag parsed b given none =
+    lead_no_text rules anchor tag parsed 0x27 b given refl refl
+    (ap (λ kind. word_by_kind kind rules false None (record { anchor = anchor; tag = parsed }) (0x27 ∷ b)) (single_kind b)
+    ∙ ap (λ v. scalar_parsed (record { anchor = anchor; tag = parsed }) stood_quoted (if is_tidy single_quoted rules.breaks12 None
     (0x27 ∷ b) then v else None)) none
-    ∙ nothing_said_quoted (record { anchor = anchor; tag = said }) (is_tidy single_quoted rules.breaks12 None (0x27 ∷ b)))
+    ∙ nothing_parsed_quoted (record { anchor = anchor; tag = parsed }) (is_tidy single_quoted rules.breaks12 None (0x27 ∷ b)))
 
-single_no_key : (rules : Rules) (anchor tag : Option Text) (said : Option TagSaid) (b t after v : Text) → Given rules anchor tag said
+single_no_key : (rules : Rules) (anchor tag : Option Text) (parsed : Option ParsedTag) (b t after v : Text) → Given rules anchor tag parsed
     → read_single rules.breaks12 ((0x27 ∷ b) ++ t) ≡ Some v → NoKey rules (lead anchor tag ++ (0x27 ∷ b)) t after
-single_no_key rules anchor tag said b [] after v given read = tt
-single_no_key rules anchor tag said b (c ∷ t) after v given read = (
-  λ h. single_no_text rules anchor tag said b given
+single_no_key rules anchor tag parsed b [] after v given read = tt
+single_no_key rules anchor tag parsed b (c ∷ t) after v given read = (
+  λ h. single_no_text rules anchor tag parsed b given
       (single_quoted_whole rules.breaks12 (0x27 ∷ b) c t v
-      (ap (λ n. n == 39) (eqb-true c 0x3A (and_parts (c == 0x3A) (ends_sign (t ++ (0x3A ∷ after))) h).0)) read),
+      (ap (λ n. n == 39) (eqb-true c 0x3A (and_parts (c == 0x3A) (ends_indicator (t ++ (0x3A ∷ after))) h).0)) read),
   subst (λ u. NoKey rules u t after) (sym (append_assoc (lead anchor tag) (0x27 ∷ b) (c ∷ [])))
-      (single_no_key rules anchor tag said (b ++ (c ∷ [])) t after v given (ap (read_single rules.breaks12) (append_assoc (0x27 ∷ b) (c ∷ []) t) ∙ read)),
+      (single_no_key rules anchor tag parsed (b ++ (c ∷ [])) t after v given (ap (read_single rules.breaks12) (append_assoc (0x27 ∷ b) (c ∷ []) t) ∙ read)),
 )
 
 -- Keys after properties

@@ -9,8 +9,8 @@ use Rattle.yaml_base.specs.reading.ReadSingle.{read_single}
 use Rattle.yaml_base.specs.reading.ReadDouble.{read_double}
 use Rattle.yaml_base.specs.reading.TidyText.{is_tidy}
 use Rattle.yaml_base.specs.streams.StreamContent.{Stood, stood_quoted, Tagging, without_tag, Tree, scalar_tree}
-use Rattle.yaml_base.specs.streams.StreamLines.{ends_sign}
-use Rattle.yaml_base.specs.streams.StreamScalars.{Rules, Properties, no_properties, tagging_said, scalar_said, scalar_of_style, word_read}
+use Rattle.yaml_base.specs.streams.StreamLines.{ends_indicator}
+use Rattle.yaml_base.specs.streams.StreamScalars.{Rules, Properties, no_properties, tagging_parsed, scalar_parsed, scalar_of_style, word_read}
 use Rattle.yaml_base.specs.streams.StreamFlow.{is_alias, longest_key}
 use Rattle.yaml_base.specs.streams.StreamNodes.{SimpleKey, without_last_space, word_but_alias, word_of_alias, key_of_text, key_ends, key_from, key_of_line}
 use Rattle.yaml_base.proofs.stream_lines.StreamCuts.{double_quoted_whole, single_quoted_whole}
@@ -19,7 +19,7 @@ use Rattle.yaml_base.proofs.stream_lines.StreamCuts.{double_quoted_whole, single
 abbrev pub NoKey : Rules → Text → Text → Text → Type 0
 NoKey rules before [] after = Unit {0}
 NoKey rules before (c ∷ t) after =
-    ((c == 0x3A && ends_sign (t ++ (0x3A ∷ after))) ≡ true → key_of_text rules before ≡ None) × NoKey rules (before ++ (c ∷ [])) t after
+    ((c == 0x3A && ends_indicator (t ++ (0x3A ∷ after))) ≡ true → key_of_text rules before ≡ None) × NoKey rules (before ++ (c ∷ [])) t after
 
 -- a key, and what follows its `:`
 abbrev pub found : Tree → Text → Text → Option SimpleKey
@@ -27,7 +27,7 @@ found key text after = Some (record { key = key; length = length text; after = a
 
 -- the first `:` that ends a key is found
 pub key_found : (rules : Rules) (before t after : Text) (key : Tree) → NoKey rules before t after → key_of_text rules (before ++ t) ≡ Some key
-    → ends_sign after ≡ true
+    → ends_indicator after ≡ true
     → key_from rules before (t ++ (0x3A ∷ after)) ≡ found key (before ++ t) after
 key_found rules before [] after key clear read h =
     ap (λ x. option_or (key_ends rules x before after) (key_from rules (before ++ (0x3A ∷ [])) after)) h
@@ -39,7 +39,7 @@ key_found rules before [] after key clear read h =
     nothing_after [] = refl
     nothing_after (c ∷ t) = ap (λ s. c ∷ s) (nothing_after t)
 key_found rules before (c ∷ t) after key clear read h =
-    by (c == 0x3A && ends_sign (t ++ (0x3A ∷ after))) clear.0
+    by (c == 0x3A && ends_indicator (t ++ (0x3A ∷ after))) clear.0
     ∙ key_found rules (before ++ (c ∷ [])) t after key clear.1 (ap (key_of_text rules) (append_assoc before (c ∷ []) t) ∙ read) h
     ∙ ap (λ s. found key s after) (append_assoc before (c ∷ []) t)
   where
@@ -53,9 +53,9 @@ key_found rules before (c ∷ t) after key clear read h =
 
 -- a scalar is no alias
 pub scalar_no_alias : (properties : Properties) (standing : Stood) (value : Option Text)
-    → option_and_then (λ tree. if is_alias tree then Some tree else None) (scalar_said properties standing value) ≡ None
+    → option_and_then (λ tree. if is_alias tree then Some tree else None) (scalar_parsed properties standing value) ≡ None
 scalar_no_alias properties standing None = refl
-scalar_no_alias properties standing (Some text) = by (tagging_said properties.tag standing)
+scalar_no_alias properties standing (Some text) = by (tagging_parsed properties.tag standing)
   where
     by : (tagging : Option Tagging)
         → option_and_then (λ tree. if is_alias tree then Some tree else None) (option_map (λ tagging. scalar_tree properties.anchor tagging text) tagging)
@@ -65,9 +65,9 @@ scalar_no_alias properties standing (Some text) = by (tagging_said properties.ta
 
 -- a scalar stays one where aliases are left out
 pub scalar_but_alias : (properties : Properties) (standing : Stood) (value : Option Text)
-    → option_and_then (λ tree. if is_alias tree then None else Some tree) (scalar_said properties standing value) ≡ scalar_said properties standing value
+    → option_and_then (λ tree. if is_alias tree then None else Some tree) (scalar_parsed properties standing value) ≡ scalar_parsed properties standing value
 scalar_but_alias properties standing None = refl
-scalar_but_alias properties standing (Some text) = by (tagging_said properties.tag standing)
+scalar_but_alias properties standing (Some text) = by (tagging_parsed properties.tag standing)
   where
     by : (tagging : Option Tagging)
         → option_and_then (λ tree. if is_alias tree then None else Some tree) (option_map (λ tagging. scalar_tree properties.anchor tagging text) tagging)
@@ -123,8 +123,8 @@ key_by_word rules text word e none =
     alone (Some tree) = refl
 
 -- what is said of a quoted value
-abbrev quoted_said : Option Text → Option Tree
-quoted_said value = scalar_said no_properties stood_quoted value
+abbrev quoted_parsed : Option Text → Option Tree
+quoted_parsed value = scalar_parsed no_properties stood_quoted value
 
 -- one of two that are nothing
 neither : (x : Bool) → ◌≡◌ {A = Option Tree} (if x then None else None) None
@@ -135,28 +135,28 @@ abbrev if_tidy_double : Rules → Text → Option Text → Option Text
 if_tidy_double rules text value = if is_tidy double_quoted rules.breaks12 None text then value else None
 
 double_key_text : (rules : Rules) (t : Text) (value : Option Text) → read_double rules.breaks12 (0x22 ∷ t) ≡ value
-    → key_of_text rules (0x22 ∷ t) ≡ (if nat_le (length (0x22 ∷ t)) longest_key then quoted_said (if_tidy_double rules (0x22 ∷ t) value) else None)
+    → key_of_text rules (0x22 ∷ t) ≡ (if nat_le (length (0x22 ∷ t)) longest_key then quoted_parsed (if_tidy_double rules (0x22 ∷ t) value) else None)
 double_key_text rules t value e =
-    key_by_word rules (0x22 ∷ t) (quoted_said (if_tidy_double rules (0x22 ∷ t) value))
+    key_by_word rules (0x22 ∷ t) (quoted_parsed (if_tidy_double rules (0x22 ∷ t) value))
     (ap (option_and_then (λ tree. if is_alias tree then None else Some tree)) (word_of_double rules false t)
     ∙ scalar_but_alias no_properties stood_quoted (if_tidy_double rules (0x22 ∷ t) (read_double rules.breaks12 (0x22 ∷ t)))
-    ∙ ap (λ v. quoted_said (if_tidy_double rules (0x22 ∷ t) v)) e)
+    ∙ ap (λ v. quoted_parsed (if_tidy_double rules (0x22 ∷ t) v)) e)
     (no_alias_before rules 0x22 t refl (double_no_alias rules))
 
 abbrev if_tidy_single : Rules → Text → Option Text → Option Text
 if_tidy_single rules text value = if is_tidy single_quoted rules.breaks12 None text then value else None
 
 single_key_text : (rules : Rules) (t : Text) (value : Option Text) → read_single rules.breaks12 (0x27 ∷ t) ≡ value
-    → key_of_text rules (0x27 ∷ t) ≡ (if nat_le (length (0x27 ∷ t)) longest_key then quoted_said (if_tidy_single rules (0x27 ∷ t) value) else None)
+    → key_of_text rules (0x27 ∷ t) ≡ (if nat_le (length (0x27 ∷ t)) longest_key then quoted_parsed (if_tidy_single rules (0x27 ∷ t) value) else None)
 single_key_text rules t value e =
-    key_by_word rules (0x27 ∷ t) (quoted_said (if_tidy_single rules (0x27 ∷ t) value))
+    key_by_word rules (0x27 ∷ t) (quoted_parsed (if_tidy_single rules (0x27 ∷ t) value))
     (ap (option_and_then (λ tree. if is_alias tree then None else Some tree)) (word_of_single rules false t)
     ∙ scalar_but_alias no_properties stood_quoted (if_tidy_single rules (0x27 ∷ t) (read_single rules.breaks12 (0x27 ∷ t)))
-    ∙ ap (λ v. quoted_said (if_tidy_single rules (0x27 ∷ t) v)) e)
+    ∙ ap (λ v. quoted_parsed (if_tidy_single rules (0x27 ∷ t) v)) e)
     (no_alias_before rules 0x27 t refl (single_no_alias rules))
 
 -- nothing is said of no value
-nothing_if : (x : Bool) → ◌≡◌ {A = Option Tree} (quoted_said (if x then None else None)) None
+nothing_if : (x : Bool) → ◌≡◌ {A = Option Tree} (quoted_parsed (if x then None else None)) None
 nothing_if true = refl
 nothing_if false = refl
 
@@ -184,6 +184,6 @@ single_no_key rules b [] after v read = tt
 single_no_key rules b (c ∷ t) after v read = (
   λ h. single_no_text rules b
       (single_quoted_whole rules.breaks12 (0x27 ∷ b) c t v
-      (ap (λ n. n == 39) (eqb-true c 0x3A (and_parts (c == 0x3A) (ends_sign (t ++ (0x3A ∷ after))) h).0)) read),
+      (ap (λ n. n == 39) (eqb-true c 0x3A (and_parts (c == 0x3A) (ends_indicator (t ++ (0x3A ∷ after))) h).0)) read),
   single_no_key rules (b ++ (c ∷ [])) t after v (ap (read_single rules.breaks12) (append_assoc (0x27 ∷ b) (c ∷ []) t) ∙ read),
 )

@@ -11,11 +11,12 @@ use Rattle.yaml_base.specs.Settings.{Effective}
 use Rattle.yaml_base.specs.Event.{ScalarStyle, any_style, plain, single_quoted, double_quoted, literal, folded, TagDirective, Scalar, Collection}
 use Rattle.yaml_base.specs.Cursor.{Cursor, space_if}
 use Rattle.yaml_base.specs.scalars.Analysis.{Allowances, is_empty, allowances}
-use Rattle.yaml_base.specs.scalars.Style.{style_asked, style_fitting, fits_plain}
+use Rattle.yaml_base.specs.scalars.Style.{requested_style, fitting_style, fits_plain}
 use Rattle.yaml_base.specs.Grammar.{alias_node, scalar_node, sequence_node, mapping_node, no_nodes, nodes_and, no_pairs, pairs_and}
 use Rattle.yaml_base.specs.Event.{scalar_tag, collection_tag}
-use Rattle.yaml_base.specs.Layout.{Role, is_key, byte_count, name_count, tag_count, is_short, is_simple, deeper, properties_laid, alias_laid, separation_laid}
-use Rattle.yaml_base.specs.Layout.{body_laid, choice_of, entry_place}
+use Rattle.yaml_base.specs.Layout.{Role, is_key, byte_count, name_count, tag_count, is_short, is_simple, deeper, render_properties, render_alias}
+use Rattle.yaml_base.specs.Layout.{render_separation}
+use Rattle.yaml_base.specs.Layout.{render_body, choice_of, entry_place}
 use Rattle.yaml_base.specs.Places.{most_key_bytes}
 use Rattle.yaml_base.specs.streams.StreamContent.{Tree}
 use Rattle.yaml_base.specs.streams.StreamScalars.{name_read}
@@ -26,7 +27,7 @@ use Rattle.yaml_base.proofs.stream_nodes.StreamAliasFits.{name_line}
 use Rattle.yaml_base.proofs.stream_nodes.StreamProperties.{IsNamed, name_letters}
 use Rattle.yaml_base.proofs.stream_flow.StreamPropertyWords.{lead}
 use Rattle.yaml_base.proofs.stream_nodes.StreamStands.{tag_written, tag_meant, TagStands}
-use Rattle.yaml_base.proofs.stream_nodes.StreamLeads.{lead_laid, tag_is_written}
+use Rattle.yaml_base.proofs.stream_nodes.StreamLeads.{lead_rendered, tag_is_written}
 use Rattle.yaml_base.proofs.stream_nodes.StreamTexts.{scalar_own, node_own}
 use Rattle.yaml_base.proofs.stream_flow.StreamFlowScalars.{rules_of, is_flow_style, scalar_whole}
 use Rattle.yaml_base.proofs.stream_flow.StreamFlowKinds.{KeysFit, empty_whole}
@@ -51,14 +52,14 @@ key_text_fits breaks12 tree text of = and_from (nat_le (key_length tree text) lo
 -- Styles
 
 -- in which no block style fits
-style_of_key : (allowed : Allowances) (fits block : Bool) (asked : ScalarStyle) → block ≡ false → is_flow_style (style_fitting allowed fits block asked) ≡ true
-style_of_key allowed fits block asked h = ap (λ x. is_flow_style (style_fitting allowed fits x asked)) h ∙ by fits asked
+style_of_key : (allowed : Allowances) (fits block : Bool) (asked : ScalarStyle) → block ≡ false → is_flow_style (fitting_style allowed fits block asked) ≡ true
+style_of_key allowed fits block asked h = ap (λ x. is_flow_style (fitting_style allowed fits x asked)) h ∙ by fits asked
   where
     quotes : (x : Bool) → is_flow_style (if x then single_quoted else double_quoted) ≡ true
     quotes true = refl
     quotes false = refl
 
-    by : (fits : Bool) (asked : ScalarStyle) → is_flow_style (style_fitting allowed fits false asked) ≡ true
+    by : (fits : Bool) (asked : ScalarStyle) → is_flow_style (fitting_style allowed fits false asked) ≡ true
     by true plain = refl
     by false plain = quotes allowed.single_quoted
     by fits single_quoted = quotes allowed.single_quoted
@@ -73,7 +74,7 @@ pub key_style : (s : Effective) (in_flow : Bool) (role : Role) (column : ℕ) (c
 key_style s in_flow role column content =
     let allowed = allowances (record { unicode = s.unicode; breaks12 = s.breaks12 }) content.value in
     style_of_key allowed (fits_plain allowed (is_empty content.value) (is_some (scalar_tag s.canonical content)) content.plain_implicit in_flow true)
-    (allowed.block && not in_flow && false) (style_asked (s.canonical || (true && allowed.multiline)) content.style) (never (allowed.block && not in_flow))
+    (allowed.block && not in_flow && false) (requested_style (s.canonical || (true && allowed.multiline)) content.style) (never (allowed.block && not in_flow))
   where
     never : (x : Bool) → (x && false) ≡ false
     never true = refl
@@ -170,9 +171,10 @@ simple_collection canonical empty count h =
 
 -- In flow
 
--- what is laid out after a space is the key's text
-cancelled : (cursor : Cursor) (text whole laid : Text) → laid ≡ space_if true cursor ++ (text ++ []) → laid ≡ space_if true cursor ++ whole → text ≡ whole
-cancelled cursor text whole laid e f = sym (append-nil text) ∙ append_cancel_left (space_if true cursor) (text ++ []) whole (sym e ∙ f)
+-- what is rendered after a space is the key's text
+cancelled : (cursor : Cursor) (text whole rendered : Text) → rendered ≡ space_if true cursor ++ (text ++ []) → rendered ≡ space_if true cursor ++ whole
+    → text ≡ whole
+cancelled cursor text whole rendered e f = sym (append-nil text) ∙ append_cancel_left (space_if true cursor) (text ++ []) whole (sym e ∙ f)
 
 -- a scalar's
 scalar_fits : (s : Effective) (own directives : List TagDirective) (content : Scalar) (role : Role) (column : ℕ) (cursor : Cursor) (text : Text)
@@ -183,9 +185,9 @@ scalar_fits s own directives content role column cursor text named stands simple
     let place = entry_place true role column in
     let tag = scalar_tag s.canonical content in
     let choice = choice_of s place true content in
-    let properties = properties_laid s.portable directives content.anchor tag choice.bare cursor in
-    let separation = separation_laid choice.style true content.value properties.cursor in
-    let body = (body_laid choice.style s None (deeper s.indent (Some column)) content.value separation.cursor).text in
+    let properties = render_properties s.portable directives content.anchor tag choice.bare cursor in
+    let separation = render_separation choice.style true content.value properties.cursor in
+    let body = (render_body choice.style s None (deeper s.indent (Some column)) content.value separation.cursor).text in
     subst (KeyText s.breaks12)
     (sym (cancelled cursor text (lead content.anchor (tag_written s.portable directives tag choice.bare) ++ body)
     (scalar_own s directives place true content cursor).text e
@@ -199,14 +201,14 @@ pub keys_fit : (s : Effective) (own directives : List TagDirective) → KeysFit 
 keys_fit s own directives (alias_node name) role column cursor text h names bodies e =
     let simple = (and_parts (is_key role) (not s.canonical && is_short (byte_count name)) h).1 in
     let short = leb-true (byte_count name) most_key_bytes (and_parts (not s.canonical) (is_short (byte_count name)) simple).1 in
-    subst (λ t. is_key_text s.breaks12 (node_tree (alias_node name) s directives (entry_place true role 0)) t ≡ true) (sym (same (sym (laid h) ∙ e)))
+    subst (λ t. is_key_text s.breaks12 (node_tree (alias_node name) s directives (entry_place true role 0)) t ≡ true) (sym (same (sym (rendered h) ∙ e)))
     (key_text_fits s.breaks12 (node_tree (alias_node name) s directives (entry_place true role 0)) (0x2A ∷ name) (alias_key_text s.breaks12 name names short))
   where
-    laid : (is_key role && (not s.canonical && is_short (byte_count name))) ≡ true
-        → (alias_laid name (is_key role && (not s.canonical && is_short (byte_count name))) cursor).text ≡ space_if true cursor ++
+    rendered : (is_key role && (not s.canonical && is_short (byte_count name))) ≡ true
+        → (render_alias name (is_key role && (not s.canonical && is_short (byte_count name))) cursor).text ≡ space_if true cursor ++
         ((0x2A ∷ name) ++ (space ∷ []))
-    laid h =
-        ap (λ x. (alias_laid name x cursor).text) h
+    rendered h =
+        ap (λ x. (render_alias name x cursor).text) h
         ∙ ap (λ t. t ++ (space ∷ [])) (append_assoc (space_if true cursor) (0x2A ∷ []) name)
         ∙ append_assoc (space_if true cursor) (0x2A ∷ name) (space ∷ [])
 
@@ -228,9 +230,9 @@ keys_fit s own directives (sequence_node start no_nodes) role column cursor text
     key_text_fits s.breaks12 tree text
     (subst (KeyText s.breaks12)
     (sym (cancelled cursor text whole (node_own (sequence_node start no_nodes) s directives (entry_place true role column) cursor).text e
-    (empty_whole (properties_laid s.portable directives start.anchor tag false cursor) cursor
+    (empty_whole (render_properties s.portable directives start.anchor tag false cursor) cursor
     (lead start.anchor (tag_written s.portable directives tag false)) 0x5B 0x5D
-    (lead_laid s.portable directives start.anchor tag false cursor))))
+    (lead_rendered s.portable directives start.anchor tag false cursor))))
     (empty_key_text s own directives start 0x5B 0x5D square_line names.0 names.1 short))
 keys_fit s own directives (sequence_node start (nodes_and items last)) role column cursor text h names bodies e =
     absurd (false≢true (simple_collection s.canonical false 0 (and_parts (is_key role)
@@ -244,9 +246,9 @@ keys_fit s own directives (mapping_node start no_pairs) role column cursor text 
     key_text_fits s.breaks12 tree text
     (subst (KeyText s.breaks12)
     (sym (cancelled cursor text whole (node_own (mapping_node start no_pairs) s directives (entry_place true role column) cursor).text e
-    (empty_whole (properties_laid s.portable directives start.anchor tag false cursor) cursor
+    (empty_whole (render_properties s.portable directives start.anchor tag false cursor) cursor
     (lead start.anchor (tag_written s.portable directives tag false)) 0x7B 0x7D
-    (lead_laid s.portable directives start.anchor tag false cursor))))
+    (lead_rendered s.portable directives start.anchor tag false cursor))))
     (empty_key_text s own directives start 0x7B 0x7D curly_line names.0 names.1 short))
 keys_fit s own directives (mapping_node start (pairs_and pairs key value)) role column cursor text h names bodies e =
     absurd (false≢true (simple_collection s.canonical false 0 (and_parts (is_key role)

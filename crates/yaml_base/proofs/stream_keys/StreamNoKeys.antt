@@ -7,10 +7,11 @@ use Rattle.std.specs.Prelude.{ℕ, Bool, true, false, Option, None, Some, [], �
 use Rattle.std.specs.Prelude.{option_and_then, if◌then◌else◌}
 use Rattle.yaml_base.specs.Characters.{Text, space, is_alpha}
 use Rattle.yaml_base.specs.streams.StreamContent.{Stood, Tagging, Tree, scalar_tree, sequence_tree, mapping_tree, no_trees, no_tree_pairs}
-use Rattle.yaml_base.specs.streams.StreamLines.{Indented, indented, spaces, ends_sign}
-use Rattle.yaml_base.specs.reading.ReadTags.{TagSaid, tag_said}
-use Rattle.yaml_base.specs.streams.StreamScalars.{Rules, Properties, PropertiesRead, word_cut, name_read, tag_of_word, tag_first, collection_tag_said}
-use Rattle.yaml_base.specs.streams.StreamScalars.{tagging_said, scalar_said, standing_of, style_begun, value_read, alias_said, WordKind, an_alias}
+use Rattle.yaml_base.specs.streams.StreamLines.{Indented, indented, spaces, ends_indicator}
+use Rattle.yaml_base.specs.reading.ReadTags.{ParsedTag, tag_parsed}
+use Rattle.yaml_base.specs.streams.StreamScalars.{Rules, Properties, PropertiesRead, cut_before_space, name_read, tag_of_word, tag_first, collection_tag_parsed}
+use Rattle.yaml_base.specs.streams.StreamScalars.{tagging_parsed, scalar_parsed, standing_of, style_of_first_character, value_read, alias_parsed}
+use Rattle.yaml_base.specs.streams.StreamScalars.{WordKind, an_alias}
 use Rattle.yaml_base.specs.streams.StreamScalars.{empty_sequence, empty_mapping, a_scalar, kind_of_word, word_by_kind, word_after, word_read}
 use Rattle.yaml_base.specs.reading.TidyText.{is_tidy}
 use Rattle.yaml_base.specs.streams.StreamFlow.{is_alias, longest_key}
@@ -32,7 +33,7 @@ KeyNowhere rules before (c ∷ t) = ((c == 0x3A) ≡ true → key_of_text rules 
 pub nowhere_then : (rules : Rules) (before a t after : Text) → KeyNowhere rules before a → NoKey rules (before ++ a) t after → NoKey rules before (a ++ t) after
 nowhere_then rules before [] t after none clear = subst (λ b. NoKey rules b t after) (append-nil before) clear
 nowhere_then rules before (c ∷ a) t after none clear = (
-  λ h. none.0 (and_parts (c == 0x3A) (ends_sign ((a ++ t) ++ (0x3A ∷ after))) h).0,
+  λ h. none.0 (and_parts (c == 0x3A) (ends_indicator ((a ++ t) ++ (0x3A ∷ after))) h).0,
   nowhere_then rules (before ++ (c ∷ [])) a t after none.1 (subst (λ b. NoKey rules b t after) (sym (append_assoc before (c ∷ []) a)) clear),
 )
 
@@ -40,7 +41,7 @@ nowhere_then rules before (c ∷ a) t after none clear = (
 pub nowhere_alone : (rules : Rules) (before a : Text) → KeyNowhere rules before a → key_from rules before a ≡ None
 nowhere_alone rules before [] none = refl
 nowhere_alone rules before (c ∷ a) none =
-    by (c == 0x3A && ends_sign a) (λ h. none.0 (and_parts (c == 0x3A) (ends_sign a) h).0) ∙ nowhere_alone rules (before ++ (c ∷ [])) a none.1
+    by (c == 0x3A && ends_indicator a) (λ h. none.0 (and_parts (c == 0x3A) (ends_indicator a) h).0) ∙ nowhere_alone rules (before ++ (c ∷ [])) a none.1
   where
     by : (x : Bool) → (x ≡ true → key_of_text rules before ≡ None)
         → option_or (key_ends rules x before a) (key_from rules (before ++ (c ∷ [])) a) ≡ key_from rules (before ++ (c ∷ [])) a
@@ -71,9 +72,9 @@ other_kept None h = refl
 other_kept (Some tree) h = ap (λ x. if x then None else Some tree) h
 
 -- a scalar is none
-scalar_other : (properties : Properties) (standing : Stood) (value : Option Text) → reads_alias (scalar_said properties standing value) ≡ false
+scalar_other : (properties : Properties) (standing : Stood) (value : Option Text) → reads_alias (scalar_parsed properties standing value) ≡ false
 scalar_other properties standing None = refl
-scalar_other properties standing (Some text) = by (tagging_said properties.tag standing)
+scalar_other properties standing (Some text) = by (tagging_parsed properties.tag standing)
   where
     by : (tagging : Option Tagging) → reads_alias (option_map (λ tagging. scalar_tree properties.anchor tagging text) tagging) ≡ false
     by None = refl
@@ -89,29 +90,30 @@ collection_other (Some tag) make h = h tag
 pub kind_other : (kind : WordKind) (rules : Rules) (flow : Bool) (properties : Properties) (text : Text)
     → (kind ≡ an_alias → ⊥) → reads_alias (word_by_kind kind rules flow None properties text) ≡ false
 kind_other an_alias rules flow properties text other = absurd (other refl)
-kind_other empty_sequence rules flow properties text other = collection_other (collection_tag_said properties.tag)
+kind_other empty_sequence rules flow properties text other = collection_other (collection_tag_parsed properties.tag)
     (λ tag. sequence_tree properties.anchor tag no_trees) (λ tag. refl)
-kind_other empty_mapping rules flow properties text other = collection_other (collection_tag_said properties.tag)
+kind_other empty_mapping rules flow properties text other = collection_other (collection_tag_parsed properties.tag)
     (λ tag. mapping_tree properties.anchor tag no_tree_pairs) (λ tag. refl)
 kind_other a_scalar rules flow properties [] other = refl
 kind_other a_scalar rules flow properties (c ∷ rest) other =
-    scalar_other properties (standing_of (style_begun (c ∷ rest)))
-    (if is_tidy (style_begun (c ∷ rest)) rules.breaks12 None (c ∷ rest) then value_read (style_begun (c ∷ rest)) rules.breaks12 flow None (c ∷ rest) else None)
+    scalar_other properties (standing_of (style_of_first_character (c ∷ rest)))
+    (if is_tidy (style_of_first_character (c ∷ rest)) rules.breaks12 None (c ∷ rest) then value_read
+    (style_of_first_character (c ∷ rest)) rules.breaks12 flow None (c ∷ rest) else None)
 
 -- a node with an anchor or a tag is none
 pub properties_other : (rules : Rules) (flow : Bool) (properties : Properties) (text : Text) → (is_some properties.anchor || is_some properties.tag) ≡ true
     → reads_alias (word_after rules flow None properties text) ≡ false
 properties_other rules flow properties text h = by (kind_of_word text) text
   where
-    said : (anchor : Option Text) (tag : Option TagSaid) (name : Option Text) → (is_some anchor || is_some tag) ≡ true → reads_alias
-        (alias_said anchor tag name) ≡ false
-    said None None name h = absurd (false≢true h)
-    said None (Some tag) name h = refl
-    said (Some anchor) tag name h = refl
+    parsed : (anchor : Option Text) (tag : Option ParsedTag) (name : Option Text) → (is_some anchor || is_some tag) ≡ true → reads_alias
+        (alias_parsed anchor tag name) ≡ false
+    parsed None None name h = absurd (false≢true h)
+    parsed None (Some tag) name h = refl
+    parsed (Some anchor) tag name h = refl
 
     by : (kind : WordKind) (text : Text) → reads_alias (word_by_kind kind rules flow None properties text) ≡ false
     by an_alias [] = refl
-    by an_alias (c ∷ name) = said properties.anchor properties.tag (name_read name) h
+    by an_alias (c ∷ name) = parsed properties.anchor properties.tag (name_read name) h
     by empty_sequence text = kind_other empty_sequence rules flow properties text (λ e. cc)
     by empty_mapping text = kind_other empty_mapping rules flow properties text (λ e. cc)
     by a_scalar text = kind_other a_scalar rules flow properties text (λ e. cc)
@@ -132,19 +134,19 @@ nothing_after rules flow properties count =
 tag_alone : (rules : Rules) (flow : Bool) (anchor : Option Text) (column : ℕ) (b : Text) → has_no_space b ≡ true
     → after_read rules flow (tag_first rules.directives anchor column (0x21 ∷ b)) ≡ None
 tag_alone rules flow anchor column b h =
-    ap (λ cut. after_read rules flow (tag_of_word rules.directives anchor column cut)) cut ∙ by (tag_said rules.directives (0x21 ∷ b))
+    ap (λ cut. after_read rules flow (tag_of_word rules.directives anchor column cut)) cut ∙ by (tag_parsed rules.directives (0x21 ∷ b))
   where
-    cut : word_cut (0x21 ∷ b) ≡ record { front = 0x21 ∷ b; rest = [] }
-    cut = ap word_cut (sym (append-nil (0x21 ∷ b))) ∙ word_whole (0x21 ∷ b) [] h refl
+    cut : cut_before_space (0x21 ∷ b) ≡ record { prefix = 0x21 ∷ b; rest = [] }
+    cut = ap cut_before_space (sym (append-nil (0x21 ∷ b))) ∙ word_whole (0x21 ∷ b) [] h refl
 
-    by : (said : Option TagSaid)
-        → after_read rules flow (option_map (λ said. record {
-          properties = record { anchor = anchor; tag = Some said };
+    by : (parsed : Option ParsedTag)
+        → after_read rules flow (option_map (λ parsed. record {
+          properties = record { anchor = anchor; tag = Some parsed };
           text = spaces
               (column + length (0x21 ∷ b)) ++ [];
-        }) said) ≡ None
+        }) parsed) ≡ None
     by None = refl
-    by (Some said) = nothing_after rules flow (record { anchor = anchor; tag = Some said }) (column + length (0x21 ∷ b))
+    by (Some parsed) = nothing_after rules flow (record { anchor = anchor; tag = Some parsed }) (column + length (0x21 ∷ b))
 
 -- the anchor, and the space after it before a tag
 abbrev anchored : Option Text → Text
@@ -170,18 +172,18 @@ tag_no_word rules flow (Some name) b named h =
 -- a text that begins with an anchor or a tag is no alias
 tag_other : (rules : Rules) (anchor : Option Text) (column : ℕ) (u : Text) → reads_alias
     (after_read rules false (tag_first rules.directives anchor column (0x21 ∷ u))) ≡ false
-tag_other rules anchor column u = by (tag_said rules.directives (word_cut (0x21 ∷ u)).front)
+tag_other rules anchor column u = by (tag_parsed rules.directives (cut_before_space (0x21 ∷ u)).prefix)
   where
-    by : (said : Option TagSaid)
-        → reads_alias (after_read rules false (option_map (λ said. record {
-          properties = record { anchor = anchor; tag = Some said };
+    by : (parsed : Option ParsedTag)
+        → reads_alias (after_read rules false (option_map (λ parsed. record {
+          properties = record { anchor = anchor; tag = Some parsed };
           text = spaces
-              (column + length (word_cut (0x21 ∷ u)).front) ++ (word_cut (0x21 ∷ u)).rest;
-        }) said)) ≡ false
+              (column + length (cut_before_space (0x21 ∷ u)).prefix) ++ (cut_before_space (0x21 ∷ u)).rest;
+        }) parsed)) ≡ false
     by None = refl
-    by (Some said) =
-        properties_other rules false (record { anchor = anchor; tag = Some said })
-        (indented (spaces (column + length (word_cut (0x21 ∷ u)).front) ++ (word_cut (0x21 ∷ u)).rest)).text (or_some anchor)
+    by (Some parsed) =
+        properties_other rules false (record { anchor = anchor; tag = Some parsed })
+        (indented (spaces (column + length (cut_before_space (0x21 ∷ u)).prefix) ++ (cut_before_space (0x21 ∷ u)).rest)).text (or_some anchor)
       where
         or_some : (anchor : Option Text) → (is_some anchor || true) ≡ true
         or_some None = refl
@@ -193,10 +195,10 @@ anchor_other rules name column [] = properties_other rules false (record { ancho
 anchor_other rules name column (c ∷ t) = by (c == 0x21) refl
   where
     by : (x : Bool) → (c == 0x21) ≡ x
-        → reads_alias (after_read rules false (if x then tag_of_word rules.directives (Some name) column (word_cut (c ∷ t))
+        → reads_alias (after_read rules false (if x then tag_of_word rules.directives (Some name) column (cut_before_space (c ∷ t))
         else Some (record { properties = record { anchor = Some name; tag = None }; text = spaces column ++ c ∷ t }))) ≡ false
     by true e =
-        ap (λ d. reads_alias (after_read rules false (tag_of_word rules.directives (Some name) column (word_cut (d ∷ t))))) (eqb-true c 0x21 e)
+        ap (λ d. reads_alias (after_read rules false (tag_of_word rules.directives (Some name) column (cut_before_space (d ∷ t))))) (eqb-true c 0x21 e)
         ∙ tag_other rules (Some name) column t
     by false e = properties_other rules false (record { anchor = Some name; tag = None }) (indented (spaces column ++ c ∷ t)).text refl
 
@@ -204,7 +206,7 @@ pub tag_no_alias : (rules : Rules) (u : Text) → word_of_alias rules (0x21 ∷ 
 tag_no_alias rules u = alias_left (word_read rules false (0x21 ∷ u)) (tag_other rules None 0 u)
 
 pub anchor_no_alias : (rules : Rules) (u : Text) → word_of_alias rules (0x26 ∷ u) ≡ None
-anchor_no_alias rules u = alias_left (word_read rules false (0x26 ∷ u)) (by (name_read (word_cut u).front))
+anchor_no_alias rules u = alias_left (word_read rules false (0x26 ∷ u)) (by (name_read (cut_before_space u).prefix))
   where
     by : (name : Option Text)
         → reads_alias (after_read rules false
@@ -212,12 +214,13 @@ anchor_no_alias rules u = alias_left (word_read rules false (0x26 ∷ u)) (by (n
         tag_first rules.directives read.properties.anchor after.column after.text)
         (option_map (λ name. record {
           properties = record { anchor = Some name; tag = None };
-          text = spaces (suc (length (word_cut u).front)) ++
-              (word_cut u).rest;
+          text = spaces (suc (length (cut_before_space u).prefix)) ++
+              (cut_before_space u).rest;
         }) name))) ≡ false
     by None = refl
     by (Some name) =
-        let after : Indented = indented (spaces (suc (length (word_cut u).front)) ++ (word_cut u).rest) in anchor_other rules name after.column after.text
+        let after : Indented = indented (spaces (suc (length (cut_before_space u).prefix)) ++
+        (cut_before_space u).rest) in anchor_other rules name after.column after.text
 
 -- No key
 
@@ -259,9 +262,9 @@ tag_rest_nowhere rules anchor b (c ∷ t) named h k =
         and_from (not (d == space)) (has_no_space (b ++ (c ∷ []))) parts.0 (longer b parts.1 k)
 
 -- nor in the tag
-tag_nowhere : (rules : Rules) (anchor : Option Text) (tag : Text) (said : TagSaid) → IsNamed anchor → WrittenTag rules.directives tag said
+tag_nowhere : (rules : Rules) (anchor : Option Text) (tag : Text) (parsed : ParsedTag) → IsNamed anchor → WrittenTag rules.directives tag parsed
     → KeyNowhere rules (anchored anchor) tag
-tag_nowhere rules anchor tag said named written =
+tag_nowhere rules anchor tag parsed named written =
     subst (KeyNowhere rules (anchored anchor)) (sym written.begins) (
       (λ e. absurd (false≢true e)),
       tag_rest_nowhere rules anchor [] written.rest named refl (ap has_no_space (sym written.begins) ∙ no_white_no_space tag written.no_white),
@@ -284,25 +287,25 @@ anchored_nowhere rules (Some name) named = (
 )
 
 -- no key ends in properties
-pub properties_nowhere : (rules : Rules) (anchor tag : Option Text) (said : Option TagSaid) → IsNamed anchor → IsTagged rules.directives tag said
+pub properties_nowhere : (rules : Rules) (anchor tag : Option Text) (parsed : Option ParsedTag) → IsNamed anchor → IsTagged rules.directives tag parsed
     → KeyNowhere rules [] (properties_text anchor tag)
-properties_nowhere rules None None said named tagged = tt
-properties_nowhere rules (Some name) None said named tagged =
+properties_nowhere rules None None parsed named tagged = tt
+properties_nowhere rules (Some name) None parsed named tagged =
     ((λ e. absurd (false≢true e)), name_nowhere rules (0x26 ∷ []) name (name_letters name named))
-properties_nowhere rules None (Some tag) (Some said) named tagged = tag_nowhere rules None tag said named tagged
-properties_nowhere rules (Some name) (Some tag) (Some said) named tagged =
+properties_nowhere rules None (Some tag) (Some parsed) named tagged = tag_nowhere rules None tag parsed named tagged
+properties_nowhere rules (Some name) (Some tag) (Some parsed) named tagged =
     subst (KeyNowhere rules []) (append_assoc (0x26 ∷ name) (space ∷ []) tag)
-    (nowhere_both rules [] (anchored (Some name)) tag (anchored_nowhere rules (Some name) named) (tag_nowhere rules (Some name) tag said named tagged))
+    (nowhere_both rules [] (anchored (Some name)) tag (anchored_nowhere rules (Some name) named) (tag_nowhere rules (Some name) tag parsed named tagged))
 properties_nowhere rules None (Some tag) None named tagged = absurd tagged
 properties_nowhere rules (Some name) (Some tag) None named tagged = absurd tagged
 
 -- nor in the space after them
-pub lead_nowhere : (rules : Rules) (anchor tag : Option Text) (said : Option TagSaid) → IsNamed anchor → IsTagged rules.directives tag said
+pub lead_nowhere : (rules : Rules) (anchor tag : Option Text) (parsed : Option ParsedTag) → IsNamed anchor → IsTagged rules.directives tag parsed
     → KeyNowhere rules [] (lead anchor tag)
-lead_nowhere rules None None said named tagged = tt
-lead_nowhere rules (Some name) None said named tagged = anchored_nowhere rules (Some name) named
-lead_nowhere rules None (Some tag) said named tagged =
-    nowhere_both rules [] tag (space ∷ []) (properties_nowhere rules None (Some tag) said named tagged) ((λ e. absurd (false≢true e)), tt)
-lead_nowhere rules (Some name) (Some tag) said named tagged =
-    nowhere_both rules [] (properties_text (Some name) (Some tag)) (space ∷ []) (properties_nowhere rules (Some name) (Some tag) said named tagged)
+lead_nowhere rules None None parsed named tagged = tt
+lead_nowhere rules (Some name) None parsed named tagged = anchored_nowhere rules (Some name) named
+lead_nowhere rules None (Some tag) parsed named tagged =
+    nowhere_both rules [] tag (space ∷ []) (properties_nowhere rules None (Some tag) parsed named tagged) ((λ e. absurd (false≢true e)), tt)
+lead_nowhere rules (Some name) (Some tag) parsed named tagged =
+    nowhere_both rules [] (properties_text (Some name) (Some tag)) (space ∷ []) (properties_nowhere rules (Some name) (Some tag) parsed named tagged)
     ((λ e. absurd (false≢true e)), tt)

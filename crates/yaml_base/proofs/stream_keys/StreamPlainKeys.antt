@@ -10,9 +10,11 @@ use Rattle.yaml_base.specs.reading.ReadFolding.{unit_of, folding_read}
 use Rattle.yaml_base.specs.reading.ReadPlain.{is_read_white, begins_white, begins_with_three, begins_with_hash, begins_no_plain, holds_no_plain, read_plain}
 use Rattle.yaml_base.specs.reading.TidyText.{is_tidy, has_deep_lines, has_no_space_before_break, has_clean_edges, ends_white}
 use Rattle.yaml_base.specs.streams.StreamContent.{stood_plain, without_tag, Tree, scalar_tree}
-use Rattle.yaml_base.specs.streams.StreamLines.{ends_sign, Indented, indented, indented_step}
-use Rattle.yaml_base.specs.streams.StreamScalars.{Rules, no_properties, properties_read, anchor_of_word, word_cut, tag_first, tag_of_word, scalar_said}
-use Rattle.yaml_base.specs.streams.StreamScalars.{scalar_of_style, style_begun, an_alias, a_scalar, kind_of_word, word_by_kind, word_after, word_read}
+use Rattle.yaml_base.specs.streams.StreamLines.{ends_indicator, Indented, indented, indented_step}
+use Rattle.yaml_base.specs.streams.StreamScalars.{Rules, no_properties, properties_read, anchor_of_word, cut_before_space, tag_first, tag_of_word}
+use Rattle.yaml_base.specs.streams.StreamScalars.{scalar_parsed}
+use Rattle.yaml_base.specs.streams.StreamScalars.{scalar_of_style, style_of_first_character, an_alias, a_scalar, kind_of_word, word_by_kind}
+use Rattle.yaml_base.specs.streams.StreamScalars.{word_after, word_read}
 use Rattle.yaml_base.specs.streams.StreamFlow.{is_alias, longest_key}
 use Rattle.yaml_base.specs.streams.StreamNodes.{key_of_text, key_of_line, word_of_alias}
 use Rattle.yaml_base.proofs.stream_lines.StreamCuts.{none_not_some}
@@ -68,16 +70,16 @@ plain_properties : (directives : List TagDirective) (c : ℕ) (t : Text) → Beg
     → properties_read directives (c ∷ t) ≡ Some (record { properties = no_properties; text = c ∷ t })
 plain_properties directives c t b =
     ap (λ x. option_and_then (λ read. let after : Indented = indented read.text in tag_first directives read.properties.anchor after.column after.text)
-    (if x then anchor_of_word (word_cut t) else Some (record { properties = no_properties; text = c ∷ t }))) b.anchor
+    (if x then anchor_of_word (cut_before_space t) else Some (record { properties = no_properties; text = c ∷ t }))) b.anchor
     ∙ ap (λ x. let after : Indented = indented_step x (c ∷ t) (indented t) in tag_first directives None after.column after.text) b.blank
-    ∙ ap (λ x. if x then tag_of_word directives None 0 (word_cut (c ∷ t)) else Some (record { properties = no_properties; text = c ∷ t })) b.tag
+    ∙ ap (λ x. if x then tag_of_word directives None 0 (cut_before_space (c ∷ t)) else Some (record { properties = no_properties; text = c ∷ t })) b.tag
 
 pub plain_kind : (c : ℕ) (t : Text) → Begins c → kind_of_word (c ∷ t) ≡ a_scalar
 plain_kind c [] b = ap (λ x. if x then an_alias else a_scalar) b.star
 plain_kind c (d ∷ []) b = rw (b.star, b.square, b.curly) refl
 plain_kind c (d ∷ e ∷ t) b = ap (λ x. if x then an_alias else a_scalar) b.star
 
-pub plain_style : (c : ℕ) (t : Text) → Begins c → style_begun (c ∷ t) ≡ plain
+pub plain_style : (c : ℕ) (t : Text) → Begins c → style_of_first_character (c ∷ t) ≡ plain
 plain_style c t b = rw (b.single, b.double, b.literal, b.folded) refl
 
 -- a word that begins so is a plain scalar
@@ -95,14 +97,14 @@ plain_no_key rules before [] after h = tt
 plain_no_key rules before (c ∷ t) after h =
     let parts = or_parts ((c == 58 && begins_white rules.breaks12 t) || (is_read_white rules.breaks12 c && begins_with_hash t) || false)
     (holds_no_plain rules.breaks12 false t) h in
-    let sign = or_parts ((c == 58 && begins_white rules.breaks12 t) || (is_read_white rules.breaks12 c && begins_with_hash t)) false parts.0 in
-    let colon = or_parts (c == 58 && begins_white rules.breaks12 t) (is_read_white rules.breaks12 c && begins_with_hash t) sign.0 in (
-      (λ e. absurd (no_end t (and_parts (c == 0x3A) (ends_sign (t ++ (0x3A ∷ after))) e).0
-          (and_parts (c == 0x3A) (ends_sign (t ++ (0x3A ∷ after))) e).1 colon.0)),
+    let symbol = or_parts ((c == 58 && begins_white rules.breaks12 t) || (is_read_white rules.breaks12 c && begins_with_hash t)) false parts.0 in
+    let colon = or_parts (c == 58 && begins_white rules.breaks12 t) (is_read_white rules.breaks12 c && begins_with_hash t) symbol.0 in (
+      (λ e. absurd (no_end t (and_parts (c == 0x3A) (ends_indicator (t ++ (0x3A ∷ after))) e).0
+          (and_parts (c == 0x3A) (ends_indicator (t ++ (0x3A ∷ after))) e).1 colon.0)),
       plain_no_key rules (before ++ (c ∷ [])) t after parts.1,
     )
   where
-    no_end : (t : Text) → (c == 0x3A) ≡ true → ends_sign (t ++ (0x3A ∷ after)) ≡ true → (c == 58 && begins_white rules.breaks12 t) ≡ false → ⊥
+    no_end : (t : Text) → (c == 0x3A) ≡ true → ends_indicator (t ++ (0x3A ∷ after)) ≡ true → (c == 58 && begins_white rules.breaks12 t) ≡ false → ⊥
     no_end [] e k colon = false≢true k
     no_end (d ∷ t) e k colon =
         true≢false
@@ -113,8 +115,8 @@ abbrev pub plain_tree : Text → Tree
 plain_tree value = scalar_tree None (without_tag stood_plain) value
 
 -- what is said of a plain value
-abbrev plain_said : Option Text → Option Tree
-plain_said value = scalar_said no_properties stood_plain value
+abbrev plain_parsed : Option Text → Option Tree
+plain_parsed value = scalar_parsed no_properties stood_plain value
 
 abbrev if_tidy : Rules → Text → Option Text → Option Text
 if_tidy rules text value = if is_tidy plain rules.breaks12 None text then value else None
@@ -125,15 +127,15 @@ plain_no_alias rules c b u =
     ∙ scalar_no_alias no_properties stood_plain (if_tidy rules (c ∷ u) (read_plain rules.breaks12 false (c ∷ u)))
 
 plain_key_text : (rules : Rules) (c : ℕ) (t : Text) (value : Option Text) → Begins c → read_plain rules.breaks12 false (c ∷ t) ≡ value
-    → key_of_text rules (c ∷ t) ≡ (if nat_le (length (c ∷ t)) longest_key then plain_said (if_tidy rules (c ∷ t) value) else None)
+    → key_of_text rules (c ∷ t) ≡ (if nat_le (length (c ∷ t)) longest_key then plain_parsed (if_tidy rules (c ∷ t) value) else None)
 plain_key_text rules c t value b e =
-    key_by_word rules (c ∷ t) (plain_said (if_tidy rules (c ∷ t) value))
+    key_by_word rules (c ∷ t) (plain_parsed (if_tidy rules (c ∷ t) value))
     (ap (option_and_then (λ tree. if is_alias tree then None else Some tree)) (word_of_plain rules false c t b)
     ∙ scalar_but_alias no_properties stood_plain (if_tidy rules (c ∷ t) (read_plain rules.breaks12 false (c ∷ t)))
-    ∙ ap (λ v. plain_said (if_tidy rules (c ∷ t) v)) e)
+    ∙ ap (λ v. plain_parsed (if_tidy rules (c ∷ t) v)) e)
     (no_alias_before rules c t b.blank (plain_no_alias rules c b))
 
--- what reads as plain begins so and holds no such sign
+-- what reads as plain begins so and holds no such indicator
 pub reads_plain : (breaks12 flow : Bool) (c : ℕ) (t v : Text) → read_plain breaks12 flow (c ∷ t) ≡ Some v
     → (begins_no_plain breaks12 (c ∷ t) ≡ false) × (holds_no_plain breaks12 flow (c ∷ t) ≡ false)
 reads_plain breaks12 flow c t v read = by (begins_no_plain breaks12 (c ∷ t)) (holds_no_plain breaks12 flow (c ∷ t)) read
@@ -157,12 +159,12 @@ tidy_begins breaks12 c t tidy =
 
 -- a tidy plain text that isn't too long is a simple key before `:`
 pub plain_key : (rules : Rules) (c : ℕ) (t after v : Text) → read_plain rules.breaks12 false (c ∷ t) ≡ Some v
-    → is_tidy plain rules.breaks12 None (c ∷ t) ≡ true → nat_le (length (c ∷ t)) longest_key ≡ true → ends_sign after ≡ true
+    → is_tidy plain rules.breaks12 None (c ∷ t) ≡ true → nat_le (length (c ∷ t)) longest_key ≡ true → ends_indicator after ≡ true
     → key_of_line rules ((c ∷ t) ++ (0x3A ∷ after)) ≡ found (plain_tree v) (c ∷ t) after
 plain_key rules c t after v read tidy short h =
     let parts = reads_plain rules.breaks12 false c t v read in
     key_found rules [] (c ∷ t) after (plain_tree v) (plain_no_key rules [] (c ∷ t) after parts.1)
     (plain_key_text rules c t (Some v) (begins rules.breaks12 c t parts.0 (tidy_begins rules.breaks12 c t tidy)) read
-    ∙ ap (λ x. if x then plain_said (if_tidy rules (c ∷ t) (Some v)) else None) short
-    ∙ ap (λ x. plain_said (if x then Some v else None)) tidy)
+    ∙ ap (λ x. if x then plain_parsed (if_tidy rules (c ∷ t) (Some v)) else None) short
+    ∙ ap (λ x. plain_parsed (if x then Some v else None)) tidy)
     h

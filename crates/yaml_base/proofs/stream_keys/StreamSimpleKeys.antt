@@ -7,15 +7,17 @@ use Rattle.std.specs.Prelude.{ℕ, Bool, true, false, Option, None, Some, List, 
 use Rattle.yaml_base.specs.Characters.{Text, space, is_alpha}
 use Rattle.yaml_base.specs.Settings.{Effective}
 use Rattle.yaml_base.specs.Event.{ScalarStyle, any_style, plain, single_quoted, double_quoted, literal, folded, TagDirective, Scalar, Collection}
-use Rattle.yaml_base.specs.Cursor.{Cursor, Laid, nothing_laid, space_if}
+use Rattle.yaml_base.specs.Cursor.{Cursor, Rendered, render_nothing, space_if}
 use Rattle.yaml_base.specs.scalars.Analysis.{Allowances, is_empty, allowances}
-use Rattle.yaml_base.specs.scalars.Style.{is_plain, style_asked, style_fitting, fits_plain}
+use Rattle.yaml_base.specs.scalars.Style.{is_plain, requested_style, fitting_style, fits_plain}
 use Rattle.yaml_base.specs.Grammar.{alias_node, scalar_node, sequence_node, mapping_node, no_nodes, nodes_and, Pairs, no_pairs, pairs_and}
 use Rattle.yaml_base.specs.Event.{scalar_tag, collection_tag}
 use Rattle.yaml_base.specs.Meaning.{read_in_style}
 use Rattle.yaml_base.specs.reading.TidyText.{is_tidy}
-use Rattle.yaml_base.specs.Layout.{as_key, byte_count, name_count, tag_count, is_short, has_no_pairs, deeper, Body, body_at, properties_laid, separation_laid}
-use Rattle.yaml_base.specs.Layout.{body_laid, choice_of, Place, entry_place, Role, alias_laid, asks_flow, is_written_in_flow, Brackets, square, curly, end_laid}
+use Rattle.yaml_base.specs.Layout.{as_key, byte_count, name_count, tag_count, is_short, has_no_pairs, deeper, Body, body_at, render_properties}
+use Rattle.yaml_base.specs.Layout.{render_separation}
+use Rattle.yaml_base.specs.Layout.{render_body, choice_of, Place, entry_place, Role, render_alias, asks_flow, is_written_in_flow, Brackets, square}
+use Rattle.yaml_base.specs.Layout.{curly, render_end}
 use Rattle.yaml_base.specs.Places.{most_key_bytes}
 use Rattle.yaml_base.specs.scalars.SingleQuoted.{quotes_doubled}
 use Rattle.yaml_base.specs.scalars.DoubleQuoted.{character_text}
@@ -34,22 +36,22 @@ use Rattle.yaml_base.proofs.stream_keys.StreamAliasKeys.{alias_key}
 use Rattle.yaml_base.proofs.stream_nodes.StreamProperties.{IsNamed, name_letters}
 use Rattle.yaml_base.proofs.stream_flow.StreamPropertyWords.{lead}
 use Rattle.yaml_base.proofs.stream_nodes.StreamStands.{tag_written, tag_meant, TagStands, NamesStand, BodyStands}
-use Rattle.yaml_base.proofs.stream_nodes.StreamLeads.{lead_laid, tag_is_written}
+use Rattle.yaml_base.proofs.stream_nodes.StreamLeads.{lead_rendered, tag_is_written}
 use Rattle.yaml_base.proofs.stream_flow.StreamFlowWords.{Given, scalar_in}
 use Rattle.yaml_base.proofs.stream_flow.StreamFlowKinds.{empty_whole}
 use Rattle.yaml_base.proofs.stream_flow.StreamFlowScalars.{rules_of, is_flow_style, bare_not_plain}
 use Rattle.yaml_base.proofs.stream_keys.StreamKeyBodies.{key_body, body_alone}
 use Rattle.yaml_base.proofs.stream_keys.StreamKeysFit.{KeyText, key_style, SimpleScalar, simple_scalar, scalar_key_text, alias_key_text, empty_key_text}
 use Rattle.yaml_base.proofs.stream_keys.StreamKeysFit.{square_line, curly_line, simple_collection}
-use Rattle.yaml_base.proofs.stream_keys.StreamKeyFronts.{front_unmarked, key_fits, other_front, lead_front, plain_front}
+use Rattle.yaml_base.proofs.stream_keys.StreamKeyBeginnings.{beginning_unmarked, key_fits, other_prefix, lead_prefix, plain_prefix}
 use Rattle.yaml_base.proofs.stream_keys.StreamKeyReads.{double_key_read, single_key_read, plain_key_read, square_key_read, curly_key_read}
-use Rattle.yaml_base.proofs.stream_nodes.StreamNodesFit.{begun_laid}
+use Rattle.yaml_base.proofs.stream_nodes.StreamNodesFit.{render_begun}
 use Rattle.yaml_base.proofs.stream_nodes.StreamLeaves.{SimpleKeysFit}
 
 -- Styles
 
 -- where plain is chosen it fits
-plain_where : (allowed : Allowances) (fits block : Bool) (asked : ScalarStyle) → is_plain (style_fitting allowed fits block asked) ≡ true → fits ≡ true
+plain_where : (allowed : Allowances) (fits block : Bool) (asked : ScalarStyle) → is_plain (fitting_style allowed fits block asked) ≡ true → fits ≡ true
 plain_where allowed true block asked h = refl
 plain_where allowed false block asked h = absurd (false≢true (sym (by block asked) ∙ h))
   where
@@ -57,7 +59,7 @@ plain_where allowed false block asked h = absurd (false≢true (sym (by block as
     quotes true = refl
     quotes false = refl
 
-    by : (block : Bool) (asked : ScalarStyle) → is_plain (style_fitting allowed false block asked) ≡ false
+    by : (block : Bool) (asked : ScalarStyle) → is_plain (fitting_style allowed false block asked) ≡ false
     by block plain = quotes allowed.single_quoted
     by block single_quoted = quotes allowed.single_quoted
     by true literal = refl
@@ -76,7 +78,7 @@ plain_not_empty s in_flow role column content h =
     let fits = fits_plain allowed (is_empty content.value) tagged content.plain_implicit in_flow true in
     let parts = and_parts ((if in_flow then allowed.flow_plain else allowed.block_plain) && not (is_empty content.value && (in_flow || true)))
     (tagged || content.plain_implicit)
-    (plain_where allowed fits (allowed.block && not in_flow && not true) (style_asked (s.canonical || (true && allowed.multiline)) content.style) h) in
+    (plain_where allowed fits (allowed.block && not in_flow && not true) (requested_style (s.canonical || (true && allowed.multiline)) content.style) h) in
     by (is_empty content.value) in_flow
     (and_parts (if in_flow then allowed.flow_plain else allowed.block_plain) (not (is_empty content.value && (in_flow || true))) parts.0).1
   where
@@ -113,26 +115,26 @@ scalar_key_fits s own anchor tag given_tag plain false column (c ∷ t) given fl
     let b = begins s.breaks12 c t parts.0 (tidy_begins s.breaks12 c t (tidy_at_root plain s.breaks12 column (c ∷ t) tidy)) in
     let key = plain_key_read rules anchor tag given_tag column c t (c ∷ t) given b tidy read (key_short of) in
     key_fits rules (lead anchor tag ++ (c ∷ t)) (scalar_in anchor given_tag plain false (c ∷ t))
-    (lead_front rules anchor tag (tag_meant given_tag false) (c ∷ t) given (plain_front s.breaks12 c t parts.0 b)) of key.clear key.reads
+    (lead_prefix rules anchor tag (tag_meant given_tag false) (c ∷ t) given (plain_prefix s.breaks12 c t parts.0 b)) of key.clear key.reads
 scalar_key_fits s own anchor tag given_tag single_quoted bare column value given flow h some tidy read of =
     let rules = rules_of s own in
     let t = quotes_doubled value ++ (39 ∷ []) in
     let key = single_key_read rules anchor tag given_tag bare column t value given tidy read (key_short of) in
     key_fits rules (lead anchor tag ++ (0x27 ∷ t)) (scalar_in anchor given_tag single_quoted bare value)
-    (lead_front rules anchor tag (tag_meant given_tag bare) (0x27 ∷ t) given (other_front 0x27 t refl refl)) of key.clear key.reads
+    (lead_prefix rules anchor tag (tag_meant given_tag bare) (0x27 ∷ t) given (other_prefix 0x27 t refl refl)) of key.clear key.reads
 scalar_key_fits s own anchor tag given_tag double_quoted bare column value given flow h some tidy read of =
     let rules = rules_of s own in
     let t = flat_map (character_text s.unicode) value ++ (0x22 ∷ []) in
     let key = double_key_read rules anchor tag given_tag bare column t value given tidy read (key_short of) in
     key_fits rules (lead anchor tag ++ (0x22 ∷ t)) (scalar_in anchor given_tag double_quoted bare value)
-    (lead_front rules anchor tag (tag_meant given_tag bare) (0x22 ∷ t) given (other_front 0x22 t refl refl)) of key.clear key.reads
+    (lead_prefix rules anchor tag (tag_meant given_tag bare) (0x22 ∷ t) given (other_prefix 0x22 t refl refl)) of key.clear key.reads
 scalar_key_fits s own anchor tag given_tag any_style bare column value given flow h some tidy read of = absurd (none_not_some read)
 scalar_key_fits s own anchor tag given_tag literal bare column value given flow h some tidy read of = absurd (false≢true flow)
 scalar_key_fits s own anchor tag given_tag folded bare column value given flow h some tidy read of = absurd (false≢true flow)
 
 -- a space stands before each body but an empty plain one, where one is needed
 separated : (style : ScalarStyle) (value : Text) (cursor : Cursor) → (is_plain style ≡ true → is_empty value ≡ false)
-    → (separation_laid style false value cursor).text ≡ space_if true cursor
+    → (render_separation style false value cursor).text ≡ space_if true cursor
 separated plain value cursor some = ap (λ x. space_if (not x) cursor) (some refl)
 separated single_quoted value cursor some = refl
 separated double_quoted value cursor some = refl
@@ -140,14 +142,14 @@ separated any_style value cursor some = refl
 separated literal value cursor some = refl
 separated folded value cursor some = refl
 
--- the body that is laid out for a scalar at its place, where it is a simple key or not
+-- the body that is rendered for a scalar at its place, where it is a simple key or not
 abbrev body_where : Effective → List TagDirective → Place → (simple : Bool) → Scalar → Cursor → Body
 body_where s directives place simple content cursor =
     let choice = choice_of s place simple content in
-    let properties = properties_laid s.portable directives content.anchor (scalar_tag s.canonical content) choice.bare cursor in
-    let separation = separation_laid choice.style place.in_flow content.value properties.cursor in
+    let properties = render_properties s.portable directives content.anchor (scalar_tag s.canonical content) choice.bare cursor in
+    let separation = render_separation choice.style place.in_flow content.value properties.cursor in
     body_at place choice.style content.value
-    (body_laid choice.style s (if simple then None else s.width) (deeper s.indent place.column) content.value separation.cursor)
+    (render_body choice.style s (if simple then None else s.width) (deeper s.indent place.column) content.value separation.cursor)
 
 -- the tree of such a scalar
 abbrev tree_where : Effective → Place → (simple : Bool) → Scalar → Tree
@@ -164,15 +166,15 @@ scalar_key_placed s own directives content pairs e simple names body =
     let tag = scalar_tag s.canonical content in
     let choice = choice_of s place true content in
     let written = tag_written s.portable directives tag choice.bare in
-    let properties = properties_laid s.portable directives content.anchor tag choice.bare cursor in
-    let separation = separation_laid choice.style false content.value properties.cursor in
-    let laid = (body_laid choice.style s None (deeper s.indent (Some e)) content.value separation.cursor).text in
+    let properties = render_properties s.portable directives content.anchor tag choice.bare cursor in
+    let separation = render_separation choice.style false content.value properties.cursor in
+    let rendered = (render_body choice.style s None (deeper s.indent (Some e)) content.value separation.cursor).text in
     let flow = key_style s false (as_key (has_no_pairs pairs)) e content in
     let some = plain_not_empty s false (as_key (has_no_pairs pairs)) e content in
     let alone = body_alone s choice.style (deeper s.indent (Some e)) content.value separation.cursor flow simple.whole in
     subst (λ t. KeyFits (rules_of s own) t (tree_where s place true content))
-    (sym (ap (λ t. (properties.text ++ t) ++ laid) (separated choice.style content.value properties.cursor some)
-    ∙ ap (λ t. t ++ laid) (lead_laid s.portable directives content.anchor tag choice.bare cursor)
+    (sym (ap (λ t. (properties.text ++ t) ++ rendered) (separated choice.style content.value properties.cursor some)
+    ∙ ap (λ t. t ++ rendered) (lead_rendered s.portable directives content.anchor tag choice.bare cursor)
     ∙ ap (λ t. lead content.anchor written ++ t) alone))
     (scalar_key_fits s own content.anchor written tag choice.style choice.bare (Some e) content.value
     (written_given s own directives content.anchor tag choice.bare names.0 names.1) flow
@@ -188,7 +190,7 @@ alias_key_fits : (rules : Rules) (n : ℕ) (name : Text) → list_all is_alpha (
     → KeyText rules.breaks12 (0x2A ∷ n ∷ name) → KeyFits rules (0x2A ∷ n ∷ (name ++ (space ∷ []))) (alias_tree (n ∷ name))
 alias_key_fits rules n name letters short of =
     let text = 0x2A ∷ n ∷ (name ++ (space ∷ [])) in
-    let front = other_front 0x2A (n ∷ (name ++ (space ∷ []))) refl refl in
+    let prefix = other_prefix 0x2A (n ∷ (name ++ (space ∷ []))) refl refl in
     let both = length-append name (space ∷ []) in
     record {
       first = 0x2A;
@@ -198,7 +200,7 @@ alias_key_fits rules n name letters short of =
       one_line = one_line_both rules.breaks12 (0x2A ∷ n ∷ name) (space ∷ []) of.line (spaces_line rules.breaks12 1);
       no_dash = λ after h. refl;
       simple = λ after h. refl;
-      unmarked = λ after h. front_unmarked text front after;
+      unmarked = λ after h. beginning_unmarked text prefix after;
       cut = λ after h. alias_key rules n name after letters (le-leb (length text) longest_key (omega arith)) h;
     }
 
@@ -214,23 +216,24 @@ empty_in_flow s place start = by (place.in_flow || s.canonical || asks_flow star
 
 -- an empty collection that is a simple key
 empty_key_fits : (s : Effective) (own directives : List TagDirective) (start : Collection) (brackets : Brackets) (a b : ℕ) (tree : Tree) (e : ℕ)
-    (entries : Bool → ℕ → Cursor → Laid)
-    → ((in_flow : Bool) (column : ℕ) (cursor : Cursor) → entries in_flow column cursor ≡ nothing_laid cursor)
+    (entries : Bool → ℕ → Cursor → Rendered)
+    → ((in_flow : Bool) (column : ℕ) (cursor : Cursor) → entries in_flow column cursor ≡ render_nothing cursor)
     → brackets.opening ≡ a ∷ [] → brackets.closing ≡ b ∷ [] → (undented : Bool) (x : Bool) → x ≡ true
     → KeyFits (rules_of s own) (lead start.anchor (tag_written s.portable directives (collection_tag s.canonical start) false) ++ (a ∷ b ∷ [])) tree
     → KeyFits (rules_of s own)
-    (collection_own s brackets x undented true (Some e) (begun_laid s directives start (margin_cursor e)) (entries x)).text tree
+    (collection_own s brackets x undented true (Some e) (render_begun s directives start (margin_cursor e)) (entries x)).text tree
 empty_key_fits s own directives start brackets a b tree e entries nothing opening closing undented x in_flow fits =
     let tag = collection_tag s.canonical start in
     let cursor = margin_cursor e in
-    let begun = begun_laid s directives start cursor in
+    let begun = render_begun s directives start cursor in
     subst (λ t. KeyFits (rules_of s own) t tree)
     (sym (ap (λ y. (collection_own s brackets y undented true (Some e) begun (entries y)).text) in_flow
-    ∙ ap (λ (l : Laid). (begun.text ++ l.text) ++ (end_laid s brackets true true (Some e) l.cursor).text) (nothing true (deeper s.indent (Some e)) begun.cursor)
+    ∙ ap (λ (l : Rendered). (begun.text ++ l.text) ++ (render_end s brackets true true (Some e) l.cursor).text)
+    (nothing true (deeper s.indent (Some e)) begun.cursor)
     ∙ ap (λ t. (begun.text ++ []) ++ ((space_if true begun.cursor ++ t) ++ brackets.closing)) opening
     ∙ ap (λ t. (begun.text ++ []) ++ ((space_if true begun.cursor ++ (a ∷ [])) ++ t)) closing
     ∙ empty_whole begun cursor (lead start.anchor (tag_written s.portable directives tag false)) a b
-    (lead_laid s.portable directives start.anchor tag false cursor)))
+    (lead_rendered s.portable directives start.anchor tag false cursor)))
     fits
 
 -- Keys
@@ -241,7 +244,7 @@ simple_keys_fit s own directives (alias_node []) pairs e h names bodies = absurd
 simple_keys_fit s own directives (alias_node (n ∷ name)) pairs e h names bodies =
     let short = leb-true (byte_count (n ∷ name)) most_key_bytes (and_parts (not s.canonical) (is_short (byte_count (n ∷ name))) h).1 in
     let of = alias_key_text s.breaks12 (n ∷ name) names short in
-    subst (λ x. KeyFits (rules_of s own) (alias_laid (n ∷ name) x (margin_cursor e)).text (alias_tree (n ∷ name))) (sym h)
+    subst (λ x. KeyFits (rules_of s own) (render_alias (n ∷ name) x (margin_cursor e)).text (alias_tree (n ∷ name))) (sym h)
     (alias_key_fits (rules_of s own) n name (name_letters (n ∷ name) names) of.short of)
 simple_keys_fit s own directives (scalar_node content) pairs e h names body =
     let place = key_place pairs e in
@@ -261,8 +264,8 @@ simple_keys_fit s own directives (sequence_node start no_nodes) pairs e h names 
     empty_key_fits s own directives start square 0x5B 0x5D tree e (λ in_flow column cursor. items_own no_nodes s directives in_flow column cursor)
     (λ in_flow column cursor. refl) refl refl true (is_written_in_flow s (key_place pairs e) start true) (empty_in_flow s (key_place pairs e) start)
     (key_fits (rules_of s own) (lead start.anchor written ++ (0x5B ∷ 0x5D ∷ [])) tree
-    (lead_front (rules_of s own) start.anchor written (tag_meant tag false) (0x5B ∷ 0x5D ∷ []) given
-    (other_front 0x5B (0x5D ∷ []) refl refl)) of key.clear key.reads)
+    (lead_prefix (rules_of s own) start.anchor written (tag_meant tag false) (0x5B ∷ 0x5D ∷ []) given
+    (other_prefix 0x5B (0x5D ∷ []) refl refl)) of key.clear key.reads)
 simple_keys_fit s own directives (sequence_node start (nodes_and items last)) pairs e h names bodies =
     absurd (false≢true (simple_collection s.canonical false 0 h).0)
 simple_keys_fit s own directives (mapping_node start no_pairs) pairs e h names bodies =
@@ -276,7 +279,7 @@ simple_keys_fit s own directives (mapping_node start no_pairs) pairs e h names b
     empty_key_fits s own directives start curly 0x7B 0x7D tree e (λ in_flow column cursor. pairs_own no_pairs s directives in_flow column cursor)
     (λ in_flow column cursor. refl) refl refl false (is_written_in_flow s (key_place pairs e) start true) (empty_in_flow s (key_place pairs e) start)
     (key_fits (rules_of s own) (lead start.anchor written ++ (0x7B ∷ 0x7D ∷ [])) tree
-    (lead_front (rules_of s own) start.anchor written (tag_meant tag false) (0x7B ∷ 0x7D ∷ []) given
-    (other_front 0x7B (0x7D ∷ []) refl refl)) of key.clear key.reads)
+    (lead_prefix (rules_of s own) start.anchor written (tag_meant tag false) (0x7B ∷ 0x7D ∷ []) given
+    (other_prefix 0x7B (0x7D ∷ []) refl refl)) of key.clear key.reads)
 simple_keys_fit s own directives (mapping_node start (pairs_and before key value)) pairs e h names bodies =
     absurd (false≢true (simple_collection s.canonical false 0 h).0)

@@ -1,4 +1,4 @@
--- How a block scalar leaves off: at a line's start where its value ends in a break, and elsewhere after a sign that strips.
+-- How a block scalar leaves off: at a line's start where its value ends in a break, and elsewhere after an indicator that strips.
 use Rattle.std.proofs.Common.{◌≡◌, ◌≤◌, refl, sym, ap, ◌∙◌, append_assoc, arith}
 use Rattle.std.proofs.lemmas.Bool.{true≢false, false≢true, or_parts}
 use Rattle.std.proofs.lemmas.Bool.Decides.{nat_tests}
@@ -8,21 +8,21 @@ use Rattle.yaml_base.specs.LineBreaks.{is_read_break}
 use Rattle.yaml_base.specs.Cursor.{Cursor, column_after, next_column}
 use Rattle.yaml_base.specs.Event.{ScalarStyle, any_style, plain, single_quoted, double_quoted, literal, folded}
 use Rattle.yaml_base.specs.scalars.Analysis.{Charset, Allowances, somewhere, begins_with, is_empty, is_special, is_trailing_space, bars_block, allows_block}
-use Rattle.yaml_base.specs.scalars.Style.{style_fitting}
+use Rattle.yaml_base.specs.scalars.Style.{fitting_style}
 use Rattle.yaml_base.specs.scalars.Lines.{Part, line, line_break, begun, parts}
-use Rattle.yaml_base.specs.scalars.BlockHeader.{Ending, without_break, one_break, more_breaks, ending, begins_blank, indentation_hint, ending_hint, hint_laid}
+use Rattle.yaml_base.specs.scalars.BlockHeader.{Ending, without_break, one_break, more_breaks, ending, begins_blank, indentation_hint, ending_hint, render_hint}
 use Rattle.yaml_base.specs.scalars.BlockHeader.{ends_in_break}
 use Rattle.yaml_base.specs.scalars.Literal.{indented}
-use Rattle.yaml_base.specs.scalars.Folded.{cut_line, next_even, folded_parts}
+use Rattle.yaml_base.specs.scalars.Folded.{cut_line, next_line_unindented, folded_parts}
 use Rattle.yaml_base.specs.reading.ReadBlock.{strip, chomping_first, after_digit}
 
 -- Values that end in a break
 
 -- a text that ends in a break
 pub record EndsBreak (text : Text) : Type 0 where
-  pub front : Text
+  pub prefix : Text
   pub last : ℕ
-  pub is : text ≡ front ++ (last ∷ [])
+  pub is : text ≡ prefix ++ (last ∷ [])
   pub breaks : is_break last ≡ true
 
 -- what is seen to end in a break does
@@ -31,104 +31,105 @@ ending_breaks [] h = absurd (false≢true h)
 ending_breaks (c ∷ []) h = by (is_break c) refl h
   where
     by : (x : Bool) → is_break c ≡ x → ends_in_break (if x then more_breaks else without_break) ≡ true → EndsBreak (c ∷ [])
-    by true e h = record { front = []; last = c; is = refl; breaks = e }
+    by true e h = record { prefix = []; last = c; is = refl; breaks = e }
     by false e h = absurd (false≢true h)
 ending_breaks (c ∷ d ∷ []) h = by (is_break d) refl h
   where
     by : (x : Bool) → is_break d ≡ x → ends_in_break (if x then (if is_break c then more_breaks else one_break) else without_break) ≡ true
         → EndsBreak (c ∷ d ∷ [])
-    by true e h = record { front = c ∷ []; last = d; is = refl; breaks = e }
+    by true e h = record { prefix = c ∷ []; last = d; is = refl; breaks = e }
     by false e h = absurd (false≢true h)
 ending_breaks (c ∷ d ∷ e ∷ rest) h =
-    let more = ending_breaks (d ∷ e ∷ rest) h in record { front = c ∷ more.front; last = more.last; is = ap (λ t. c ∷ t) more.is; breaks = more.breaks }
+    let more = ending_breaks (d ∷ e ∷ rest) h in record { prefix = c ∷ more.prefix; last = more.last; is = ap (λ t. c ∷ t) more.is; breaks = more.breaks }
 
 -- parts whose last is this break
 pub record EndsPart (all : List Part) (b : ℕ) : Type 0 where
-  pub front : List Part
-  pub is : all ≡ front ++ (line_break b ∷ [])
+  pub prefix : List Part
+  pub is : all ≡ prefix ++ (line_break b ∷ [])
 
 -- those of such a text
-parts_end : (front : Text) (b : ℕ) → is_break b ≡ true → EndsPart (parts (front ++ (b ∷ []))) b
-parts_end [] b h = record { front = []; is = ap (λ x. if x then line_break b ∷ [] else begun b []) h }
-parts_end (c ∷ front) b h = by (is_break c) (parts_end front b h)
+parts_end : (prefix : Text) (b : ℕ) → is_break b ≡ true → EndsPart (parts (prefix ++ (b ∷ []))) b
+parts_end [] b h = record { prefix = []; is = ap (λ x. if x then line_break b ∷ [] else begun b []) h }
+parts_end (c ∷ prefix) b h = by (is_break c) (parts_end prefix b h)
   where
-    shown : (front : List Part) → EndsPart (begun c (front ++ (line_break b ∷ []))) b
-    shown [] = record { front = line (c ∷ []) ∷ []; is = refl }
-    shown (line text ∷ front) = record { front = line (c ∷ text) ∷ front; is = refl }
-    shown (line_break d ∷ front) = record { front = line (c ∷ []) ∷ line_break d ∷ front; is = refl }
+    shown : (prefix : List Part) → EndsPart (begun c (prefix ++ (line_break b ∷ []))) b
+    shown [] = record { prefix = line (c ∷ []) ∷ []; is = refl }
+    shown (line text ∷ prefix) = record { prefix = line (c ∷ text) ∷ prefix; is = refl }
+    shown (line_break d ∷ prefix) = record { prefix = line (c ∷ []) ∷ line_break d ∷ prefix; is = refl }
 
-    by : (x : Bool) → EndsPart (parts (front ++ (b ∷ []))) b
-        → EndsPart (if x then line_break c ∷ parts (front ++ (b ∷ [])) else begun c (parts (front ++ (b ∷ [])))) b
-    by true more = record { front = line_break c ∷ more.front; is = ap (λ t. line_break c ∷ t) more.is }
-    by false more = let s = shown more.front in record { front = s.front; is = ap (begun c) more.is ∙ s.is }
+    by : (x : Bool) → EndsPart (parts (prefix ++ (b ∷ []))) b
+        → EndsPart (if x then line_break c ∷ parts (prefix ++ (b ∷ [])) else begun c (parts (prefix ++ (b ∷ [])))) b
+    by true more = record { prefix = line_break c ∷ more.prefix; is = ap (λ t. line_break c ∷ t) more.is }
+    by false more = let s = shown more.prefix in record { prefix = s.prefix; is = ap (begun c) more.is ∙ s.is }
 
 -- and when long lines are cut
-folded_end : (limit : Option ℕ) (indent : ℕ) (even : Bool) (front : List Part) (b : ℕ)
-    → EndsPart (folded_parts limit indent even (front ++ (line_break b ∷ []))) b
-folded_end limit indent even [] b = by (even && b == line_feed && next_even [])
+folded_end : (limit : Option ℕ) (indent : ℕ) (even : Bool) (prefix : List Part) (b : ℕ)
+    → EndsPart (folded_parts limit indent even (prefix ++ (line_break b ∷ []))) b
+folded_end limit indent even [] b = by (even && b == line_feed && next_line_unindented [])
   where
     by : (x : Bool) → EndsPart ((if x then line_break b ∷ line_break b ∷ [] else line_break b ∷ []) ++ []) b
-    by true = record { front = line_break b ∷ []; is = refl }
-    by false = record { front = []; is = refl }
-folded_end limit indent even (line text ∷ front) b =
-    let more = folded_end limit indent (not (begins_with is_space text)) front b in
+    by true = record { prefix = line_break b ∷ []; is = refl }
+    by false = record { prefix = []; is = refl }
+folded_end limit indent even (line text ∷ prefix) b =
+    let more = folded_end limit indent (not (begins_with is_space text)) prefix b in
     record {
-      front = cut_line limit indent text ++ more.front;
-      is = ap (λ t. cut_line limit indent text ++ t) more.is ∙ sym (append_assoc (cut_line limit indent text) more.front (line_break b ∷ []));
+      prefix = cut_line limit indent text ++ more.prefix;
+      is = ap (λ t. cut_line limit indent text ++ t) more.is ∙ sym (append_assoc (cut_line limit indent text) more.prefix (line_break b ∷ []));
     }
-folded_end limit indent even (line_break d ∷ front) b =
-    let more = folded_end limit indent false front b in
-    let before = if even && d == line_feed && next_even (front ++ (line_break b ∷ [])) then line_break d ∷ line_break d ∷ [] else line_break d ∷ [] in
-    record { front = before ++ more.front; is = ap (λ t. before ++ t) more.is ∙ sym (append_assoc before more.front (line_break b ∷ [])) }
+folded_end limit indent even (line_break d ∷ prefix) b =
+    let more = folded_end limit indent false prefix b in
+    let before = if even && d == line_feed && next_line_unindented
+    (prefix ++ (line_break b ∷ [])) then line_break d ∷ line_break d ∷ [] else line_break d ∷ [] in
+    record { prefix = before ++ more.prefix; is = ap (λ t. before ++ t) more.is ∙ sym (append_assoc before more.prefix (line_break b ∷ [])) }
 
 -- such parts are written with that break last
-indented_end : (indent : ℕ) (front : List Part) (b : ℕ) → indented indent (front ++ (line_break b ∷ [])) ≡ indented indent front ++ (b ∷ [])
+indented_end : (indent : ℕ) (prefix : List Part) (b : ℕ) → indented indent (prefix ++ (line_break b ∷ [])) ≡ indented indent prefix ++ (b ∷ [])
 indented_end indent [] b = refl
-indented_end indent (line text ∷ front) b =
-    ap (λ t. (replicate indent space ++ text) ++ t) (indented_end indent front b)
-    ∙ sym (append_assoc (replicate indent space ++ text) (indented indent front) (b ∷ []))
-indented_end indent (line_break d ∷ front) b = ap (λ t. d ∷ t) (indented_end indent front b)
+indented_end indent (line text ∷ prefix) b =
+    ap (λ t. (replicate indent space ++ text) ++ t) (indented_end indent prefix b)
+    ∙ sym (append_assoc (replicate indent space ++ text) (indented indent prefix) (b ∷ []))
+indented_end indent (line_break d ∷ prefix) b = ap (λ t. d ∷ t) (indented_end indent prefix b)
 
 -- lines that end with this break
 pub record EndsLines (lines : Text) (b : ℕ) : Type 0 where
-  pub front : Text
-  pub is : lines ≡ front ++ (b ∷ [])
+  pub prefix : Text
+  pub is : lines ≡ prefix ++ (b ∷ [])
 
 -- a literal value's do
 pub literal_end : (indent : ℕ) (value : Text) (end : EndsBreak value) → EndsLines (indented indent (parts value)) end.last
 literal_end indent value end =
-    let cut = parts_end end.front end.last end.breaks in
+    let cut = parts_end end.prefix end.last end.breaks in
     record {
-      front = indented indent cut.front;
+      prefix = indented indent cut.prefix;
       is = ap (λ t. indented indent (parts t)) end.is ∙ ap (indented indent) cut.is
-          ∙ indented_end indent cut.front end.last;
+          ∙ indented_end indent cut.prefix end.last;
     }
 
 -- and a folded one's
 pub folded_lines_end : (limit : Option ℕ) (indent : ℕ) (value : Text) (end : EndsBreak value)
     → EndsLines (indented indent (folded_parts limit indent false (parts value))) end.last
 folded_lines_end limit indent value end =
-    let cut = parts_end end.front end.last end.breaks in
-    let folds = folded_end limit indent false cut.front end.last in
+    let cut = parts_end end.prefix end.last end.breaks in
+    let folds = folded_end limit indent false cut.prefix end.last in
     record {
-      front = indented indent folds.front;
+      prefix = indented indent folds.prefix;
       is =
           ap (λ t. indented indent (folded_parts limit indent false (parts t))) end.is
           ∙ ap (λ ps. indented indent (folded_parts limit indent false ps)) cut.is
-          ∙ ap (indented indent) folds.is ∙ indented_end indent folds.front end.last;
+          ∙ ap (indented indent) folds.is ∙ indented_end indent folds.prefix end.last;
     }
 
 -- after a break the column is that of a line's start
-pub column_ended : (front : Text) (b column : ℕ) → is_break b ≡ true → column_after (front ++ (b ∷ [])) column ≡ 0
+pub column_ended : (prefix : Text) (b column : ℕ) → is_break b ≡ true → column_after (prefix ++ (b ∷ [])) column ≡ 0
 column_ended [] b column h = ap (λ x. if x then 0 else column + 1) h
-column_ended (c ∷ front) b column h = column_ended front b (next_column c column) h
+column_ended (c ∷ prefix) b column h = column_ended prefix b (next_column c column) h
 
 -- Characters
 
 -- what holds nowhere doesn't at the end
-nowhere_last : (test : ℕ → Text → Bool) (front : Text) (b : ℕ) → somewhere test (front ++ (b ∷ [])) ≡ false → test b [] ≡ false
+nowhere_last : (test : ℕ → Text → Bool) (prefix : Text) (b : ℕ) → somewhere test (prefix ++ (b ∷ [])) ≡ false → test b [] ≡ false
 nowhere_last test [] b h = (or_parts (test b []) false h).0
-nowhere_last test (c ∷ front) b h = nowhere_last test front b (or_parts (test c (front ++ (b ∷ []))) (somewhere test (front ++ (b ∷ []))) h).1
+nowhere_last test (c ∷ prefix) b h = nowhere_last test prefix b (or_parts (test c (prefix ++ (b ∷ []))) (somewhere test (prefix ++ (b ∷ []))) h).1
 
 -- the last break of a value that may be a block scalar is one that is read
 pub last_is_read : (charset : Charset) (value : Text) (end : EndsBreak value) → allows_block charset value ≡ true
@@ -136,7 +137,7 @@ pub last_is_read : (charset : Charset) (value : Text) (end : EndsBreak value) �
 last_is_read charset value end allowed =
     let nowhere =
     (or_parts (is_empty value) (somewhere (bars_block charset) value) (not_true (is_empty value || somewhere (bars_block charset) value) allowed)).1 in
-    let bars = nowhere_last (bars_block charset) end.front end.last (ap (somewhere (bars_block charset)) (sym end.is) ∙ nowhere) in
+    let bars = nowhere_last (bars_block charset) end.prefix end.last (ap (somewhere (bars_block charset)) (sym end.is) ∙ nowhere) in
     let special =
     (or_parts (is_special charset end.last) (is_trailing_space end.last [])
     (or_parts (is_special charset end.last || is_trailing_space end.last []) (is_space end.last && true) bars).0).0 in
@@ -159,10 +160,10 @@ last_is_read charset value end allowed =
     by true b breaks shown none = grind (arith, nat_tests, breaks, shown, none)
     by false b breaks shown none = grind (arith, nat_tests, breaks, shown)
 
--- Signs
+-- Indicators
 
 -- a hint is written as it is
-pub hint_text : (hint : Text) (cursor : Cursor) → (hint_laid hint cursor).text ≡ hint
+pub hint_text : (hint : Text) (cursor : Cursor) → (render_hint hint cursor).text ≡ hint
 hint_text [] cursor = refl
 hint_text (c ∷ rest) cursor = refl
 
@@ -191,7 +192,7 @@ is_block _ = false
 
 -- one is chosen only where it fits
 pub block_fitting : (allowed : Allowances) (plain_fits block_fits : Bool) (asked : ScalarStyle)
-    → is_block (style_fitting allowed plain_fits block_fits asked) ≡ true → block_fits ≡ true
+    → is_block (fitting_style allowed plain_fits block_fits asked) ≡ true → block_fits ≡ true
 block_fitting allowed plain_fits block_fits plain h = absurd (false≢true (sym (quoted plain_fits allowed.single_quoted) ∙ h))
   where
     quoted : (x y : Bool) → is_block (if x then plain else if y then single_quoted else double_quoted) ≡ false

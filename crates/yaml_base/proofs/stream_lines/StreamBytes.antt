@@ -6,7 +6,7 @@ use Rattle.std.specs.List.{list_all}
 use Rattle.std.specs.Prelude.{ℕ, Bool, true, false, None, Some, List, [], ◌∷◌, ◌==◌, ◌||◌, ◌&&◌, not, option_and_then, if◌then◌else◌}
 use Rattle.yaml_base.specs.Characters.{Text, carriage_return, next_line, line_feed, is_printable}
 use Rattle.yaml_base.specs.Settings.{LineBreak, carriage_return_break, line_feed_break, both_break}
-use Rattle.yaml_base.specs.LineBreaks.{break_text, is_laid_text, with_breaks_written, with_line_breaks_read}
+use Rattle.yaml_base.specs.LineBreaks.{break_text, is_rendered_text, with_breaks_written, with_line_breaks_read}
 use Rattle.yaml_base.specs.reading.ReadBytes.{characters_read}
 use Rattle.yaml_base.specs.streams.StreamDocuments.{documents_of}
 use Rattle.yaml_base.specs.streams.StreamReader.{may_stand_raw, text_trees, stream_trees}
@@ -21,13 +21,13 @@ other_than c n none h = by (c == n) refl
     by false e = refl
 
 -- a printable text has no CR and no U+0085
-pub printable_laid : (text : Text) → list_all is_printable text ≡ true → is_laid_text text ≡ true
-printable_laid [] h = refl
-printable_laid (c ∷ rest) h =
+pub printable_rendered : (text : Text) → list_all is_printable text ≡ true → is_rendered_text text ≡ true
+printable_rendered [] h = refl
+printable_rendered (c ∷ rest) h =
     let parts = and_parts (is_printable c) (list_all is_printable rest) h in
-    ap (λ x. not (x || (c == next_line)) && is_laid_text rest) (other_than c carriage_return refl parts.0)
-    ∙ ap (λ x. not x && is_laid_text rest) (other_than c next_line refl parts.0)
-    ∙ printable_laid rest parts.1
+    ap (λ x. not (x || (c == next_line)) && is_rendered_text rest) (other_than c carriage_return refl parts.0)
+    ∙ ap (λ x. not x && is_rendered_text rest) (other_than c next_line refl parts.0)
+    ∙ printable_rendered rest parts.1
 
 break_raw : (setting : LineBreak) → list_all may_stand_raw (break_text setting) ≡ true
 break_raw carriage_return_break = refl
@@ -52,7 +52,7 @@ pub trees_of_text : (breaks12 : Bool) (setting : LineBreak) (text : Text) → li
     → text_trees breaks12 (with_breaks_written setting text) ≡ documents_of breaks12 text
 trees_of_text breaks12 setting text h =
     ap (λ x. if x then documents_of breaks12 (with_line_breaks_read (with_breaks_written setting text)) else None) (printable_raw setting text h)
-    ∙ ap (documents_of breaks12) (breaks-round setting text (printable_laid text h))
+    ∙ ap (documents_of breaks12) (breaks-round setting text (printable_rendered text h))
 
 -- so do its bytes, from which its characters are read
 pub trees_of_bytes : (breaks12 : Bool) (setting : LineBreak) (text : Text) (bytes : List ℕ) → list_all is_printable text ≡ true

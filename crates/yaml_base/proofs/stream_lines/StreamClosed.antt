@@ -5,8 +5,8 @@ use Rattle.std.specs.Prelude.{ℕ, Bool, true, false, List, [], ◌∷◌, ◌++
 use Rattle.std.specs.List.{list_all, list_any}
 use Rattle.yaml_base.specs.Characters.{Text, line_feed, space}
 use Rattle.yaml_base.specs.LineBreaks.{is_read_break}
-use Rattle.yaml_base.specs.Cursor.{Cursor, Laid, new_line}
-use Rattle.yaml_base.specs.streams.StreamLines.{Line, character_before, extending, lines_of, ends_sign, is_inside, spaces}
+use Rattle.yaml_base.specs.Cursor.{Cursor, Rendered, new_line}
+use Rattle.yaml_base.specs.streams.StreamLines.{Line, prepend_character, prepend_to_first_line, lines_of, ends_indicator, belongs_to_entry, spaces}
 use Rattle.yaml_base.proofs.stream_lines.StreamLineLaws.{is_closed, OneLine}
 use Rattle.yaml_base.proofs.stream_lines.StreamInside.{AllInside, inside_deeper}
 use Rattle.yaml_base.proofs.stream_lines.StreamTidyLaws.{lines_after_first}
@@ -18,8 +18,8 @@ abbrev pub closing : Cursor → Text
 closing cursor = if cursor.indention then [] else line_feed ∷ []
 
 -- a text up to the end of its last line
-abbrev pub closed : Laid → Text
-closed laid = laid.text ++ closing laid.cursor
+abbrev pub closed : Rendered → Text
+closed rendered = rendered.text ++ closing rendered.cursor
 
 -- indentation goes on only where a line begins
 abbrev pub Settled : Cursor → Type 0
@@ -51,9 +51,9 @@ new_line_closes e cursor settled = by cursor.indention refl
         ∙ ap (λ w. if nat_lt e 0 || ((0 == e) && not w) then line_feed ∷ spaces e else spaces (e - 0)) (settled h).1
         ∙ at_margin e
 
--- the cursor behind the sign of an entry at a column
-abbrev pub sign_cursor : ℕ → Cursor
-sign_cursor e = record { column = e + 1; whitespace = false; indention = true }
+-- the cursor behind the indicator of an entry at a column
+abbrev pub indicator_cursor : ℕ → Cursor
+indicator_cursor e = record { column = e + 1; whitespace = false; indention = true }
 
 -- the cursor where an entry at a column begins
 abbrev pub margin_cursor : ℕ → Cursor
@@ -87,13 +87,19 @@ pub begins_cons : (breaks12 : Bool) (c : ℕ) (t : Text) → Begins breaks12 (c 
 begins_cons breaks12 c t = by (is_read_break breaks12 c) refl (lines_of breaks12 t) refl
   where
     by : (x : Bool) → is_read_break breaks12 c ≡ x → (lines : List Line) → lines_of breaks12 t ≡ lines → Begins breaks12 (c ∷ t)
-    by true h lines e = record { head = []; ending = c ∷ []; rest = lines_of breaks12 t; is = ap (λ x. character_before x c (lines_of breaks12 t)) h }
-    by false h [] e = record { head = c ∷ []; ending = []; rest = []; is = ap (λ x. character_before x c (lines_of breaks12 t)) h ∙ ap (extending c) e }
+    by true h lines e = record { head = []; ending = c ∷ []; rest = lines_of breaks12 t; is = ap (λ x. prepend_character x c (lines_of breaks12 t)) h }
+    by false h [] e = record {
+      head = c ∷ [];
+      ending = [];
+      rest = [];
+      is = ap (λ x. prepend_character x c (lines_of breaks12 t)) h
+          ∙ ap (prepend_to_first_line c) e;
+    }
     by false h (line ∷ rest) e = record {
       head = c ∷ line.text;
       ending = line.ending;
       rest = rest;
-      is = ap (λ x. character_before x c (lines_of breaks12 t)) h ∙ ap (extending c) e;
+      is = ap (λ x. prepend_character x c (lines_of breaks12 t)) h ∙ ap (prepend_to_first_line c) e;
     }
 
 -- a text on one line stands before the first line of what follows
@@ -103,8 +109,8 @@ pub lines_behind : (breaks12 : Bool) (a t head ending : Text) (rest : List Line)
 lines_behind breaks12 [] t head ending rest one is = is
 lines_behind breaks12 (c ∷ a) t head ending rest one is =
     let parts : (is_read_break breaks12 c ≡ false) × OneLine breaks12 a = or_parts (is_read_break breaks12 c) (list_any (is_read_break breaks12) a) one in
-    ap (λ x. character_before x c (lines_of breaks12 (a ++ t))) parts.0
-    ∙ ap (extending c) (lines_behind breaks12 a t head ending rest parts.1 is)
+    ap (λ x. prepend_character x c (lines_of breaks12 (a ++ t))) parts.0
+    ∙ ap (prepend_to_first_line c) (lines_behind breaks12 a t head ending rest parts.1 is)
 
 -- it moves no line but the first
 pub after_line : (breaks12 : Bool) (a t : Text) → OneLine breaks12 a
@@ -112,12 +118,12 @@ pub after_line : (breaks12 : Bool) (a t : Text) → OneLine breaks12 a
 after_line breaks12 [] t one = refl
 after_line breaks12 (c ∷ a) t one =
     let parts : (is_read_break breaks12 c ≡ false) × OneLine breaks12 a = or_parts (is_read_break breaks12 c) (list_any (is_read_break breaks12) a) one in
-    ap (λ x. lines_after_first (character_before x c (lines_of breaks12 (a ++ t)))) parts.0
-    ∙ extended (lines_of breaks12 (a ++ t)) ∙ after_line breaks12 a t parts.1
+    ap (λ x. lines_after_first (prepend_character x c (lines_of breaks12 (a ++ t)))) parts.0
+    ∙ prepend_to_elements (lines_of breaks12 (a ++ t)) ∙ after_line breaks12 a t parts.1
   where
-    extended : (lines : List Line) → lines_after_first (extending c lines) ≡ lines_after_first lines
-    extended [] = refl
-    extended (line ∷ rest) = refl
+    prepend_to_elements : (lines : List Line) → lines_after_first (prepend_to_first_line c lines) ≡ lines_after_first lines
+    prepend_to_elements [] = refl
+    prepend_to_elements (line ∷ rest) = refl
 
 -- a text on one line, and its break
 pub lines_broken : (breaks12 : Bool) (a t : Text) → OneLine breaks12 a
@@ -156,7 +162,7 @@ rank true = 1
 rank false = 0
 
 -- a `-` at a column of no sequence farther out
-pub dash_inside : (s : Bool) (d e : ℕ) (t : Text) → d + rank s ≤ e → ends_sign t ≡ true → is_inside s d (spaces e ++ (0x2D ∷ t)) ≡ true
+pub dash_inside : (s : Bool) (d e : ℕ) (t : Text) → d + rank s ≤ e → ends_indicator t ≡ true → belongs_to_entry s d (spaces e ++ (0x2D ∷ t)) ≡ true
 dash_inside true d e t h k = inside_deeper true d e (0x2D ∷ t) (omega arith)
 dash_inside false zero zero t h k = k
 dash_inside false zero (suc e) t h k = refl
@@ -167,5 +173,5 @@ dash_inside false (suc d) (suc e) t h k = dash_inside false d e t (omega arith) 
 pub inside_both : (s : Bool) (d : ℕ) (a b : List Line) → AllInside s d a → AllInside s d b → AllInside s d (a ++ b)
 inside_both s d [] b h k = k
 inside_both s d (line ∷ a) b h k =
-    let parts = and_parts (is_inside s d line.text) (list_all (λ line. is_inside s d line.text) a) h in
-    and_from (is_inside s d line.text) (list_all (λ line. is_inside s d line.text) (a ++ b)) parts.0 (inside_both s d a b parts.1 k)
+    let parts = and_parts (belongs_to_entry s d line.text) (list_all (λ line. belongs_to_entry s d line.text) a) h in
+    and_from (belongs_to_entry s d line.text) (list_all (λ line. belongs_to_entry s d line.text) (a ++ b)) parts.0 (inside_both s d a b parts.1 k)

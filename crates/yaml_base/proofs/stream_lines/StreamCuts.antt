@@ -5,7 +5,7 @@ use Rattle.std.specs.Prelude.{ℕ, Bool, true, false, Option, None, Some, [], �
 use Rattle.yaml_base.specs.Characters.{Text}
 use Rattle.yaml_base.specs.reading.ReadFolding.{FoldUnit, unit_of, folding_read}
 use Rattle.yaml_base.specs.reading.ReadDouble.{QuotePlace, between, QuoteStep, goes_on, gives, ends_quotes, has_no_reading, quote_step, Quoted, QuotedReading}
-use Rattle.yaml_base.specs.reading.ReadDouble.{with_unit, after_step, quoted_from, quoted_reading, double_quoted_front, value_before, value_alone, read_double}
+use Rattle.yaml_base.specs.reading.ReadDouble.{with_unit, after_step, quoted_from, quoted_reading, double_quoted_prefix, value_before, value_alone, read_double}
 use Rattle.yaml_base.specs.reading.ReadSingle.{unquoted, read_single}
 
 -- nothing is not something
@@ -41,25 +41,25 @@ from_extends breaks12 r (c ∷ t) place =
     (λ p. from_extends breaks12 r t p)
 
 -- a text that goes on only adds to what its quoted value leaves
-abbrev FrontExtends : Text → Option QuotedReading → Option QuotedReading → Type 0
-FrontExtends r None longer = Unit {0}
-FrontExtends r (Some reading) longer = longer ≡ Some (record { value = reading.value; rest = reading.rest ++ r })
+abbrev PrefixExtends : Text → Option QuotedReading → Option QuotedReading → Type 0
+PrefixExtends r None longer = Unit {0}
+PrefixExtends r (Some reading) longer = longer ≡ Some (record { value = reading.value; rest = reading.rest ++ r })
 
-front_extends : (breaks12 : Bool) (t r : Text) → FrontExtends r (double_quoted_front breaks12 t) (double_quoted_front breaks12 (t ++ r))
-front_extends breaks12 [] r = tt
-front_extends breaks12 (c ∷ t) r =
+prefix_extends : (breaks12 : Bool) (t r : Text) → PrefixExtends r (double_quoted_prefix breaks12 t) (double_quoted_prefix breaks12 (t ++ r))
+prefix_extends breaks12 [] r = tt
+prefix_extends breaks12 (c ∷ t) r =
     by (c == 0x22) (quoted_from breaks12 between t) (quoted_from breaks12 between (t ++ r)) (from_extends breaks12 r t between)
   where
-    by : (x : Bool) (a b : Option Quoted) → Extends r a b → FrontExtends r (if x then quoted_reading a else None) (if x then quoted_reading b else None)
+    by : (x : Bool) (a b : Option Quoted) → Extends r a b → PrefixExtends r (if x then quoted_reading a else None) (if x then quoted_reading b else None)
     by true None b h = tt
     by true (Some quoted) b h = ap quoted_reading h
     by false a b h = tt
 
 -- no proper prefix of a double-quoted text is one
 pub double_quoted_whole : (breaks12 : Bool) (t : Text) (c : ℕ) (rest v : Text) → read_double breaks12 (t ++ (c ∷ rest)) ≡ Some v → read_double breaks12 t ≡ None
-double_quoted_whole breaks12 t c rest v read = by (double_quoted_front breaks12 t) (front_extends breaks12 t (c ∷ rest))
+double_quoted_whole breaks12 t c rest v read = by (double_quoted_prefix breaks12 t) (prefix_extends breaks12 t (c ∷ rest))
   where
-    by : (a : Option QuotedReading) → FrontExtends (c ∷ rest) a (double_quoted_front breaks12 (t ++ (c ∷ rest))) → value_alone a ≡ None
+    by : (a : Option QuotedReading) → PrefixExtends (c ∷ rest) a (double_quoted_prefix breaks12 (t ++ (c ∷ rest))) → value_alone a ≡ None
     by None h = refl
     by (Some reading) h = absurd (left reading.rest (sym (ap value_alone h) ∙ read))
       where

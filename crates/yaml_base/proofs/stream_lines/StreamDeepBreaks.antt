@@ -8,7 +8,7 @@ use Rattle.yaml_base.specs.LineBreaks.{is_read_break}
 use Rattle.yaml_base.specs.reading.ReadPlain.{is_read_white}
 use Rattle.yaml_base.specs.Cursor.{Cursor, breaks_line, new_line, space_if}
 use Rattle.yaml_base.specs.reading.TidyText.{begins_with_spaces, begins_with_blank_line, begins_with_deep_line, has_deep_lines, begins_with_break, ends_white}
-use Rattle.yaml_base.specs.streams.StreamLines.{Line, character_before, lines_of, is_inside, spaces}
+use Rattle.yaml_base.specs.streams.StreamLines.{Line, prepend_character, lines_of, belongs_to_entry, spaces}
 use Rattle.yaml_base.proofs.stream_lines.StreamLineLaws.{OneLine}
 use Rattle.yaml_base.proofs.stream_lines.StreamInside.{AllInside}
 use Rattle.yaml_base.proofs.stream_lines.StreamTidyLaws.{spaces_fewer, first_text, lines_after_first, after_extended, spaces_inside}
@@ -152,12 +152,12 @@ ends_as_last breaks12 [] c = refl
 ends_as_last breaks12 (d ∷ []) c = refl
 ends_as_last breaks12 (d ∷ e ∷ t) c = ends_as_last breaks12 (e ∷ t) c
 
--- the front of a text on one line
-pub line_front : (breaks12 : Bool) (a b : Text) → OneLine breaks12 (a ++ b) → OneLine breaks12 a
-line_front breaks12 [] b one = refl
-line_front breaks12 (c ∷ a) b one =
+-- the prefix of a text on one line
+pub line_prefix : (breaks12 : Bool) (a b : Text) → OneLine breaks12 (a ++ b) → OneLine breaks12 a
+line_prefix breaks12 [] b one = refl
+line_prefix breaks12 (c ∷ a) b one =
     let parts = or_parts (is_read_break breaks12 c) (list_any (is_read_break breaks12) (a ++ b)) one in
-    ap (λ x. x || list_any (is_read_break breaks12) a) parts.0 ∙ line_front breaks12 a b parts.1
+    ap (λ x. x || list_any (is_read_break breaks12) a) parts.0 ∙ line_prefix breaks12 a b parts.1
 
 -- the space before a word
 pub space_line : (breaks12 need : Bool) (cursor : Cursor) → OneLine breaks12 (space_if need cursor)
@@ -186,24 +186,24 @@ lines_pass breaks12 test line_test first (c ∷ t) h =
 
     by : (x : Bool) → (not x || test t) ≡ true
         → list_all (λ line. line_test line.text) (lines_after_first (lines_of breaks12 (t ++ (line_feed ∷ [])))) ≡ true
-        → list_all (λ line. line_test line.text) (lines_after_first (character_before x c (lines_of breaks12 (t ++ (line_feed ∷ []))))) ≡ true
+        → list_all (λ line. line_test line.text) (lines_after_first (prepend_character x c (lines_of breaks12 (t ++ (line_feed ∷ []))))) ≡ true
     by true h all_after = all (lines_of breaks12 (t ++ (line_feed ∷ []))) (first t h) all_after
     by false h all_after =
         ap (list_all (λ line. line_test line.text)) (after_extended c (lines_of breaks12 (t ++ (line_feed ∷ [])))) ∙ all_after
 
 -- so many spaces after a break begin a line inside the column before them
 pub deep_first : (breaks12 : Bool) (column : ℕ) (u : Text) → begins_deep breaks12 (suc column) u ≡ true
-    → is_inside true column (first_text (lines_of breaks12 (u ++ (line_feed ∷ [])))) ≡ true
+    → belongs_to_entry true column (first_text (lines_of breaks12 (u ++ (line_feed ∷ [])))) ≡ true
 deep_first breaks12 column [] h = absurd (false≢true h)
 deep_first breaks12 column (c ∷ u) h = by (is_read_break breaks12 c) refl h
   where
     by : (x : Bool) → is_read_break breaks12 c ≡ x → (x || begins_with_spaces (suc column) (c ∷ u)) ≡ true
-        → is_inside true column (first_text (lines_of breaks12 (c ∷ (u ++ (line_feed ∷ []))))) ≡ true
-    by true e h = ap (λ b. is_inside true column (first_text (character_before b c (lines_of breaks12 (u ++ (line_feed ∷ [])))))) e
+        → belongs_to_entry true column (first_text (lines_of breaks12 (c ∷ (u ++ (line_feed ∷ []))))) ≡ true
+    by true e h = ap (λ b. belongs_to_entry true column (first_text (prepend_character b c (lines_of breaks12 (u ++ (line_feed ∷ [])))))) e
     by false e h = spaces_inside breaks12 column (c ∷ (u ++ (line_feed ∷ []))) (spaces_keep (suc column) (c ∷ u) (line_feed ∷ []) h)
 
 -- a deep text's lines lie inside the column
 pub deep_inside : (breaks12 : Bool) (column : ℕ) (t : Text) → Deep breaks12 (suc column) t
     → AllInside true column (lines_after_first (lines_of breaks12 (t ++ (line_feed ∷ []))))
 deep_inside breaks12 column t h =
-    lines_pass breaks12 (begins_deep breaks12 (suc column)) (is_inside true column) (λ u k. deep_first breaks12 column u k) t h
+    lines_pass breaks12 (begins_deep breaks12 (suc column)) (belongs_to_entry true column) (λ u k. deep_first breaks12 column u k) t h

@@ -4,22 +4,23 @@ use Rattle.std.proofs.lemmas.Bool.{and_parts, and_from, false≢true}
 use Rattle.std.specs.List.{list_all}
 use Rattle.std.specs.Prelude.{ℕ, Bool, true, false, Some, List, [], ◌∷◌, ◌++◌, ◌&&◌, ◌||◌, ◌==◌, not}
 use Rattle.yaml_base.specs.Characters.{Text, space}
-use Rattle.yaml_base.specs.streams.StreamLines.{Line, ends_sign, begins_with_sign, is_inside, line_before, entries_at, all_deeper, spaces, is_spaces}
+use Rattle.yaml_base.specs.streams.StreamLines.{Line, ends_indicator, begins_with_indicator, belongs_to_entry, prepend_line, entries_at, all_deeper}
+use Rattle.yaml_base.specs.streams.StreamLines.{spaces, is_spaces}
 use Rattle.yaml_base.specs.streams.StreamLines.{past_column, indented, indented_step}
 
 -- a line deeper than a column is inside it
-pub inside_deeper : (s : Bool) (d e : ℕ) (t : Text) → d < e → is_inside s d (spaces e ++ t) ≡ true
+pub inside_deeper : (s : Bool) (d e : ℕ) (t : Text) → d < e → belongs_to_entry s d (spaces e ++ t) ≡ true
 inside_deeper s d zero t h = absurd (omega arith)
 inside_deeper s zero (suc e) t h = refl
 inside_deeper s (suc d) (suc e) t h = inside_deeper s d e t (omega arith)
 
 -- a `-` at the column of a mapping is inside it
-pub inside_dash : (e : ℕ) (t : Text) → ends_sign t ≡ true → is_inside false e (spaces e ++ (0x2D ∷ t)) ≡ true
+pub inside_dash : (e : ℕ) (t : Text) → ends_indicator t ≡ true → belongs_to_entry false e (spaces e ++ (0x2D ∷ t)) ≡ true
 inside_dash zero t h = h
 inside_dash (suc e) t h = inside_dash e t h
 
 -- a blank line is inside any column
-pub inside_blank : (s : Bool) (d k : ℕ) → is_inside s d (spaces k) ≡ true
+pub inside_blank : (s : Bool) (d k : ℕ) → belongs_to_entry s d (spaces k) ≡ true
 inside_blank s d zero = refl
 inside_blank s zero (suc k) = refl
 inside_blank s (suc d) (suc k) = inside_blank s d k
@@ -27,12 +28,12 @@ inside_blank s (suc d) (suc k) = inside_blank s d k
 -- what begins an entry: no space, and in a mapping no `-`
 abbrev pub begins_entry : (in_sequence : Bool) → Text → Bool
 begins_entry s [] = false
-begins_entry s (c ∷ t) = not (c == space) && (s || not (begins_with_sign 0x2D (c ∷ t)))
+begins_entry s (c ∷ t) = not (c == space) && (s || not (begins_with_indicator 0x2D (c ∷ t)))
 
 -- an entry's first line is not inside its column
-pub outside : (s : Bool) (e : ℕ) (t : Text) → begins_entry s t ≡ true → is_inside s e (spaces e ++ t) ≡ false
+pub outside : (s : Bool) (e : ℕ) (t : Text) → begins_entry s t ≡ true → belongs_to_entry s e (spaces e ++ t) ≡ false
 outside s e [] h = absurd (false≢true h)
-outside s zero (c ∷ t) h = by (c == space) s (begins_with_sign 0x2D (c ∷ t)) h
+outside s zero (c ∷ t) h = by (c == space) s (begins_with_indicator 0x2D (c ∷ t)) h
   where
     by : (x s y : Bool) → (not x && (s || not y)) ≡ true → (x || (not s && y)) ≡ false
     by true s y h = absurd (false≢true h)
@@ -63,26 +64,26 @@ blank_spaces (suc e) = blank_spaces e
 
 -- each of some lines is inside a column
 abbrev pub AllInside : Bool → ℕ → List Line → Type 0
-AllInside s column lines = list_all (λ line. is_inside s column line.text) lines ≡ true
+AllInside s column lines = list_all (λ line. belongs_to_entry s column line.text) lines ≡ true
 
 -- inside a column of a sequence is inside it for a mapping
-pub inside_mapping : (s : Bool) (d : ℕ) (t : Text) → is_inside true d t ≡ true → is_inside s d t ≡ true
+pub inside_mapping : (s : Bool) (d : ℕ) (t : Text) → belongs_to_entry true d t ≡ true → belongs_to_entry s d t ≡ true
 inside_mapping s d [] h = refl
 inside_mapping s zero (c ∷ t) h = by (c == space) h
   where
-    by : (x : Bool) → (x || false) ≡ true → (x || (not s && begins_with_sign 0x2D (c ∷ t))) ≡ true
+    by : (x : Bool) → (x || false) ≡ true → (x || (not s && begins_with_indicator 0x2D (c ∷ t))) ≡ true
     by true h = refl
     by false h = absurd (false≢true h)
 inside_mapping s (suc d) (c ∷ t) h =
-    let parts = and_parts (c == space) (is_inside true d t) h in
-    and_from (c == space) (is_inside s d t) parts.0 (inside_mapping s d t parts.1)
+    let parts = and_parts (c == space) (belongs_to_entry true d t) h in
+    and_from (c == space) (belongs_to_entry s d t) parts.0 (inside_mapping s d t parts.1)
 
 -- lines inside a sequence's column are deeper than it
 pub deeper_inside : (column : ℕ) (lines : List Line) → AllInside true column lines → all_deeper (Some column) lines ≡ true
 deeper_inside column [] h = refl
 deeper_inside column (line ∷ rest) h =
-    let parts = and_parts (is_inside true column line.text) (list_all (λ line. is_inside true column line.text) rest) h in
-    and_from (is_inside true column line.text) (all_deeper (Some column) rest) parts.0 (deeper_inside column rest parts.1)
+    let parts = and_parts (belongs_to_entry true column line.text) (list_all (λ line. belongs_to_entry true column line.text) rest) h in
+    and_from (belongs_to_entry true column line.text) (all_deeper (Some column) rest) parts.0 (deeper_inside column rest parts.1)
 
 -- lines that are these entries, whatever entries follow them
 pub record Splits (s : Bool) (e : ℕ) (lines : List Line) (entries : List (List Line)) : Type 0 where
@@ -108,15 +109,15 @@ pub passes : (s : Bool) (e : ℕ) (rest lines : List Line) → AllInside s e res
     → entries_at s e (rest ++ lines) ≡ record { before = rest ++ (entries_at s e lines).before; entries = (entries_at s e lines).entries }
 passes s e [] lines h = refl
 passes s e (line ∷ rest) lines h =
-    let parts = and_parts (is_inside s e line.text) (list_all (λ line. is_inside s e line.text) rest) h in
-    ap (λ x. line_before x line (entries_at s e (rest ++ lines))) parts.0 ∙ ap (line_before true line) (passes s e rest lines parts.1)
+    let parts = and_parts (belongs_to_entry s e line.text) (list_all (λ line. belongs_to_entry s e line.text) rest) h in
+    ap (λ x. prepend_line x line (entries_at s e (rest ++ lines))) parts.0 ∙ ap (prepend_line true line) (passes s e rest lines parts.1)
 
 -- one entry: a first line at the column, and lines inside it
-pub splits_one : (s : Bool) (e : ℕ) (line : Line) (rest : List Line) → is_inside s e line.text ≡ false → AllInside s e rest
+pub splits_one : (s : Bool) (e : ℕ) (line : Line) (rest : List Line) → belongs_to_entry s e line.text ≡ false → AllInside s e rest
     → Splits s e (line ∷ rest) ((line ∷ rest) ∷ [])
 splits_one s e line rest out inside = record {
   splits = λ lines h.
-      ap (λ x. line_before x line (entries_at s e (rest ++ lines))) out ∙ ap (line_before false line) (passes s e rest lines inside)
+      ap (λ x. prepend_line x line (entries_at s e (rest ++ lines))) out ∙ ap (prepend_line false line) (passes s e rest lines inside)
       ∙ ap (λ b. record { before = []; entries = (line ∷ (rest ++ b)) ∷ (entries_at s e lines).entries }) h
       ∙ ap (λ r. record { before = []; entries = (line ∷ r) ∷ (entries_at s e lines).entries }) (append-nil rest);
 }

@@ -5,7 +5,7 @@ use Rattle.std.specs.List.{list_any}
 use Rattle.std.specs.Prelude.{ℕ, Bool, true, false, List, [], ◌∷◌, ◌++◌, ◌||◌}
 use Rattle.yaml_base.specs.Characters.{Text}
 use Rattle.yaml_base.specs.LineBreaks.{is_read_break}
-use Rattle.yaml_base.specs.streams.StreamLines.{Line, character_before, lines_of, text_of_lines}
+use Rattle.yaml_base.specs.streams.StreamLines.{Line, prepend_character, lines_of, text_of_lines}
 
 -- a text is empty, or its last character is a break
 abbrev pub is_closed : Bool → Text → Bool
@@ -22,7 +22,7 @@ abbrev pub prefixed : Text → List Line → List Line
 prefixed text [] = []
 prefixed text (line ∷ rest) = record { text = text ++ line.text; ending = line.ending } ∷ rest
 
-text_before : (b : Bool) (c : ℕ) (lines : List Line) → text_of_lines (character_before b c lines) ≡ c ∷ text_of_lines lines
+text_before : (b : Bool) (c : ℕ) (lines : List Line) → text_of_lines (prepend_character b c lines) ≡ c ∷ text_of_lines lines
 text_before true c lines = refl
 text_before false c [] = refl
 text_before false c (line ∷ rest) = refl
@@ -34,14 +34,14 @@ text_of_lines_of breaks12 (c ∷ rest) =
     text_before (is_read_break breaks12 c) c (lines_of breaks12 rest) ∙ ap (λ t. c ∷ t) (text_of_lines_of breaks12 rest)
 
 before_both : (b d : Bool) (c e : ℕ) (lines more : List Line)
-    → character_before b c (character_before d e lines ++ more) ≡ character_before b c (character_before d e lines) ++ more
+    → prepend_character b c (prepend_character d e lines ++ more) ≡ prepend_character b c (prepend_character d e lines) ++ more
 before_both true d c e lines more = refl
 before_both false true c e lines more = refl
 before_both false false c e [] more = refl
 before_both false false c e (line ∷ rest) more = refl
 
-break_alone : (b : Bool) (c : ℕ) (more : List Line) → b ≡ true → character_before b c more ≡ character_before b c [] ++ more
-break_alone b c more h = ap (λ x. character_before x c more) h ∙ sym (ap (λ x. character_before x c [] ++ more) h)
+break_alone : (b : Bool) (c : ℕ) (more : List Line) → b ≡ true → prepend_character b c more ≡ prepend_character b c [] ++ more
+break_alone b c more h = ap (λ x. prepend_character x c more) h ∙ sym (ap (λ x. prepend_character x c [] ++ more) h)
 
 -- after a break the lines of what follows stand by themselves
 pub lines_after_break : (breaks12 : Bool) (text rest : Text) → is_closed breaks12 text ≡ true
@@ -49,16 +49,16 @@ pub lines_after_break : (breaks12 : Bool) (text rest : Text) → is_closed break
 lines_after_break breaks12 [] rest h = refl
 lines_after_break breaks12 (c ∷ []) rest h = break_alone (is_read_break breaks12 c) c (lines_of breaks12 rest) h
 lines_after_break breaks12 (c ∷ d ∷ text) rest h =
-    ap (character_before (is_read_break breaks12 c) c) (lines_after_break breaks12 (d ∷ text) rest h)
+    ap (prepend_character (is_read_break breaks12 c) c) (lines_after_break breaks12 (d ∷ text) rest h)
     ∙ before_both (is_read_break breaks12 c) (is_read_break breaks12 d) c d (lines_of breaks12 text) (lines_of breaks12 rest)
 
-nothing_prefixed : (b : Bool) (c : ℕ) (lines : List Line) → character_before b c lines ≡ prefixed [] (character_before b c lines)
+nothing_prefixed : (b : Bool) (c : ℕ) (lines : List Line) → prepend_character b c lines ≡ prefixed [] (prepend_character b c lines)
 nothing_prefixed true c lines = refl
 nothing_prefixed false c [] = refl
 nothing_prefixed false c (line ∷ rest) = refl
 
 prefixed_more : (b : Bool) (d c : ℕ) (text : Text) (lines : List Line)
-    → character_before false d (prefixed text (character_before b c lines)) ≡ prefixed (d ∷ text) (character_before b c lines)
+    → prepend_character false d (prefixed text (prepend_character b c lines)) ≡ prefixed (d ∷ text) (prepend_character b c lines)
 prefixed_more true d c text lines = refl
 prefixed_more false d c text [] = refl
 prefixed_more false d c text (line ∷ rest) = refl
@@ -69,8 +69,8 @@ pub lines_after_one_line : (breaks12 : Bool) (text : Text) (c : ℕ) (rest : Tex
 lines_after_one_line breaks12 [] c rest h = nothing_prefixed (is_read_break breaks12 c) c (lines_of breaks12 rest)
 lines_after_one_line breaks12 (d ∷ text) c rest h =
     let parts : (is_read_break breaks12 d ≡ false) × OneLine breaks12 text = or_parts (is_read_break breaks12 d) (list_any (is_read_break breaks12) text) h in
-    ap (character_before (is_read_break breaks12 d) d) (lines_after_one_line breaks12 text c rest parts.1)
-    ∙ ap (λ x. character_before x d (prefixed text (lines_of breaks12 (c ∷ rest)))) parts.0
+    ap (prepend_character (is_read_break breaks12 d) d) (lines_after_one_line breaks12 text c rest parts.1)
+    ∙ ap (λ x. prepend_character x d (prefixed text (lines_of breaks12 (c ∷ rest)))) parts.0
     ∙ prefixed_more (is_read_break breaks12 c) d c text (lines_of breaks12 rest)
 
 -- two texts without a break

@@ -4,7 +4,8 @@ use Rattle.std.proofs.lemmas.Bool.{true≢false}
 use Rattle.std.specs.Prelude.{ℕ, Bool, true, false, Option, None, Some, List, [], ◌∷◌, ◌++◌, ◌==◌, ◌||◌, option_map, option_and_then, if◌then◌else◌}
 use Rattle.yaml_base.specs.Characters.{Text, is_between, line_feed}
 use Rattle.yaml_base.specs.LineBreaks.{is_read_break}
-use Rattle.yaml_base.specs.reading.ReadBlock.{Element, content, line_end, extended, element_before, elements, detected, read_indentation, element_unindented}
+use Rattle.yaml_base.specs.reading.ReadBlock.{Element, content, line_end, prepend_to_elements, prepend_element, elements, detected_indentation}
+use Rattle.yaml_base.specs.reading.ReadBlock.{read_indentation, element_unindented}
 use Rattle.yaml_base.specs.reading.ReadBlock.{all_unindented, has_content, kept_lines, joined, unfolded, Chomping, strip, clip, lines_read, digit_first}
 use Rattle.yaml_base.specs.reading.ReadBlock.{after_digit, chomping_first, after_chomping, after_break, read_lines, read_block}
 use Rattle.yaml_base.proofs.stream_lines.StreamCuts.{none_not_some}
@@ -18,7 +19,8 @@ last_end = line_end line_feed ∷ []
 
 -- a character before elements and that break
 before_more : (x : Bool) (c : ℕ) (es : List Element)
-    → (if x then line_end c ∷ (es ++ last_end) else extended c (es ++ last_end)) ≡ (if x then line_end c ∷ es else extended c es) ++ last_end
+    → (if x then line_end c ∷ (es ++ last_end) else prepend_to_elements c
+    (es ++ last_end)) ≡ (if x then line_end c ∷ es else prepend_to_elements c es) ++ last_end
 before_more true c es = refl
 before_more false c [] = refl
 before_more false c (content text ∷ rest) = refl
@@ -27,11 +29,11 @@ before_more false c (line_end b ∷ rest) = refl
 -- it is one element more
 elements_more : (breaks12 : Bool) (body : Text) → elements breaks12 (body ++ feed) ≡ elements breaks12 body ++ last_end
 elements_more breaks12 [] = refl
-elements_more breaks12 (c ∷ body) = ap (element_before breaks12 c) (elements_more breaks12 body)
+elements_more breaks12 (c ∷ body) = ap (prepend_element breaks12 c) (elements_more breaks12 body)
     ∙ before_more (is_read_break breaks12 c) c (elements breaks12 body)
 
 -- it shows no read_indentation
-detected_more : (es : List Element) → detected (es ++ last_end) ≡ detected es
+detected_more : (es : List Element) → detected_indentation (es ++ last_end) ≡ detected_indentation es
 detected_more [] = refl
 detected_more (content text ∷ rest) = refl
 detected_more (line_end b ∷ rest) = detected_more rest
@@ -86,7 +88,7 @@ read_more folded digit column es =
     by None = refl
     by (Some t) = ap Some (lines_more folded t)
 
--- no sign clips
+-- no indicator clips
 clip_not_strip : clip ≡ strip → ⊥
 clip_not_strip e = true≢false (ap is_clip e)
   where
@@ -123,17 +125,17 @@ body_more breaks12 (c ∷ t) f v h same = by (is_read_break breaks12 c) h
     by false h = absurd (none_not_some h)
 
 -- a block scalar that strips reads the same with a break more at its end
-pub strip_more : (breaks12 : Bool) (column : Option ℕ) (sign : ℕ) (rest v : Text) → chomping_first (after_digit rest) ≡ strip
-    → read_block breaks12 column (sign ∷ rest) ≡ Some v → read_block breaks12 column ((sign ∷ rest) ++ (line_feed ∷ [])) ≡ Some v
-strip_more breaks12 column sign rest v strips read = by (sign == 124 || sign == 62) read
+pub strip_more : (breaks12 : Bool) (column : Option ℕ) (symbol : ℕ) (rest v : Text) → chomping_first (after_digit rest) ≡ strip
+    → read_block breaks12 column (symbol ∷ rest) ≡ Some v → read_block breaks12 column ((symbol ∷ rest) ++ (line_feed ∷ [])) ≡ Some v
+strip_more breaks12 column symbol rest v strips read = by (symbol == 124 || symbol == 62) read
   where
     reads : Chomping → Option ℕ → Text → Option Text
-    reads chomping digit body = read_lines (sign == 62) chomping digit column (elements breaks12 body)
+    reads chomping digit body = read_lines (symbol == 62) chomping digit column (elements breaks12 body)
 
     same : (body : Text) → reads strip (digit_first rest) (body ++ feed) ≡ reads strip (digit_first rest) body
     same body =
-        ap (read_lines (sign == 62) strip (digit_first rest) column) (elements_more breaks12 body)
-        ∙ read_more (sign == 62) (digit_first rest) column (elements breaks12 body)
+        ap (read_lines (symbol == 62) strip (digit_first rest) column) (elements_more breaks12 body)
+        ∙ read_more (symbol == 62) (digit_first rest) column (elements breaks12 body)
 
     by : (x : Bool) → (if x then option_and_then (λ body. reads (chomping_first (after_digit rest)) (digit_first rest) body)
         (after_break breaks12 (after_chomping (after_digit rest))) else None) ≡ Some v

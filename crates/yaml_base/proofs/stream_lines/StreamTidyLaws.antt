@@ -6,8 +6,9 @@ use Rattle.std.specs.Prelude.{ℕ, Bool, true, false, Option, None, Some, List, 
 use Rattle.yaml_base.specs.Characters.{Text, space, is_printable}
 use Rattle.yaml_base.specs.LineBreaks.{is_read_break}
 use Rattle.yaml_base.specs.Event.{ScalarStyle}
-use Rattle.yaml_base.specs.reading.TidyText.{ends_line, begins_with_spaces, begins_with_blank_line, begins_with_deep_line, has_deep_lines, is_tidy_style, is_tidy}
-use Rattle.yaml_base.specs.streams.StreamLines.{Line, extending, character_before, lines_of, is_inside}
+use Rattle.yaml_base.specs.reading.TidyText.{ends_line, begins_with_spaces, begins_with_blank_line, begins_with_deep_line, has_deep_lines}
+use Rattle.yaml_base.specs.reading.TidyText.{is_tidy_style, is_tidy}
+use Rattle.yaml_base.specs.streams.StreamLines.{Line, prepend_to_first_line, prepend_character, lines_of, belongs_to_entry}
 use Rattle.yaml_base.proofs.stream_lines.StreamInside.{AllInside}
 
 -- Fewer spaces
@@ -66,11 +67,11 @@ abbrev pub lines_after_first : List Line → List Line
 lines_after_first [] = []
 lines_after_first (line ∷ rest) = rest
 
-pub first_extended : (c : ℕ) (lines : List Line) → first_text (extending c lines) ≡ c ∷ first_text lines
+pub first_extended : (c : ℕ) (lines : List Line) → first_text (prepend_to_first_line c lines) ≡ c ∷ first_text lines
 first_extended c [] = refl
 first_extended c (line ∷ rest) = refl
 
-pub after_extended : (c : ℕ) (lines : List Line) → lines_after_first (extending c lines) ≡ lines_after_first lines
+pub after_extended : (c : ℕ) (lines : List Line) → lines_after_first (prepend_to_first_line c lines) ≡ lines_after_first lines
 after_extended c [] = refl
 after_extended c (line ∷ rest) = refl
 
@@ -85,38 +86,38 @@ no_break breaks12 c e = ap (is_read_break breaks12) (eqb-true c space e) ∙ by 
 -- a character that is a space begins the first line
 first_after_space : (breaks12 : Bool) (c : ℕ) (t : Text) → (c == space) ≡ true → first_text (lines_of breaks12 (c ∷ t)) ≡ c ∷ first_text (lines_of breaks12 t)
 first_after_space breaks12 c t e =
-    ap (λ x. first_text (character_before x c (lines_of breaks12 t))) (no_break breaks12 c e) ∙ first_extended c (lines_of breaks12 t)
+    ap (λ x. first_text (prepend_character x c (lines_of breaks12 t))) (no_break breaks12 c e) ∙ first_extended c (lines_of breaks12 t)
 
 -- so many spaces begin a line inside the column before them
 pub spaces_inside : (breaks12 : Bool) (column : ℕ) (t : Text) → begins_with_spaces (suc column) t ≡ true
-    → is_inside true column (first_text (lines_of breaks12 t)) ≡ true
+    → belongs_to_entry true column (first_text (lines_of breaks12 t)) ≡ true
 spaces_inside breaks12 column [] h = absurd (false≢true h)
 spaces_inside breaks12 zero (c ∷ t) h =
     let parts = and_parts (c == space) true h in
-    ap (is_inside true zero) (first_after_space breaks12 c t parts.0) ∙ ap (λ x. x || false) parts.0
+    ap (belongs_to_entry true zero) (first_after_space breaks12 c t parts.0) ∙ ap (λ x. x || false) parts.0
 spaces_inside breaks12 (suc column) (c ∷ t) h =
     let parts = and_parts (c == space) (begins_with_spaces (suc column) t) h in
-    ap (is_inside true (suc column)) (first_after_space breaks12 c t parts.0)
-    ∙ and_from (c == space) (is_inside true column (first_text (lines_of breaks12 t))) parts.0 (spaces_inside breaks12 column t parts.1)
+    ap (belongs_to_entry true (suc column)) (first_after_space breaks12 c t parts.0)
+    ∙ and_from (c == space) (belongs_to_entry true column (first_text (lines_of breaks12 t))) parts.0 (spaces_inside breaks12 column t parts.1)
 
 -- a deep line lies inside the column
 first_inside : (breaks12 : Bool) (column : ℕ) (t : Text) → begins_with_deep_line breaks12 (suc column) t ≡ true
-    → is_inside true column (first_text (lines_of breaks12 t)) ≡ true
+    → belongs_to_entry true column (first_text (lines_of breaks12 t)) ≡ true
 first_inside breaks12 column [] h = refl
 first_inside breaks12 column (c ∷ t) h = by (is_read_break breaks12 c) refl h
   where
     by : (x : Bool) → is_read_break breaks12 c ≡ x
         → (x || (begins_with_spaces (suc column) (c ∷ t) && not (begins_with_blank_line breaks12 (c ∷ t)))) ≡ true
-        → is_inside true column (first_text (lines_of breaks12 (c ∷ t))) ≡ true
-    by true e h = ap (λ b. is_inside true column (first_text (character_before b c (lines_of breaks12 t)))) e
+        → belongs_to_entry true column (first_text (lines_of breaks12 (c ∷ t))) ≡ true
+    by true e h = ap (λ b. belongs_to_entry true column (first_text (prepend_character b c (lines_of breaks12 t)))) e
     by false e h =
         spaces_inside breaks12 column (c ∷ t) (and_parts (begins_with_spaces (suc column) (c ∷ t)) (not (begins_with_blank_line breaks12 (c ∷ t))) h).0
 
 -- the first line and those after it
-all_inside : (column : ℕ) (lines : List Line) → is_inside true column (first_text lines) ≡ true → AllInside true column (lines_after_first lines)
+all_inside : (column : ℕ) (lines : List Line) → belongs_to_entry true column (first_text lines) ≡ true → AllInside true column (lines_after_first lines)
     → AllInside true column lines
 all_inside column [] h k = refl
-all_inside column (line ∷ rest) h k = and_from (is_inside true column line.text) (list_all (λ line. is_inside true column line.text) rest) h k
+all_inside column (line ∷ rest) h k = and_from (belongs_to_entry true column line.text) (list_all (λ line. belongs_to_entry true column line.text) rest) h k
 
 -- the lines of a text after its first are inside the column where they are deep
 pub deep_lines_inside : (breaks12 : Bool) (column : ℕ) (t : Text) → has_deep_lines breaks12 (suc column) t ≡ true
@@ -127,6 +128,6 @@ deep_lines_inside breaks12 column (c ∷ t) h =
     by (is_read_break breaks12 c) parts.0 (deep_lines_inside breaks12 column t parts.1)
   where
     by : (x : Bool) → (not x || begins_with_deep_line breaks12 (suc column) t) ≡ true → AllInside true column (lines_after_first (lines_of breaks12 t))
-        → AllInside true column (lines_after_first (character_before x c (lines_of breaks12 t)))
+        → AllInside true column (lines_after_first (prepend_character x c (lines_of breaks12 t)))
     by true deep ih = all_inside column (lines_of breaks12 t) (first_inside breaks12 column t deep) ih
-    by false deep ih = ap (λ ls. list_all (λ line. is_inside true column line.text) ls) (after_extended c (lines_of breaks12 t)) ∙ ih
+    by false deep ih = ap (λ ls. list_all (λ line. belongs_to_entry true column line.text) ls) (after_extended c (lines_of breaks12 t)) ∙ ih

@@ -1,4 +1,4 @@
--- No node is read of a line that begins with a directive's `%` or that is a document's mark: so what reads as a node is neither.
+-- No node is read of a line that begins with a directive's `%` or that is a document's marker: so what reads as a node is neither.
 use Rattle.std.proofs.Common.{◌≡◌, zero, suc, refl, sym, ap, ◌∙◌, append_assoc}
 use Rattle.std.proofs.lemmas.Bool.{false≢true, eqb-true, and_parts}
 use Rattle.std.specs.Prelude.{ℕ, Bool, true, false, Option, None, Some, List, [], ◌∷◌, ◌++◌, ◌==◌, ◌||◌, ◌&&◌, nat_le, length, codes, is_some, option_map}
@@ -9,13 +9,13 @@ use Rattle.yaml_base.specs.Event.{plain}
 use Rattle.yaml_base.specs.reading.TidyText.{is_tidy}
 use Rattle.yaml_base.specs.reading.ReadPlain.{read_plain}
 use Rattle.yaml_base.specs.streams.StreamContent.{Tree, stood_plain}
-use Rattle.yaml_base.specs.streams.StreamLines.{Line, text_of_lines, ends_sign, all_deeper}
-use Rattle.yaml_base.specs.streams.StreamScalars.{Rules, Properties, no_properties, scalar_said, word_after, word_read}
+use Rattle.yaml_base.specs.streams.StreamLines.{Line, text_of_lines, ends_indicator, all_deeper}
+use Rattle.yaml_base.specs.streams.StreamScalars.{Rules, Properties, no_properties, scalar_parsed, word_after, word_read}
 use Rattle.yaml_base.specs.streams.StreamFlow.{is_alias, longest_key}
 use Rattle.yaml_base.specs.streams.StreamNodes.{without_last_space, word_but_alias, word_of_alias, SimpleKey, key_of_text, key_ends, key_from, key_of_line}
 use Rattle.yaml_base.specs.streams.StreamNodes.{trimmed, text_by_kind, word_text, kind_of_text, text_read, begins_mapping, begins_text, kind_of_node}
 use Rattle.yaml_base.specs.streams.StreamNodes.{node_by_kind, begins_properties, node_read, text_or_properties}
-use Rattle.yaml_base.specs.streams.StreamDocuments.{begins_with_mark, start_mark, end_mark, no_mark, mark_of, begins_with_percent}
+use Rattle.yaml_base.specs.streams.StreamDocuments.{begins_with_marker, start_marker, end_marker, no_exclamation, marker_of, begins_with_percent}
 use Rattle.yaml_base.proofs.stream_lines.StreamCuts.{none_not_some}
 use Rattle.yaml_base.proofs.stream_lines.StreamSections.{is_unmarked}
 
@@ -25,16 +25,16 @@ data Sign : Type 0 where
   dashes : Sign
   dots : Sign
 
-abbrev sign_text : Sign → Text
-sign_text percent = codes "%"
-sign_text dashes = codes "---"
-sign_text dots = codes "..."
+abbrev indicator_text : Sign → Text
+indicator_text percent = codes "%"
+indicator_text dashes = codes "---"
+indicator_text dots = codes "..."
 
 -- Words
 
 -- whether a text is tidy or not, it isn't read as plain
-unsaid : (x : Bool) (properties : Properties) (value : Option Text) → value ≡ None → scalar_said properties stood_plain (if x then value else None) ≡ None
-unsaid true properties value h = ap (scalar_said properties stood_plain) h
+unsaid : (x : Bool) (properties : Properties) (value : Option Text) → value ≡ None → scalar_parsed properties stood_plain (if x then value else None) ≡ None
+unsaid true properties value h = ap (scalar_parsed properties stood_plain) h
 unsaid false properties value h = refl
 
 percent_plain : (breaks12 : Bool) (t : Text) → read_plain breaks12 false (0x25 ∷ t) ≡ None
@@ -42,30 +42,30 @@ percent_plain breaks12 [] = refl
 percent_plain breaks12 (a ∷ []) = refl
 percent_plain breaks12 (a ∷ b ∷ t) = refl
 
-sign_word : (sign : Sign) (t : Text) (rules : Rules) (column : Option ℕ) (properties : Properties)
-    → word_after rules false column properties (sign_text sign ++ t) ≡ None
-sign_word percent [] rules column properties =
+indicator_word : (symbol : Sign) (t : Text) (rules : Rules) (column : Option ℕ) (properties : Properties)
+    → word_after rules false column properties (indicator_text symbol ++ t) ≡ None
+indicator_word percent [] rules column properties =
     unsaid (is_tidy plain rules.breaks12 column (0x25 ∷ [])) properties (read_plain rules.breaks12 false (0x25 ∷ [])) refl
-sign_word percent (a ∷ []) rules column properties =
+indicator_word percent (a ∷ []) rules column properties =
     unsaid (is_tidy plain rules.breaks12 column (0x25 ∷ a ∷ [])) properties (read_plain rules.breaks12 false (0x25 ∷ a ∷ []))
     (percent_plain rules.breaks12 (a ∷ []))
-sign_word percent (a ∷ b ∷ t) rules column properties =
+indicator_word percent (a ∷ b ∷ t) rules column properties =
     unsaid (is_tidy plain rules.breaks12 column (0x25 ∷ a ∷ b ∷ t)) properties (read_plain rules.breaks12 false (0x25 ∷ a ∷ b ∷ t))
     (percent_plain rules.breaks12 (a ∷ b ∷ t))
-sign_word dashes t rules column properties =
+indicator_word dashes t rules column properties =
     unsaid (is_tidy plain rules.breaks12 column (codes "---" ++ t)) properties (read_plain rules.breaks12 false (codes "---" ++ t)) refl
-sign_word dots t rules column properties =
+indicator_word dots t rules column properties =
     unsaid (is_tidy plain rules.breaks12 column (codes "..." ++ t)) properties (read_plain rules.breaks12 false (codes "..." ++ t)) refl
 
-sign_read : (sign : Sign) (t : Text) (rules : Rules) → word_read rules false (sign_text sign ++ t) ≡ None
-sign_read percent t rules = sign_word percent t rules None no_properties
-sign_read dashes t rules = sign_word dashes t rules None no_properties
-sign_read dots t rules = sign_word dots t rules None no_properties
+indicator_read : (symbol : Sign) (t : Text) (rules : Rules) → word_read rules false (indicator_text symbol ++ t) ≡ None
+indicator_read percent t rules = indicator_word percent t rules None no_properties
+indicator_read dashes t rules = indicator_word dashes t rules None no_properties
+indicator_read dots t rules = indicator_word dots t rules None no_properties
 
 -- Keys
 
--- a text's last space is one of what follows the sign
-space_after : (sign : Sign) (t : Text) → without_last_space (sign_text sign ++ t) ≡ option_map (λ u. sign_text sign ++ u) (without_last_space t)
+-- a text's last space is one of what follows the indicator
+space_after : (symbol : Sign) (t : Text) → without_last_space (indicator_text symbol ++ t) ≡ option_map (λ u. indicator_text symbol ++ u) (without_last_space t)
 space_after percent [] = refl
 space_after percent (c ∷ t) = refl
 space_after dashes [] = refl
@@ -82,129 +82,133 @@ space_after dots (c ∷ t) = by (without_last_space (c ∷ t))
     by (Some u) = refl
 
 -- no such text is a key
-sign_key : (sign : Sign) (t : Text) (rules : Rules) → key_of_text rules (sign_text sign ++ t) ≡ None
-sign_key sign t rules = by (nat_le (length text) longest_key)
+indicator_key : (symbol : Sign) (t : Text) (rules : Rules) → key_of_text rules (indicator_text symbol ++ t) ≡ None
+indicator_key symbol t rules = by (nat_le (length text) longest_key)
   where
     text : Text
-    text = sign_text sign ++ t
+    text = indicator_text symbol ++ t
 
     word_alone : (o : Option Tree) → o ≡ None → option_and_then (λ tree. if is_alias tree then None else Some tree) o ≡ None
     word_alone o h = ap (option_and_then (λ tree. if is_alias tree then None else Some tree)) h
 
-    alias_alone : (o : Option Text) → option_and_then (word_of_alias rules) (option_map (λ u. sign_text sign ++ u) o) ≡ None
+    alias_alone : (o : Option Text) → option_and_then (word_of_alias rules) (option_map (λ u. indicator_text symbol ++ u) o) ≡ None
     alias_alone None = refl
-    alias_alone (Some u) = ap (option_and_then (λ tree. if is_alias tree then Some tree else None)) (sign_read sign u rules)
+    alias_alone (Some u) = ap (option_and_then (λ tree. if is_alias tree then Some tree else None)) (indicator_read symbol u rules)
 
     by : (x : Bool) → (if x then option_or (word_but_alias rules text) (option_and_then (word_of_alias rules) (without_last_space text)) else None) ≡ None
     by false = refl
     by true =
         ap (λ o. option_or o (option_and_then (word_of_alias rules) (without_last_space text)))
-        (word_alone (word_read rules false text) (sign_read sign t rules))
-        ∙ ap (option_and_then (word_of_alias rules)) (space_after sign t) ∙ alias_alone (without_last_space t)
+        (word_alone (word_read rules false text) (indicator_read symbol t rules))
+        ∙ ap (option_and_then (word_of_alias rules)) (space_after symbol t) ∙ alias_alone (without_last_space t)
 
 -- nor does one stand before a `:` later on
-no_key_after : (sign : Sign) (before t : Text) (rules : Rules) → key_from rules (sign_text sign ++ before) t ≡ None
-no_key_after sign before [] rules = refl
-no_key_after sign before (c ∷ t) rules =
-    ap (λ o. option_or o (key_from rules ((sign_text sign ++ before) ++ (c ∷ [])) t)) (by ((c == 0x3A) && ends_sign t))
-    ∙ ap (λ b. key_from rules b t) (append_assoc (sign_text sign) before (c ∷ []))
-    ∙ no_key_after sign (before ++ (c ∷ [])) t rules
+no_key_after : (symbol : Sign) (before t : Text) (rules : Rules) → key_from rules (indicator_text symbol ++ before) t ≡ None
+no_key_after symbol before [] rules = refl
+no_key_after symbol before (c ∷ t) rules =
+    ap (λ o. option_or o (key_from rules ((indicator_text symbol ++ before) ++ (c ∷ [])) t)) (by ((c == 0x3A) && ends_indicator t))
+    ∙ ap (λ b. key_from rules b t) (append_assoc (indicator_text symbol) before (c ∷ []))
+    ∙ no_key_after symbol (before ++ (c ∷ [])) t rules
   where
-    by : (x : Bool) → key_ends rules x (sign_text sign ++ before) t ≡ None
+    by : (x : Bool) → key_ends rules x (indicator_text symbol ++ before) t ≡ None
     by false = refl
-    by true = ap (option_map (λ key. let found : SimpleKey = record { key = key; length = length (sign_text sign ++ before); after = t } in found))
-        (sign_key sign before rules)
+    by true = ap (option_map (λ key. let found : SimpleKey = record { key = key; length = length (indicator_text symbol ++ before); after = t } in found))
+        (indicator_key symbol before rules)
 
 -- so such a line begins with no key
-sign_line : (sign : Sign) (t : Text) (rules : Rules) → key_of_line rules (sign_text sign ++ t) ≡ None
-sign_line percent t rules = no_key_after percent [] t rules
-sign_line dashes t rules = no_key_after dashes [] t rules
-sign_line dots t rules = no_key_after dots [] t rules
+indicator_line : (symbol : Sign) (t : Text) (rules : Rules) → key_of_line rules (indicator_text symbol ++ t) ≡ None
+indicator_line percent t rules = no_key_after percent [] t rules
+indicator_line dashes t rules = no_key_after dashes [] t rules
+indicator_line dots t rules = no_key_after dots [] t rules
 
-sign_kind : (sign : Sign) (t : Text) (rules : Rules) → kind_of_node rules (sign_text sign ++ t) ≡ begins_text
-sign_kind percent t rules = ap (λ o. if false || is_some o then begins_mapping else begins_text) (sign_line percent t rules)
-sign_kind dashes t rules = ap (λ o. if false || is_some o then begins_mapping else begins_text) (sign_line dashes t rules)
-sign_kind dots t rules = ap (λ o. if false || is_some o then begins_mapping else begins_text) (sign_line dots t rules)
+indicator_kind : (symbol : Sign) (t : Text) (rules : Rules) → kind_of_node rules (indicator_text symbol ++ t) ≡ begins_text
+indicator_kind percent t rules = ap (λ o. if false || is_some o then begins_mapping else begins_text) (indicator_line percent t rules)
+indicator_kind dashes t rules = ap (λ o. if false || is_some o then begins_mapping else begins_text) (indicator_line dashes t rules)
+indicator_kind dots t rules = ap (λ o. if false || is_some o then begins_mapping else begins_text) (indicator_line dots t rules)
 
 -- Texts
 
--- white space at a text's end is none of the sign
-sign_trimmed : (breaks12 : Bool) (sign : Sign) (t : Text) → trimmed breaks12 (sign_text sign ++ t) ≡ sign_text sign ++ trimmed breaks12 t
-sign_trimmed true percent t = refl
-sign_trimmed false percent t = refl
-sign_trimmed true dashes t = refl
-sign_trimmed false dashes t = refl
-sign_trimmed true dots t = refl
-sign_trimmed false dots t = refl
+-- white space at a text's end is none of the indicator
+indicator_trimmed : (breaks12 : Bool) (symbol : Sign) (t : Text) → trimmed breaks12 (indicator_text symbol ++ t) ≡ indicator_text symbol ++ trimmed breaks12 t
+indicator_trimmed true percent t = refl
+indicator_trimmed false percent t = refl
+indicator_trimmed true dashes t = refl
+indicator_trimmed false dashes t = refl
+indicator_trimmed true dots t = refl
+indicator_trimmed false dots t = refl
 
-sign_text_kind : (sign : Sign) (t : Text) → kind_of_text (sign_text sign ++ t) ≡ word_text
-sign_text_kind percent t = refl
-sign_text_kind dashes t = refl
-sign_text_kind dots t = refl
+indicator_text_kind : (symbol : Sign) (t : Text) → kind_of_text (indicator_text symbol ++ t) ≡ word_text
+indicator_text_kind percent t = refl
+indicator_text_kind dashes t = refl
+indicator_text_kind dots t = refl
 
 -- no text is read of such a line
-sign_text_read : (sign : Sign) (t ending : Text) (rest : List Line) (rules : Rules) (column : Option ℕ) (properties : Properties)
-    → text_read rules column properties (sign_text sign ++ t) ending rest ≡ None
-sign_text_read sign t ending rest rules column properties = by (all_deeper column rest)
+indicator_text_read : (symbol : Sign) (t ending : Text) (rest : List Line) (rules : Rules) (column : Option ℕ) (properties : Properties)
+    → text_read rules column properties (indicator_text symbol ++ t) ending rest ≡ None
+indicator_text_read symbol t ending rest rules column properties = by (all_deeper column rest)
   where
     more : Text
     more = ending ++ text_of_lines rest
 
-    by : (x : Bool) → (if x then text_by_kind (kind_of_text (sign_text sign ++ t)) rules column properties ((sign_text sign ++ t) ++ more) else None) ≡ None
+    by : (x : Bool) → (if x then text_by_kind (kind_of_text (indicator_text symbol ++ t)) rules column properties
+        ((indicator_text symbol ++ t) ++ more) else None) ≡ None
     by false = refl
     by true =
-        ap (λ k. text_by_kind k rules column properties ((sign_text sign ++ t) ++ more)) (sign_text_kind sign t)
-        ∙ ap (λ u. word_after rules false column properties (trimmed rules.breaks12 u)) (append_assoc (sign_text sign) t more)
-        ∙ ap (word_after rules false column properties) (sign_trimmed rules.breaks12 sign (t ++ more))
-        ∙ sign_word sign (trimmed rules.breaks12 (t ++ more)) rules column properties
+        ap (λ k. text_by_kind k rules column properties ((indicator_text symbol ++ t) ++ more)) (indicator_text_kind symbol t)
+        ∙ ap (λ u. word_after rules false column properties (trimmed rules.breaks12 u)) (append_assoc (indicator_text symbol) t more)
+        ∙ ap (word_after rules false column properties) (indicator_trimmed rules.breaks12 symbol (t ++ more))
+        ∙ indicator_word symbol (trimmed rules.breaks12 (t ++ more)) rules column properties
 
 -- nor a node
-sign_unread : (sign : Sign) (t ending : Text) (rest : List Line) (depth : ℕ) (rules : Rules) (here : Bool) (column : Option ℕ)
-    → node_read depth rules here column (record { text = sign_text sign ++ t; ending = ending } ∷ rest) ≡ None
-sign_unread sign t ending rest zero rules here column = refl
-sign_unread percent t ending rest (suc depth) rules here column =
+indicator_unread : (symbol : Sign) (t ending : Text) (rest : List Line) (depth : ℕ) (rules : Rules) (here : Bool) (column : Option ℕ)
+    → node_read depth rules here column (record { text = indicator_text symbol ++ t; ending = ending } ∷ rest) ≡ None
+indicator_unread symbol t ending rest zero rules here column = refl
+indicator_unread percent t ending rest (suc depth) rules here column =
     ap (λ k. node_by_kind k rules (node_read depth rules) (λ at text. text_or_properties (begins_properties text) rules (node_read depth rules) column at text)
     no_properties (here || false) true (record { column = 0; text = codes "%" ++ t }) ending rest (record { text = codes "%" ++ t; ending = ending } ∷ rest))
-    (sign_kind percent t rules)
-    ∙ sign_text_read percent t ending rest rules column no_properties
-sign_unread dashes t ending rest (suc depth) rules here column =
+    (indicator_kind percent t rules)
+    ∙ indicator_text_read percent t ending rest rules column no_properties
+indicator_unread dashes t ending rest (suc depth) rules here column =
     ap (λ k. node_by_kind k rules (node_read depth rules) (λ at text. text_or_properties (begins_properties text) rules (node_read depth rules) column at text)
     no_properties (here || false) true (record { column = 0; text = codes "---" ++ t }) ending rest
-    (record { text = codes "---" ++ t; ending = ending } ∷ rest)) (sign_kind dashes t rules)
-    ∙ sign_text_read dashes t ending rest rules column no_properties
-sign_unread dots t ending rest (suc depth) rules here column =
+    (record { text = codes "---" ++ t; ending = ending } ∷ rest)) (indicator_kind dashes t rules)
+    ∙ indicator_text_read dashes t ending rest rules column no_properties
+indicator_unread dots t ending rest (suc depth) rules here column =
     ap (λ k. node_by_kind k rules (node_read depth rules) (λ at text. text_or_properties (begins_properties text) rules (node_read depth rules) column at text)
     no_properties (here || false) true (record { column = 0; text = codes "..." ++ t }) ending rest
-    (record { text = codes "..." ++ t; ending = ending } ∷ rest)) (sign_kind dots t rules)
-    ∙ sign_text_read dots t ending rest rules column no_properties
+    (record { text = codes "..." ++ t; ending = ending } ∷ rest)) (indicator_kind dots t rules)
+    ∙ indicator_text_read dots t ending rest rules column no_properties
 
 -- First lines
 
--- what begins with a mark
-mark_shape : (sign : ℕ) (t : Text) → begins_with_mark sign t ≡ true → (r : Text) × (t ≡ sign ∷ sign ∷ sign ∷ r)
-mark_shape sign [] h = absurd (false≢true h)
-mark_shape sign (a ∷ []) h = absurd (false≢true h)
-mark_shape sign (a ∷ b ∷ []) h = absurd (false≢true h)
-mark_shape sign (a ∷ b ∷ c ∷ t) h =
-    let p = and_parts (a == sign && b == sign && c == sign) (ends_sign t) h in
-    let q = and_parts (a == sign && b == sign) (c == sign) p.0 in
-    let r = and_parts (a == sign) (b == sign) q.0 in
-    (t, ap (λ x. x ∷ b ∷ c ∷ t) (eqb-true a sign r.0) ∙ ap (λ x. sign ∷ x ∷ c ∷ t) (eqb-true b sign r.1) ∙ ap (λ x. sign ∷ sign ∷ x ∷ t) (eqb-true c sign q.1))
+-- what begins with a marker
+marker_shape : (symbol : ℕ) (t : Text) → begins_with_marker symbol t ≡ true → (r : Text) × (t ≡ symbol ∷ symbol ∷ symbol ∷ r)
+marker_shape symbol [] h = absurd (false≢true h)
+marker_shape symbol (a ∷ []) h = absurd (false≢true h)
+marker_shape symbol (a ∷ b ∷ []) h = absurd (false≢true h)
+marker_shape symbol (a ∷ b ∷ c ∷ t) h =
+    let p = and_parts (a == symbol && b == symbol && c == symbol) (ends_indicator t) h in
+    let q = and_parts (a == symbol && b == symbol) (c == symbol) p.0 in
+    let r = and_parts (a == symbol) (b == symbol) q.0 in (
+      t,
+      ap (λ x. x ∷ b ∷ c ∷ t) (eqb-true a symbol r.0) ∙ ap (λ x. symbol ∷ x ∷ c ∷ t) (eqb-true b symbol r.1)
+          ∙ ap (λ x. symbol ∷ symbol ∷ x ∷ t) (eqb-true c symbol q.1),
+    )
 
--- the first line of what reads as a node is no mark
+-- the first line of what reads as a node is no marker
 pub read_unmarked : (line : Line) (rest : List Line) (depth : ℕ) (rules : Rules) (here : Bool) (column : Option ℕ) (tree : Tree)
-    → node_read depth rules here column (line ∷ rest) ≡ Some tree → is_unmarked (mark_of line.text) ≡ true
-read_unmarked line rest depth rules here column tree h = by (begins_with_mark 0x2D line.text) refl (begins_with_mark 0x2E line.text) refl
+    → node_read depth rules here column (line ∷ rest) ≡ Some tree → is_unmarked (marker_of line.text) ≡ true
+read_unmarked line rest depth rules here column tree h = by (begins_with_marker 0x2D line.text) refl (begins_with_marker 0x2E line.text) refl
   where
-    refused : (sign : Sign) (t : Text) → line.text ≡ sign_text sign ++ t → ⊥
-    refused sign t e =
-        none_not_some (sym (sign_unread sign t line.ending rest depth rules here column)
+    refused : (symbol : Sign) (t : Text) → line.text ≡ indicator_text symbol ++ t → ⊥
+    refused symbol t e =
+        none_not_some (sym (indicator_unread symbol t line.ending rest depth rules here column)
         ∙ ap (λ u. node_read depth rules here column (record { text = u; ending = line.ending } ∷ rest)) (sym e) ∙ h)
 
-    by : (x : Bool) → begins_with_mark 0x2D line.text ≡ x → (y : Bool) → begins_with_mark 0x2E line.text ≡ y
-        → is_unmarked (if x then start_mark else (if y then end_mark else no_mark)) ≡ true
-    by true e y f = let shape = mark_shape 0x2D line.text e in absurd (refused dashes shape.0 shape.1)
-    by false e true f = let shape = mark_shape 0x2E line.text f in absurd (refused dots shape.0 shape.1)
+    by : (x : Bool) → begins_with_marker 0x2D line.text ≡ x → (y : Bool) → begins_with_marker 0x2E line.text ≡ y
+        → is_unmarked (if x then start_marker else (if y then end_marker else no_exclamation)) ≡ true
+    by true e y f = let shape = marker_shape 0x2D line.text e in absurd (refused dashes shape.0 shape.1)
+    by false e true f = let shape = marker_shape 0x2E line.text f in absurd (refused dots shape.0 shape.1)
     by false e false f = refl
 
 -- nor does it begin with `%`
@@ -214,7 +218,7 @@ read_no_percent line rest depth rules here column tree h = by line.text refl
   where
     refused : (t : Text) → line.text ≡ 0x25 ∷ t → ⊥
     refused t e =
-        none_not_some (sym (sign_unread percent t line.ending rest depth rules here column)
+        none_not_some (sym (indicator_unread percent t line.ending rest depth rules here column)
         ∙ ap (λ u. node_read depth rules here column (record { text = u; ending = line.ending } ∷ rest)) (sym e) ∙ h)
 
     by : (text : Text) → line.text ≡ text → begins_with_percent text ≡ false

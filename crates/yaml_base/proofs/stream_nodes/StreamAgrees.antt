@@ -10,7 +10,7 @@ use Rattle.yaml_base.specs.Settings.{Effective}
 use Rattle.yaml_base.specs.Event.{ScalarStyle, any_style, plain, single_quoted, double_quoted, literal, folded, Version, TagDirective, Scalar}
 use Rattle.yaml_base.specs.Tags.{directives_in_force}
 use Rattle.yaml_base.specs.scalars.Analysis.{Allowances, is_empty, allowances}
-use Rattle.yaml_base.specs.scalars.Style.{Choice, lacks_tag_and_flags, is_plain, style_asked, style_quoted, style_fitting, fits_plain}
+use Rattle.yaml_base.specs.scalars.Style.{Choice, lacks_tag_and_flags, is_plain, requested_style, quoted_style, fitting_style, fits_plain}
 use Rattle.yaml_base.specs.Grammar.{Node, alias_node, scalar_node, sequence_node, mapping_node, Nodes, no_nodes, nodes_and, Pairs, no_pairs, pairs_and}
 use Rattle.yaml_base.specs.Grammar.{Document}
 use Rattle.yaml_base.specs.Event.{scalar_tag, collection_tag}
@@ -93,14 +93,14 @@ same_option None = refl
 same_option (Some text) = same_text text
 
 -- plain is chosen only where it fits
-quoted_not_plain : (allowed : Allowances) → is_plain (style_quoted allowed) ≡ false
+quoted_not_plain : (allowed : Allowances) → is_plain (quoted_style allowed) ≡ false
 quoted_not_plain allowed = by allowed.single_quoted
   where
     by : (x : Bool) → is_plain (if x then single_quoted else double_quoted) ≡ false
     by true = refl
     by false = refl
 
-plain_fits : (allowed : Allowances) (fits block_fits : Bool) (style : ScalarStyle) → is_plain (style_fitting allowed fits block_fits style) ≡ true → fits ≡ true
+plain_fits : (allowed : Allowances) (fits block_fits : Bool) (style : ScalarStyle) → is_plain (fitting_style allowed fits block_fits style) ≡ true → fits ≡ true
 plain_fits allowed true block_fits style h = refl
 plain_fits allowed false block_fits plain h = absurd (false≢true (sym (quoted_not_plain allowed) ∙ h))
 plain_fits allowed false block_fits single_quoted h = absurd (false≢true (sym (quoted_not_plain allowed) ∙ h))
@@ -143,15 +143,15 @@ tagging_is s place simple content None e flags =
 
     style : Option Text → ScalarStyle
     style t =
-        style_fitting allowed (fit t) (allowed.block && not place.in_flow && not simple)
-        (style_asked (s.canonical || (simple && allowed.multiline)) content.style)
+        fitting_style allowed (fit t) (allowed.block && not place.in_flow && not simple)
+        (requested_style (s.canonical || (simple && allowed.multiline)) content.style)
 
     fits : is_plain (style None) ≡ true → content.plain_implicit ≡ true
     fits h =
         (and_parts ((if place.in_flow then allowed.flow_plain else allowed.block_plain) && not (is_empty content.value && (place.in_flow || simple)))
         (false || content.plain_implicit)
         (plain_fits allowed (fit None) (allowed.block && not place.in_flow && not simple)
-        (style_asked (s.canonical || (simple && allowed.multiline)) content.style) h)).1
+        (requested_style (s.canonical || (simple && allowed.multiline)) content.style) h)).1
 
 -- the tree of a node agrees with it
 mutual

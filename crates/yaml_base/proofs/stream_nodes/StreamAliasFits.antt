@@ -11,11 +11,11 @@ use Rattle.yaml_base.specs.Settings.{Effective}
 use Rattle.yaml_base.specs.Event.{TagDirective}
 use Rattle.yaml_base.specs.Cursor.{Cursor}
 use Rattle.yaml_base.specs.Grammar.{alias_node}
-use Rattle.yaml_base.specs.Layout.{Place, is_simple_at, alias_laid}
+use Rattle.yaml_base.specs.Layout.{Place, is_simple_at, render_alias}
 use Rattle.yaml_base.specs.streams.StreamContent.{alias_tree}
-use Rattle.yaml_base.specs.streams.StreamLines.{ends_sign, all_deeper, spaces}
+use Rattle.yaml_base.specs.streams.StreamLines.{ends_indicator, all_deeper, spaces}
 use Rattle.yaml_base.specs.streams.StreamScalars.{Rules, no_properties, word_after}
-use Rattle.yaml_base.specs.streams.StreamNodes.{key_ends, key_from, trimmed, before_trimmed, begins_mapping, begins_text, kind_of_node}
+use Rattle.yaml_base.specs.streams.StreamNodes.{key_ends, key_from, trimmed, prepend_to_trimmed, begins_mapping, begins_text, kind_of_node}
 use Rattle.yaml_base.proofs.stream_lines.StreamLineLaws.{is_closed, OneLine}
 use Rattle.yaml_base.proofs.stream_lines.StreamClosed.{closed, lines_broken}
 use Rattle.yaml_base.proofs.stream_nodes.StreamFits.{Fits}
@@ -63,7 +63,7 @@ name_trimmed true [] h = refl
 name_trimmed false [] h = refl
 name_trimmed breaks12 (c ∷ name) h =
     let parts = and_parts (is_alpha c) (list_all is_alpha name) h in
-    ap (λ x. before_trimmed x c (trimmed breaks12 (name ++ (line_feed ∷ [])))) (letter_shows breaks12 c parts.0)
+    ap (λ x. prepend_to_trimmed x c (trimmed breaks12 (name ++ (line_feed ∷ [])))) (letter_shows breaks12 c parts.0)
     ∙ ap (λ t. c ∷ t) (name_trimmed breaks12 name parts.1)
 
 -- no key ends in it
@@ -71,7 +71,7 @@ name_no_key : (rules : Rules) (before name : Text) → list_all is_alpha name �
 name_no_key rules before [] h = refl
 name_no_key rules before (c ∷ name) h =
     let parts = and_parts (is_alpha c) (list_all is_alpha name) h in
-    ap (λ x. option_or (key_ends rules (x && ends_sign name) before name) (key_from rules (before ++ c ∷ []) name)) (other_letter c 0x3A refl parts.0)
+    ap (λ x. option_or (key_ends rules (x && ends_indicator name) before name) (key_from rules (before ++ c ∷ []) name)) (other_letter c 0x3A refl parts.0)
     ∙ name_no_key rules (before ++ (c ∷ [])) name parts.1
 
 -- an alias is a text of its own
@@ -125,9 +125,9 @@ alias_reads rules column n t h = record {
   read = λ reads at. alias_read rules column n t h;
 }
 
--- what is laid out for an alias, with the break after it
+-- what is rendered for an alias, with the break after it
 alias_text : (n : ℕ) (t : Text) (cursor : Cursor) (count : ℕ) → (if true && not cursor.whitespace then space ∷ [] else []) ≡ spaces count
-    → closed (alias_laid (n ∷ t) false cursor) ≡ (spaces count ++ (0x2A ∷ n ∷ t)) ++ (line_feed ∷ [])
+    → closed (render_alias (n ∷ t) false cursor) ≡ (spaces count ++ (0x2A ∷ n ∷ t)) ++ (line_feed ∷ [])
 alias_text n t cursor count h =
     ap (λ u. u ++ (line_feed ∷ [])) (append-nil (((if true && not cursor.whitespace then space ∷ [] else []) ++ (0x2A ∷ [])) ++ (n ∷ t)))
     ∙ ap (λ u. ((u ++ (0x2A ∷ [])) ++ (n ∷ t)) ++ (line_feed ∷ [])) h
@@ -136,11 +136,11 @@ alias_text n t cursor count h =
 -- an alias behind some spaces fits
 named_fits : (rules : Rules) (n : ℕ) (t : Text) (place : Place) (cursor : Cursor) (count : ℕ) → list_all is_alpha (n ∷ t) ≡ true
     → (if true && not cursor.whitespace then space ∷ [] else []) ≡ spaces count → (cursor.whitespace ≡ false → 0 < count)
-    → Fits rules 1 (alias_laid (n ∷ t) false cursor) (alias_tree (n ∷ t)) place cursor
+    → Fits rules 1 (render_alias (n ∷ t) false cursor) (alias_tree (n ∷ t)) place cursor
 named_fits rules n t place cursor count name spaced some =
     let word = 0x2A ∷ n ∷ t in
     let same = alias_text n t cursor count spaced in
-    text_fits rules (alias_laid (n ∷ t) false cursor) place cursor count (word ++ (line_feed ∷ [])) (alias_tree (n ∷ t))
+    text_fits rules (render_alias (n ∷ t) false cursor) place cursor count (word ++ (line_feed ∷ [])) (alias_tree (n ∷ t))
     (same ∙ append_assoc (spaces count) word (line_feed ∷ []))
     (ap (is_closed rules.breaks12) same ∙ below_ends rules.breaks12 (spaces count ++ word) [] refl) (λ h. absurd (false≢true h)) some
     (alias_reads rules place.column n t name)
@@ -150,8 +150,8 @@ pub alias_fits : (rules : Rules) (s : Effective) (directives : List TagDirective
     → list_all is_alpha (n ∷ t) ≡ true
     → is_simple_at place s.canonical directives (alias_node (n ∷ t)) ≡ false → LeafFits rules s directives (alias_node (n ∷ t)) place cursor
 alias_fits rules s directives n t place cursor name simple =
-    subst (λ x. Fits rules 1 (alias_laid (n ∷ t) x cursor) (alias_tree (n ∷ t)) place cursor) (sym simple) (by cursor.whitespace refl)
+    subst (λ x. Fits rules 1 (render_alias (n ∷ t) x cursor) (alias_tree (n ∷ t)) place cursor) (sym simple) (by cursor.whitespace refl)
   where
-    by : (x : Bool) → cursor.whitespace ≡ x → Fits rules 1 (alias_laid (n ∷ t) false cursor) (alias_tree (n ∷ t)) place cursor
+    by : (x : Bool) → cursor.whitespace ≡ x → Fits rules 1 (render_alias (n ∷ t) false cursor) (alias_tree (n ∷ t)) place cursor
     by true h = named_fits rules n t place cursor 0 name (ap (λ x. if true && not x then space ∷ [] else []) h) (λ w. absurd (true≢false (sym h ∙ w)))
     by false h = named_fits rules n t place cursor 1 name (ap (λ x. if true && not x then space ∷ [] else []) h) (λ w. omega arith)

@@ -11,17 +11,17 @@ use Rattle.yaml_base.specs.Event.{TagDirective, Collection}
 use Rattle.yaml_base.specs.Cursor.{Cursor, space_if}
 use Rattle.yaml_base.specs.Tags.{spelling, spelled}
 use Rattle.yaml_base.specs.Event.{collection_tag}
-use Rattle.yaml_base.specs.Layout.{anchor_laid, properties_laid}
-use Rattle.yaml_base.specs.reading.ReadTags.{TagSaid}
-use Rattle.yaml_base.specs.streams.StreamLines.{is_spaces, spaces, ends_sign}
+use Rattle.yaml_base.specs.Layout.{render_anchor, render_properties}
+use Rattle.yaml_base.specs.reading.ReadTags.{ParsedTag}
+use Rattle.yaml_base.specs.streams.StreamLines.{is_spaces, spaces, ends_indicator}
 use Rattle.yaml_base.specs.streams.StreamScalars.{Rules, properties_read}
 use Rattle.yaml_base.specs.streams.StreamNodes.{begins_sequence, begins_mapping, begins_text, kind_of_node, key_from, key_of_line}
 use Rattle.yaml_base.proofs.stream_lines.StreamLineLaws.{OneLine, one_line_both}
 use Rattle.yaml_base.proofs.stream_lines.StreamInside.{blank_spaces}
-use Rattle.yaml_base.proofs.stream_nodes.StreamBlocks.{Said, BegunKind, unsaid, is_said}
+use Rattle.yaml_base.proofs.stream_nodes.StreamBlocks.{Said, BegunKind, unsaid, is_parsed}
 use Rattle.yaml_base.proofs.stream_nodes.StreamNodesFit.{BegunReads}
 use Rattle.yaml_base.proofs.stream_nodes.StreamAliasFits.{name_line}
-use Rattle.yaml_base.proofs.stream_nodes.StreamProperties.{holds_white, IsTagged, IsNamed, properties_text, name_letters, properties_said}
+use Rattle.yaml_base.proofs.stream_nodes.StreamProperties.{holds_white, IsTagged, IsNamed, properties_text, name_letters, properties_parsed}
 use Rattle.yaml_base.proofs.stream_flow.StreamPropertyWords.{lead}
 use Rattle.yaml_base.proofs.stream_nodes.StreamStands.{tag_written, tag_meant, TagStands}
 use Rattle.yaml_base.proofs.stream_nodes.StreamLeads.{spelling_text, spelling_ended, tag_is_written}
@@ -43,53 +43,53 @@ shown_line breaks12 (c ∷ text) h =
     let parts = or_parts (is_blank c || is_break c) (holds_white text) h in
     ap (λ x. x || list_any (is_read_break breaks12) text) (white_line breaks12 c parts.0) ∙ shown_line breaks12 text parts.1
 
--- the signs of properties and the space between them break no line
-mark_line : (breaks12 : Bool) → OneLine breaks12 (0x26 ∷ []) × OneLine breaks12 (space ∷ [])
-mark_line true = (refl, refl)
-mark_line false = (refl, refl)
+-- the indicators of properties and the space between them break no line
+marker_line : (breaks12 : Bool) → OneLine breaks12 (0x26 ∷ []) × OneLine breaks12 (space ∷ [])
+marker_line true = (refl, refl)
+marker_line false = (refl, refl)
 
 -- properties are on one line
-pub properties_line : (rules : Rules) (anchor tag : Option Text) (said : Option TagSaid) → IsNamed anchor → IsTagged rules.directives tag said
+pub properties_line : (rules : Rules) (anchor tag : Option Text) (parsed : Option ParsedTag) → IsNamed anchor → IsTagged rules.directives tag parsed
     → OneLine rules.breaks12 (properties_text anchor tag)
-properties_line rules None None said named tagged = refl
-properties_line rules (Some name) None said named tagged =
-    one_line_both rules.breaks12 (0x26 ∷ []) name (mark_line rules.breaks12).0 (name_line rules.breaks12 name (name_letters name named))
-properties_line rules None (Some tag) (Some said) named tagged = shown_line rules.breaks12 tag tagged.no_white
-properties_line rules (Some name) (Some tag) (Some said) named tagged =
-    one_line_both rules.breaks12 (0x26 ∷ []) (name ++ (space ∷ tag)) (mark_line rules.breaks12).0
+properties_line rules None None parsed named tagged = refl
+properties_line rules (Some name) None parsed named tagged =
+    one_line_both rules.breaks12 (0x26 ∷ []) name (marker_line rules.breaks12).0 (name_line rules.breaks12 name (name_letters name named))
+properties_line rules None (Some tag) (Some parsed) named tagged = shown_line rules.breaks12 tag tagged.no_white
+properties_line rules (Some name) (Some tag) (Some parsed) named tagged =
+    one_line_both rules.breaks12 (0x26 ∷ []) (name ++ (space ∷ tag)) (marker_line rules.breaks12).0
     (one_line_both rules.breaks12 name (space ∷ tag) (name_line rules.breaks12 name (name_letters name named))
-    (one_line_both rules.breaks12 (space ∷ []) tag (mark_line rules.breaks12).1 (shown_line rules.breaks12 tag tagged.no_white)))
+    (one_line_both rules.breaks12 (space ∷ []) tag (marker_line rules.breaks12).1 (shown_line rules.breaks12 tag tagged.no_white)))
 properties_line rules None (Some tag) None named tagged = absurd tagged
 properties_line rules (Some name) (Some tag) None named tagged = absurd tagged
 
 -- with the space after them
-pub lead_line : (rules : Rules) (anchor tag : Option Text) (said : Option TagSaid) → IsNamed anchor → IsTagged rules.directives tag said
+pub lead_line : (rules : Rules) (anchor tag : Option Text) (parsed : Option ParsedTag) → IsNamed anchor → IsTagged rules.directives tag parsed
     → OneLine rules.breaks12 (lead anchor tag)
-lead_line rules None None said named tagged = refl
-lead_line rules (Some name) None said named tagged =
-    one_line_both rules.breaks12 (0x26 ∷ name) (space ∷ []) (properties_line rules (Some name) None said named tagged) (mark_line rules.breaks12).1
-lead_line rules None (Some tag) said named tagged =
-    one_line_both rules.breaks12 tag (space ∷ []) (properties_line rules None (Some tag) said named tagged) (mark_line rules.breaks12).1
-lead_line rules (Some name) (Some tag) said named tagged =
+lead_line rules None None parsed named tagged = refl
+lead_line rules (Some name) None parsed named tagged =
+    one_line_both rules.breaks12 (0x26 ∷ name) (space ∷ []) (properties_line rules (Some name) None parsed named tagged) (marker_line rules.breaks12).1
+lead_line rules None (Some tag) parsed named tagged =
+    one_line_both rules.breaks12 tag (space ∷ []) (properties_line rules None (Some tag) parsed named tagged) (marker_line rules.breaks12).1
+lead_line rules (Some name) (Some tag) parsed named tagged =
     one_line_both rules.breaks12 (properties_text (Some name) (Some tag)) (space ∷ [])
-    (properties_line rules (Some name) (Some tag) said named tagged) (mark_line rules.breaks12).1
+    (properties_line rules (Some name) (Some tag) parsed named tagged) (marker_line rules.breaks12).1
 
 -- Layout
 
--- properties are laid out after a space where one is needed
+-- properties are rendered after a space where one is needed
 pub properties_whole : (portable : Bool) (directives : List TagDirective) (anchor tag : Option Text) (cursor : Cursor) (c : ℕ) (t : Text)
     → properties_text anchor (tag_written portable directives tag false) ≡ c ∷ t
-    → (properties_laid portable directives anchor tag false cursor).text ≡ space_if true cursor ++ (c ∷ t)
+    → (render_properties portable directives anchor tag false cursor).text ≡ space_if true cursor ++ (c ∷ t)
 properties_whole portable directives anchor tag cursor c t e = by anchor tag e ∙ ap (λ u. space_if true cursor ++ u) e
   where
     by : (anchor tag : Option Text) → properties_text anchor (tag_written portable directives tag false) ≡ c ∷ t
-        → (properties_laid portable directives anchor tag false cursor).text ≡ space_if true cursor ++ properties_text anchor
+        → (render_properties portable directives anchor tag false cursor).text ≡ space_if true cursor ++ properties_text anchor
         (tag_written portable directives tag false)
     by None None e = cc
     by (Some name) None e = append-nil ((space_if true cursor ++ (0x26 ∷ [])) ++ name) ∙ append_assoc (space_if true cursor) (0x26 ∷ []) name
     by None (Some tag) e = spelling_text portable (spelling directives tag) cursor
     by (Some name) (Some tag) e =
-        let after = (anchor_laid (Some name) cursor).cursor in
+        let after = (render_anchor (Some name) cursor).cursor in
         ap (λ t. ((space_if true cursor ++ (0x26 ∷ [])) ++ name) ++ t) (spelling_text portable (spelling directives tag) after)
         ∙ append_assoc (space_if true cursor ++ (0x26 ∷ [])) name (space ∷ spelled portable (spelling directives tag))
         ∙ append_assoc (space_if true cursor) (0x26 ∷ []) (name ++ (space ∷ spelled portable (spelling directives tag)))
@@ -97,12 +97,12 @@ properties_whole portable directives anchor tag cursor c t e = by anchor tag e �
 -- after them white space has ended
 properties_ended : (portable : Bool) (directives : List TagDirective) (anchor tag : Option Text) (cursor : Cursor) (c : ℕ) (t : Text)
     → properties_text anchor (tag_written portable directives tag false) ≡ c ∷ t
-    → (properties_laid portable directives anchor tag false cursor).cursor.indention ≡ false
+    → (render_properties portable directives anchor tag false cursor).cursor.indention ≡ false
 properties_ended portable directives None None cursor c t e = cc
 properties_ended portable directives (Some name) None cursor c t e = refl
 properties_ended portable directives None (Some tag) cursor c t e = (spelling_ended portable (spelling directives tag) cursor).indention
 properties_ended portable directives (Some name) (Some tag) cursor c t e =
-    (spelling_ended portable (spelling directives tag) (anchor_laid (Some name) cursor).cursor).indention
+    (spelling_ended portable (spelling directives tag) (render_anchor (Some name) cursor).cursor).indention
 
 -- Reading
 
@@ -123,7 +123,7 @@ before_some false h = omega arith
 properties_begun : (s : Effective) (own directives : List TagDirective) (anchor tag : Option Text) (cursor : Cursor) (c : ℕ) (t : Text)
     → IsNamed anchor → TagStands s.portable own directives tag → properties_text anchor (tag_written s.portable directives tag false) ≡ c ∷ t
     → (c == space) ≡ false → (c == 0x2D) ≡ false → (c == 0x3F) ≡ false → (c == 0x26 || c == 0x21) ≡ true
-    → Said (rules_of s own) anchor tag cursor (properties_laid s.portable directives anchor tag false cursor)
+    → Said (rules_of s own) anchor tag cursor (render_properties s.portable directives anchor tag false cursor)
 properties_begun s own directives anchor tag cursor c t named stands is shows dash question begins =
     let written = tag_written s.portable directives tag false in
     let tagged = tag_is_written s.portable own directives tag false stands in
@@ -141,7 +141,7 @@ properties_begun s own directives anchor tag cursor c t named stands is shows da
       read = record { properties = record { anchor = anchor; tag = tag_meant tag false }; text = spaces count ++ [] };
       reads =
           ap (properties_read own) (sym is ∙ sym (append-nil (properties_text anchor written)))
-          ∙ properties_said own anchor written (tag_meant tag false) 0 [] named tagged refl (λ h. refl);
+          ∙ properties_parsed own anchor written (tag_meant tag false) 0 [] named tagged refl (λ h. refl);
       blank = ap is_spaces (append-nil (spaces count)) ∙ blank_spaces count;
       anchor_read = refl;
       tag_read = tag_of_collection tag;
@@ -157,22 +157,22 @@ properties_begun s own directives anchor tag cursor c t named stands is shows da
 
     kind : kind_of_node (rules_of s own) (c ∷ t) ≡ begins_text
     kind =
-        ap (λ x. if x && ends_sign t then begins_sequence
-        else (if (c == 0x3F && ends_sign t) || is_some (key_of_line (rules_of s own) (c ∷ t)) then begins_mapping else begins_text)) dash
-        ∙ ap (λ x. if (x && ends_sign t) || is_some (key_of_line (rules_of s own) (c ∷ t)) then begins_mapping else begins_text) question
+        ap (λ x. if x && ends_indicator t then begins_sequence
+        else (if (c == 0x3F && ends_indicator t) || is_some (key_of_line (rules_of s own) (c ∷ t)) then begins_mapping else begins_text)) dash
+        ∙ ap (λ x. if (x && ends_indicator t) || is_some (key_of_line (rules_of s own) (c ∷ t)) then begins_mapping else begins_text) question
         ∙ ap (λ x. if is_some x then begins_mapping else begins_text) no_key
 
 -- a collection's properties, if it has some, are read on their line
 pub begun_kind : (s : Effective) (own directives : List TagDirective) (anchor tag : Option Text) (cursor : Cursor) → IsNamed anchor
     → TagStands s.portable own directives tag
-    → BegunKind (rules_of s own) anchor tag cursor (properties_laid s.portable directives anchor tag false cursor)
+    → BegunKind (rules_of s own) anchor tag cursor (render_properties s.portable directives anchor tag false cursor)
 begun_kind s own directives None None cursor named stands = unsaid refl refl refl
 begun_kind s own directives (Some name) None cursor named stands =
-    is_said (properties_begun s own directives (Some name) None cursor 0x26 name named stands refl refl refl refl refl)
+    is_parsed (properties_begun s own directives (Some name) None cursor 0x26 name named stands refl refl refl refl refl)
 begun_kind s own directives None (Some tag) cursor named stands =
-    is_said (properties_begun s own directives None (Some tag) cursor 0x21 stands.rest named stands stands.begins refl refl refl refl)
+    is_parsed (properties_begun s own directives None (Some tag) cursor 0x21 stands.rest named stands stands.begins refl refl refl refl)
 begun_kind s own directives (Some name) (Some tag) cursor named stands =
-    is_said
+    is_parsed
     (properties_begun s own directives (Some name) (Some tag) cursor 0x26 (name ++ (space ∷ spelled s.portable (spelling directives tag))) named stands
     refl refl refl refl refl)
 

@@ -5,11 +5,12 @@ use Rattle.std.proofs.lemmas.Bool.{and_parts}
 use Rattle.std.specs.Prelude.{ℕ, Bool, true, false, Option, None, Some, List, [], ◌∷◌, ◌++◌, ◌+◌, ◌-◌, ◌==◌, ◌||◌, ◌&&◌, not, nat_lt, if◌then◌else◌}
 use Rattle.std.specs.List.{list_all}
 use Rattle.yaml_base.specs.Characters.{Text, space, line_feed}
-use Rattle.yaml_base.specs.Cursor.{Cursor, Laid, nothing_laid, new_line}
+use Rattle.yaml_base.specs.Cursor.{Cursor, Rendered, render_nothing, new_line}
 use Rattle.yaml_base.specs.Layout.{Place}
 use Rattle.yaml_base.specs.streams.StreamContent.{Tree}
-use Rattle.yaml_base.specs.streams.StreamLines.{Line, lines_of, ends_sign, is_spaces, without_blank_lines, begins_blank, is_inside, Indented, spaces, blanked}
-use Rattle.yaml_base.specs.streams.StreamScalars.{Rules, Properties, no_properties, PropertiesRead, properties_read, collection_tag_said}
+use Rattle.yaml_base.specs.streams.StreamLines.{Line, lines_of, ends_indicator, is_spaces, without_blank_lines, begins_blank, belongs_to_entry}
+use Rattle.yaml_base.specs.streams.StreamLines.{Indented, spaces, blanked}
+use Rattle.yaml_base.specs.streams.StreamScalars.{Rules, Properties, no_properties, PropertiesRead, properties_read, collection_tag_parsed}
 use Rattle.yaml_base.specs.streams.StreamNodes.{NodeKind, begins_text, kind_of_node, Reads, ReadsText, node_by_kind, node_at, node_lines, begins_properties}
 use Rattle.yaml_base.specs.streams.StreamNodes.{after_properties, text_or_properties, text_read, node_read}
 use Rattle.yaml_base.proofs.stream_lines.StreamLineLaws.{is_closed, OneLine, one_line_both}
@@ -73,20 +74,20 @@ pub record Block (rules : Rules) (size e : ℕ) (text : Text) (make : Option Tex
   pub kind : NodeKind
   pub opened : Opened rules e (lines_of rules.breaks12 text) kind
   pub reads : (depth : ℕ) → size ≤ depth → (reads_text : ReadsText) (properties : Properties) (first : Bool) (tag : Option Text)
-      → collection_tag_said properties.tag ≡ Some tag
+      → collection_tag_parsed properties.tag ≡ Some tag
       → node_at rules (node_read depth rules) reads_text properties true first (lines_of rules.breaks12 text) ≡ Some (make properties.anchor tag)
 
 -- it reads on these lines, and below a blank one
 block_below : (rules : Rules) (n e : ℕ) (text : Text) (make : Option Text → Option Text → Tree) → Block rules n e text make → (depth : ℕ) → n ≤ depth
-    → (reads_text : ReadsText) (properties : Properties) (tag : Option Text) → collection_tag_said properties.tag ≡ Some tag → (here : Bool) (line : Line)
+    → (reads_text : ReadsText) (properties : Properties) (tag : Option Text) → collection_tag_parsed properties.tag ≡ Some tag → (here : Bool) (line : Line)
     → is_spaces line.text ≡ true
     → node_lines rules (node_read depth rules) reads_text properties here (line ∷ lines_of rules.breaks12 text) ≡ Some (make properties.anchor tag)
-block_below rules n e text make block depth deep reads_text properties tag said here line blank =
+block_below rules n e text make block depth deep reads_text properties tag parsed here line blank =
     let lines = lines_of rules.breaks12 text in
     ap (λ x. node_at rules (node_read depth rules) reads_text properties (here || x) (not x) (if x then without_blank_lines lines else line ∷ lines)) blank
     ∙ ap (λ x. node_at rules (node_read depth rules) reads_text properties x false (without_blank_lines lines)) (or_true here)
     ∙ ap (node_at rules (node_read depth rules) reads_text properties true false) (opened_shows rules e lines block.kind block.opened).1
-    ∙ block.reads depth deep reads_text properties false tag said
+    ∙ block.reads depth deep reads_text properties false tag parsed
   where
     or_true : (x : Bool) → x || true ≡ true
     or_true true = refl
@@ -94,13 +95,13 @@ block_below rules n e text make block depth deep reads_text properties tag said 
 
 -- and on its line where a block may begin
 block_on_line : (rules : Rules) (n e : ℕ) (text : Text) (make : Option Text → Option Text → Tree) → Block rules n e text make → (depth : ℕ) → n ≤ depth
-    → (reads_text : ReadsText) (properties : Properties) (tag : Option Text) → collection_tag_said properties.tag ≡ Some tag
+    → (reads_text : ReadsText) (properties : Properties) (tag : Option Text) → collection_tag_parsed properties.tag ≡ Some tag
     → node_lines rules (node_read depth rules) reads_text properties true (lines_of rules.breaks12 text) ≡ Some (make properties.anchor tag)
-block_on_line rules n e text make block depth deep reads_text properties tag said =
+block_on_line rules n e text make block depth deep reads_text properties tag parsed =
     let lines = lines_of rules.breaks12 text in
     ap (λ ls. node_at rules (node_read depth rules) reads_text properties true (not (begins_blank lines)) ls)
     (opened_shows rules e lines block.kind block.opened).1
-    ∙ block.reads depth deep reads_text properties (not (begins_blank lines)) tag said
+    ∙ block.reads depth deep reads_text properties (not (begins_blank lines)) tag parsed
 
 -- Cursors
 
@@ -125,7 +126,7 @@ spaces_both (suc j) k (suc e) t h = ap (λ t. space ∷ t) (spaces_both j k e t 
 -- Properties
 
 -- what the properties of a collection are to the reader: nothing, or words on the line before it, behind some spaces
-pub record Said (rules : Rules) (anchor tag : Option Text) (cursor : Cursor) (begun : Laid) : Type 0 where
+pub record Said (rules : Rules) (anchor tag : Option Text) (cursor : Cursor) (begun : Rendered) : Type 0 where
   pub count : ℕ
   pub head : ℕ
   pub tail : Text
@@ -139,26 +140,26 @@ pub record Said (rules : Rules) (anchor tag : Option Text) (cursor : Cursor) (be
   pub reads : properties_read rules.directives (head ∷ tail) ≡ Some read
   pub blank : is_spaces read.text ≡ true
   pub anchor_read : read.properties.anchor ≡ anchor
-  pub tag_read : collection_tag_said read.properties.tag ≡ Some tag
+  pub tag_read : collection_tag_parsed read.properties.tag ≡ Some tag
   pub ends : begun.cursor.indention ≡ false
 
-pub data BegunKind (rules : Rules) (anchor tag : Option Text) (cursor : Cursor) (begun : Laid) : Type 0 where
-  unsaid : anchor ≡ None → tag ≡ None → begun ≡ nothing_laid cursor → BegunKind rules anchor tag cursor begun
-  is_said : Said rules anchor tag cursor begun → BegunKind rules anchor tag cursor begun
+pub data BegunKind (rules : Rules) (anchor tag : Option Text) (cursor : Cursor) (begun : Rendered) : Type 0 where
+  unsaid : anchor ≡ None → tag ≡ None → begun ≡ render_nothing cursor → BegunKind rules anchor tag cursor begun
+  is_parsed : Said rules anchor tag cursor begun → BegunKind rules anchor tag cursor begun
 
 -- Blocks
 
--- what is laid out for a collection in a block: its properties and its entries, whose end writes nothing
-abbrev pub block_own : Laid → Laid → Laid
+-- what is rendered for a collection in a block: its properties and its entries, whose end writes nothing
+abbrev pub block_own : Rendered → Rendered → Rendered
 block_own begun entries = record { text = (begun.text ++ entries.text) ++ []; cursor = entries.cursor }
 
 -- up to its last line's end
-pub own_closed : (begun entries : Laid) → closed (block_own begun entries) ≡ begun.text ++ closed entries
+pub own_closed : (begun entries : Rendered) → closed (block_own begun entries) ≡ begun.text ++ closed entries
 own_closed begun entries =
     ap (λ t. t ++ closing entries.cursor) (append-nil (begun.text ++ entries.text)) ∙ append_assoc begun.text entries.text (closing entries.cursor)
 
--- what is known of a collection in a block whose entries stand at a column and are laid out behind its properties
-pub record Entries (rules : Rules) (e : ℕ) (place : Place) (begun entries : Laid) (text : Text) : Type 0 where
+-- what is known of a collection in a block whose entries stand at a column and are rendered behind its properties
+pub record Entries (rules : Rules) (e : ℕ) (place : Place) (begun entries : Rendered) (text : Text) : Type 0 where
   pub settled : Settled entries.cursor
   pub ends : is_closed rules.breaks12 text ≡ true
   pub lays : Lays e begun.cursor entries text
@@ -166,30 +167,31 @@ pub record Entries (rules : Rules) (e : ℕ) (place : Place) (begun entries : La
   pub compact : begun.cursor.indention ≡ true → Compact e begun.cursor
 
 -- on lines below
-pub below : (rules : Rules) (e : ℕ) (cursor : Cursor) (entries : Laid) (text : Text) → Lays e cursor entries text → cursor.indention ≡ false
+pub below : (rules : Rules) (e : ℕ) (cursor : Cursor) (entries : Rendered) (text : Text) → Lays e cursor entries text → cursor.indention ≡ false
     → closed entries ≡ line_feed ∷ text
 below rules e cursor entries text lays h =
     lays.lays ∙ ap (λ t. t ++ (lays.head ∷ lays.tail)) (broken e cursor h) ∙ ap (λ t. line_feed ∷ t) (sym lays.is)
 
 -- a text on one line before the break
-pub opened_below : (breaks12 : Bool) (a text : Text) → OneLine breaks12 a → ends_sign a ≡ true → Opens breaks12 (a ++ (line_feed ∷ text))
-opened_below breaks12 a text one sign = record {
+pub opened_below : (breaks12 : Bool) (a text : Text) → OneLine breaks12 a → ends_indicator a ≡ true → Opens breaks12 (a ++ (line_feed ∷ text))
+opened_below breaks12 a text one symbol = record {
   head = a;
   ending = line_feed ∷ [];
   rest = lines_of breaks12 text;
   is = lines_broken breaks12 a text one;
-  sign = sign;
+  symbol = symbol;
 }
 
 -- lines after the first are among all
 later_inside : (q : Bool) (d : ℕ) (lines : List Line) → AllInside q d lines → AllInside q d (lines_after_first lines)
 later_inside q d [] h = refl
-later_inside q d (line ∷ rest) h = (and_parts (is_inside q d line.text) (list_all (λ line. is_inside q d line.text) rest) h).1
+later_inside q d (line ∷ rest) h = (and_parts (belongs_to_entry q d line.text) (list_all (λ line. belongs_to_entry q d line.text) rest) h).1
 
 -- below a line the lines are those of the entries
 pub below_inside : (breaks12 : Bool) (a text : Text) (q : Bool) (d : ℕ) → OneLine breaks12 a → AllInside q d (lines_of breaks12 text)
     → AllInside q d (lines_after_first (lines_of breaks12 (a ++ (line_feed ∷ text))))
-below_inside breaks12 a text q d one h = ap (λ ls. list_all (λ line. is_inside q d line.text) (lines_after_first ls)) (lines_broken breaks12 a text one) ∙ h
+below_inside breaks12 a text q d one h =
+    ap (λ ls. list_all (λ line. belongs_to_entry q d line.text) (lines_after_first ls)) (lines_broken breaks12 a text one) ∙ h
 
 -- what ends with a break below a line does behind it
 pub below_ends : (breaks12 : Bool) (a text : Text) → is_closed breaks12 text ≡ true → is_closed breaks12 (a ++ (line_feed ∷ text)) ≡ true
@@ -202,17 +204,17 @@ below_ends breaks12 a text h =
     closed_feed (c ∷ d ∷ a) = closed_feed (d ∷ a)
 
 -- Below a break without properties
-unsaid_below : (rules : Rules) (n e : ℕ) (place : Place) (cursor : Cursor) (entries : Laid) (text : Text) (make : Option Text → Option Text → Tree)
-    → Block rules n e text make → Entries rules e place (nothing_laid cursor) entries text → cursor.indention ≡ false
-    → Fits rules (suc n) (block_own (nothing_laid cursor) entries) (make None None) place cursor
+unsaid_below : (rules : Rules) (n e : ℕ) (place : Place) (cursor : Cursor) (entries : Rendered) (text : Text) (make : Option Text → Option Text → Tree)
+    → Block rules n e text make → Entries rules e place (render_nothing cursor) entries text → cursor.indention ≡ false
+    → Fits rules (suc n) (block_own (render_nothing cursor) entries) (make None None) place cursor
 unsaid_below rules n e place cursor entries text make block all h =
-    let same : closed (block_own (nothing_laid cursor) entries) ≡ line_feed ∷ text = own_closed (nothing_laid cursor) entries
+    let same : closed (block_own (render_nothing cursor) entries) ≡ line_feed ∷ text = own_closed (render_nothing cursor) entries
     ∙ below rules e cursor entries text all.lays h in
     record {
       settled = all.settled;
       ends = ap (is_closed rules.breaks12) same ∙ below_ends rules.breaks12 [] text all.ends;
       opens = λ w. subst (Opens rules.breaks12) (sym same) (opened_below rules.breaks12 [] text refl refl);
-      inside = λ q d within. ap (λ t. list_all (λ line. is_inside q d line.text) (lines_after_first (lines_of rules.breaks12 t))) same
+      inside = λ q d within. ap (λ t. list_all (λ line. belongs_to_entry q d line.text) (lines_after_first (lines_of rules.breaks12 t))) same
           ∙ below_inside rules.breaks12 [] text q d refl (all.inside q d within);
       reads = λ depth deep here k begins. ap (λ t. node_read depth rules here place.column (lines_of rules.breaks12 (spaces k ++ t))) same
           ∙ read depth deep here k;
@@ -228,14 +230,14 @@ unsaid_below rules n e place cursor entries text make block all h =
         (record { text = spaces k; ending = line_feed ∷ [] }) (blank_spaces k)
 
 -- On the line without properties
-unsaid_on_line : (rules : Rules) (n e : ℕ) (place : Place) (cursor : Cursor) (entries : Laid) (text : Text) (make : Option Text → Option Text → Tree)
-    → Block rules n e text make → Entries rules e place (nothing_laid cursor) entries text → cursor.indention ≡ true
-    → Fits rules (suc n) (block_own (nothing_laid cursor) entries) (make None None) place cursor
+unsaid_on_line : (rules : Rules) (n e : ℕ) (place : Place) (cursor : Cursor) (entries : Rendered) (text : Text) (make : Option Text → Option Text → Tree)
+    → Block rules n e text make → Entries rules e place (render_nothing cursor) entries text → cursor.indention ≡ true
+    → Fits rules (suc n) (block_own (render_nothing cursor) entries) (make None None) place cursor
 unsaid_on_line rules n e place cursor entries text make block all h =
     let compact = all.compact h in
     let rest = all.lays.head ∷ all.lays.tail in
-    let same : closed (block_own (nothing_laid cursor) entries) ≡ spaces compact.count ++ rest
-    = own_closed (nothing_laid cursor) entries ∙ all.lays.lays ∙ ap (λ t. t ++ rest) compact.text in
+    let same : closed (block_own (render_nothing cursor) entries) ≡ spaces compact.count ++ rest
+    = own_closed (render_nothing cursor) entries ∙ all.lays.lays ∙ ap (λ t. t ++ rest) compact.text in
     let after : (k : ℕ) → lines_after_first (lines_of rules.breaks12 (spaces k ++ rest))
     ≡ lines_after_first (lines_of rules.breaks12 rest) = λ k. after_line rules.breaks12 (spaces k) rest (spaces_line rules.breaks12 k) in
     record {
@@ -245,8 +247,8 @@ unsaid_on_line rules n e place cursor entries text make block all h =
           (ap (is_closed rules.breaks12) (sym all.lays.is) ∙ all.ends);
       opens = λ w. subst (Opens rules.breaks12) (sym same) (opened compact.count (compact.some w));
       inside = λ q d within.
-          ap (λ t. list_all (λ line. is_inside q d line.text) (lines_after_first (lines_of rules.breaks12 t))) same
-          ∙ ap (λ ls. list_all (λ line. is_inside q d line.text) ls)
+          ap (λ t. list_all (λ line. belongs_to_entry q d line.text) (lines_after_first (lines_of rules.breaks12 t))) same
+          ∙ ap (λ ls. list_all (λ line. belongs_to_entry q d line.text) ls)
           (after compact.count ∙ sym (after e) ∙ ap (λ t. lines_after_first (lines_of rules.breaks12 t)) (sym all.lays.is))
           ∙ later_inside q d (lines_of rules.breaks12 text) (all.inside q d within);
       reads = λ depth deep here k begins. ap (λ t. node_read depth rules here place.column (lines_of rules.breaks12 (spaces k ++ t))) same
@@ -263,7 +265,7 @@ unsaid_on_line rules n e place cursor entries text make block all h =
           rest = begins.rest;
           is = lines_behind rules.breaks12 (spaces (suc count)) (all.lays.head ∷ all.lays.tail) begins.head begins.ending begins.rest
               (spaces_line rules.breaks12 (suc count)) begins.is;
-          sign = refl;
+          symbol = refl;
         }
 
     read : (depth : ℕ) → suc n ≤ depth → (here : Bool) (k : ℕ) → here ≡ true → k ≡ cursor.column
@@ -281,15 +283,15 @@ unsaid_on_line rules n e place cursor entries text make block all h =
 -- Behind properties
 
 -- what follows the words of properties on a line, where the block stands below
-said_reads : (rules : Rules) (n e : ℕ) (column : Option ℕ) (text : Text) (c : ℕ) (t : Text) (make : Option Text → Option Text → Tree)
+parsed_reads : (rules : Rules) (n e : ℕ) (column : Option ℕ) (text : Text) (c : ℕ) (t : Text) (make : Option Text → Option Text → Tree)
     → Block rules n e text make
     → (read : PropertiesRead) (anchor tag : Option Text) → properties_read rules.directives (c ∷ t) ≡ Some read → is_spaces read.text ≡ true
-    → read.properties.anchor ≡ anchor → collection_tag_said read.properties.tag ≡ Some tag → begins_properties (c ∷ t) ≡ true → (c == space) ≡ false
+    → read.properties.anchor ≡ anchor → collection_tag_parsed read.properties.tag ≡ Some tag → begins_properties (c ∷ t) ≡ true → (c == space) ≡ false
     → kind_of_node rules (c ∷ t) ≡ begins_text
     → OneLine rules.breaks12 (c ∷ t) → (depth : ℕ) → suc n ≤ depth → (here : Bool) (k : ℕ)
     → node_read depth rules here column (lines_of rules.breaks12 ((spaces k ++ (c ∷ t)) ++ (line_feed ∷ text))) ≡ Some (make anchor tag)
-said_reads rules n e column text c t make block read anchor tag reads blank anchor_read tag_read begins shows kind one zero deep here k = absurd (omega arith)
-said_reads rules n e column text c t make block read anchor tag reads blank anchor_read tag_read begins shows kind one (suc depth) deep here k =
+parsed_reads rules n e column text c t make block read anchor tag reads blank anchor_read tag_read begins shows kind one zero deep here k = absurd (omega arith)
+parsed_reads rules n e column text c t make block read anchor tag reads blank anchor_read tag_read begins shows kind one (suc depth) deep here k =
     let lines = lines_of rules.breaks12 text in
     let line : Line = record { text = spaces k ++ (c ∷ t); ending = line_feed ∷ [] } in
     let by : ReadsText = λ at text. text_or_properties (begins_properties text) rules (node_read depth rules) column at text in
@@ -313,50 +315,52 @@ said_reads rules n e column text c t make block read anchor tag reads blank anch
     blank_both (suc k) t h = blank_both k t h
 
 -- a collection behind its properties fits
-said_fits : (rules : Rules) (n e : ℕ) (place : Place) (cursor : Cursor) (begun entries : Laid) (text : Text) (make : Option Text → Option Text → Tree)
+parsed_fits : (rules : Rules) (n e : ℕ) (place : Place) (cursor : Cursor) (begun entries : Rendered) (text : Text) (make : Option Text → Option Text → Tree)
     (anchor tag : Option Text)
     → Block rules n e text make → Entries rules e place begun entries text → Said rules anchor tag cursor begun
     → Fits rules (suc n) (block_own begun entries) (make anchor tag) place cursor
-said_fits rules n e place cursor begun entries text make anchor tag block all said =
-    let core = said.head ∷ said.tail in
-    let front = spaces said.count ++ core in
-    let one = one_line_both rules.breaks12 (spaces said.count) core (spaces_line rules.breaks12 said.count) said.one_line in
-    let same : closed (block_own begun entries) ≡ front ++ (line_feed ∷ text)
-    = own_closed begun entries ∙ ap (λ t. begun.text ++ t) (below rules e begun.cursor entries text all.lays said.ends)
-    ∙ ap (λ t. t ++ (line_feed ∷ text)) said.text in
+parsed_fits rules n e place cursor begun entries text make anchor tag block all parsed =
+    let core = parsed.head ∷ parsed.tail in
+    let prefix = spaces parsed.count ++ core in
+    let one = one_line_both rules.breaks12 (spaces parsed.count) core (spaces_line rules.breaks12 parsed.count) parsed.one_line in
+    let same : closed (block_own begun entries) ≡ prefix ++ (line_feed ∷ text)
+    = own_closed begun entries ∙ ap (λ t. begun.text ++ t) (below rules e begun.cursor entries text all.lays parsed.ends)
+    ∙ ap (λ t. t ++ (line_feed ∷ text)) parsed.text in
     record {
       settled = all.settled;
-      ends = ap (is_closed rules.breaks12) same ∙ below_ends rules.breaks12 front text all.ends;
-      opens = λ w. subst (Opens rules.breaks12) (sym same) (opened_below rules.breaks12 front text one (opens said.count (said.some w) core));
-      inside = λ q d within. ap (λ t. list_all (λ line. is_inside q d line.text) (lines_after_first (lines_of rules.breaks12 t))) same
-          ∙ below_inside rules.breaks12 front text q d one (all.inside q d within);
+      ends = ap (is_closed rules.breaks12) same ∙ below_ends rules.breaks12 prefix text all.ends;
+      opens = λ w. subst (Opens rules.breaks12) (sym same) (opened_below rules.breaks12 prefix text one (opens parsed.count (parsed.some w) core));
+      inside = λ q d within. ap (λ t. list_all (λ line. belongs_to_entry q d line.text) (lines_after_first (lines_of rules.breaks12 t))) same
+          ∙ below_inside rules.breaks12 prefix text q d one (all.inside q d within);
       reads = λ depth deep here k begins.
           ap (λ t. node_read depth rules here place.column (lines_of rules.breaks12 (spaces k ++ t))) same
           ∙ ap (λ t. node_read depth rules here place.column (lines_of rules.breaks12 t))
-          (sym (append_assoc (spaces k) front (line_feed ∷ text)) ∙ ap (λ t. t ++ (line_feed ∷ text)) (spaces_both k said.count (k + said.count) core refl))
-          ∙ said_reads rules n e place.column text said.head said.tail make block said.read anchor tag said.reads said.blank said.anchor_read said.tag_read
-          said.begins said.shows said.kind
-          said.one_line depth deep here (k + said.count);
+          (sym (append_assoc (spaces k) prefix (line_feed ∷ text))
+          ∙ ap (λ t. t ++ (line_feed ∷ text)) (spaces_both k parsed.count (k + parsed.count) core refl))
+          ∙ parsed_reads rules n e place.column text parsed.head parsed.tail make block parsed.read anchor tag parsed.reads parsed.blank parsed.anchor_read
+          parsed.tag_read
+          parsed.begins parsed.shows parsed.kind
+          parsed.one_line depth deep here (k + parsed.count);
     }
   where
-    opens : (count : ℕ) → 0 < count → (t : Text) → ends_sign (spaces count ++ t) ≡ true
+    opens : (count : ℕ) → 0 < count → (t : Text) → ends_indicator (spaces count ++ t) ≡ true
     opens zero h t = absurd (omega arith)
     opens (suc count) h t = refl
 
 -- a collection in a block fits
-pub block_fits : (rules : Rules) (n e : ℕ) (place : Place) (cursor : Cursor) (begun entries : Laid) (text : Text) (make : Option Text → Option Text → Tree)
+pub block_fits : (rules : Rules) (n e : ℕ) (place : Place) (cursor : Cursor) (begun entries : Rendered) (text : Text) (make : Option Text → Option Text → Tree)
     (anchor tag : Option Text)
     → BegunKind rules anchor tag cursor begun → Block rules n e text make → Entries rules e place begun entries text
     → Fits rules (suc n) (block_own begun entries) (make anchor tag) place cursor
 block_fits rules n e place cursor begun entries text make anchor tag
-    (is_said is) block all = said_fits rules n e place cursor begun entries text make anchor tag block all is
+    (is_parsed is) block all = parsed_fits rules n e place cursor begun entries text make anchor tag block all is
 block_fits rules n e place cursor begun entries text make anchor tag (unsaid no_anchor no_tag nothing) block all =
     subst (λ a. Fits rules (suc n) (block_own begun entries) (make a tag) place cursor) (sym no_anchor)
     (subst (λ t. Fits rules (suc n) (block_own begun entries) (make None t) place cursor) (sym no_tag)
     (subst (λ b. Fits rules (suc n) (block_own b entries) (make None None) place cursor) (sym nothing)
     (by cursor.indention refl (subst (λ b. Entries rules e place b entries text) nothing all))))
   where
-    by : (x : Bool) → cursor.indention ≡ x → Entries rules e place (nothing_laid cursor) entries text
-        → Fits rules (suc n) (block_own (nothing_laid cursor) entries) (make None None) place cursor
+    by : (x : Bool) → cursor.indention ≡ x → Entries rules e place (render_nothing cursor) entries text
+        → Fits rules (suc n) (block_own (render_nothing cursor) entries) (make None None) place cursor
     by true h all = unsaid_on_line rules n e place cursor entries text make block all h
     by false h all = unsaid_below rules n e place cursor entries text make block all h

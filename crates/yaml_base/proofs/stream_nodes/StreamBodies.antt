@@ -13,8 +13,10 @@ use Rattle.yaml_base.specs.Grammar.{Documents, no_documents, documents_and, Stre
 use Rattle.yaml_base.specs.Refusal.{IsAccepted}
 use Rattle.yaml_base.specs.Event.{collection_tag}
 use Rattle.yaml_base.specs.Layout.{as_item, as_key, as_value, Place, is_undented, entries_column, has_no_nodes, has_no_pairs, is_simple, is_simple_at}
-use Rattle.yaml_base.specs.Layout.{place_laid, Body, Piece, bodies_of, Standing, properties_laid, is_written_in_flow, entry_place, node_laid, nodes_laid}
-use Rattle.yaml_base.specs.Layout.{pairs_laid, document_start_laid, document_start_piece, document_laid, documents_laid, has_no_documents, first_standing}
+use Rattle.yaml_base.specs.Layout.{render_place, Body, Piece, bodies_of, Standing, render_properties, is_written_in_flow, entry_place, render_node}
+use Rattle.yaml_base.specs.Layout.{render_nodes}
+use Rattle.yaml_base.specs.Layout.{render_pairs, render_document_start, document_start_piece, render_document, render_documents, has_no_documents}
+use Rattle.yaml_base.specs.Layout.{first_standing}
 use Rattle.yaml_base.specs.Layout.{root_place, layout}
 use Rattle.yaml_base.specs.Pieces.{list_layout}
 use Rattle.yaml_base.specs.Meaning.{read_in_style, BodyReads, BodyMeans, has_scalar_values, MeaningIsKept}
@@ -23,7 +25,7 @@ use Rattle.yaml_base.specs.TidyBodies.{IsTidy}
 use Rattle.yaml_base.specs.reading.TidyText.{has_deep_lines, is_tidy_style}
 use Rattle.yaml_base.proofs.Trees.{tree_of-stream_events}
 use Rattle.yaml_base.proofs.BreakLaws.{breaks-round}
-use Rattle.yaml_base.proofs.stream_lines.StreamBytes.{printable_laid}
+use Rattle.yaml_base.proofs.stream_lines.StreamBytes.{printable_rendered}
 use Rattle.yaml_base.proofs.stream_nodes.StreamTexts.{node_own, node_joined, items_joined, pairs_joined}
 use Rattle.yaml_base.proofs.stream_nodes.StreamStands.{BodyStands, BodiesHold, ItemsHold, PairsHold}
 
@@ -59,55 +61,55 @@ hold_both P (piece ∷ a) b all = let both = hold_both P a b all.1 in ((all.0, b
 -- what holds of the pieces of a node holds of its bodies; with it, of those of items and of pairs
 mutual
   pub node_bodies : (P : Body → Type 0) (n : Node) (s : Effective) (directives : List TagDirective) (place : Place) (standing : Standing)
-      → PiecesHold P (node_laid n s directives place standing).pieces
-      → BodiesHold P n s directives place (place_laid s place (is_simple_at place s.canonical directives n) standing.cursor).cursor
+      → PiecesHold P (render_node n s directives place standing).pieces
+      → BodiesHold P n s directives place (render_place s place (is_simple_at place s.canonical directives n) standing.cursor).cursor
   node_bodies P (alias_node name) s directives place standing all = tt
   node_bodies P (scalar_node content) s directives place standing all = all.0
   node_bodies P (sequence_node start items) s directives place standing all =
       let in_flow = is_written_in_flow s place start (has_no_nodes items) in
-      let signs = place_laid s place (is_simple_at place s.canonical directives (sequence_node start items)) standing.cursor in
-      let begun = properties_laid s.portable directives start.anchor (collection_tag s.canonical start) false signs.cursor in
+      let symbols = render_place s place (is_simple_at place s.canonical directives (sequence_node start items)) standing.cursor in
+      let begun = render_properties s.portable directives start.anchor (collection_tag s.canonical start) false symbols.cursor in
       let column = entries_column in_flow (is_undented s place.role) s.indent place.column begun.cursor in
-      let before : Standing = record { cursor = begun.cursor; mark = standing.mark } in
-      items_bodies P items s directives in_flow column before (hold_both P (nodes_laid items s directives in_flow column before).pieces _ all.1).0
+      let before : Standing = record { cursor = begun.cursor; open_ended = standing.open_ended } in
+      items_bodies P items s directives in_flow column before (hold_both P (render_nodes items s directives in_flow column before).pieces _ all.1).0
   node_bodies P (mapping_node start pairs) s directives place standing all =
       let in_flow = is_written_in_flow s place start (has_no_pairs pairs) in
-      let signs = place_laid s place (is_simple_at place s.canonical directives (mapping_node start pairs)) standing.cursor in
-      let begun = properties_laid s.portable directives start.anchor (collection_tag s.canonical start) false signs.cursor in
+      let symbols = render_place s place (is_simple_at place s.canonical directives (mapping_node start pairs)) standing.cursor in
+      let begun = render_properties s.portable directives start.anchor (collection_tag s.canonical start) false symbols.cursor in
       let column = entries_column in_flow false s.indent place.column begun.cursor in
-      let before : Standing = record { cursor = begun.cursor; mark = standing.mark } in
-      pairs_bodies P pairs s directives in_flow column before (hold_both P (pairs_laid pairs s directives in_flow column before).pieces _ all.1).0
+      let before : Standing = record { cursor = begun.cursor; open_ended = standing.open_ended } in
+      pairs_bodies P pairs s directives in_flow column before (hold_both P (render_pairs pairs s directives in_flow column before).pieces _ all.1).0
 
   pub items_bodies : (P : Body → Type 0) (items : Nodes) (s : Effective) (directives : List TagDirective) (in_flow : Bool) (column : ℕ) (standing : Standing)
-      → PiecesHold P (nodes_laid items s directives in_flow column standing).pieces → ItemsHold P items s directives in_flow column standing.cursor
+      → PiecesHold P (render_nodes items s directives in_flow column standing).pieces → ItemsHold P items s directives in_flow column standing.cursor
   items_bodies P no_nodes s directives in_flow column standing all = tt
   items_bodies P (nodes_and items last) s directives in_flow column standing all =
       let place = entry_place in_flow (as_item (has_no_nodes items)) column in
-      let before = nodes_laid items s directives in_flow column standing in
-      let both = hold_both P before.pieces (node_laid last s directives place before.standing).pieces all in (
+      let before = render_nodes items s directives in_flow column standing in
+      let both = hold_both P before.pieces (render_node last s directives place before.standing).pieces all in (
         items_bodies P items s directives in_flow column standing both.0,
-        subst (λ c. BodiesHold P last s directives place (place_laid s place false c).cursor) (items_joined items s directives in_flow column standing).1
+        subst (λ c. BodiesHold P last s directives place (render_place s place false c).cursor) (items_joined items s directives in_flow column standing).1
             (node_bodies P last s directives place before.standing both.1),
       )
 
   pub pairs_bodies : (P : Body → Type 0) (pairs : Pairs) (s : Effective) (directives : List TagDirective) (in_flow : Bool) (column : ℕ) (standing : Standing)
-      → PiecesHold P (pairs_laid pairs s directives in_flow column standing).pieces → PairsHold P pairs s directives in_flow column standing.cursor
+      → PiecesHold P (render_pairs pairs s directives in_flow column standing).pieces → PairsHold P pairs s directives in_flow column standing.cursor
   pairs_bodies P no_pairs s directives in_flow column standing all = tt
   pairs_bodies P (pairs_and pairs key value) s directives in_flow column standing all =
       let key_place = entry_place in_flow (as_key (has_no_pairs pairs)) column in
       let value_place = entry_place in_flow (as_value (is_simple s.canonical directives key)) column in
       let simple = is_simple s.canonical directives key in
-      let before = pairs_laid pairs s directives in_flow column standing in
-      let keyed = node_laid key s directives key_place before.standing in
-      let both = hold_both P (before.pieces ++ keyed.pieces) (node_laid value s directives value_place keyed.standing).pieces all in
+      let before = render_pairs pairs s directives in_flow column standing in
+      let keyed = render_node key s directives key_place before.standing in
+      let both = hold_both P (before.pieces ++ keyed.pieces) (render_node value s directives value_place keyed.standing).pieces all in
       let first = hold_both P before.pieces keyed.pieces both.0 in
       let at = (pairs_joined pairs s directives in_flow column standing).1 in (
         pairs_bodies P pairs s directives in_flow column standing first.0,
-        subst (λ c. BodiesHold P key s directives key_place (place_laid s key_place simple c).cursor) at
+        subst (λ c. BodiesHold P key s directives key_place (render_place s key_place simple c).cursor) at
             (node_bodies P key s directives key_place before.standing first.1),
-        subst (λ c. BodiesHold P value s directives value_place (place_laid s value_place false c).cursor)
+        subst (λ c. BodiesHold P value s directives value_place (render_place s value_place false c).cursor)
             ((node_joined key s directives key_place before.standing).1
-            ∙ ap (λ c. (node_own key s directives key_place (place_laid s key_place simple c).cursor).cursor) at)
+            ∙ ap (λ c. (node_own key s directives key_place (render_place s key_place simple c).cursor).cursor) at)
             (node_bodies P value s directives value_place keyed.standing both.1),
       )
 
@@ -117,18 +119,18 @@ mutual
 abbrev pub DocumentsHold : (Body → Type 0) → Documents → Effective → Type 0
 DocumentsHold P no_documents s = Unit {0}
 DocumentsHold P (documents_and before document) s =
-    let start = document_start_laid s (has_no_documents before) document.start (documents_laid s before first_standing).standing in
+    let start = render_document_start s (has_no_documents before) document.start (render_documents s before first_standing).standing in
     DocumentsHold P before s × BodiesHold P document.root s (directives_in_force document.start.directives) root_place start.cursor
 
 -- what holds of all pieces of some documents does
 pub documents_bodies : (P : Body → Type 0) (documents : Documents) (s : Effective)
-    → PiecesHold P (documents_laid s documents first_standing).pieces → DocumentsHold P documents s
+    → PiecesHold P (render_documents s documents first_standing).pieces → DocumentsHold P documents s
 documents_bodies P no_documents s all = tt
 documents_bodies P (documents_and before document) s all =
-    let earlier = documents_laid s before first_standing in
+    let earlier = render_documents s before first_standing in
     let start = document_start_piece s (has_no_documents before) document.start earlier.standing in
-    let root = node_laid document.root s (directives_in_force document.start.directives) root_place start.standing in
-    let both = hold_both P earlier.pieces (document_laid s (has_no_documents before) document earlier.standing).pieces all in (
+    let root = render_node document.root s (directives_in_force document.start.directives) root_place start.standing in
+    let both = hold_both P earlier.pieces (render_document s (has_no_documents before) document earlier.standing).pieces all in (
       documents_bodies P before s both.0,
       node_bodies P document.root s (directives_in_force document.start.directives) root_place start.standing (hold_both P root.pieces _ both.1.1).0,
     )
@@ -140,7 +142,7 @@ stream_bodies P stream s all =
     let of_stream : list_layout s (stream_events stream) ≡ layout s stream =
     ap (λ (tree : Option Stream). unwrap_or (option_map (layout s) tree) []) (tree_of-stream_events stream) in
     let whole = pieces_hold P (layout s stream) (subst (λ (pieces : List Piece). All P (bodies_of pieces)) of_stream all) in
-    documents_bodies P stream.documents s (hold_both P (documents_laid s stream.documents first_standing).pieces _ whole.1).0
+    documents_bodies P stream.documents s (hold_both P (render_documents s stream.documents first_standing).pieces _ whole.1).0
 
 -- Bodies that stand
 
@@ -153,7 +155,7 @@ body_stands s body tidy reads =
     record {
       tidy = tidy;
       reads =
-          ap (read_in_style body.style s.breaks12 body.in_flow body.column) (sym (breaks-round s.line_break body.text (printable_laid body.text printable)))
+          ap (read_in_style body.style s.breaks12 body.in_flow body.column) (sym (breaks-round s.line_break body.text (printable_rendered body.text printable)))
           ∙ reads;
     }
 

@@ -8,17 +8,17 @@ use Rattle.yaml_base.specs.Event.{TagDirective}
 use Rattle.yaml_base.specs.Grammar.{Node, Nodes, no_nodes, nodes_and, Pairs, no_pairs, pairs_and}
 use Rattle.yaml_base.specs.Layout.{has_no_nodes, has_no_pairs, is_simple}
 use Rattle.yaml_base.specs.streams.StreamContent.{sequence_tree, mapping_tree}
-use Rattle.yaml_base.specs.streams.StreamLines.{lines_of, begins_with_sign, Entries as EntriesFound, spaces}
-use Rattle.yaml_base.specs.streams.StreamScalars.{Rules, collection_tag_said}
+use Rattle.yaml_base.specs.streams.StreamLines.{lines_of, begins_with_indicator, Entries as EntriesFound, spaces}
+use Rattle.yaml_base.specs.streams.StreamScalars.{Rules, collection_tag_parsed}
 use Rattle.yaml_base.specs.streams.StreamNodes.{begins_sequence, begins_mapping, begins_text, key_of_line, kind_of_node, items_read, pairs_held, pairs_read}
 use Rattle.yaml_base.specs.streams.StreamNodes.{entries_whole, node_read}
 use Rattle.yaml_base.proofs.stream_nodes.StreamAgrees.{node_tree, nodes_tree, pairs_tree}
 use Rattle.yaml_base.proofs.stream_lines.StreamInside.{splits_alone}
 use Rattle.yaml_base.proofs.stream_lines.StreamClosed.{closed}
-use Rattle.yaml_base.proofs.stream_nodes.StreamFits.{items_size, pairs_size, signed_lines}
+use Rattle.yaml_base.proofs.stream_nodes.StreamFits.{items_size, pairs_size, indicated_lines}
 use Rattle.yaml_base.proofs.stream_nodes.StreamItems.{item_text, items_text, item_entries, ItemsFit, items_lines, items_split, items_read_back, dash_line}
-use Rattle.yaml_base.proofs.stream_nodes.StreamPairs.{key_place, simple_key, signed_key, simple_value, signed_value, pair_text, pairs_text, pair_entries}
-use Rattle.yaml_base.proofs.stream_nodes.StreamPairs.{PairFits, PairsFit, question_line, keyed_lines, signed_pair_lines, pairs_lines, pairs_split}
+use Rattle.yaml_base.proofs.stream_nodes.StreamPairs.{key_place, simple_key, indicated_key, simple_value, indicated_value, pair_text, pairs_text, pair_entries}
+use Rattle.yaml_base.proofs.stream_nodes.StreamPairs.{PairFits, PairsFit, question_line, keyed_lines, indicated_pair_lines, pairs_lines, pairs_split}
 use Rattle.yaml_base.proofs.stream_nodes.StreamPairReads.{pairs_read_back}
 use Rattle.yaml_base.proofs.stream_nodes.StreamBlocks.{Opened, opened_more, opened_reads, Block}
 
@@ -36,9 +36,9 @@ items_open rules s directives (nodes_and no_nodes last) e fit h =
       tail = o.head;
       ending = o.ending;
       rest = o.rest;
-      is = signed_lines rules.breaks12 e 0x2D (item_text no_nodes last s directives e) o (dash_line rules.breaks12);
+      is = indicated_lines rules.breaks12 e 0x2D (item_text no_nodes last s directives e) o (dash_line rules.breaks12);
       shows = refl;
-      begins = ap (λ x. if x then begins_sequence else (if is_some (key_of_line rules (0x2D ∷ o.head)) then begins_mapping else begins_text)) o.sign;
+      begins = ap (λ x. if x then begins_sequence else (if is_some (key_of_line rules (0x2D ∷ o.head)) then begins_mapping else begins_text)) o.symbol;
     }
 items_open rules s directives (nodes_and (nodes_and items one) last) e fit h =
     subst (λ ls. Opened rules e ls begins_sequence) (sym (items_lines rules s directives (nodes_and items one) last e fit.0))
@@ -77,24 +77,25 @@ pair_opens true rules s directives pairs key value e fit =
       shows = fit.0.shows;
       begins =
           ap (kind_of_node rules) (ap (λ t. t ++ (0x3A ∷ o.head)) (sym fit.0.is))
-          ∙ key_begins rules line (begins_with_sign 0x2D (k ++ (0x3A ∷ o.head))) (begins_with_sign 0x3F (k ++ (0x3A ∷ o.head)))
+          ∙ key_begins rules line (begins_with_indicator 0x2D (k ++ (0x3A ∷ o.head))) (begins_with_indicator 0x3F (k ++ (0x3A ∷ o.head)))
           (is_some (key_of_line rules (k ++ (0x3A ∷ o.head))))
-          (fit.0.no_dash o.head o.sign)
-          (or_is (begins_with_sign 0x3F (k ++ (0x3A ∷ o.head))) (is_some (key_of_line rules (k ++ (0x3A ∷ o.head)))) (ap is_some (fit.0.cut o.head o.sign)));
+          (fit.0.no_dash o.head o.symbol)
+          (or_is (begins_with_indicator 0x3F (k ++ (0x3A ∷ o.head))) (is_some (key_of_line rules (k ++ (0x3A ∷ o.head))))
+          (ap is_some (fit.0.cut o.head o.symbol)));
     }
 pair_opens false rules s directives pairs key value e fit =
     let o = fit.0.opens refl in
-    let k = closed (signed_key pairs key s directives e) in
-    let more = lines_of rules.breaks12 (spaces e ++ (0x3A ∷ closed (signed_value value s directives e))) in
+    let k = closed (indicated_key pairs key s directives e) in
+    let more = lines_of rules.breaks12 (spaces e ++ (0x3A ∷ closed (indicated_value value s directives e))) in
     record {
       head = 0x3F;
       tail = o.head;
       ending = o.ending;
       rest = o.rest ++ more;
-      is = signed_pair_lines rules s directives pairs key value e fit
-          ∙ ap (λ ls. ls ++ more) (signed_lines rules.breaks12 e 0x3F k o (question_line rules.breaks12));
+      is = indicated_pair_lines rules s directives pairs key value e fit
+          ∙ ap (λ ls. ls ++ more) (indicated_lines rules.breaks12 e 0x3F k o (question_line rules.breaks12));
       shows = refl;
-      begins = ap (λ x. if x || is_some (key_of_line rules (0x3F ∷ o.head)) then begins_mapping else begins_text) o.sign;
+      begins = ap (λ x. if x || is_some (key_of_line rules (0x3F ∷ o.head)) then begins_mapping else begins_text) o.symbol;
     }
 
 -- so do those of a mapping
@@ -123,17 +124,17 @@ items_block rules s directives items e fit h =
     record {
       kind = begins_sequence;
       opened = opening;
-      reads = λ depth deep reads_text properties first tag said.
+      reads = λ depth deep reads_text properties first tag parsed.
           opened_reads rules (node_read depth rules) reads_text properties true first e lines begins_sequence opening
           ∙ ap (λ (g : EntriesFound). option_and_then
           (λ tag. option_map (sequence_tree properties.anchor tag) (option_and_then (items_read (node_read depth rules) e) (entries_whole g)))
-          (collection_tag_said properties.tag))
+          (collection_tag_parsed properties.tag))
           (splits_alone true e lines entries (items_split rules s directives items e fit))
           ∙ ap (λ es. option_and_then (λ tag. option_map (sequence_tree properties.anchor tag) (items_read (node_read depth rules) e es))
-          (collection_tag_said properties.tag)) (sym (append-nil entries))
-          ∙ ap (λ trees. option_and_then (λ tag. option_map (sequence_tree properties.anchor tag) trees) (collection_tag_said properties.tag))
+          (collection_tag_parsed properties.tag)) (sym (append-nil entries))
+          ∙ ap (λ trees. option_and_then (λ tag. option_map (sequence_tree properties.anchor tag) trees) (collection_tag_parsed properties.tag))
           (items_read_back rules s directives items e fit depth deep [])
-          ∙ ap (λ x. option_and_then (λ tag. Some (sequence_tree properties.anchor tag (nodes_tree items s directives false))) x) said;
+          ∙ ap (λ x. option_and_then (λ tag. Some (sequence_tree properties.anchor tag (nodes_tree items s directives false))) x) parsed;
     }
 
 -- the text of a mapping's pairs reads
@@ -147,15 +148,15 @@ pairs_block rules s directives pairs e fit h =
     record {
       kind = begins_mapping;
       opened = opening;
-      reads = λ depth deep reads_text properties first tag said.
+      reads = λ depth deep reads_text properties first tag parsed.
           opened_reads rules (node_read depth rules) reads_text properties true first e lines begins_mapping opening
           ∙ ap (λ (g : EntriesFound). option_and_then
           (λ tag. option_map (mapping_tree properties.anchor tag) (option_and_then (pairs_read rules (node_read depth rules) e) (entries_whole g)))
-          (collection_tag_said properties.tag))
+          (collection_tag_parsed properties.tag))
           (splits_alone false e lines entries (pairs_split rules s directives pairs e fit))
           ∙ ap (λ es. option_and_then (λ tag. option_map (mapping_tree properties.anchor tag) (pairs_read rules (node_read depth rules) e es))
-          (collection_tag_said properties.tag)) (sym (append-nil entries))
+          (collection_tag_parsed properties.tag)) (sym (append-nil entries))
           ∙ ap (λ held. option_and_then (λ tag. option_map (mapping_tree properties.anchor tag) (option_and_then pairs_held held))
-          (collection_tag_said properties.tag)) (pairs_read_back rules s directives pairs e fit depth deep [])
-          ∙ ap (λ x. option_and_then (λ tag. Some (mapping_tree properties.anchor tag (pairs_tree pairs s directives false))) x) said;
+          (collection_tag_parsed properties.tag)) (pairs_read_back rules s directives pairs e fit depth deep [])
+          ∙ ap (λ x. option_and_then (λ tag. Some (mapping_tree properties.anchor tag (pairs_tree pairs s directives false))) x) parsed;
     }

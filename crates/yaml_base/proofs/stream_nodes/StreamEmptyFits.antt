@@ -5,12 +5,12 @@ use Rattle.std.specs.Prelude.{ℕ, Bool, true, false, Option, None, Some, List, 
 use Rattle.yaml_base.specs.Characters.{Text, line_feed}
 use Rattle.yaml_base.specs.Settings.{Effective}
 use Rattle.yaml_base.specs.Event.{plain, TagDirective}
-use Rattle.yaml_base.specs.Cursor.{Cursor, Laid, nothing_laid}
-use Rattle.yaml_base.specs.Layout.{Place, properties_laid}
-use Rattle.yaml_base.specs.reading.ReadTags.{TagSaid, bare_said, name_said}
+use Rattle.yaml_base.specs.Cursor.{Cursor, Rendered, render_nothing}
+use Rattle.yaml_base.specs.Layout.{Place, render_properties}
+use Rattle.yaml_base.specs.reading.ReadTags.{ParsedTag, bare_parsed, name_parsed}
 use Rattle.yaml_base.specs.streams.StreamContent.{stood_plain, scalar_tree}
 use Rattle.yaml_base.specs.streams.StreamLines.{Line, lines_of, is_spaces, spaces, blanked}
-use Rattle.yaml_base.specs.streams.StreamScalars.{Rules, no_properties, collection_tag_said, tagging_said}
+use Rattle.yaml_base.specs.streams.StreamScalars.{Rules, no_properties, collection_tag_parsed, tagging_parsed}
 use Rattle.yaml_base.specs.streams.StreamNodes.{ReadsText, node_at, begins_properties, after_properties, text_or_properties, text_read, node_read}
 use Rattle.yaml_base.proofs.stream_lines.StreamCuts.{none_not_some}
 use Rattle.yaml_base.proofs.stream_lines.StreamLineLaws.{is_closed}
@@ -18,26 +18,26 @@ use Rattle.yaml_base.proofs.stream_nodes.StreamAgrees.{tagging_in}
 use Rattle.yaml_base.proofs.stream_lines.StreamClosed.{closed, spaces_line, lines_broken}
 use Rattle.yaml_base.proofs.stream_lines.StreamInside.{blank_spaces}
 use Rattle.yaml_base.proofs.stream_nodes.StreamFits.{Fits}
-use Rattle.yaml_base.proofs.stream_nodes.StreamBlocks.{Said, BegunKind, unsaid, is_said, below_ends}
+use Rattle.yaml_base.proofs.stream_nodes.StreamBlocks.{Said, BegunKind, unsaid, is_parsed, below_ends}
 use Rattle.yaml_base.proofs.stream_nodes.StreamLeafFits.{TextReads, text_fits}
 use Rattle.yaml_base.proofs.stream_nodes.StreamProperties.{IsNamed}
 use Rattle.yaml_base.proofs.stream_nodes.StreamStands.{TagStands}
 use Rattle.yaml_base.proofs.stream_flow.StreamFlowScalars.{rules_of}
 use Rattle.yaml_base.proofs.stream_flow.StreamFlowWords.{scalar_in}
 use Rattle.yaml_base.proofs.stream_nodes.StreamBegun.{begun_kind}
-use Rattle.yaml_base.proofs.stream_nodes.StreamScalarsFit.{styled_laid}
+use Rattle.yaml_base.proofs.stream_nodes.StreamScalarsFit.{render_styled}
 
 -- after an empty plain body white space has ended
-abbrev pub emptied : Laid → Laid
+abbrev pub emptied : Rendered → Rendered
 emptied begun = record { text = (begun.text ++ []) ++ []; cursor = record { column = begun.cursor.column; whitespace = false; indention = false } }
 
 -- where nothing is written
 nothing_fits : (rules : Rules) (place : Place) (cursor : Cursor)
-    → Fits rules 1 (emptied (nothing_laid cursor)) (scalar_in None None plain false []) place cursor
+    → Fits rules 1 (emptied (render_nothing cursor)) (scalar_in None None plain false []) place cursor
 nothing_fits rules place cursor = record {
   settled = λ h. absurd (false≢true h);
   ends = refl;
-  opens = λ w. record { head = []; ending = line_feed ∷ []; rest = []; is = refl; sign = refl };
+  opens = λ w. record { head = []; ending = line_feed ∷ []; rest = []; is = refl; symbol = refl };
   inside = λ q d within. refl;
   reads = λ depth deep here k begins. read depth deep here k;
 }
@@ -52,31 +52,32 @@ nothing_fits rules place cursor = record {
         ∙ ap (λ x. node_at rules (node_read depth rules) by no_properties (here || x) (not x) (if x then [] else line ∷ [])) (blank_spaces k)
 
 -- what properties say is how the scalar is tagged
-empty_tagging : (read : Option TagSaid) (tag : Option Text) → collection_tag_said read ≡ Some tag
-    → tagging_said read stood_plain ≡ Some (tagging_in tag (record { style = plain; bare = false }))
+empty_tagging : (read : Option ParsedTag) (tag : Option Text) → collection_tag_parsed read ≡ Some tag
+    → tagging_parsed read stood_plain ≡ Some (tagging_in tag (record { style = plain; bare = false }))
 empty_tagging None tag h = ap (option_map (λ t. tagging_in t (record { style = plain; bare = false }))) h
-empty_tagging (Some (name_said name)) tag h = ap (option_map (λ t. tagging_in t (record { style = plain; bare = false }))) h
-empty_tagging (Some bare_said) tag h = absurd (none_not_some h)
+empty_tagging (Some (name_parsed name)) tag h = ap (option_map (λ t. tagging_in t (record { style = plain; bare = false }))) h
+empty_tagging (Some bare_parsed) tag h = absurd (none_not_some h)
 
 -- the words of properties alone are read as the empty scalar
-said_reads_nothing : (rules : Rules) (column : Option ℕ) (anchor tag : Option Text) (cursor : Cursor) (begun : Laid) (said : Said rules anchor tag cursor begun)
-    → TextReads rules column ((said.head ∷ said.tail) ++ (line_feed ∷ [])) (scalar_in anchor tag plain false [])
-said_reads_nothing rules column anchor tag cursor begun said = record {
-  head = said.head;
-  first = said.tail;
+parsed_reads_nothing : (rules : Rules) (column : Option ℕ) (anchor tag : Option Text) (cursor : Cursor) (begun : Rendered)
+    (parsed : Said rules anchor tag cursor begun)
+    → TextReads rules column ((parsed.head ∷ parsed.tail) ++ (line_feed ∷ [])) (scalar_in anchor tag plain false [])
+parsed_reads_nothing rules column anchor tag cursor begun parsed = record {
+  head = parsed.head;
+  first = parsed.tail;
   ending = line_feed ∷ [];
   rest = [];
-  is = lines_broken rules.breaks12 (said.head ∷ said.tail) [] said.one_line;
-  shows = said.shows;
-  kind = said.kind;
+  is = lines_broken rules.breaks12 (parsed.head ∷ parsed.tail) [] parsed.one_line;
+  shows = parsed.shows;
+  kind = parsed.kind;
   deeper = λ c e. refl;
   read = λ reads at.
-      ap (λ x. text_or_properties x rules reads column at (said.head ∷ said.tail) (line_feed ∷ []) []) said.begins
-      ∙ ap (after_properties rules reads column at (line_feed ∷ []) []) said.reads
-      ∙ ap (λ x. node_at rules reads (λ at. text_read rules column said.read.properties) said.read.properties (false || x) (not x)
-      (if x then [] else blanked at said.read.text (line_feed ∷ []) ∷ [])) (blank_both at said.read.text said.blank)
-      ∙ ap (option_map (λ tagging. scalar_tree said.read.properties.anchor tagging [])) (empty_tagging said.read.properties.tag tag said.tag_read)
-      ∙ ap (λ a. Some (scalar_tree a (tagging_in tag (record { style = plain; bare = false })) [])) said.anchor_read;
+      ap (λ x. text_or_properties x rules reads column at (parsed.head ∷ parsed.tail) (line_feed ∷ []) []) parsed.begins
+      ∙ ap (after_properties rules reads column at (line_feed ∷ []) []) parsed.reads
+      ∙ ap (λ x. node_at rules reads (λ at. text_read rules column parsed.read.properties) parsed.read.properties (false || x) (not x)
+      (if x then [] else blanked at parsed.read.text (line_feed ∷ []) ∷ [])) (blank_both at parsed.read.text parsed.blank)
+      ∙ ap (option_map (λ tagging. scalar_tree parsed.read.properties.anchor tagging [])) (empty_tagging parsed.read.properties.tag tag parsed.tag_read)
+      ∙ ap (λ a. Some (scalar_tree a (tagging_in tag (record { style = plain; bare = false })) [])) parsed.anchor_read;
 }
   where
     blank_both : (k : ℕ) (t : Text) → is_spaces t ≡ true → is_spaces (spaces k ++ t) ≡ true
@@ -84,28 +85,28 @@ said_reads_nothing rules column anchor tag cursor begun said = record {
     blank_both (suc k) t h = blank_both k t h
 
 -- so they fit
-said_fits_nothing : (rules : Rules) (place : Place) (anchor tag : Option Text) (cursor : Cursor) (begun : Laid) → Said rules anchor tag cursor begun
+parsed_fits_nothing : (rules : Rules) (place : Place) (anchor tag : Option Text) (cursor : Cursor) (begun : Rendered) → Said rules anchor tag cursor begun
     → Fits rules 1 (emptied begun) (scalar_in anchor tag plain false []) place cursor
-said_fits_nothing rules place anchor tag cursor begun said =
-    let word = said.head ∷ said.tail in
-    let same : closed (emptied begun) ≡ (spaces said.count ++ word) ++ (line_feed ∷ []) =
-    ap (λ t. t ++ (line_feed ∷ [])) (append-nil (begun.text ++ []) ∙ append-nil begun.text ∙ said.text) in
-    text_fits rules (emptied begun) place cursor said.count (word ++ (line_feed ∷ [])) (scalar_in anchor tag plain false [])
-    (same ∙ append_assoc (spaces said.count) word (line_feed ∷ []))
-    (ap (is_closed rules.breaks12) same ∙ below_ends rules.breaks12 (spaces said.count ++ word) [] refl) (λ h. absurd (false≢true h)) said.some
-    (said_reads_nothing rules place.column anchor tag cursor begun said)
+parsed_fits_nothing rules place anchor tag cursor begun parsed =
+    let word = parsed.head ∷ parsed.tail in
+    let same : closed (emptied begun) ≡ (spaces parsed.count ++ word) ++ (line_feed ∷ []) =
+    ap (λ t. t ++ (line_feed ∷ [])) (append-nil (begun.text ++ []) ∙ append-nil begun.text ∙ parsed.text) in
+    text_fits rules (emptied begun) place cursor parsed.count (word ++ (line_feed ∷ [])) (scalar_in anchor tag plain false [])
+    (same ∙ append_assoc (spaces parsed.count) word (line_feed ∷ []))
+    (ap (is_closed rules.breaks12) same ∙ below_ends rules.breaks12 (spaces parsed.count ++ word) [] refl) (λ h. absurd (false≢true h)) parsed.some
+    (parsed_reads_nothing rules place.column anchor tag cursor begun parsed)
 
 -- an empty plain scalar fits
 pub empty_fits : (s : Effective) (own directives : List TagDirective) (anchor tag : Option Text) (limit : Option ℕ) (indent : ℕ) (place : Place)
     (cursor : Cursor)
     → IsNamed anchor → TagStands s.portable own directives tag
-    → Fits (rules_of s own) 1 (styled_laid s directives anchor tag false plain limit indent [] cursor) (scalar_in anchor tag plain false []) place cursor
+    → Fits (rules_of s own) 1 (render_styled s directives anchor tag false plain limit indent [] cursor) (scalar_in anchor tag plain false []) place cursor
 empty_fits s own directives anchor tag limit indent place cursor named stands = by anchor tag (begun_kind s own directives anchor tag cursor named stands)
   where
-    by : (anchor tag : Option Text) → BegunKind (rules_of s own) anchor tag cursor (properties_laid s.portable directives anchor tag false cursor)
-        → Fits (rules_of s own) 1 (emptied (properties_laid s.portable directives anchor tag false cursor)) (scalar_in anchor tag plain false []) place cursor
+    by : (anchor tag : Option Text) → BegunKind (rules_of s own) anchor tag cursor (render_properties s.portable directives anchor tag false cursor)
+        → Fits (rules_of s own) 1 (emptied (render_properties s.portable directives anchor tag false cursor)) (scalar_in anchor tag plain false []) place cursor
     by None None kind = nothing_fits (rules_of s own) place cursor
-    by anchor tag (is_said said) =
-        said_fits_nothing (rules_of s own) place anchor tag cursor (properties_laid s.portable directives anchor tag false cursor) said
+    by anchor tag (is_parsed parsed) =
+        parsed_fits_nothing (rules_of s own) place anchor tag cursor (render_properties s.portable directives anchor tag false cursor) parsed
     by (Some name) tag (unsaid no_anchor no_tag nothing) = absurd (none_not_some (sym no_anchor))
     by anchor (Some name) (unsaid no_anchor no_tag nothing) = absurd (none_not_some (sym no_tag))

@@ -6,11 +6,11 @@ use Rattle.std.specs.Prelude.{ℕ, Bool, true, false, Option, None, Some, List, 
 use Rattle.yaml_base.specs.Characters.{Text}
 use Rattle.yaml_base.specs.Settings.{Effective}
 use Rattle.yaml_base.specs.Event.{TagDirective}
-use Rattle.yaml_base.specs.Cursor.{Cursor, Laid}
+use Rattle.yaml_base.specs.Cursor.{Cursor, Rendered}
 use Rattle.yaml_base.specs.Grammar.{Node, alias_node, scalar_node, sequence_node, mapping_node, Nodes, no_nodes, nodes_and, Pairs, no_pairs, pairs_and}
 use Rattle.yaml_base.specs.Layout.{Role, Place, is_in_mapping, entry_place}
 use Rattle.yaml_base.specs.streams.StreamContent.{Tree}
-use Rattle.yaml_base.specs.streams.StreamLines.{Line, lines_of, ends_sign, spaces, blanked}
+use Rattle.yaml_base.specs.streams.StreamLines.{Line, lines_of, ends_indicator, spaces, blanked}
 use Rattle.yaml_base.specs.streams.StreamScalars.{Rules}
 use Rattle.yaml_base.specs.streams.StreamNodes.{node_read}
 use Rattle.yaml_base.proofs.stream_nodes.StreamAgrees.{node_tree}
@@ -48,17 +48,17 @@ WithinColumn s d role (Some c) = d + rank (s && is_in_mapping role) ≤ c
 abbrev pub Here : Cursor → (here : Bool) → ℕ → Type 0
 Here cursor here k = cursor.indention ≡ true → (here ≡ true) × (k ≡ cursor.column)
 
--- a text opens what follows a sign: a space or a break comes first
+-- a text opens what follows an indicator: a space or a break comes first
 pub record Opens (breaks12 : Bool) (text : Text) : Type 0 where
   pub head : Text
   pub ending : Text
   pub rest : List Line
   pub is : lines_of breaks12 text ≡ record { text = head; ending = ending } ∷ rest
-  pub sign : ends_sign head ≡ true
+  pub symbol : ends_indicator head ≡ true
 
--- what is laid out for a node in a block from a cursor on: it leaves off settled at a line's end, opens what stands behind
--- a sign, lies inside the columns around, and reads as a tree at every depth from its size on
-pub record Fits (rules : Rules) (size : ℕ) (own : Laid) (tree : Tree) (place : Place) (cursor : Cursor) : Type 0 where
+-- what is rendered for a node in a block from a cursor on: it leaves off settled at a line's end, opens what stands behind
+-- an indicator, lies inside the columns around, and reads as a tree at every depth from its size on
+pub record Fits (rules : Rules) (size : ℕ) (own : Rendered) (tree : Tree) (place : Place) (cursor : Cursor) : Type 0 where
   pub settled : Settled own.cursor
   pub ends : is_closed rules.breaks12 (closed own) ≡ true
   pub opens : cursor.whitespace ≡ false → Opens rules.breaks12 (closed own)
@@ -74,24 +74,24 @@ tree_anywhere (scalar_node content) s directives in_flow role c d = refl
 tree_anywhere (sequence_node start items) s directives in_flow role c d = refl
 tree_anywhere (mapping_node start pairs) s directives in_flow role c d = refl
 
--- Behind a sign
+-- Behind an indicator
 
--- the lines of a sign and a text that it opens
-pub signed_lines : (breaks12 : Bool) (e c : ℕ) (t : Text) (o : Opens breaks12 t) → OneLine breaks12 (c ∷ [])
+-- the lines of an indicator and a text that it opens
+pub indicated_lines : (breaks12 : Bool) (e c : ℕ) (t : Text) (o : Opens breaks12 t) → OneLine breaks12 (c ∷ [])
     → lines_of breaks12 (spaces e ++ (c ∷ t)) ≡ record { text = spaces e ++ (c ∷ o.head); ending = o.ending } ∷ o.rest
-signed_lines breaks12 e c t o one =
+indicated_lines breaks12 e c t o one =
     lines_behind breaks12 (spaces e) (c ∷ t) (c ∷ o.head) o.ending o.rest (spaces_line breaks12 e)
     (lines_behind breaks12 (c ∷ []) t o.head o.ending o.rest one o.is)
 
--- the lines of the text alone, where the sign is blanked
+-- the lines of the text alone, where the indicator is blanked
 pub blanked_lines : (breaks12 : Bool) (k : ℕ) (t : Text) (o : Opens breaks12 t) → lines_of breaks12 (spaces k ++ t) ≡ blanked k o.head o.ending ∷ o.rest
 blanked_lines breaks12 k t o = lines_behind breaks12 (spaces k) t o.head o.ending o.rest (spaces_line breaks12 k) o.is
 
--- what a sign opens is closed where its text is
-pub signed_ends : (breaks12 : Bool) (e c : ℕ) (t : Text) → Opens breaks12 t → is_closed breaks12 t ≡ true → is_closed breaks12 (spaces e ++ (c ∷ t)) ≡ true
-signed_ends breaks12 e c [] o h = absurd (true≢false (ap empty o.is))
+-- what an indicator opens is closed where its text is
+pub indicated_ends : (breaks12 : Bool) (e c : ℕ) (t : Text) → Opens breaks12 t → is_closed breaks12 t ≡ true → is_closed breaks12 (spaces e ++ (c ∷ t)) ≡ true
+indicated_ends breaks12 e c [] o h = absurd (true≢false (ap empty o.is))
   where
     empty : List Line → Bool
     empty [] = true
     empty (line ∷ rest) = false
-signed_ends breaks12 e c (d ∷ t) o h = closed_behind breaks12 (spaces e) c (d ∷ t) h
+indicated_ends breaks12 e c (d ∷ t) o h = closed_behind breaks12 (spaces e) c (d ∷ t) h

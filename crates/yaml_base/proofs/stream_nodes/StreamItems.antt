@@ -7,28 +7,28 @@ use Rattle.std.specs.List.{list_all}
 use Rattle.yaml_base.specs.Characters.{Text}
 use Rattle.yaml_base.specs.Settings.{Effective}
 use Rattle.yaml_base.specs.Event.{TagDirective}
-use Rattle.yaml_base.specs.Cursor.{Cursor, Laid, new_line}
+use Rattle.yaml_base.specs.Cursor.{Cursor, Rendered, new_line}
 use Rattle.yaml_base.specs.Grammar.{Node, Nodes, no_nodes, nodes_and}
 use Rattle.yaml_base.specs.Layout.{as_item, Place, has_no_nodes, entry_place}
 use Rattle.yaml_base.specs.streams.StreamContent.{no_trees}
-use Rattle.yaml_base.specs.streams.StreamLines.{Line, lines_of, is_inside, spaces, blanked}
+use Rattle.yaml_base.specs.streams.StreamLines.{Line, lines_of, belongs_to_entry, spaces, blanked}
 use Rattle.yaml_base.specs.streams.StreamScalars.{Rules}
-use Rattle.yaml_base.specs.streams.StreamNodes.{item_by_sign, item_read, item_added, node_read}
+use Rattle.yaml_base.specs.streams.StreamNodes.{item_by_indicator, item_read, with_item, node_read}
 use Rattle.yaml_base.proofs.stream_nodes.StreamAgrees.{node_tree, nodes_tree}
 use Rattle.yaml_base.proofs.stream_nodes.StreamTexts.{node_own, items_own}
 use Rattle.yaml_base.proofs.stream_lines.StreamLineLaws.{is_closed, OneLine, lines_after_break}
 use Rattle.yaml_base.proofs.stream_lines.StreamInside.{AllInside, Splits, splits_none, splits_both, splits_one, outside, past_spaces}
 use Rattle.yaml_base.proofs.stream_lines.StreamTidyLaws.{lines_after_first}
-use Rattle.yaml_base.proofs.stream_lines.StreamClosed.{closing, closed, Settled, new_line_closes, sign_cursor, closed_both, rank, dash_inside, inside_both}
-use Rattle.yaml_base.proofs.stream_nodes.StreamFits.{size, items_size, Fits, tree_anywhere, signed_lines, blanked_lines, signed_ends}
+use Rattle.yaml_base.proofs.stream_lines.StreamClosed.{closing, closed, Settled, new_line_closes, indicator_cursor, closed_both, rank, dash_inside, inside_both}
+use Rattle.yaml_base.proofs.stream_nodes.StreamFits.{size, items_size, Fits, tree_anywhere, indicated_lines, blanked_lines, indicated_ends}
 
 -- the place of an item
 abbrev pub item_place : Nodes → ℕ → Place
 item_place items e = entry_place false (as_item (has_no_nodes items)) e
 
--- an item's text behind its sign
+-- an item's text behind its indicator
 abbrev pub item_text : Nodes → Node → Effective → List TagDirective → ℕ → Text
-item_text items last s directives e = closed (node_own last s directives (item_place items e) (sign_cursor e))
+item_text items last s directives e = closed (node_own last s directives (item_place items e) (indicator_cursor e))
 
 -- the items of a sequence at a column, each from its column on and up to its line's end
 abbrev pub items_text : Nodes → Effective → List TagDirective → ℕ → Text
@@ -46,8 +46,8 @@ abbrev pub ItemsFit : Rules → Effective → List TagDirective → Nodes → �
 ItemsFit rules s directives no_nodes e = Unit {0}
 ItemsFit rules s directives (nodes_and items last) e =
     ItemsFit rules s directives items e
-    × Fits rules (size last) (node_own last s directives (item_place items e) (sign_cursor e)) (node_tree last s directives (item_place items e))
-    (item_place items e) (sign_cursor e)
+    × Fits rules (size last) (node_own last s directives (item_place items e) (indicator_cursor e)) (node_tree last s directives (item_place items e))
+    (item_place items e) (indicator_cursor e)
 
 -- the items leave off settled
 pub items_settled : (rules : Rules) (s : Effective) (directives : List TagDirective) (items : Nodes) (e : ℕ) (cursor : Cursor)
@@ -63,7 +63,7 @@ items_end rules s directives no_nodes e fit = refl
 items_end rules s directives (nodes_and items last) e fit =
     closed_both rules.breaks12 (items_text items s directives e) (spaces e ++ (0x2D ∷ item_text items last s directives e))
     (items_end rules s directives items e fit.0)
-    (signed_ends rules.breaks12 e 0x2D (item_text items last s directives e) (fit.1.opens refl) fit.1.ends)
+    (indicated_ends rules.breaks12 e 0x2D (item_text items last s directives e) (fit.1.opens refl) fit.1.ends)
 
 -- the lines of items, and of one more
 pub items_lines : (rules : Rules) (s : Effective) (directives : List TagDirective) (items : Nodes) (last : Node) (e : ℕ) → ItemsFit rules s directives items e
@@ -81,15 +81,15 @@ dash_line false = refl
 -- the lines of an item that fits
 abbrev ItemFits : Rules → Effective → List TagDirective → Nodes → Node → ℕ → Type 0
 ItemFits rules s directives items last e =
-    Fits rules (size last) (node_own last s directives (item_place items e) (sign_cursor e)) (node_tree last s directives (item_place items e))
-    (item_place items e) (sign_cursor e)
+    Fits rules (size last) (node_own last s directives (item_place items e) (indicator_cursor e)) (node_tree last s directives (item_place items e))
+    (item_place items e) (indicator_cursor e)
 
 -- an item's lines after its first are inside the column
 item_inside : (rules : Rules) (s : Effective) (directives : List TagDirective) (items : Nodes) (last : Node) (e : ℕ)
     (fit : ItemFits rules s directives items last e)
     (q : Bool) (d : ℕ) → d ≤ e → AllInside q d (fit.opens refl).rest
 item_inside rules s directives items last e fit q d h =
-    ap (λ ls. list_all (λ line. is_inside q d line.text) (lines_after_first ls)) (sym (fit.opens refl).is)
+    ap (λ ls. list_all (λ line. belongs_to_entry q d line.text) (lines_after_first ls)) (sym (fit.opens refl).is)
     ∙ fit.inside q d (no_rank q)
   where
     no_rank : (q : Bool) → d + rank (q && false) ≤ e
@@ -103,7 +103,7 @@ item_splits : (rules : Rules) (s : Effective) (directives : List TagDirective) (
 item_splits rules s directives items last e fit =
     let o = fit.opens refl in
     let line : Line = record { text = spaces e ++ (0x2D ∷ o.head); ending = o.ending } in
-    subst (λ ls. Splits true e ls (ls ∷ [])) (sym (signed_lines rules.breaks12 e 0x2D (item_text items last s directives e) o (dash_line rules.breaks12)))
+    subst (λ ls. Splits true e ls (ls ∷ [])) (sym (indicated_lines rules.breaks12 e 0x2D (item_text items last s directives e) o (dash_line rules.breaks12)))
     (splits_one true e line o.rest (outside true e (0x2D ∷ o.head) refl) (item_inside rules s directives items last e fit true e (omega arith)))
 
 -- the lines of a sequence split into its items
@@ -123,11 +123,11 @@ items_inside rules s directives no_nodes e fit q d h = refl
 items_inside rules s directives (nodes_and items last) e fit q d h =
     let o = fit.1.opens refl in
     let line : Line = record { text = spaces e ++ (0x2D ∷ o.head); ending = o.ending } in
-    ap (λ ls. list_all (λ line. is_inside q d line.text) ls) (items_lines rules s directives items last e fit.0
+    ap (λ ls. list_all (λ line. belongs_to_entry q d line.text) ls) (items_lines rules s directives items last e fit.0
     ∙ ap (λ ls. lines_of rules.breaks12 (items_text items s directives e) ++ ls)
-    (signed_lines rules.breaks12 e 0x2D (item_text items last s directives e) o (dash_line rules.breaks12)))
+    (indicated_lines rules.breaks12 e 0x2D (item_text items last s directives e) o (dash_line rules.breaks12)))
     ∙ inside_both q d (lines_of rules.breaks12 (items_text items s directives e)) (line ∷ o.rest) (items_inside rules s directives items e fit.0 q d h)
-    (and_from (is_inside q d line.text) (list_all (λ line. is_inside q d line.text) o.rest) (dash_inside q d e o.head h o.sign)
+    (and_from (belongs_to_entry q d line.text) (list_all (λ line. belongs_to_entry q d line.text) o.rest) (dash_inside q d e o.head h o.symbol)
     (item_inside rules s directives items last e fit.1 q d (no_rank q h)))
   where
     no_rank : (q : Bool) → d + rank q ≤ e → d ≤ e
@@ -142,9 +142,9 @@ item_reads : (rules : Rules) (s : Effective) (directives : List TagDirective) (i
     ≡ Some (node_tree last s directives (entry_place false (as_item (has_no_nodes items)) 0))
 item_reads rules s directives items last e fit depth deep =
     let o = fit.opens refl in
-    ap (item_read (node_read depth rules) e) (signed_lines rules.breaks12 e 0x2D (item_text items last s directives e) o (dash_line rules.breaks12))
-    ∙ ap (item_by_sign (node_read depth rules) e o.ending o.rest) (past_spaces e (0x2D ∷ o.head))
-    ∙ ap (λ x. if x then node_read depth rules true (Some e) (blanked (suc e) o.head o.ending ∷ o.rest) else None) o.sign
+    ap (item_read (node_read depth rules) e) (indicated_lines rules.breaks12 e 0x2D (item_text items last s directives e) o (dash_line rules.breaks12))
+    ∙ ap (item_by_indicator (node_read depth rules) e o.ending o.rest) (past_spaces e (0x2D ∷ o.head))
+    ∙ ap (λ x. if x then node_read depth rules true (Some e) (blanked (suc e) o.head o.ending ∷ o.rest) else None) o.symbol
     ∙ ap (node_read depth rules true (Some e)) (sym (blanked_lines rules.breaks12 (suc e) (item_text items last s directives e) o))
     ∙ fit.reads depth deep true (suc e) (λ h. (refl, omega arith))
     ∙ ap Some (tree_anywhere last s directives false (as_item (has_no_nodes items)) e 0)
@@ -152,26 +152,26 @@ item_reads rules s directives items last e fit depth deep =
 -- the entries of a sequence read as its trees, whatever entries follow
 pub items_read_back : (rules : Rules) (s : Effective) (directives : List TagDirective) (items : Nodes) (e : ℕ) → ItemsFit rules s directives items e
     → (depth : ℕ) → items_size items ≤ depth → (rest : List (List Line))
-    → fold (λ before entry. item_added before (item_read (node_read depth rules) e entry)) (Some no_trees)
+    → fold (λ before entry. with_item before (item_read (node_read depth rules) e entry)) (Some no_trees)
     (item_entries rules.breaks12 items s directives e ++ rest)
-    ≡ fold (λ before entry. item_added before (item_read (node_read depth rules) e entry)) (Some (nodes_tree items s directives false)) rest
+    ≡ fold (λ before entry. with_item before (item_read (node_read depth rules) e entry)) (Some (nodes_tree items s directives false)) rest
 items_read_back rules s directives no_nodes e fit depth deep rest = refl
 items_read_back rules s directives (nodes_and items last) e fit depth deep rest =
     let one = lines_of rules.breaks12 (spaces e ++ (0x2D ∷ item_text items last s directives e)) in
-    ap (fold (λ before entry. item_added before (item_read (node_read depth rules) e entry)) (Some no_trees))
+    ap (fold (λ before entry. with_item before (item_read (node_read depth rules) e entry)) (Some no_trees))
     (append_assoc (item_entries rules.breaks12 items s directives e) (one ∷ []) rest)
     ∙ items_read_back rules s directives items e fit.0 depth (omega arith) (one ∷ rest)
-    ∙ ap (λ x. fold (λ before entry. item_added before (item_read (node_read depth rules) e entry))
-    (item_added (Some (nodes_tree items s directives false)) x) rest)
+    ∙ ap (λ x. fold (λ before entry. with_item before (item_read (node_read depth rules) e entry))
+    (with_item (Some (nodes_tree items s directives false)) x) rest)
     (item_reads rules s directives items last e fit.1 depth (omega arith))
 
--- regrouped: a sign, what it opens, and the break after it
-pub regrouped : (a n o c : Text) (sign : ℕ) → ((a ++ ((n ++ (sign ∷ [])) ++ o)) ++ c) ≡ a ++ (n ++ (sign ∷ (o ++ c)))
-regrouped a n o c sign =
-    append_assoc a ((n ++ (sign ∷ [])) ++ o) c ∙ ap (λ t. a ++ t) (append_assoc (n ++ (sign ∷ [])) o c ∙ append_assoc n (sign ∷ []) (o ++ c))
+-- regrouped: an indicator, what it opens, and the break after it
+pub regrouped : (a n o c : Text) (symbol : ℕ) → ((a ++ ((n ++ (symbol ∷ [])) ++ o)) ++ c) ≡ a ++ (n ++ (symbol ∷ (o ++ c)))
+regrouped a n o c symbol =
+    append_assoc a ((n ++ (symbol ∷ [])) ++ o) c ∙ ap (λ t. a ++ t) (append_assoc (n ++ (symbol ∷ [])) o c ∙ append_assoc n (symbol ∷ []) (o ++ c))
 
--- what is laid out for entries at a column: a new line, and then their text without its first spaces
-pub record Lays (e : ℕ) (cursor : Cursor) (own : Laid) (text : Text) : Type 0 where
+-- what is rendered for entries at a column: a new line, and then their text without its first spaces
+pub record Lays (e : ℕ) (cursor : Cursor) (own : Rendered) (text : Text) : Type 0 where
   pub head : ℕ
   pub tail : Text
   pub is : text ≡ spaces e ++ (head ∷ tail)
@@ -182,7 +182,7 @@ pub items_lay : (rules : Rules) (s : Effective) (directives : List TagDirective)
     → has_no_nodes items ≡ false → Lays e cursor (items_own items s directives false e cursor) (items_text items s directives e)
 items_lay rules s directives no_nodes e cursor fit h = absurd (true≢false h)
 items_lay rules s directives (nodes_and no_nodes last) e cursor fit h =
-    let own = node_own last s directives (item_place no_nodes e) (sign_cursor e) in
+    let own = node_own last s directives (item_place no_nodes e) (indicator_cursor e) in
     record {
       head = 0x2D;
       tail = closed own;
@@ -191,7 +191,7 @@ items_lay rules s directives (nodes_and no_nodes last) e cursor fit h =
     }
 items_lay rules s directives (nodes_and (nodes_and items one) last) e cursor fit h =
     let before = items_own (nodes_and items one) s directives false e cursor in
-    let own = node_own last s directives (item_place (nodes_and items one) e) (sign_cursor e) in
+    let own = node_own last s directives (item_place (nodes_and items one) e) (indicator_cursor e) in
     let lays = items_lay rules s directives (nodes_and items one) e cursor fit.0 refl in
     let more = spaces e ++ (0x2D ∷ closed own) in
     record {

@@ -3,59 +3,59 @@ use Rattle.std.proofs.Common.{◌≡◌, refl, sym, ap, ◌∙◌, append_assoc,
 use Rattle.std.specs.Prelude.{ℕ, Bool, true, false, Option, None, Some, List, [], ◌∷◌, ◌++◌, codes, ◌&&◌, not, if◌then◌else◌}
 use Rattle.yaml_base.specs.Characters.{Text, space}
 use Rattle.yaml_base.specs.Event.{TagDirective}
-use Rattle.yaml_base.specs.Cursor.{Cursor, Laid, space_if}
+use Rattle.yaml_base.specs.Cursor.{Cursor, Rendered, space_if}
 use Rattle.yaml_base.specs.Percent.{percent_escaped, suffix_escaped}
 use Rattle.yaml_base.specs.Tags.{Spelling, shorthand, verbatim, spelling, spelled}
-use Rattle.yaml_base.specs.Layout.{anchor_laid, spelling_laid, properties_laid}
+use Rattle.yaml_base.specs.Layout.{render_anchor, render_spelling, render_properties}
 use Rattle.yaml_base.specs.streams.StreamLines.{spaces}
 use Rattle.yaml_base.proofs.stream_nodes.StreamProperties.{IsTagged, properties_text, has_properties}
 use Rattle.yaml_base.proofs.stream_flow.StreamPropertyWords.{lead}
 use Rattle.yaml_base.proofs.stream_nodes.StreamStands.{tag_written, tag_meant, TagStands}
 
 -- after some text white space has ended
-pub record Ended (cursor : Cursor) : Type 0 where
+pub record EndedCollection (cursor : Cursor) : Type 0 where
   pub white : cursor.whitespace ≡ false
   pub indention : cursor.indention ≡ false
 
--- a tag as it is laid out, after a space where one is needed
-pub spelling_text : (portable : Bool) (s : Spelling) (cursor : Cursor) → (spelling_laid portable s cursor).text ≡ space_if true cursor ++ spelled portable s
+-- a tag as it is rendered, after a space where one is needed
+pub spelling_text : (portable : Bool) (s : Spelling) (cursor : Cursor) → (render_spelling portable s cursor).text ≡ space_if true cursor ++ spelled portable s
 spelling_text portable (shorthand handle suffix) cursor = append_assoc (space_if true cursor) handle (suffix_escaped portable suffix)
 spelling_text portable (verbatim tag) cursor =
     append_assoc (space_if true cursor ++ codes "!<") (percent_escaped tag) (codes ">")
     ∙ append_assoc (space_if true cursor) (codes "!<") (percent_escaped tag ++ codes ">")
 
-pub spelling_ended : (portable : Bool) (s : Spelling) (cursor : Cursor) → Ended (spelling_laid portable s cursor).cursor
+pub spelling_ended : (portable : Bool) (s : Spelling) (cursor : Cursor) → EndedCollection (render_spelling portable s cursor).cursor
 spelling_ended portable (shorthand handle suffix) cursor = record { white = refl; indention = refl }
 spelling_ended portable (verbatim tag) cursor = record { white = refl; indention = refl }
 
 -- a space follows what has ended
-pub space_after_text : (cursor : Cursor) → Ended cursor → space_if true cursor ≡ space ∷ []
+pub space_after_text : (cursor : Cursor) → EndedCollection cursor → space_if true cursor ≡ space ∷ []
 space_after_text cursor ended = ap (λ x. if true && not x then space ∷ [] else []) ended.white
 
 -- an anchor and a tag, and the space before what follows them
-pub lead_laid : (portable : Bool) (directives : List TagDirective) (anchor tag : Option Text) (bare : Bool) (cursor : Cursor)
-    → (let laid : Laid = properties_laid portable directives anchor tag bare cursor in laid.text ++ space_if true laid.cursor)
+pub lead_rendered : (portable : Bool) (directives : List TagDirective) (anchor tag : Option Text) (bare : Bool) (cursor : Cursor)
+    → (let rendered : Rendered = render_properties portable directives anchor tag bare cursor in rendered.text ++ space_if true rendered.cursor)
     ≡ space_if true cursor ++ lead anchor (tag_written portable directives tag bare)
-lead_laid portable directives None None false cursor = sym (append-nil (space_if true cursor))
-lead_laid portable directives None None true cursor = append_assoc (space_if true cursor) (0x21 ∷ []) (space ∷ [])
-lead_laid portable directives None (Some tag) bare cursor =
-    ap (λ t. t ++ space_if true (spelling_laid portable (spelling directives tag) cursor).cursor) (spelling_text portable (spelling directives tag) cursor)
+lead_rendered portable directives None None false cursor = sym (append-nil (space_if true cursor))
+lead_rendered portable directives None None true cursor = append_assoc (space_if true cursor) (0x21 ∷ []) (space ∷ [])
+lead_rendered portable directives None (Some tag) bare cursor =
+    ap (λ t. t ++ space_if true (render_spelling portable (spelling directives tag) cursor).cursor) (spelling_text portable (spelling directives tag) cursor)
     ∙ ap (λ t. (space_if true cursor ++ spelled portable (spelling directives tag)) ++ t)
-    (space_after_text (spelling_laid portable (spelling directives tag) cursor).cursor (spelling_ended portable (spelling directives tag) cursor))
+    (space_after_text (render_spelling portable (spelling directives tag) cursor).cursor (spelling_ended portable (spelling directives tag) cursor))
     ∙ append_assoc (space_if true cursor) (spelled portable (spelling directives tag)) (space ∷ [])
-lead_laid portable directives (Some name) None false cursor =
+lead_rendered portable directives (Some name) None false cursor =
     ap (λ t. t ++ (space ∷ [])) (append-nil ((space_if true cursor ++ (0x26 ∷ [])) ++ name) ∙ append_assoc (space_if true cursor) (0x26 ∷ []) name)
     ∙ append_assoc (space_if true cursor) (0x26 ∷ name) (space ∷ [])
-lead_laid portable directives (Some name) None true cursor =
+lead_rendered portable directives (Some name) None true cursor =
     ap (λ t. (t ++ (space ∷ 0x21 ∷ [])) ++ (space ∷ [])) (append_assoc (space_if true cursor) (0x26 ∷ []) name)
     ∙ ap (λ t. t ++ (space ∷ [])) (append_assoc (space_if true cursor) (0x26 ∷ name) (space ∷ 0x21 ∷ []))
     ∙ append_assoc (space_if true cursor) ((0x26 ∷ name) ++ (space ∷ 0x21 ∷ [])) (space ∷ [])
-lead_laid portable directives (Some name) (Some tag) bare cursor =
-    let after = (anchor_laid (Some name) cursor).cursor in
-    ap (λ t. (((space_if true cursor ++ (0x26 ∷ [])) ++ name) ++ t) ++ space_if true (spelling_laid portable (spelling directives tag) after).cursor)
+lead_rendered portable directives (Some name) (Some tag) bare cursor =
+    let after = (render_anchor (Some name) cursor).cursor in
+    ap (λ t. (((space_if true cursor ++ (0x26 ∷ [])) ++ name) ++ t) ++ space_if true (render_spelling portable (spelling directives tag) after).cursor)
     (spelling_text portable (spelling directives tag) after)
     ∙ ap (λ t. (((space_if true cursor ++ (0x26 ∷ [])) ++ name) ++ (space ∷ spelled portable (spelling directives tag))) ++ t)
-    (space_after_text (spelling_laid portable (spelling directives tag) after).cursor (spelling_ended portable (spelling directives tag) after))
+    (space_after_text (render_spelling portable (spelling directives tag) after).cursor (spelling_ended portable (spelling directives tag) after))
     ∙ ap (λ t. (t ++ (space ∷ spelled portable (spelling directives tag))) ++ (space ∷ [])) (append_assoc (space_if true cursor) (0x26 ∷ []) name)
     ∙ ap (λ t. t ++ (space ∷ [])) (append_assoc (space_if true cursor) (0x26 ∷ name) (space ∷ spelled portable (spelling directives tag)))
     ∙ append_assoc (space_if true cursor) ((0x26 ∷ name) ++ (space ∷ spelled portable (spelling directives tag))) (space ∷ [])

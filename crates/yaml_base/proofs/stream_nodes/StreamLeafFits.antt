@@ -4,10 +4,10 @@ use Rattle.std.proofs.lemmas.Bool.{and_parts, and_from}
 use Rattle.std.specs.List.{list_all}
 use Rattle.std.specs.Prelude.{ℕ, Bool, true, false, Option, None, Some, List, [], ◌∷◌, ◌++◌, ◌+◌, ◌==◌, ◌||◌, ◌&&◌, not, if◌then◌else◌}
 use Rattle.yaml_base.specs.Characters.{Text, space}
-use Rattle.yaml_base.specs.Cursor.{Cursor, Laid}
+use Rattle.yaml_base.specs.Cursor.{Cursor, Rendered}
 use Rattle.yaml_base.specs.Layout.{Place, is_in_mapping}
 use Rattle.yaml_base.specs.streams.StreamContent.{Tree}
-use Rattle.yaml_base.specs.streams.StreamLines.{Line, lines_of, ends_sign, without_blank_lines, is_inside, Indented, spaces}
+use Rattle.yaml_base.specs.streams.StreamLines.{Line, lines_of, ends_indicator, without_blank_lines, belongs_to_entry, Indented, spaces}
 use Rattle.yaml_base.specs.streams.StreamScalars.{Rules, no_properties}
 use Rattle.yaml_base.specs.streams.StreamNodes.{begins_text, kind_of_node, Reads, ReadsText, node_by_kind, node_at, begins_properties, text_or_properties}
 use Rattle.yaml_base.specs.streams.StreamNodes.{node_read}
@@ -21,21 +21,21 @@ use Rattle.yaml_base.proofs.stream_nodes.StreamBlocks.{spaces_both}
 -- Inside
 
 -- what is deeper than a column is deeper than one farther out
-inside_farther : (d c : ℕ) (t : Text) → d ≤ c → is_inside true c t ≡ true → is_inside true d t ≡ true
+inside_farther : (d c : ℕ) (t : Text) → d ≤ c → belongs_to_entry true c t ≡ true → belongs_to_entry true d t ≡ true
 inside_farther d c [] le h = refl
 inside_farther zero zero (x ∷ t) le h = h
-inside_farther zero (suc c) (x ∷ t) le h = ap (λ y. y || false) (and_parts (x == space) (is_inside true c t) h).0
+inside_farther zero (suc c) (x ∷ t) le h = ap (λ y. y || false) (and_parts (x == space) (belongs_to_entry true c t) h).0
 inside_farther (suc d) zero (x ∷ t) le h = absurd (omega arith)
 inside_farther (suc d) (suc c) (x ∷ t) le h =
-    let parts = and_parts (x == space) (is_inside true c t) h in
-    and_from (x == space) (is_inside true d t) parts.0 (inside_farther d c t (omega arith) parts.1)
+    let parts = and_parts (x == space) (belongs_to_entry true c t) h in
+    and_from (x == space) (belongs_to_entry true d t) parts.0 (inside_farther d c t (omega arith) parts.1)
 
 -- lines deeper than a column are inside each that is farther out
 pub all_farther : (q : Bool) (d c : ℕ) (lines : List Line) → d ≤ c → AllInside true c lines → AllInside q d lines
 all_farther q d c [] le h = refl
 all_farther q d c (line ∷ rest) le h =
-    let parts = and_parts (is_inside true c line.text) (list_all (λ line. is_inside true c line.text) rest) h in
-    and_from (is_inside q d line.text) (list_all (λ line. is_inside q d line.text) rest)
+    let parts = and_parts (belongs_to_entry true c line.text) (list_all (λ line. belongs_to_entry true c line.text) rest) h in
+    and_from (belongs_to_entry q d line.text) (list_all (λ line. belongs_to_entry q d line.text) rest)
     (inside_mapping q d line.text (inside_farther d c line.text le parts.0))
     (all_farther q d c rest le parts.1)
 
@@ -72,12 +72,12 @@ text_lines rules column text tree t (suc depth) deep here k =
     ∙ ap (λ x. node_by_kind x rules (node_read depth rules) by no_properties (here || false) true begun t.ending t.rest (line ∷ t.rest)) t.kind
     ∙ t.read (node_read depth rules) k
 
--- what is laid out as such a text fits
-pub text_fits : (rules : Rules) (own : Laid) (place : Place) (cursor : Cursor) (count : ℕ) (text : Text) (tree : Tree) → closed own ≡ spaces count ++ text
+-- what is rendered as such a text fits
+pub text_fits : (rules : Rules) (own : Rendered) (place : Place) (cursor : Cursor) (count : ℕ) (text : Text) (tree : Tree) → closed own ≡ spaces count ++ text
     → is_closed rules.breaks12 (closed own) ≡ true → Settled own.cursor → (cursor.whitespace ≡ false → 0 < count) → TextReads rules place.column text tree
     → Fits rules 1 own tree place cursor
 text_fits rules own place cursor count text tree same ends settled some t =
-    let front = lines_behind rules.breaks12 (spaces count) text (t.head ∷ t.first) t.ending t.rest (spaces_line rules.breaks12 count) t.is in
+    let prefix = lines_behind rules.breaks12 (spaces count) text (t.head ∷ t.first) t.ending t.rest (spaces_line rules.breaks12 count) t.is in
     record {
       settled = settled;
       ends = ends;
@@ -85,19 +85,19 @@ text_fits rules own place cursor count text tree same ends settled some t =
         head = spaces count ++ (t.head ∷ t.first);
         ending = t.ending;
         rest = t.rest;
-        is = ap (lines_of rules.breaks12) same ∙ front;
-        sign = opens count (some w);
+        is = ap (lines_of rules.breaks12) same ∙ prefix;
+        symbol = opens count (some w);
       };
       inside = λ q d within.
-          ap (λ u. list_all (λ line. is_inside q d line.text) (lines_after_first (lines_of rules.breaks12 u))) same
-          ∙ ap (λ ls. list_all (λ line. is_inside q d line.text) (lines_after_first ls)) front ∙ inside q d place.column refl within;
+          ap (λ u. list_all (λ line. belongs_to_entry q d line.text) (lines_after_first (lines_of rules.breaks12 u))) same
+          ∙ ap (λ ls. list_all (λ line. belongs_to_entry q d line.text) (lines_after_first ls)) prefix ∙ inside q d place.column refl within;
       reads = λ depth deep here k begins.
           ap (λ u. node_read depth rules here place.column (lines_of rules.breaks12 (spaces k ++ u))) same
           ∙ ap (λ u. node_read depth rules here place.column (lines_of rules.breaks12 u)) (spaces_both k count (k + count) text refl)
           ∙ text_lines rules place.column text tree t depth deep here (k + count);
     }
   where
-    opens : (count : ℕ) → 0 < count → ends_sign (spaces count ++ (t.head ∷ t.first)) ≡ true
+    opens : (count : ℕ) → 0 < count → ends_indicator (spaces count ++ (t.head ∷ t.first)) ≡ true
     opens zero h = absurd (omega arith)
     opens (suc count) h = refl
 

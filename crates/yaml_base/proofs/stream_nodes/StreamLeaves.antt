@@ -6,18 +6,18 @@ use Rattle.std.specs.Prelude.{ℕ, Bool, true, false, Option, None, Some, List, 
 use Rattle.yaml_base.specs.Characters.{Text}
 use Rattle.yaml_base.specs.Settings.{Effective}
 use Rattle.yaml_base.specs.Event.{TagDirective, Scalar, Collection}
-use Rattle.yaml_base.specs.Cursor.{Cursor, Laid}
+use Rattle.yaml_base.specs.Cursor.{Cursor, Rendered}
 use Rattle.yaml_base.specs.Grammar.{Node, alias_node, scalar_node, sequence_node, mapping_node, Nodes, no_nodes, nodes_and, Pairs, no_pairs, pairs_and}
 use Rattle.yaml_base.specs.Layout.{Role, as_item, as_key, as_value, is_key, is_undented, Place, entries_column, has_no_nodes, has_no_pairs, is_simple}
-use Rattle.yaml_base.specs.Layout.{place_laid, asks_flow, is_written_in_flow}
+use Rattle.yaml_base.specs.Layout.{render_place, asks_flow, is_written_in_flow}
 use Rattle.yaml_base.specs.streams.StreamScalars.{name_read}
 use Rattle.yaml_base.proofs.stream_nodes.StreamAgrees.{node_tree}
 use Rattle.yaml_base.proofs.stream_lines.StreamCuts.{none_not_some}
 use Rattle.yaml_base.proofs.stream_nodes.StreamTexts.{node_own, pairs_own}
-use Rattle.yaml_base.proofs.stream_lines.StreamClosed.{sign_cursor, margin_cursor}
+use Rattle.yaml_base.proofs.stream_lines.StreamClosed.{indicator_cursor, margin_cursor}
 use Rattle.yaml_base.proofs.stream_nodes.StreamPairs.{KeyFits, key_place, value_place, colon_cursor, simple_key}
 use Rattle.yaml_base.proofs.stream_nodes.StreamPairReads.{colon_ends}
-use Rattle.yaml_base.proofs.stream_nodes.StreamNodesFit.{EitherType, LeafFits, begun_laid, BegunReads, Leaves, ItemLeaves, PairLeaves, Stands}
+use Rattle.yaml_base.proofs.stream_nodes.StreamNodesFit.{EitherType, LeafFits, render_begun, BegunReads, Leaves, ItemLeaves, PairLeaves, Stands}
 use Rattle.yaml_base.proofs.stream_nodes.StreamAliasFits.{alias_fits}
 use Rattle.yaml_base.proofs.stream_nodes.StreamProperties.{name_letters}
 use Rattle.yaml_base.proofs.stream_nodes.StreamStands.{NamesStand, AllNamesStand, PairsNamesStand, BodyStands, BodiesHold, ItemsHold, PairsHold, body_from}
@@ -82,26 +82,26 @@ pair_leaves : (s : Effective) (own directives : List TagDirective) (keys : Simpl
     (before : Cursor)
     → NamesStand s.portable own s.canonical directives key
     → (x : Bool) → is_simple s.canonical directives key ≡ x
-    → (let signs : Laid = place_laid s (key_place pairs e) x before in
-    BodiesHold (BodyStands s) key s directives (key_place pairs e) signs.cursor
+    → (let symbols : Rendered = render_place s (key_place pairs e) x before in
+    BodiesHold (BodyStands s) key s directives (key_place pairs e) symbols.cursor
     × BodiesHold (BodyStands s) value s directives (value_place x e)
-    (place_laid s (value_place x e) false (node_own key s directives (key_place pairs e) signs.cursor).cursor).cursor)
-    → (is_simple s.canonical directives key ≡ false → BodiesHold (BodyStands s) key s directives (key_place pairs e) (sign_cursor e)
-    → Leaves key (rules_of s own) s directives (key_place pairs e) (sign_cursor e))
+    (render_place s (value_place x e) false (node_own key s directives (key_place pairs e) symbols.cursor).cursor).cursor)
+    → (is_simple s.canonical directives key ≡ false → BodiesHold (BodyStands s) key s directives (key_place pairs e) (indicator_cursor e)
+    → Leaves key (rules_of s own) s directives (key_place pairs e) (indicator_cursor e))
     → ((y : Bool) (cursor : Cursor) → Stands (Some e) cursor → BodiesHold (BodyStands s) value s directives (value_place y e) cursor
     → Leaves value (rules_of s own) s directives (value_place y e) cursor)
     → EitherType x
     (KeyFits (rules_of s own) (simple_key pairs key s directives e).text (node_tree key s directives (key_place pairs e))
     × Leaves value (rules_of s own) s directives (value_place true e) (colon_cursor (simple_key pairs key s directives e).cursor))
-    (Leaves key (rules_of s own) s directives (key_place pairs e) (sign_cursor e)
-    × Leaves value (rules_of s own) s directives (value_place false e) (sign_cursor e))
+    (Leaves key (rules_of s own) s directives (key_place pairs e) (indicator_cursor e)
+    × Leaves value (rules_of s own) s directives (value_place false e) (indicator_cursor e))
 pair_leaves s own directives keys pairs key value e before names true h bodies of_key of_value =
     let after = (simple_key pairs key s directives e).cursor in (
       keys key pairs e h names bodies.0,
       of_value true (colon_cursor after) (refl, λ i. absurd (false≢true (sym (colon_ends after) ∙ i))) bodies.1,
     )
 pair_leaves s own directives keys pairs key value e before names false h bodies of_key of_value =
-    (of_key h bodies.0, of_value false (sign_cursor e) (refl, λ i. refl) bodies.1)
+    (of_key h bodies.0, of_value false (indicator_cursor e) (refl, λ i. refl) bodies.1)
 
 -- what is written in a block isn't written in canonical mode
 no_canonical : (s : Effective) (start : Collection) (empty : Bool) → (s.canonical || asks_flow start.style || empty) ≡ false → s.canonical ≡ false
@@ -123,8 +123,8 @@ sequence_leaves : (s : Effective) (own directives : List TagDirective) (flows : 
 sequence_leaves s own directives flows start items role column cursor may simple stands names bodies each =
     by (is_written_in_flow s (block_place role column) start (has_no_nodes items)) refl bodies
   where
-    begun : Laid
-    begun = begun_laid s directives start cursor
+    begun : Rendered
+    begun = render_begun s directives start cursor
 
     by : (x : Bool) → is_written_in_flow s (block_place role column) start (has_no_nodes items) ≡ x
         → ItemsHold (BodyStands s) items s directives x (entries_column x (is_undented s role) s.indent column begun.cursor) begun.cursor
@@ -148,8 +148,8 @@ mapping_leaves : (s : Effective) (own directives : List TagDirective) (flows : F
 mapping_leaves s own directives flows start pairs role column cursor may simple stands names bodies each =
     by (is_written_in_flow s (block_place role column) start (has_no_pairs pairs)) refl bodies
   where
-    begun : Laid
-    begun = begun_laid s directives start cursor
+    begun : Rendered
+    begun = render_begun s directives start cursor
 
     by : (x : Bool) → is_written_in_flow s (block_place role column) start (has_no_pairs pairs) ≡ x
         → PairsHold (BodyStands s) pairs s directives x (entries_column x false s.indent column begun.cursor) begun.cursor
@@ -188,7 +188,7 @@ mutual
   items_stand no_nodes s own directives scalars flows keys block e cursor names hold = tt
   items_stand (nodes_and items last) s own directives scalars flows keys block e cursor names hold = (
     items_stand items s own directives scalars flows keys block e cursor names.0 hold.0,
-    leaves_stand last s own directives scalars flows keys (as_item (has_no_nodes items)) (Some e) (sign_cursor e)
+    leaves_stand last s own directives scalars flows keys (as_item (has_no_nodes items)) (Some e) (indicator_cursor e)
         (may_stand s (Some e) block) refl (refl, λ h. refl) names.1 hold.1,
   )
 
@@ -201,7 +201,8 @@ mutual
     pairs_stand pairs s own directives scalars flows keys block e cursor names.0 hold.0,
     pair_leaves s own directives keys pairs key value e (pairs_own pairs s directives false e cursor).cursor names.1
         (is_simple s.canonical directives key) refl (hold.1, hold.2)
-        (λ h bodies. leaves_stand key s own directives scalars flows keys (as_key (has_no_pairs pairs)) (Some e) (sign_cursor e) (may_stand s (Some e) block) h
+        (λ h bodies. leaves_stand key s own directives scalars flows keys (as_key (has_no_pairs pairs)) (Some e) (indicator_cursor e)
+        (may_stand s (Some e) block) h
         (refl, λ i. refl) names.1 bodies)
         (λ y at stands bodies. leaves_stand value s own directives scalars flows keys (as_value y) (Some e) at
         (may_stand s (Some e) block) refl stands names.2 bodies),

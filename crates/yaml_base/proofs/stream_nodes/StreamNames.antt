@@ -18,8 +18,9 @@ use Rattle.yaml_base.specs.Event.{scalar_tag, collection_tag}
 use Rattle.yaml_base.specs.Meaning.{option_scalars, directive_scalars, has_scalar_texts}
 use Rattle.yaml_base.specs.streams.StreamContent.{documents_in_order}
 use Rattle.yaml_base.specs.streams.StreamScalars.{name_read}
-use Rattle.yaml_base.specs.StreamLaw.{tag_has_flow_sign, node_has_flow_sign, nodes_have_flow_sign, pairs_have_flow_sign, document_has_flow_sign}
-use Rattle.yaml_base.specs.StreamLaw.{is_lost, are_portable, is_portable}
+use Rattle.yaml_base.specs.StreamLaw.{tag_has_flow_indicator, node_has_flow_indicator, nodes_have_flow_indicator, pairs_have_flow_indicator}
+use Rattle.yaml_base.specs.StreamLaw.{document_has_flow_indicator}
+use Rattle.yaml_base.specs.StreamLaw.{loses_document, are_portable, reads_alike}
 use Rattle.yaml_base.proofs.Trees.{tree_of-stream_events}
 use Rattle.yaml_base.proofs.NoFaults.{neither, is_none_none}
 use Rattle.yaml_base.proofs.stream_nodes.StreamProperties.{IsNamed}
@@ -45,7 +46,7 @@ all_good canonical (event ∷ rest) h k =
     and_from (is_good canonical event) (list_all (is_good canonical) rest)
     (and_from (is_sound canonical event) (has_scalar_texts event) sound.0 texts.0) (all_good canonical rest sound.1 texts.1)
 
--- no fault of such an event is told
+-- no fault of such an event is returned
 pub no_faults : (canonical : Bool) (event : Event) → is_good canonical event ≡ true
     → (name_or_tag_fault canonical event ≡ None) × (content_fault canonical event ≡ None) × (has_scalar_texts event ≡ true)
 no_faults canonical event h =
@@ -92,7 +93,7 @@ module _ (portable canonical : Bool) (own : List TagDirective) (sound : directiv
 
   -- a tag without a fault reads as it was given
   tag_stands : (anchor tag : Option Text) → properties_fault anchor tag ≡ None → option_scalars tag ≡ true
-      → (portable || not (tag_has_flow_sign directives tag)) ≡ true → TagStands portable own directives tag
+      → (portable || not (tag_has_flow_indicator directives tag)) ≡ true → TagStands portable own directives tag
   tag_stands anchor None h scalars allowed = tt
   tag_stands anchor (Some []) h scalars allowed = absurd (by (neither (option_and_then anchor_fault anchor) (tag_fault []) h).1)
     where
@@ -103,7 +104,7 @@ module _ (portable canonical : Bool) (own : List TagDirective) (sound : directiv
   -- the names and tags of a node stand; with it, those of items and of pairs
   mutual
     pub names_stand : (node : Node) → list_all (is_good canonical) (node_events node) ≡ true
-        → (portable || not (node_has_flow_sign canonical directives node)) ≡ true → NamesStand portable own canonical directives node
+        → (portable || not (node_has_flow_indicator canonical directives node)) ≡ true → NamesStand portable own canonical directives node
     names_stand (alias_node name) good allowed =
         name_reads AliasEmpty AliasAlphabet name (no_faults canonical (alias name) (and_parts (is_good canonical (alias name)) true good).0).0
     names_stand (scalar_node content) good allowed =
@@ -118,7 +119,7 @@ module _ (portable canonical : Bool) (own : List TagDirective) (sound : directiv
         let facts = no_faults canonical (sequence_start start) parts.0 in
         let all = all_of_both (is_good canonical) (nodes_events items) (sequence_end ∷ []) parts.1 in
         let tag = collection_tag canonical start in
-        let both = open_parts portable (tag_has_flow_sign directives tag) (nodes_have_flow_sign canonical directives items) allowed in (
+        let both = open_parts portable (tag_has_flow_indicator directives tag) (nodes_have_flow_indicator canonical directives items) allowed in (
           anchor_named start.anchor tag facts.0,
           tag_stands start.anchor tag facts.0 (given_scalars (canonical || not start.implicit) start.tag facts.2) both.0,
           all_names_stand items all.0 both.1,
@@ -128,29 +129,29 @@ module _ (portable canonical : Bool) (own : List TagDirective) (sound : directiv
         let facts = no_faults canonical (mapping_start start) parts.0 in
         let all = all_of_both (is_good canonical) (pairs_events pairs) (mapping_end ∷ []) parts.1 in
         let tag = collection_tag canonical start in
-        let both = open_parts portable (tag_has_flow_sign directives tag) (pairs_have_flow_sign canonical directives pairs) allowed in (
+        let both = open_parts portable (tag_has_flow_indicator directives tag) (pairs_have_flow_indicator canonical directives pairs) allowed in (
           anchor_named start.anchor tag facts.0,
           tag_stands start.anchor tag facts.0 (given_scalars (canonical || not start.implicit) start.tag facts.2) both.0,
           pairs_names_stand pairs all.0 both.1,
         )
 
     all_names_stand : (items : Nodes) → list_all (is_good canonical) (nodes_events items) ≡ true
-        → (portable || not (nodes_have_flow_sign canonical directives items)) ≡ true → AllNamesStand portable own canonical directives items
+        → (portable || not (nodes_have_flow_indicator canonical directives items)) ≡ true → AllNamesStand portable own canonical directives items
     all_names_stand no_nodes good allowed = tt
     all_names_stand (nodes_and items last) good allowed =
         let all = all_of_both (is_good canonical) (nodes_events items) (node_events last) good in
-        let both = open_parts portable (nodes_have_flow_sign canonical directives items) (node_has_flow_sign canonical directives last) allowed in
+        let both = open_parts portable (nodes_have_flow_indicator canonical directives items) (node_has_flow_indicator canonical directives last) allowed in
         (all_names_stand items all.0 both.0, names_stand last all.1 both.1)
 
     pairs_names_stand : (pairs : Pairs) → list_all (is_good canonical) (pairs_events pairs) ≡ true
-        → (portable || not (pairs_have_flow_sign canonical directives pairs)) ≡ true → PairsNamesStand portable own canonical directives pairs
+        → (portable || not (pairs_have_flow_indicator canonical directives pairs)) ≡ true → PairsNamesStand portable own canonical directives pairs
     pairs_names_stand no_pairs good allowed = tt
     pairs_names_stand (pairs_and pairs key value) good allowed =
         let all = all_of_both (is_good canonical) (pairs_events pairs) (node_events key ++ node_events value) good in
         let two = all_of_both (is_good canonical) (node_events key) (node_events value) all.1 in
-        let before = pairs_have_flow_sign canonical directives pairs in
-        let of_key = node_has_flow_sign canonical directives key in
-        let rest = open_parts portable (before || of_key) (node_has_flow_sign canonical directives value) allowed in
+        let before = pairs_have_flow_indicator canonical directives pairs in
+        let of_key = node_has_flow_indicator canonical directives key in
+        let rest = open_parts portable (before || of_key) (node_has_flow_indicator canonical directives value) allowed in
         let both = open_parts portable before of_key rest.0 in
         (pairs_names_stand pairs all.0 both.0, names_stand key two.0 both.1, names_stand value two.1 rest.1)
 
@@ -163,9 +164,9 @@ pub record IsSoundDocument (portable canonical : Bool) (document : Document) : T
   pub prefixes : list_all directive_scalars document.start.directives ≡ true
   pub names : NamesStand portable document.start.directives canonical (directives_in_force document.start.directives) document.root
 
--- a document of such events is sound, in portable mode or where no tag has a sign of flow
+-- a document of such events is sound, in portable mode or where no tag has a flow indicator
 document_is_sound : (portable canonical : Bool) (document : Document) → list_all (is_good canonical) (document_events document) ≡ true
-    → (portable || not (document_has_flow_sign canonical document)) ≡ true → IsSoundDocument portable canonical document
+    → (portable || not (document_has_flow_indicator canonical document)) ≡ true → IsSoundDocument portable canonical document
 document_is_sound portable canonical document good allowed =
     let rest : List Event = node_events document.root ++ document_end document.end_implicit ∷ [] in
     let parts = and_parts (is_good canonical (document_start document.start)) (list_all (is_good canonical) rest) good in
@@ -179,19 +180,19 @@ document_is_sound portable canonical document good allowed =
       names = names_stand portable canonical document.start.directives none.1 document.root root.0 allowed;
     }
 
--- portable mode, or no tag of any document has such a sign
-all_allowed : (portable canonical : Bool) (documents : List Document) → (portable || not (list_any (document_has_flow_sign canonical) documents)) ≡ true
-    → AllDocuments (λ document. (portable || not (document_has_flow_sign canonical document)) ≡ true) documents
+-- portable mode, or no tag of any document has such an indicator
+all_allowed : (portable canonical : Bool) (documents : List Document) → (portable || not (list_any (document_has_flow_indicator canonical) documents)) ≡ true
+    → AllDocuments (λ document. (portable || not (document_has_flow_indicator canonical document)) ≡ true) documents
 all_allowed portable canonical [] h = tt
 all_allowed portable canonical (document ∷ rest) h =
-    let parts = open_parts portable (document_has_flow_sign canonical document) (list_any (document_has_flow_sign canonical) rest) h in
+    let parts = open_parts portable (document_has_flow_indicator canonical document) (list_any (document_has_flow_indicator canonical) rest) h in
     (parts.0, all_allowed portable canonical rest parts.1)
 
--- what portable mode and what no sign of flow allow, of a list's documents
+-- what portable mode and what no flow indicator allow, of a list's documents
 pub accepted_allowed : (portable canonical : Bool) (events : List Event) (stream : Stream) → tree_of events ≡ Some stream
-    → is_portable portable canonical events ≡ true
-    → ((portable || not (is_lost canonical (documents_in_order stream.documents))) ≡ true)
-    × ((portable || not (list_any (document_has_flow_sign canonical) (documents_in_order stream.documents))) ≡ true)
+    → reads_alike portable canonical events ≡ true
+    → ((portable || not (loses_document canonical (documents_in_order stream.documents))) ≡ true)
+    × ((portable || not (list_any (document_has_flow_indicator canonical) (documents_in_order stream.documents))) ≡ true)
 accepted_allowed portable canonical events stream tree h =
     by portable (sym (ap (λ (t : Option Stream). portable || unwrap_or (option_map tells t) false) tree) ∙ h)
   where
@@ -202,18 +203,18 @@ accepted_allowed portable canonical events stream tree h =
     tells stream = are_portable canonical (documents_in_order stream.documents)
 
     by : (x : Bool) → (x || are_portable canonical documents) ≡ true
-        → ((x || not (is_lost canonical documents)) ≡ true) × ((x || not (list_any (document_has_flow_sign canonical) documents)) ≡ true)
+        → ((x || not (loses_document canonical documents)) ≡ true) × ((x || not (list_any (document_has_flow_indicator canonical) documents)) ≡ true)
     by true h = (refl, refl)
-    by false h = and_parts (not (is_lost canonical documents)) (not (list_any (document_has_flow_sign canonical) documents)) h
+    by false h = and_parts (not (loses_document canonical documents)) (not (list_any (document_has_flow_indicator canonical) documents)) h
 
 -- so is each document of an accepted list
 pub accepted_names_stand : (given : Settings) (events : List Event) (stream : Stream) → IsAccepted given.canonical events
-    → list_all has_scalar_texts events ≡ true → is_portable given.portable given.canonical events ≡ true → tree_of events ≡ Some stream
+    → list_all has_scalar_texts events ≡ true → reads_alike given.portable given.canonical events ≡ true → tree_of events ≡ Some stream
     → AllDocuments (IsSoundDocument given.portable given.canonical) (documents_in_order stream.documents)
 accepted_names_stand given events stream accepted texts portable tree =
     let canonical = given.canonical in
     let Sound = IsSoundDocument given.portable canonical in
-    let Allowed : Document → Type 0 = λ document. (given.portable || not (document_has_flow_sign canonical document)) ≡ true in
+    let Allowed : Document → Type 0 = λ document. (given.portable || not (document_has_flow_indicator canonical document)) ≡ true in
     let own : list_all (is_good canonical) (stream_events stream) ≡ true =
     ap (list_all (is_good canonical)) events_of ∙ all_good canonical events accepted.sound texts in
     let rest : List Event = documents_events stream.documents ++ stream_end ∷ [] in

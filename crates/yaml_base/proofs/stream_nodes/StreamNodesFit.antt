@@ -5,23 +5,23 @@ use Rattle.std.specs.Prelude.{ℕ, Bool, true, false, Option, None, Some, List, 
 use Rattle.yaml_base.specs.Characters.{Text, line_feed}
 use Rattle.yaml_base.specs.Settings.{Effective}
 use Rattle.yaml_base.specs.Event.{TagDirective, Collection}
-use Rattle.yaml_base.specs.Cursor.{Cursor, Laid}
+use Rattle.yaml_base.specs.Cursor.{Cursor, Rendered}
 use Rattle.yaml_base.specs.Grammar.{Node, alias_node, scalar_node, sequence_node, mapping_node, Nodes, no_nodes, nodes_and, Pairs, no_pairs, pairs_and}
 use Rattle.yaml_base.specs.Event.{collection_tag}
 use Rattle.yaml_base.specs.Layout.{Role, Place, is_in_mapping, is_undented, entries_column, has_no_nodes, has_no_pairs, is_simple, asks_flow}
-use Rattle.yaml_base.specs.Layout.{is_written_in_flow, properties_laid, square, curly}
+use Rattle.yaml_base.specs.Layout.{is_written_in_flow, render_properties, square, curly}
 use Rattle.yaml_base.specs.streams.StreamContent.{Tree, sequence_tree, mapping_tree}
 use Rattle.yaml_base.specs.streams.StreamLines.{spaces}
 use Rattle.yaml_base.specs.streams.StreamScalars.{Rules}
 use Rattle.yaml_base.proofs.stream_nodes.StreamAgrees.{node_tree, nodes_tree, pairs_tree}
 use Rattle.yaml_base.proofs.stream_nodes.StreamTexts.{collection_own, node_own, items_own, pairs_own}
-use Rattle.yaml_base.proofs.stream_lines.StreamClosed.{Settled, new_line_closes, sign_cursor, rank}
+use Rattle.yaml_base.proofs.stream_lines.StreamClosed.{Settled, new_line_closes, indicator_cursor, rank}
 use Rattle.yaml_base.proofs.stream_nodes.StreamFits.{size, items_size, pairs_size, WithinColumn, Fits}
 use Rattle.yaml_base.proofs.stream_nodes.StreamItems.{item_place, items_text, ItemsFit, items_settled, items_end, items_inside, items_lay}
 use Rattle.yaml_base.proofs.stream_nodes.StreamPairs.{KeyFits, key_place, value_place, colon_cursor, simple_key, pairs_text, PairFits, PairsFit, pairs_end}
 use Rattle.yaml_base.proofs.stream_nodes.StreamPairs.{pairs_inside}
 use Rattle.yaml_base.proofs.stream_nodes.StreamPairReads.{pairs_settled, pairs_lay, colon_ends}
-use Rattle.yaml_base.proofs.stream_nodes.StreamBlocks.{Compact, BegunKind, unsaid, is_said, block_fits}
+use Rattle.yaml_base.proofs.stream_nodes.StreamBlocks.{Compact, BegunKind, unsaid, is_parsed, block_fits}
 use Rattle.yaml_base.proofs.stream_nodes.StreamCentral.{items_block, pairs_block}
 
 -- Premises
@@ -35,14 +35,14 @@ EitherType false a b = b
 abbrev pub LeafFits : Rules → Effective → List TagDirective → Node → Place → Cursor → Type 0
 LeafFits rules s directives n place cursor = Fits rules 1 (node_own n s directives place cursor) (node_tree n s directives place) place cursor
 
--- the properties of a collection, laid out from a cursor on
-abbrev pub begun_laid : Effective → List TagDirective → Collection → Cursor → Laid
-begun_laid s directives start cursor = properties_laid s.portable directives start.anchor (collection_tag s.canonical start) false cursor
+-- the properties of a collection, rendered from a cursor on
+abbrev pub render_begun : Effective → List TagDirective → Collection → Cursor → Rendered
+render_begun s directives start cursor = render_properties s.portable directives start.anchor (collection_tag s.canonical start) false cursor
 
 -- they are read
 abbrev pub BegunReads : Rules → Effective → List TagDirective → Collection → Cursor → Type 0
 BegunReads rules s directives start cursor =
-    BegunKind rules start.anchor (collection_tag s.canonical start) cursor (begun_laid s directives start cursor)
+    BegunKind rules start.anchor (collection_tag s.canonical start) cursor (render_begun s directives start cursor)
 
 -- what is asked of the parts of a node in a block: each alias, scalar and flow collection fits, each simple key is cut off,
 -- and the properties of each block collection are read
@@ -55,17 +55,17 @@ abbrev mutual
       (LeafFits rules s directives (sequence_node start items) place cursor)
       (BegunReads rules s directives start cursor
       × ItemLeaves items rules s directives
-      (entries_column false (is_undented s place.role) s.indent place.column (begun_laid s directives start cursor).cursor))
+      (entries_column false (is_undented s place.role) s.indent place.column (render_begun s directives start cursor).cursor))
   Leaves (mapping_node start pairs) rules s directives place cursor =
       EitherType (is_written_in_flow s place start (has_no_pairs pairs))
       (LeafFits rules s directives (mapping_node start pairs) place cursor)
       (BegunReads rules s directives start cursor
-      × PairLeaves pairs rules s directives (entries_column false false s.indent place.column (begun_laid s directives start cursor).cursor))
+      × PairLeaves pairs rules s directives (entries_column false false s.indent place.column (render_begun s directives start cursor).cursor))
 
   pub ItemLeaves : Nodes → Rules → Effective → List TagDirective → ℕ → Type 0
   ItemLeaves no_nodes rules s directives e = Unit {0}
   ItemLeaves (nodes_and items last) rules s directives e =
-      ItemLeaves items rules s directives e × Leaves last rules s directives (item_place items e) (sign_cursor e)
+      ItemLeaves items rules s directives e × Leaves last rules s directives (item_place items e) (indicator_cursor e)
 
   pub PairLeaves : Pairs → Rules → Effective → List TagDirective → ℕ → Type 0
   PairLeaves no_pairs rules s directives e = Unit {0}
@@ -74,11 +74,11 @@ abbrev mutual
       × EitherType (is_simple s.canonical directives key)
       (KeyFits rules (simple_key pairs key s directives e).text (node_tree key s directives (key_place pairs e))
       × Leaves value rules s directives (value_place true e) (colon_cursor (simple_key pairs key s directives e).cursor))
-      (Leaves key rules s directives (key_place pairs e) (sign_cursor e) × Leaves value rules s directives (value_place false e) (sign_cursor e))
+      (Leaves key rules s directives (key_place pairs e) (indicator_cursor e) × Leaves value rules s directives (value_place false e) (indicator_cursor e))
 
 -- Places
 
--- a cursor stands behind the signs of a place in a block at a column, or where the root begins
+-- a cursor stands behind the indicators of a place in a block at a column, or where the root begins
 abbrev pub Stands : Option ℕ → Cursor → Type 0
 Stands None cursor = Settled cursor
 Stands (Some c) cursor = (cursor.whitespace ≡ false) × (cursor.indention ≡ true → cursor.column ≡ c + 1)
@@ -91,7 +91,7 @@ less_not a b h = by (a == b) refl
     by true e = let same = eqb-true a b e in absurd (omega arith)
     by false e = refl
 
--- behind a sign a new line one indent further in is spaces
+-- behind an indicator a new line one indent further in is spaces
 compact_behind : (c k : ℕ) (cursor : Cursor) → 1 ≤ k → cursor.column ≡ c + 1 → cursor.indention ≡ true → Compact (c + suc k) cursor
 compact_behind c k cursor deep at h =
     let more : cursor.column < c + suc k = omega arith in
@@ -135,13 +135,13 @@ compact_at (Some c) undented (suc k) cursor deep stands h =
     and_no false = refl
 
 -- behind properties or without them
-compact_begun : (rules : Rules) (anchor tag : Option Text) (column : Option ℕ) (undented : Bool) (indent : ℕ) (cursor : Cursor) (begun : Laid) → 2 ≤ indent
+compact_begun : (rules : Rules) (anchor tag : Option Text) (column : Option ℕ) (undented : Bool) (indent : ℕ) (cursor : Cursor) (begun : Rendered) → 2 ≤ indent
     → Stands column cursor
     → BegunKind rules anchor tag cursor begun → begun.cursor.indention ≡ true → Compact (entries_column false undented indent column begun.cursor) begun.cursor
-compact_begun rules anchor tag column undented indent cursor begun deep stands (is_said is) h = absurd (false≢true (sym is.ends ∙ h))
+compact_begun rules anchor tag column undented indent cursor begun deep stands (is_parsed is) h = absurd (false≢true (sym is.ends ∙ h))
 compact_begun rules anchor tag column undented indent cursor begun deep stands (unsaid no_anchor no_tag nothing) h =
-    subst (λ (b : Laid). Compact (entries_column false undented indent column b.cursor) b.cursor) (sym nothing)
-    (compact_at column undented indent cursor deep stands (ap (λ (b : Laid). b.cursor.indention) (sym nothing) ∙ h))
+    subst (λ (b : Rendered). Compact (entries_column false undented indent column b.cursor) b.cursor) (sym nothing)
+    (compact_at column undented indent cursor deep stands (ap (λ (b : Rendered). b.cursor.indention) (sym nothing) ∙ h))
 
 -- the items of a sequence in a block stand within the columns around
 items_within : (s : Effective) (q : Bool) (d : ℕ) (role : Role) (column : Option ℕ) (cursor : Cursor) → 2 ≤ s.indent → WithinColumn q d role column
@@ -172,7 +172,7 @@ pairs_within q d role (Some c) indent cursor deep within = by (q && is_in_mappin
 -- The law
 
 -- what fits for a size fits for a greater one
-fits_deeper : (rules : Rules) (m n : ℕ) (own : Laid) (tree : Tree) (place : Place) (cursor : Cursor) → m ≤ n → Fits rules m own tree place cursor
+fits_deeper : (rules : Rules) (m n : ℕ) (own : Rendered) (tree : Tree) (place : Place) (cursor : Cursor) → m ≤ n → Fits rules m own tree place cursor
     → Fits rules n own tree place cursor
 fits_deeper rules m n own tree place cursor le fit = record {
   settled = fit.settled;
@@ -195,13 +195,13 @@ sequence_fits : (start : Collection) (items : Nodes) (rules : Rules) (s : Effect
     (node_tree (sequence_node start items) s directives place) place cursor
 sequence_fits start items rules s directives place cursor deep stands leaves each = by (is_written_in_flow s place start (has_no_nodes items)) refl leaves
   where
-    begun : Laid
-    begun = begun_laid s directives start cursor
+    begun : Rendered
+    begun = render_begun s directives start cursor
 
     e : ℕ
     e = entries_column false (is_undented s place.role) s.indent place.column begun.cursor
 
-    own : Bool → Laid
+    own : Bool → Rendered
     own x = collection_own s square x (is_undented s place.role) (has_no_nodes items) place.column begun (items_own items s directives x)
 
     tree : Bool → Tree
@@ -238,13 +238,13 @@ mapping_fits : (start : Collection) (pairs : Pairs) (rules : Rules) (s : Effecti
     (node_tree (mapping_node start pairs) s directives place) place cursor
 mapping_fits start pairs rules s directives place cursor deep stands leaves each = by (is_written_in_flow s place start (has_no_pairs pairs)) refl leaves
   where
-    begun : Laid
-    begun = begun_laid s directives start cursor
+    begun : Rendered
+    begun = render_begun s directives start cursor
 
     e : ℕ
     e = entries_column false false s.indent place.column begun.cursor
 
-    own : Bool → Laid
+    own : Bool → Rendered
     own x = collection_own s curly x false (has_no_pairs pairs) place.column begun (pairs_own pairs s directives x)
 
     tree : Bool → Tree
@@ -276,18 +276,19 @@ pair_fits : (x : Bool) (pairs : Pairs) (key value : Node) (rules : Rules) (s : E
     → EitherType x
     (KeyFits rules (simple_key pairs key s directives e).text (node_tree key s directives (key_place pairs e))
     × Leaves value rules s directives (value_place true e) (colon_cursor (simple_key pairs key s directives e).cursor))
-    (Leaves key rules s directives (key_place pairs e) (sign_cursor e) × Leaves value rules s directives (value_place false e) (sign_cursor e))
+    (Leaves key rules s directives (key_place pairs e) (indicator_cursor e) × Leaves value rules s directives (value_place false e) (indicator_cursor e))
     → ((y : Bool) (cursor : Cursor) → Stands (Some e) cursor → Leaves value rules s directives (value_place y e) cursor
     → Fits rules (size value) (node_own value s directives (value_place y e) cursor) (node_tree value s directives (value_place y e)) (value_place y e) cursor)
-    → (Leaves key rules s directives (key_place pairs e) (sign_cursor e)
-    → Fits rules (size key) (node_own key s directives (key_place pairs e) (sign_cursor e)) (node_tree key s directives (key_place pairs e)) (key_place pairs e)
-    (sign_cursor e))
+    → (Leaves key rules s directives (key_place pairs e) (indicator_cursor e)
+    → Fits rules (size key) (node_own key s directives (key_place pairs e) (indicator_cursor e)) (node_tree key s directives (key_place pairs e))
+    (key_place pairs e)
+    (indicator_cursor e))
     → PairFits x rules s directives pairs key value e
 pair_fits true pairs key value rules s directives e leaves value_fits key_fits =
     let own = (simple_key pairs key s directives e).cursor in
     (leaves.0, value_fits true (colon_cursor own) (refl, λ h. absurd (false≢true (sym (colon_ends own) ∙ h))) leaves.1)
 pair_fits false pairs key value rules s directives e leaves value_fits
-    key_fits = (key_fits leaves.0, value_fits false (sign_cursor e) (refl, λ h. refl) leaves.1)
+    key_fits = (key_fits leaves.0, value_fits false (indicator_cursor e) (refl, λ h. refl) leaves.1)
 
 -- a node in a block fits where its leaves do; so do the items of a sequence and the pairs of a mapping
 mutual
@@ -307,7 +308,7 @@ mutual
   items_fit no_nodes rules s directives e deep leaves = tt
   items_fit (nodes_and items last) rules s directives e deep leaves = (
     items_fit items rules s directives e deep leaves.0,
-    node_fits last rules s directives (item_place items e) (sign_cursor e) deep (refl, λ h. refl) leaves.1,
+    node_fits last rules s directives (item_place items e) (indicator_cursor e) deep (refl, λ h. refl) leaves.1,
   )
 
   pub pairs_fit : (pairs : Pairs) (rules : Rules) (s : Effective) (directives : List TagDirective) (e : ℕ) → 2 ≤ s.indent
@@ -318,5 +319,5 @@ mutual
     pairs_fit pairs rules s directives e deep leaves.0,
     pair_fits (is_simple s.canonical directives key) pairs key value rules s directives e leaves.1
         (λ y cursor stands each. node_fits value rules s directives (value_place y e) cursor deep stands each)
-        (λ each. node_fits key rules s directives (key_place pairs e) (sign_cursor e) deep (refl, λ h. refl) each),
+        (λ each. node_fits key rules s directives (key_place pairs e) (indicator_cursor e) deep (refl, λ h. refl) each),
   )

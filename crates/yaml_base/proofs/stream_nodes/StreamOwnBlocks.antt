@@ -7,12 +7,12 @@ use Rattle.std.specs.Prelude.{ℕ, Bool, true, false, Option, None, Some, List, 
 use Rattle.yaml_base.specs.Characters.{Text, is_between, is_printable}
 use Rattle.yaml_base.specs.LineBreaks.{is_read_break}
 use Rattle.yaml_base.specs.Event.{ScalarStyle, literal, folded}
-use Rattle.yaml_base.specs.reading.ReadTags.{TagSaid}
+use Rattle.yaml_base.specs.reading.ReadTags.{ParsedTag}
 use Rattle.yaml_base.specs.reading.ReadBlock.{elements, digit_first, after_digit, chomping_first, after_chomping, after_break, read_lines, read_block}
 use Rattle.yaml_base.specs.reading.TidyText.{has_deep_lines, is_tidy}
 use Rattle.yaml_base.specs.streams.StreamContent.{stood_quoted}
-use Rattle.yaml_base.specs.streams.StreamLines.{Line, extending, character_before, lines_of}
-use Rattle.yaml_base.specs.streams.StreamScalars.{Rules, Properties, no_properties, scalar_said, a_scalar, kind_of_word, word_by_kind}
+use Rattle.yaml_base.specs.streams.StreamLines.{Line, prepend_to_first_line, prepend_character, lines_of}
+use Rattle.yaml_base.specs.streams.StreamScalars.{Rules, Properties, no_properties, scalar_parsed, a_scalar, kind_of_word, word_by_kind}
 use Rattle.yaml_base.specs.streams.StreamNodes.{key_of_text, word_of_alias}
 use Rattle.yaml_base.proofs.stream_lines.StreamLineLaws.{OneLine, one_line_both}
 use Rattle.yaml_base.proofs.stream_lines.StreamTidyLaws.{first_text}
@@ -22,12 +22,12 @@ use Rattle.yaml_base.proofs.stream_flow.StreamPropertyWords.{lead}
 use Rattle.yaml_base.proofs.stream_flow.StreamFlowWords.{Given}
 use Rattle.yaml_base.proofs.stream_keys.StreamNoKeys.{KeyNowhere, nowhere_alone}
 use Rattle.yaml_base.proofs.stream_nodes.StreamOwnTexts.{OwnText}
-use Rattle.yaml_base.proofs.stream_nodes.StreamOwnWords.{feed, deep_more, tidy_deep, lines_deeper, behind_no_key, first_passes, none_said}
+use Rattle.yaml_base.proofs.stream_nodes.StreamOwnWords.{feed, deep_more, tidy_deep, lines_deeper, behind_no_key, first_passes, none_parsed}
 
--- the sign of a block style, and the style
-abbrev pub block_sign : (is_literal : Bool) → ℕ
-block_sign true = 0x7C
-block_sign false = 0x3E
+-- the indicator of a block style, and the style
+abbrev pub block_indicator : (is_literal : Bool) → ℕ
+block_indicator true = 0x7C
+block_indicator false = 0x3E
 
 abbrev pub block_style : (is_literal : Bool) → ScalarStyle
 block_style true = literal
@@ -35,7 +35,7 @@ block_style false = folded
 
 -- No key
 
--- a line has no break after a header's digit and sign
+-- a line has no break after a header's digit and indicator
 header_alone : (breaks12 : Bool) (b : Text) → OneLine breaks12 b → after_break breaks12 (after_chomping (after_digit b)) ≡ None
 header_alone breaks12 b one = unbroken (after_chomping (after_digit b)) (chomped (after_digit b) (digits b one))
   where
@@ -60,14 +60,14 @@ header_alone breaks12 b one = unbroken (after_chomping (after_digit b)) (chomped
     unbroken (c ∷ b) one = ap (λ x. if x then Some b else None) (or_parts (is_read_break breaks12 c) (list_any (is_read_break breaks12) b) one).0
 
 -- so one line alone is no block scalar
-no_block : (breaks12 l : Bool) (b : Text) → OneLine breaks12 b → read_block breaks12 None (block_sign l ∷ b) ≡ None
+no_block : (breaks12 l : Bool) (b : Text) → OneLine breaks12 b → read_block breaks12 None (block_indicator l ∷ b) ≡ None
 no_block breaks12 true b one =
     ap (option_and_then (λ body. read_lines false (chomping_first (after_digit b)) (digit_first b) None (elements breaks12 body))) (header_alone breaks12 b one)
 no_block breaks12 false b one =
     ap (option_and_then (λ body. read_lines true (chomping_first (after_digit b)) (digit_first b) None (elements breaks12 body))) (header_alone breaks12 b one)
 
--- a text that begins with such a sign is a scalar
-block_kind : (l : Bool) (t : Text) → kind_of_word (block_sign l ∷ t) ≡ a_scalar
+-- a text that begins with such an indicator is a scalar
+block_kind : (l : Bool) (t : Text) → kind_of_word (block_indicator l ∷ t) ≡ a_scalar
 block_kind true [] = refl
 block_kind true (c ∷ []) = refl
 block_kind true (c ∷ d ∷ t) = refl
@@ -76,7 +76,7 @@ block_kind false (c ∷ []) = refl
 block_kind false (c ∷ d ∷ t) = refl
 
 -- and no alias
-block_no_alias : (rules : Rules) (l : Bool) (u : Text) → word_of_alias rules (block_sign l ∷ u) ≡ None
+block_no_alias : (rules : Rules) (l : Bool) (u : Text) → word_of_alias rules (block_indicator l ∷ u) ≡ None
 block_no_alias rules true [] =
     scalar_no_alias no_properties stood_quoted (if is_tidy literal rules.breaks12 None (0x7C ∷ []) then read_block rules.breaks12 None (0x7C ∷ []) else None)
 block_no_alias rules true (c ∷ []) =
@@ -95,100 +95,101 @@ block_no_alias rules false (c ∷ d ∷ u) =
     (if is_tidy folded rules.breaks12 None (0x3E ∷ c ∷ d ∷ u) then read_block rules.breaks12 None (0x3E ∷ c ∷ d ∷ u) else None)
 
 -- the beginning of a header is no key
-header_part : (rules : Rules) (l : Bool) (anchor tag : Option Text) (said : Option TagSaid) (b : Text) → Given rules anchor tag said → OneLine rules.breaks12 b
-    → key_of_text rules (lead anchor tag ++ (block_sign l ∷ b)) ≡ None
-header_part rules l anchor tag said b given one =
-    let properties : Properties = record { anchor = anchor; tag = said } in
-    behind_no_key rules anchor tag said (block_sign l) b given (content l)
-    (ap (λ k. word_by_kind k rules false None properties (block_sign l ∷ b)) (block_kind l b) ∙ by l)
+header_part : (rules : Rules) (l : Bool) (anchor tag : Option Text) (parsed : Option ParsedTag) (b : Text) → Given rules anchor tag parsed
+    → OneLine rules.breaks12 b
+    → key_of_text rules (lead anchor tag ++ (block_indicator l ∷ b)) ≡ None
+header_part rules l anchor tag parsed b given one =
+    let properties : Properties = record { anchor = anchor; tag = parsed } in
+    behind_no_key rules anchor tag parsed (block_indicator l) b given (content l)
+    (ap (λ k. word_by_kind k rules false None properties (block_indicator l ∷ b)) (block_kind l b) ∙ by l)
     (block_no_alias rules l)
   where
-    content : (l : Bool) → begins_content (block_sign l ∷ b) ≡ true
+    content : (l : Bool) → begins_content (block_indicator l ∷ b) ≡ true
     content true = refl
     content false = refl
 
-    by : (l : Bool) → word_by_kind a_scalar rules false None (record { anchor = anchor; tag = said }) (block_sign l ∷ b) ≡ None
+    by : (l : Bool) → word_by_kind a_scalar rules false None (record { anchor = anchor; tag = parsed }) (block_indicator l ∷ b) ≡ None
     by true =
-        ap (λ v. scalar_said (record { anchor = anchor; tag = said }) stood_quoted (if is_tidy literal rules.breaks12 None (0x7C ∷ b) then v else None))
+        ap (λ v. scalar_parsed (record { anchor = anchor; tag = parsed }) stood_quoted (if is_tidy literal rules.breaks12 None (0x7C ∷ b) then v else None))
         (no_block rules.breaks12 true b one)
-        ∙ none_said (record { anchor = anchor; tag = said }) stood_quoted (is_tidy literal rules.breaks12 None (0x7C ∷ b))
+        ∙ none_parsed (record { anchor = anchor; tag = parsed }) stood_quoted (is_tidy literal rules.breaks12 None (0x7C ∷ b))
     by false =
-        ap (λ v. scalar_said (record { anchor = anchor; tag = said }) stood_quoted (if is_tidy folded rules.breaks12 None (0x3E ∷ b) then v else None))
+        ap (λ v. scalar_parsed (record { anchor = anchor; tag = parsed }) stood_quoted (if is_tidy folded rules.breaks12 None (0x3E ∷ b) then v else None))
         (no_block rules.breaks12 false b one)
-        ∙ none_said (record { anchor = anchor; tag = said }) stood_quoted (is_tidy folded rules.breaks12 None (0x3E ∷ b))
+        ∙ none_parsed (record { anchor = anchor; tag = parsed }) stood_quoted (is_tidy folded rules.breaks12 None (0x3E ∷ b))
 
 -- so no key ends in the first line
-header_nowhere : (rules : Rules) (l : Bool) (anchor tag : Option Text) (said : Option TagSaid) (b u : Text) → Given rules anchor tag said
+header_nowhere : (rules : Rules) (l : Bool) (anchor tag : Option Text) (parsed : Option ParsedTag) (b u : Text) → Given rules anchor tag parsed
     → OneLine rules.breaks12 b
-    → KeyNowhere rules (lead anchor tag ++ (block_sign l ∷ b)) (first_text (lines_of rules.breaks12 u))
-header_nowhere rules l anchor tag said b [] given one = tt
-header_nowhere rules l anchor tag said b (c ∷ u) given one =
-    by (is_read_break rules.breaks12 c) refl (λ longer. header_nowhere rules l anchor tag said (b ++ (c ∷ [])) u given longer)
+    → KeyNowhere rules (lead anchor tag ++ (block_indicator l ∷ b)) (first_text (lines_of rules.breaks12 u))
+header_nowhere rules l anchor tag parsed b [] given one = tt
+header_nowhere rules l anchor tag parsed b (c ∷ u) given one =
+    by (is_read_break rules.breaks12 c) refl (λ longer. header_nowhere rules l anchor tag parsed (b ++ (c ∷ [])) u given longer)
   where
-    here : (f : Text) → KeyNowhere rules (lead anchor tag ++ (block_sign l ∷ (b ++ (c ∷ [])))) f
-        → KeyNowhere rules (lead anchor tag ++ (block_sign l ∷ b)) (c ∷ f)
+    here : (f : Text) → KeyNowhere rules (lead anchor tag ++ (block_indicator l ∷ (b ++ (c ∷ [])))) f
+        → KeyNowhere rules (lead anchor tag ++ (block_indicator l ∷ b)) (c ∷ f)
     here f more = (
-      λ h. header_part rules l anchor tag said b given one,
-      subst (λ t. KeyNowhere rules t f) (sym (append_assoc (lead anchor tag) (block_sign l ∷ b) (c ∷ []))) more,
+      λ h. header_part rules l anchor tag parsed b given one,
+      subst (λ t. KeyNowhere rules t f) (sym (append_assoc (lead anchor tag) (block_indicator l ∷ b) (c ∷ []))) more,
     )
 
-    extended : (lines : List Line) → KeyNowhere rules (lead anchor tag ++ (block_sign l ∷ (b ++ (c ∷ [])))) (first_text lines)
-        → KeyNowhere rules (lead anchor tag ++ (block_sign l ∷ b)) (first_text (extending c lines))
-    extended [] more = here [] more
-    extended (line ∷ rest) more = here line.text more
+    prepend_to_elements : (lines : List Line) → KeyNowhere rules (lead anchor tag ++ (block_indicator l ∷ (b ++ (c ∷ [])))) (first_text lines)
+        → KeyNowhere rules (lead anchor tag ++ (block_indicator l ∷ b)) (first_text (prepend_to_first_line c lines))
+    prepend_to_elements [] more = here [] more
+    prepend_to_elements (line ∷ rest) more = here line.text more
 
     by : (x : Bool) → is_read_break rules.breaks12 c ≡ x
-        → (OneLine rules.breaks12 (b ++ (c ∷ [])) → KeyNowhere rules (lead anchor tag ++ (block_sign l ∷ (b ++ (c ∷ []))))
+        → (OneLine rules.breaks12 (b ++ (c ∷ [])) → KeyNowhere rules (lead anchor tag ++ (block_indicator l ∷ (b ++ (c ∷ []))))
         (first_text (lines_of rules.breaks12 u)))
-        → KeyNowhere rules (lead anchor tag ++ (block_sign l ∷ b)) (first_text (character_before x c (lines_of rules.breaks12 u)))
+        → KeyNowhere rules (lead anchor tag ++ (block_indicator l ∷ b)) (first_text (prepend_character x c (lines_of rules.breaks12 u)))
     by true e more = tt
-    by false e more = extended (lines_of rules.breaks12 u) (more (one_line_both rules.breaks12 b (c ∷ []) one (ap (λ x. x || false) e)))
+    by false e more = prepend_to_elements (lines_of rules.breaks12 u) (more (one_line_both rules.breaks12 b (c ∷ []) one (ap (λ x. x || false) e)))
 
 -- Block scalars
 
--- such a sign breaks no line
-signs_go_on : (breaks12 l : Bool) → is_read_break breaks12 (block_sign l) ≡ false
-signs_go_on true true = refl
-signs_go_on true false = refl
-signs_go_on false true = refl
-signs_go_on false false = refl
+-- such an indicator breaks no line
+indicators_go_on : (breaks12 l : Bool) → is_read_break breaks12 (block_indicator l) ≡ false
+indicators_go_on true true = refl
+indicators_go_on true false = refl
+indicators_go_on false true = refl
+indicators_go_on false false = refl
 
 -- a tidy text that reads as a block scalar
-pub own_block : (rules : Rules) (column : Option ℕ) (l : Bool) (u v : Text) → is_tidy (block_style l) rules.breaks12 column (block_sign l ∷ u) ≡ true
-    → read_block rules.breaks12 column (block_sign l ∷ u) ≡ Some v → OwnText rules column (block_sign l ∷ u) (block_style l) v
+pub own_block : (rules : Rules) (column : Option ℕ) (l : Bool) (u v : Text) → is_tidy (block_style l) rules.breaks12 column (block_indicator l ∷ u) ≡ true
+    → read_block rules.breaks12 column (block_indicator l ∷ u) ≡ Some v → OwnText rules column (block_indicator l ∷ u) (block_style l) v
 own_block rules column true u v tidy read = record {
   head = 0x7C;
   tail = u;
   is = refl;
   content = refl;
-  goes_on = signs_go_on rules.breaks12 true;
+  goes_on = indicators_go_on rules.breaks12 true;
   no_item = refl;
   no_key = refl;
-  keyless = λ anchor tag said given.
+  keyless = λ anchor tag parsed given.
       first_passes rules (lead anchor tag) (first_text (lines_of rules.breaks12 u)) 0x7C refl
       (nowhere_alone rules (lead anchor tag ++ (0x7C ∷ [])) (first_text (lines_of rules.breaks12 u))
-      (header_nowhere rules true anchor tag said [] u given refl));
-  deeper = lines_deeper rules.breaks12 column 0x7C u (signs_go_on rules.breaks12 true) (tidy_deep literal rules.breaks12 column (0x7C ∷ u) tidy);
+      (header_nowhere rules true anchor tag parsed [] u given refl));
+  deeper = lines_deeper rules.breaks12 column 0x7C u (indicators_go_on rules.breaks12 true) (tidy_deep literal rules.breaks12 column (0x7C ∷ u) tidy);
   read = λ properties.
-      ap (λ x. scalar_said properties stood_quoted (if x then read_block rules.breaks12 column (0x7C ∷ u) else None)) tidy
-      ∙ ap (scalar_said properties stood_quoted) read;
+      ap (λ x. scalar_parsed properties stood_quoted (if x then read_block rules.breaks12 column (0x7C ∷ u) else None)) tidy
+      ∙ ap (scalar_parsed properties stood_quoted) read;
 }
 own_block rules column false u v tidy read = record {
   head = 0x3E;
   tail = u;
   is = refl;
   content = refl;
-  goes_on = signs_go_on rules.breaks12 false;
+  goes_on = indicators_go_on rules.breaks12 false;
   no_item = refl;
   no_key = refl;
-  keyless = λ anchor tag said given.
+  keyless = λ anchor tag parsed given.
       first_passes rules (lead anchor tag) (first_text (lines_of rules.breaks12 u)) 0x3E refl
       (nowhere_alone rules (lead anchor tag ++ (0x3E ∷ [])) (first_text (lines_of rules.breaks12 u))
-      (header_nowhere rules false anchor tag said [] u given refl));
-  deeper = lines_deeper rules.breaks12 column 0x3E u (signs_go_on rules.breaks12 false) (tidy_deep folded rules.breaks12 column (0x3E ∷ u) tidy);
+      (header_nowhere rules false anchor tag parsed [] u given refl));
+  deeper = lines_deeper rules.breaks12 column 0x3E u (indicators_go_on rules.breaks12 false) (tidy_deep folded rules.breaks12 column (0x3E ∷ u) tidy);
   read = λ properties.
-      ap (λ x. scalar_said properties stood_quoted (if x then read_block rules.breaks12 column (0x3E ∷ u) else None)) tidy
-      ∙ ap (scalar_said properties stood_quoted) read;
+      ap (λ x. scalar_parsed properties stood_quoted (if x then read_block rules.breaks12 column (0x3E ∷ u) else None)) tidy
+      ∙ ap (scalar_parsed properties stood_quoted) read;
 }
 
 -- it stays tidy with a break more

@@ -10,8 +10,8 @@ use Rattle.yaml_base.specs.Event.{plain}
 use Rattle.yaml_base.specs.reading.ReadPlain.{is_read_white, begins_white, begins_with_three, begins_with_hash, begins_no_plain, holds_no_plain, read_plain}
 use Rattle.yaml_base.specs.reading.TidyText.{has_deep_lines, ends_white, has_no_space_before_break, has_clean_edges, is_tidy}
 use Rattle.yaml_base.specs.streams.StreamContent.{stood_plain}
-use Rattle.yaml_base.specs.streams.StreamLines.{Line, extending, character_before, lines_of, ends_sign, begins_with_sign}
-use Rattle.yaml_base.specs.streams.StreamScalars.{Rules, scalar_said, scalar_of_style, word_by_kind, word_after}
+use Rattle.yaml_base.specs.streams.StreamLines.{Line, prepend_to_first_line, prepend_character, lines_of, ends_indicator, begins_with_indicator}
+use Rattle.yaml_base.specs.streams.StreamScalars.{Rules, scalar_parsed, scalar_of_style, word_by_kind, word_after}
 use Rattle.yaml_base.specs.streams.StreamNodes.{key_ends, key_from, word_text, kind_of_text, text_by_kind}
 use Rattle.yaml_base.proofs.stream_lines.StreamTidyLaws.{first_text, tidy_at_root}
 use Rattle.yaml_base.proofs.stream_keys.StreamPlainKeys.{Begins, begins, reads_plain, tidy_begins, plain_kind, plain_style}
@@ -22,14 +22,14 @@ use Rattle.yaml_base.proofs.stream_nodes.StreamOwnWords.{feed, deep_more, tidy_d
 -- the first line after a character that breaks none
 first_after : (breaks12 : Bool) (c : ℕ) (t : Text) → is_read_break breaks12 c ≡ false
     → first_text (lines_of breaks12 (c ∷ t)) ≡ c ∷ first_text (lines_of breaks12 t)
-first_after breaks12 c t h = ap (λ x. first_text (character_before x c (lines_of breaks12 t))) h ∙ by (lines_of breaks12 t)
+first_after breaks12 c t h = ap (λ x. first_text (prepend_character x c (lines_of breaks12 t))) h ∙ by (lines_of breaks12 t)
   where
-    by : (lines : List Line) → first_text (extending c lines) ≡ c ∷ first_text lines
+    by : (lines : List Line) → first_text (prepend_to_first_line c lines) ≡ c ∷ first_text lines
     by [] = refl
     by (line ∷ rest) = refl
 
 -- where a line ends or goes on with a space, so does its text
-ends_begins : (breaks12 : Bool) (t : Text) → ends_sign (first_text (lines_of breaks12 (t ++ feed))) ≡ true → begins_white breaks12 t ≡ true
+ends_begins : (breaks12 : Bool) (t : Text) → ends_indicator (first_text (lines_of breaks12 (t ++ feed))) ≡ true → begins_white breaks12 t ≡ true
 ends_begins breaks12 [] h = refl
 ends_begins breaks12 (c ∷ t) h = by (is_read_break breaks12 c) refl
   where
@@ -39,7 +39,7 @@ ends_begins breaks12 (c ∷ t) h = by (is_read_break breaks12 c) refl
         or_true : (x : Bool) → (x || true) ≡ true
         or_true true = refl
         or_true false = refl
-    by false e = ap (λ x. (x || c == tab) || is_read_break breaks12 c) (sym (ap ends_sign (first_after breaks12 c (t ++ feed) e)) ∙ h)
+    by false e = ap (λ x. (x || c == tab) || is_read_break breaks12 c) (sym (ap ends_indicator (first_after breaks12 c (t ++ feed) e)) ∙ h)
 
 -- no key ends in the first line of plain text
 plain_keyless : (rules : Rules) (before t : Text) → holds_no_plain rules.breaks12 false t ≡ false
@@ -58,32 +58,32 @@ plain_keyless rules before (c ∷ t) h = by (is_read_break rules.breaks12 c) ref
         (or_parts (c == 58 && begins_white rules.breaks12 t) (is_read_white rules.breaks12 c && begins_with_hash t)
         (or_parts ((c == 58 && begins_white rules.breaks12 t) || (is_read_white rules.breaks12 c && begins_with_hash t)) false parts.0).0).0
 
-    no_end : (x : Bool) → (c == 0x3A) ≡ x → (y : Bool) → ends_sign (first_text (lines_of rules.breaks12 (t ++ feed))) ≡ y → (x && y) ≡ false
+    no_end : (x : Bool) → (c == 0x3A) ≡ x → (y : Bool) → ends_indicator (first_text (lines_of rules.breaks12 (t ++ feed))) ≡ y → (x && y) ≡ false
     no_end false e y k = refl
     no_end true e false k = refl
     no_end true e true k = absurd (true≢false (sym (ap (λ x. x && begins_white rules.breaks12 t) e ∙ ends_begins rules.breaks12 t k) ∙ colon))
 
     by : (x : Bool) → is_read_break rules.breaks12 c ≡ x → key_from rules (before ++ (c ∷ [])) (first_text (lines_of rules.breaks12 (t ++ feed))) ≡ None
         → key_from rules before (first_text (lines_of rules.breaks12 ((c ∷ t) ++ feed))) ≡ None
-    by true e more = ap (λ x. key_from rules before (first_text (character_before x c (lines_of rules.breaks12 (t ++ feed))))) e
+    by true e more = ap (λ x. key_from rules before (first_text (prepend_character x c (lines_of rules.breaks12 (t ++ feed))))) e
     by false e more =
         ap (key_from rules before) (first_after rules.breaks12 c (t ++ feed) e)
         ∙ ap (λ x. option_or (key_ends rules x before (first_text (lines_of rules.breaks12 (t ++ feed))))
         (key_from rules (before ++ (c ∷ [])) (first_text (lines_of rules.breaks12 (t ++ feed)))))
-        (no_end (c == 0x3A) refl (ends_sign (first_text (lines_of rules.breaks12 (t ++ feed)))) refl)
+        (no_end (c == 0x3A) refl (ends_indicator (first_text (lines_of rules.breaks12 (t ++ feed)))) refl)
         ∙ more
 
--- no sign begins plain text
-plain_signless : (breaks12 : Bool) (n c : ℕ) (t : Text) → is_among (codes "?:-") n ≡ true → begins_no_plain breaks12 (c ∷ t) ≡ false
-    → begins_with_sign n (c ∷ first_text (lines_of breaks12 (t ++ feed))) ≡ false
-plain_signless breaks12 n c t sign h = by (c == n) refl (ends_sign (first_text (lines_of breaks12 (t ++ feed)))) refl
+-- no indicator begins plain text
+plain_without_indicator : (breaks12 : Bool) (n c : ℕ) (t : Text) → is_among (codes "?:-") n ≡ true → begins_no_plain breaks12 (c ∷ t) ≡ false
+    → begins_with_indicator n (c ∷ first_text (lines_of breaks12 (t ++ feed))) ≡ false
+plain_without_indicator breaks12 n c t symbol h = by (c == n) refl (ends_indicator (first_text (lines_of breaks12 (t ++ feed)))) refl
   where
-    by : (x : Bool) → (c == n) ≡ x → (y : Bool) → ends_sign (first_text (lines_of breaks12 (t ++ feed))) ≡ y → (x && y) ≡ false
+    by : (x : Bool) → (c == n) ≡ x → (y : Bool) → ends_indicator (first_text (lines_of breaks12 (t ++ feed))) ≡ y → (x && y) ≡ false
     by false e y k = refl
     by true e false k = refl
     by true e true k =
         absurd (true≢false
-        (sym (ap (λ x. x && begins_white breaks12 t) (ap (is_among (codes "?:-")) (eqb-true c n e) ∙ sign) ∙ ends_begins breaks12 t k)
+        (sym (ap (λ x. x && begins_white breaks12 t) (ap (is_among (codes "?:-")) (eqb-true c n e) ∙ symbol) ∙ ends_begins breaks12 t k)
         ∙ (or_parts (begins_with_three 45 (c ∷ t) || begins_with_three 46 (c ∷ t) || is_among (codes "#,[]{}&*!|>'\"%@`") c)
         (is_among (codes "?:-") c && begins_white breaks12 t) h).1))
 
@@ -115,9 +115,9 @@ own_plain rules column c t v tidy read =
       is = refl;
       content = rw (b.blank, b.anchor, b.tag) refl;
       goes_on = goes_on;
-      no_item = plain_signless rules.breaks12 0x2D c t refl parts.0;
-      no_key = plain_signless rules.breaks12 0x3F c t refl parts.0;
-      keyless = λ anchor tag said given.
+      no_item = plain_without_indicator rules.breaks12 0x2D c t refl parts.0;
+      no_key = plain_without_indicator rules.breaks12 0x3F c t refl parts.0;
+      keyless = λ anchor tag parsed given.
           ap (key_from rules (lead anchor tag)) (sym (first_after rules.breaks12 c (t ++ feed) goes_on))
           ∙ plain_keyless rules (lead anchor tag) (c ∷ t) parts.1;
       deeper = lines_deeper rules.breaks12 column c (t ++ feed) goes_on
@@ -127,8 +127,8 @@ own_plain rules column c t v tidy read =
           ∙ ap (word_after rules false column properties) (shown_trimmed rules.breaks12 c t (plain_ends_shown rules.breaks12 c t at_root))
           ∙ ap (λ k. word_by_kind k rules false column properties (c ∷ t)) (plain_kind c t b)
           ∙ ap (λ style. scalar_of_style style rules false column properties (c ∷ t)) (plain_style c t b)
-          ∙ ap (λ x. scalar_said properties stood_plain (if x then read_plain rules.breaks12 false (c ∷ t) else None)) tidy
-          ∙ ap (scalar_said properties stood_plain) read;
+          ∙ ap (λ x. scalar_parsed properties stood_plain (if x then read_plain rules.breaks12 false (c ∷ t) else None)) tidy
+          ∙ ap (scalar_parsed properties stood_plain) read;
     }
   where
     own_text : Begins c → kind_of_text (c ∷ []) ≡ word_text

@@ -8,11 +8,12 @@ use Rattle.yaml_base.specs.Characters.{Text, space}
 use Rattle.yaml_base.specs.LineBreaks.{is_read_break}
 use Rattle.yaml_base.specs.Event.{ScalarStyle}
 use Rattle.yaml_base.specs.scalars.Style.{is_plain}
-use Rattle.yaml_base.specs.reading.ReadTags.{TagSaid}
+use Rattle.yaml_base.specs.reading.ReadTags.{ParsedTag}
 use Rattle.yaml_base.specs.streams.StreamContent.{scalar_tree}
-use Rattle.yaml_base.specs.streams.StreamLines.{Line, extending, character_before, lines_of, text_of_lines, ends_sign, begins_with_sign, without_blank_lines}
+use Rattle.yaml_base.specs.streams.StreamLines.{Line, prepend_to_first_line, prepend_character, lines_of, text_of_lines, ends_indicator}
+use Rattle.yaml_base.specs.streams.StreamLines.{begins_with_indicator, without_blank_lines}
 use Rattle.yaml_base.specs.streams.StreamLines.{all_deeper, Indented, spaces}
-use Rattle.yaml_base.specs.streams.StreamScalars.{Rules, Properties, properties_read, standing_of, scalar_said}
+use Rattle.yaml_base.specs.streams.StreamScalars.{Rules, Properties, properties_read, standing_of, scalar_parsed}
 use Rattle.yaml_base.specs.streams.StreamNodes.{key_of_text, key_ends, key_from, begins_sequence, begins_mapping, begins_text, kind_of_node, kind_of_text}
 use Rattle.yaml_base.specs.streams.StreamNodes.{text_by_kind, text_read, Reads, ReadsText, node_by_kind, node_at, node_lines, begins_properties}
 use Rattle.yaml_base.specs.streams.StreamNodes.{after_properties, text_or_properties}
@@ -22,7 +23,7 @@ use Rattle.yaml_base.proofs.stream_lines.StreamTidyLaws.{first_text, lines_after
 use Rattle.yaml_base.proofs.stream_lines.StreamClosed.{lines_behind}
 use Rattle.yaml_base.proofs.stream_nodes.StreamBlocks.{spaces_both}
 use Rattle.yaml_base.proofs.stream_nodes.StreamLeafFits.{TextReads}
-use Rattle.yaml_base.proofs.stream_nodes.StreamProperties.{has_properties, properties_text, begins_content, properties_said}
+use Rattle.yaml_base.proofs.stream_nodes.StreamProperties.{has_properties, properties_text, begins_content, properties_parsed}
 use Rattle.yaml_base.proofs.stream_flow.StreamPropertyWords.{lead}
 use Rattle.yaml_base.proofs.stream_nodes.StreamStands.{tag_meant}
 use Rattle.yaml_base.proofs.stream_nodes.StreamLeads.{lead_spaces, lead_then}
@@ -41,9 +42,9 @@ first_ending (line ∷ rest) = line.ending
 pub lines_shown : (breaks12 : Bool) (c : ℕ) (t : Text) → is_read_break breaks12 c ≡ false
     → lines_of breaks12 (c ∷ t)
     ≡ record { text = c ∷ first_text (lines_of breaks12 t); ending = first_ending (lines_of breaks12 t) } ∷ lines_after_first (lines_of breaks12 t)
-lines_shown breaks12 c t h = ap (λ x. character_before x c (lines_of breaks12 t)) h ∙ by (lines_of breaks12 t)
+lines_shown breaks12 c t h = ap (λ x. prepend_character x c (lines_of breaks12 t)) h ∙ by (lines_of breaks12 t)
   where
-    by : (lines : List Line) → extending c lines ≡ record { text = c ∷ first_text lines; ending = first_ending lines } ∷ lines_after_first lines
+    by : (lines : List Line) → prepend_to_first_line c lines ≡ record { text = c ∷ first_text lines; ending = first_ending lines } ∷ lines_after_first lines
     by [] = refl
     by (line ∷ rest) = refl
 
@@ -71,7 +72,7 @@ own_read rules column properties c t h deeper =
 nowhere_skips : (rules : Rules) (before a t : Text) → KeyNowhere rules before a → key_from rules before (a ++ t) ≡ key_from rules (before ++ a) t
 nowhere_skips rules before [] t none = ap (λ b. key_from rules b t) (sym (append-nil before))
 nowhere_skips rules before (c ∷ a) t none =
-    by (c == 0x3A && ends_sign (a ++ t)) (λ h. none.0 (and_parts (c == 0x3A) (ends_sign (a ++ t)) h).0)
+    by (c == 0x3A && ends_indicator (a ++ t)) (λ h. none.0 (and_parts (c == 0x3A) (ends_indicator (a ++ t)) h).0)
     ∙ nowhere_skips rules (before ++ (c ∷ [])) a t none.1
     ∙ ap (λ b. key_from rules b t) (append_assoc before (c ∷ []) a)
   where
@@ -92,39 +93,40 @@ pub record OwnText (rules : Rules) (column : Option ℕ) (text : Text) (style : 
   pub is : text ≡ head ∷ tail
   pub content : begins_content (head ∷ tail) ≡ true
   pub goes_on : is_read_break rules.breaks12 head ≡ false
-  pub no_item : begins_with_sign 0x2D (head ∷ first_text (lines_of rules.breaks12 tail)) ≡ false
-  pub no_key : begins_with_sign 0x3F (head ∷ first_text (lines_of rules.breaks12 tail)) ≡ false
-  pub keyless : (anchor tag : Option Text) (said : Option TagSaid) → Given rules anchor tag said
+  pub no_item : begins_with_indicator 0x2D (head ∷ first_text (lines_of rules.breaks12 tail)) ≡ false
+  pub no_key : begins_with_indicator 0x3F (head ∷ first_text (lines_of rules.breaks12 tail)) ≡ false
+  pub keyless : (anchor tag : Option Text) (parsed : Option ParsedTag) → Given rules anchor tag parsed
       → key_from rules (lead anchor tag) (head ∷ first_text (lines_of rules.breaks12 tail)) ≡ None
   pub deeper : (c : ℕ) → column ≡ Some c → AllInside true c (lines_after_first (lines_of rules.breaks12 tail))
   pub read : (properties : Properties)
-      → text_by_kind (kind_of_text (head ∷ [])) rules column properties (head ∷ tail) ≡ scalar_said properties (standing_of style) (Some value)
+      → text_by_kind (kind_of_text (head ∷ [])) rules column properties (head ∷ tail) ≡ scalar_parsed properties (standing_of style) (Some value)
 
 -- its first line begins a text, behind properties or without them
-pub own_kind : (rules : Rules) (anchor tag : Option Text) (said : Option TagSaid) (c : ℕ) (f : Text) → Given rules anchor tag said
-    → begins_with_sign 0x2D (c ∷ f) ≡ false → begins_with_sign 0x3F (c ∷ f) ≡ false → key_from rules (lead anchor tag) (c ∷ f) ≡ None
+pub own_kind : (rules : Rules) (anchor tag : Option Text) (parsed : Option ParsedTag) (c : ℕ) (f : Text) → Given rules anchor tag parsed
+    → begins_with_indicator 0x2D (c ∷ f) ≡ false → begins_with_indicator 0x3F (c ∷ f) ≡ false → key_from rules (lead anchor tag) (c ∷ f) ≡ None
     → kind_of_node rules (lead anchor tag ++ (c ∷ f)) ≡ begins_text
-own_kind rules anchor tag said c f given no_item no_key keyless =
-    ap (λ x. if x then begins_sequence else (if begins_with_sign 0x3F line || is_some (key_from rules [] line) then begins_mapping else begins_text))
-    (signless 0x2D refl refl no_item)
-    ∙ ap (λ x. if x || is_some (key_from rules [] line) then begins_mapping else begins_text) (signless 0x3F refl refl no_key)
+own_kind rules anchor tag parsed c f given no_item no_key keyless =
+    ap (λ x. if x then begins_sequence else (if begins_with_indicator 0x3F line || is_some (key_from rules [] line) then begins_mapping else begins_text))
+    (without_indicator 0x2D refl refl no_item)
+    ∙ ap (λ x. if x || is_some (key_from rules [] line) then begins_mapping else begins_text) (without_indicator 0x3F refl refl no_key)
     ∙ ap (λ x. if is_some x then begins_mapping else begins_text)
-    (nowhere_skips rules [] (lead anchor tag) (c ∷ f) (lead_nowhere rules anchor tag said given.named given.tagged) ∙ keyless)
+    (nowhere_skips rules [] (lead anchor tag) (c ∷ f) (lead_nowhere rules anchor tag parsed given.named given.tagged) ∙ keyless)
   where
     line : Text
     line = lead anchor tag ++ (c ∷ f)
 
-    signless : (n : ℕ) → (0x26 == n) ≡ false → (0x21 == n) ≡ false → begins_with_sign n (c ∷ f) ≡ false
-        → begins_with_sign n (lead anchor tag ++ (c ∷ f)) ≡ false
-    signless n no_anchor no_tag own = by anchor tag said given
+    without_indicator : (n : ℕ) → (0x26 == n) ≡ false → (0x21 == n) ≡ false → begins_with_indicator n (c ∷ f) ≡ false
+        → begins_with_indicator n (lead anchor tag ++ (c ∷ f)) ≡ false
+    without_indicator n no_anchor no_tag own = by anchor tag parsed given
       where
-        by : (anchor tag : Option Text) (said : Option TagSaid) → Given rules anchor tag said → begins_with_sign n (lead anchor tag ++ (c ∷ f)) ≡ false
-        by None None said given = own
-        by (Some name) None said given = ap (λ x. x && ends_sign ((name ++ (space ∷ [])) ++ (c ∷ f))) no_anchor
-        by (Some name) (Some tag) said given = ap (λ x. x && ends_sign (((name ++ (space ∷ tag)) ++ (space ∷ [])) ++ (c ∷ f))) no_anchor
-        by None (Some tag) (Some said) given =
-            ap (λ t. begins_with_sign n ((t ++ (space ∷ [])) ++ (c ∷ f))) given.tagged.begins
-            ∙ ap (λ x. x && ends_sign ((given.tagged.rest ++ (space ∷ [])) ++ (c ∷ f))) no_tag
+        by : (anchor tag : Option Text) (parsed : Option ParsedTag) → Given rules anchor tag parsed
+            → begins_with_indicator n (lead anchor tag ++ (c ∷ f)) ≡ false
+        by None None parsed given = own
+        by (Some name) None parsed given = ap (λ x. x && ends_indicator ((name ++ (space ∷ [])) ++ (c ∷ f))) no_anchor
+        by (Some name) (Some tag) parsed given = ap (λ x. x && ends_indicator (((name ++ (space ∷ tag)) ++ (space ∷ [])) ++ (c ∷ f))) no_anchor
+        by None (Some tag) (Some parsed) given =
+            ap (λ t. begins_with_indicator n ((t ++ (space ∷ [])) ++ (c ∷ f))) given.tagged.begins
+            ∙ ap (λ x. x && ends_indicator ((given.tagged.rest ++ (space ∷ [])) ++ (c ∷ f))) no_tag
         by None (Some tag) None given = absurd given.tagged
 
 -- Properties
@@ -145,12 +147,12 @@ behind_reads rules reads column properties k c f ending rest shows kind =
     ∙ ap (λ x. node_by_kind x rules reads by properties false true begun ending rest (line ∷ rest)) kind
 
 -- a text behind properties or without them is read with these
-pub said_reads : (rules : Rules) (reads : Reads) (column : Option ℕ) (at : ℕ) (anchor tag : Option Text) (said : Option TagSaid) (c : ℕ) (f ending : Text)
+pub parsed_reads : (rules : Rules) (reads : Reads) (column : Option ℕ) (at : ℕ) (anchor tag : Option Text) (parsed : Option ParsedTag) (c : ℕ) (f ending : Text)
     (rest : List Line)
-    → Given rules anchor tag said → begins_content (c ∷ f) ≡ true → kind_of_node rules (c ∷ f) ≡ begins_text
+    → Given rules anchor tag parsed → begins_content (c ∷ f) ≡ true → kind_of_node rules (c ∷ f) ≡ begins_text
     → text_or_properties (begins_properties (lead anchor tag ++ (c ∷ f))) rules reads column at (lead anchor tag ++ (c ∷ f)) ending rest
-    ≡ text_read rules column (record { anchor = anchor; tag = said }) (c ∷ f) ending rest
-said_reads rules reads column at anchor tag said c f ending rest given content kind = by anchor tag said given
+    ≡ text_read rules column (record { anchor = anchor; tag = parsed }) (c ∷ f) ending rest
+parsed_reads rules reads column at anchor tag parsed c f ending rest given content kind = by anchor tag parsed given
   where
     shown : ((c == space) ≡ false) × ((c == 0x26 || c == 0x21) ≡ false)
     shown = by (c == space) (c == 0x26) (c == 0x21) content
@@ -161,31 +163,31 @@ said_reads rules reads column at anchor tag said c f ending rest given content k
         by false true z h = absurd (false≢true h)
         by false false true h = absurd (false≢true h)
 
-    behind : (anchor tag : Option Text) (said : Option TagSaid) → Given rules anchor tag said → has_properties anchor tag ≡ true
+    behind : (anchor tag : Option Text) (parsed : Option ParsedTag) → Given rules anchor tag parsed → has_properties anchor tag ≡ true
         → after_properties rules reads column at ending rest (properties_read rules.directives (lead anchor tag ++ (c ∷ f)))
-        ≡ text_read rules column (record { anchor = anchor; tag = said }) (c ∷ f) ending rest
-    behind anchor tag said given has =
+        ≡ text_read rules column (record { anchor = anchor; tag = parsed }) (c ∷ f) ending rest
+    behind anchor tag parsed given has =
         let count = length (properties_text anchor tag) + lead_spaces anchor tag in
-        let properties : Properties = record { anchor = anchor; tag = said } in
+        let properties : Properties = record { anchor = anchor; tag = parsed } in
         ap (λ t. after_properties rules reads column at ending rest (properties_read rules.directives t)) (lead_then anchor tag (c ∷ f))
         ∙ ap (after_properties rules reads column at ending rest)
-        (properties_said rules.directives anchor tag said (lead_spaces anchor tag) (c ∷ f) given.named given.tagged content
-        (λ h. ap (λ x. ends_sign (spaces (if x then 1 else 0) ++ (c ∷ f))) has))
+        (properties_parsed rules.directives anchor tag parsed (lead_spaces anchor tag) (c ∷ f) given.named given.tagged content
+        (λ h. ap (λ x. ends_indicator (spaces (if x then 1 else 0) ++ (c ∷ f))) has))
         ∙ ap (λ t. node_lines rules reads (λ at. text_read rules column properties) properties false (record { text = t; ending = ending } ∷ rest))
         (spaces_both at count (at + count) (c ∷ f) refl)
         ∙ behind_reads rules reads column properties (at + count) c f ending rest shown.0 kind
 
-    by : (anchor tag : Option Text) (said : Option TagSaid) → Given rules anchor tag said
+    by : (anchor tag : Option Text) (parsed : Option ParsedTag) → Given rules anchor tag parsed
         → text_or_properties (begins_properties (lead anchor tag ++ (c ∷ f))) rules reads column at (lead anchor tag ++ (c ∷ f)) ending rest
-        ≡ text_read rules column (record { anchor = anchor; tag = said }) (c ∷ f) ending rest
+        ≡ text_read rules column (record { anchor = anchor; tag = parsed }) (c ∷ f) ending rest
     by None None None given = ap (λ x. text_or_properties x rules reads column at (c ∷ f) ending rest) shown.1
-    by None None (Some said) given = absurd given.tagged
-    by (Some name) None said given = behind (Some name) None said given refl
-    by (Some name) (Some tag) said given = behind (Some name) (Some tag) said given refl
-    by None (Some tag) (Some said) given =
+    by None None (Some parsed) given = absurd given.tagged
+    by (Some name) None parsed given = behind (Some name) None parsed given refl
+    by (Some name) (Some tag) parsed given = behind (Some name) (Some tag) parsed given refl
+    by None (Some tag) (Some parsed) given =
         ap (λ t. text_or_properties (begins_properties ((t ++ (space ∷ [])) ++ (c ∷ f))) rules reads column at (lead None (Some tag) ++ (c ∷ f)) ending rest)
         given.tagged.begins
-        ∙ behind None (Some tag) (Some said) given refl
+        ∙ behind None (Some tag) (Some parsed) given refl
     by None (Some tag) None given = absurd given.tagged
 
 -- the first character of a line that begins so
@@ -195,13 +197,13 @@ pub record Headed (text : Text) : Type 0 where
   pub is : text ≡ head ∷ tail
   pub shows : (head == space) ≡ false
 
-pub headed : (rules : Rules) (anchor tag : Option Text) (said : Option TagSaid) (c : ℕ) (f : Text) → Given rules anchor tag said → (c == space) ≡ false
+pub headed : (rules : Rules) (anchor tag : Option Text) (parsed : Option ParsedTag) (c : ℕ) (f : Text) → Given rules anchor tag parsed → (c == space) ≡ false
     → Headed (lead anchor tag ++ (c ∷ f))
-headed rules None None said c f given h = record { head = c; tail = f; is = refl; shows = h }
-headed rules (Some name) None said c f given h = record { head = 0x26; tail = (name ++ (space ∷ [])) ++ (c ∷ f); is = refl; shows = refl }
-headed rules (Some name) (Some tag) said c f given h =
+headed rules None None parsed c f given h = record { head = c; tail = f; is = refl; shows = h }
+headed rules (Some name) None parsed c f given h = record { head = 0x26; tail = (name ++ (space ∷ [])) ++ (c ∷ f); is = refl; shows = refl }
+headed rules (Some name) (Some tag) parsed c f given h =
     record { head = 0x26; tail = ((name ++ (space ∷ tag)) ++ (space ∷ [])) ++ (c ∷ f); is = refl; shows = refl }
-headed rules None (Some tag) (Some said) c f given h = record {
+headed rules None (Some tag) (Some parsed) c f given h = record {
   head = 0x21;
   tail = (given.tagged.rest ++ (space ∷ [])) ++ (c ∷ f);
   is = ap (λ t. (t ++ (space ∷ [])) ++ (c ∷ f)) given.tagged.begins;
@@ -214,13 +216,13 @@ pub own_reads : (rules : Rules) (column : Option ℕ) (text value : Text) (style
     → OwnText rules column text style value → Given rules anchor tag (tag_meant given_tag bare) → (bare ≡ true → is_plain style ≡ false)
     → TextReads rules column (lead anchor tag ++ text) (scalar_in anchor given_tag style bare value)
 own_reads rules column text value style anchor tag given_tag bare own given meant =
-    let said = tag_meant given_tag bare in
+    let parsed = tag_meant given_tag bare in
     let lines = lines_of rules.breaks12 own.tail in
     let f = first_text lines in
     let line = lead anchor tag ++ (own.head ∷ f) in
-    let properties : Properties = record { anchor = anchor; tag = said } in
+    let properties : Properties = record { anchor = anchor; tag = parsed } in
     let parts = and_parts (not (own.head == space)) (not (own.head == 0x26) && not (own.head == 0x21)) own.content in
-    let h = headed rules anchor tag said own.head f given (not_true (own.head == space) parts.0) in
+    let h = headed rules anchor tag parsed own.head f given (not_true (own.head == space) parts.0) in
     let alone : Given rules None None None = record { named = tt; tagged = tt } in
     record {
       head = h.head;
@@ -230,14 +232,15 @@ own_reads rules column text value style anchor tag given_tag bare own given mean
       is =
           ap (λ t. lines_of rules.breaks12 (lead anchor tag ++ t)) own.is
           ∙ lines_behind rules.breaks12 (lead anchor tag) (own.head ∷ own.tail) (own.head ∷ f) (first_ending lines) (lines_after_first lines)
-          (lead_line rules anchor tag said given.named given.tagged) (lines_shown rules.breaks12 own.head own.tail own.goes_on)
+          (lead_line rules anchor tag parsed given.named given.tagged) (lines_shown rules.breaks12 own.head own.tail own.goes_on)
           ∙ ap (λ t. record { text = t; ending = first_ending lines } ∷ lines_after_first lines) h.is;
       shows = h.shows;
-      kind = ap (kind_of_node rules) (sym h.is) ∙ own_kind rules anchor tag said own.head f given own.no_item own.no_key (own.keyless anchor tag said given);
+      kind =
+          ap (kind_of_node rules) (sym h.is) ∙ own_kind rules anchor tag parsed own.head f given own.no_item own.no_key (own.keyless anchor tag parsed given);
       deeper = own.deeper;
       read = λ reads at.
           ap (λ t. text_or_properties (begins_properties t) rules reads column at t (first_ending lines) (lines_after_first lines)) (sym h.is)
-          ∙ said_reads rules reads column at anchor tag said own.head f (first_ending lines) (lines_after_first lines) given own.content
+          ∙ parsed_reads rules reads column at anchor tag parsed own.head f (first_ending lines) (lines_after_first lines) given own.content
           (own_kind rules None None None own.head f alone own.no_item own.no_key (own.keyless None None None alone))
           ∙ own_read rules column properties own.head own.tail own.goes_on (deeper_all column (lines_after_first lines) own.deeper)
           ∙ own.read properties

@@ -7,15 +7,16 @@ use Rattle.std.specs.Prelude.{ℕ, Bool, true, false, Option, None, Some, List, 
 use Rattle.yaml_base.specs.Characters.{Text, line_feed, space, is_printable}
 use Rattle.yaml_base.specs.LineBreaks.{is_read_break}
 use Rattle.yaml_base.specs.Event.{ScalarStyle, single_quoted, double_quoted}
-use Rattle.yaml_base.specs.reading.ReadTags.{TagSaid}
+use Rattle.yaml_base.specs.reading.ReadTags.{ParsedTag}
 use Rattle.yaml_base.specs.reading.ReadPlain.{is_read_white}
 use Rattle.yaml_base.specs.reading.ReadSingle.{read_single}
 use Rattle.yaml_base.specs.reading.ReadDouble.{read_double}
-use Rattle.yaml_base.specs.reading.TidyText.{begins_with_spaces, begins_with_blank_line, begins_with_deep_line, has_deep_lines, ends_white, is_tidy_style, is_tidy}
+use Rattle.yaml_base.specs.reading.TidyText.{begins_with_spaces, begins_with_blank_line, begins_with_deep_line, has_deep_lines, ends_white}
+use Rattle.yaml_base.specs.reading.TidyText.{is_tidy_style, is_tidy}
 use Rattle.yaml_base.specs.streams.StreamContent.{Stood, stood_quoted}
-use Rattle.yaml_base.specs.streams.StreamLines.{Line, extending, character_before, lines_of, ends_sign, is_inside}
-use Rattle.yaml_base.specs.streams.StreamScalars.{Rules, Properties, scalar_said, word_by_kind, word_after}
-use Rattle.yaml_base.specs.streams.StreamNodes.{key_of_text, key_ends, key_from, word_of_alias, without_last_space, before_trimmed, trimmed}
+use Rattle.yaml_base.specs.streams.StreamLines.{Line, prepend_to_first_line, prepend_character, lines_of, ends_indicator, belongs_to_entry}
+use Rattle.yaml_base.specs.streams.StreamScalars.{Rules, Properties, scalar_parsed, word_by_kind, word_after}
+use Rattle.yaml_base.specs.streams.StreamNodes.{key_of_text, key_ends, key_from, word_of_alias, without_last_space, prepend_to_trimmed, trimmed}
 use Rattle.yaml_base.proofs.stream_lines.StreamInside.{AllInside}
 use Rattle.yaml_base.proofs.stream_lines.StreamTidyLaws.{first_text, lines_after_first, deep_lines_inside}
 use Rattle.yaml_base.proofs.stream_lines.StreamCuts.{double_quoted_whole, single_quoted_whole}
@@ -75,7 +76,7 @@ pub lines_deeper : (breaks12 : Bool) (column : Option ℕ) (h : ℕ) (t : Text) 
     → ((c : ℕ) → column ≡ Some c → has_deep_lines breaks12 (suc c) (h ∷ t) ≡ true)
     → (c : ℕ) → column ≡ Some c → AllInside true c (lines_after_first (lines_of breaks12 t))
 lines_deeper breaks12 column h t goes_on deep c e =
-    ap (λ ls. list_all (λ line. is_inside true c line.text) (lines_after_first ls)) (sym (lines_shown breaks12 h t goes_on))
+    ap (λ ls. list_all (λ line. belongs_to_entry true c line.text) (lines_after_first ls)) (sym (lines_shown breaks12 h t goes_on))
     ∙ deep_lines_inside breaks12 c (h ∷ t) (deep c e)
 
 -- the lines of a tidy text are deep
@@ -89,11 +90,11 @@ tidy_deep style breaks12 (Some d) text tidy c e =
 
 -- it is cut off where nothing white stands before it
 pub shown_trimmed : (breaks12 : Bool) (c : ℕ) (t : Text) → ends_white breaks12 (c ∷ t) ≡ false → trimmed breaks12 (c ∷ (t ++ feed)) ≡ c ∷ t
-shown_trimmed true c [] h = ap (λ x. before_trimmed x c []) h
-shown_trimmed false c [] h = ap (λ x. before_trimmed x c []) h
-shown_trimmed breaks12 c (d ∷ t) h = ap (before_trimmed (is_read_white breaks12 c) c) (shown_trimmed breaks12 d t h) ∙ by (is_read_white breaks12 c)
+shown_trimmed true c [] h = ap (λ x. prepend_to_trimmed x c []) h
+shown_trimmed false c [] h = ap (λ x. prepend_to_trimmed x c []) h
+shown_trimmed breaks12 c (d ∷ t) h = ap (prepend_to_trimmed (is_read_white breaks12 c) c) (shown_trimmed breaks12 d t h) ∙ by (is_read_white breaks12 c)
   where
-    by : (x : Bool) → before_trimmed x c (d ∷ t) ≡ c ∷ d ∷ t
+    by : (x : Bool) → prepend_to_trimmed x c (d ∷ t) ≡ c ∷ d ∷ t
     by true = refl
     by false = refl
 
@@ -106,23 +107,23 @@ last_shown breaks12 (c ∷ d ∷ a) q = last_shown breaks12 (d ∷ a) q
 -- No key
 
 -- behind properties or without them, what is no word and no alias is no key
-pub behind_no_key : (rules : Rules) (anchor tag : Option Text) (said : Option TagSaid) (c : ℕ) (t : Text) → Given rules anchor tag said
+pub behind_no_key : (rules : Rules) (anchor tag : Option Text) (parsed : Option ParsedTag) (c : ℕ) (t : Text) → Given rules anchor tag parsed
     → begins_content (c ∷ t) ≡ true
-    → word_after rules false None (record { anchor = anchor; tag = said }) (c ∷ t) ≡ None → ((u : Text) → word_of_alias rules (c ∷ u) ≡ None)
+    → word_after rules false None (record { anchor = anchor; tag = parsed }) (c ∷ t) ≡ None → ((u : Text) → word_of_alias rules (c ∷ u) ≡ None)
     → key_of_text rules (lead anchor tag ++ (c ∷ t)) ≡ None
-behind_no_key rules anchor tag said c t given content no_word no_alias =
-    no_key_text rules (lead anchor tag ++ (c ∷ t)) (given_reads rules false anchor tag said (c ∷ t) given content ∙ no_word) (by anchor tag said given)
+behind_no_key rules anchor tag parsed c t given content no_word no_alias =
+    no_key_text rules (lead anchor tag ++ (c ∷ t)) (given_reads rules false anchor tag parsed (c ∷ t) given content ∙ no_word) (by anchor tag parsed given)
   where
     shows : (x : Bool) (y : Bool) → (not x && y) ≡ true → x ≡ false
     shows true y h = absurd (false≢true h)
     shows false y h = refl
 
-    by : (anchor tag : Option Text) (said : Option TagSaid) → Given rules anchor tag said
+    by : (anchor tag : Option Text) (parsed : Option ParsedTag) → Given rules anchor tag parsed
         → option_and_then (word_of_alias rules) (without_last_space (lead anchor tag ++ (c ∷ t))) ≡ None
-    by None None said given = no_alias_before rules c t (shows (c == space) (not (c == 0x26) && not (c == 0x21)) content) no_alias
-    by (Some name) None said given = no_alias_before rules 0x26 ((name ++ (space ∷ [])) ++ (c ∷ t)) refl (anchor_no_alias rules)
-    by (Some name) (Some tag) said given = no_alias_before rules 0x26 (((name ++ (space ∷ tag)) ++ (space ∷ [])) ++ (c ∷ t)) refl (anchor_no_alias rules)
-    by None (Some tag) (Some said) given =
+    by None None parsed given = no_alias_before rules c t (shows (c == space) (not (c == 0x26) && not (c == 0x21)) content) no_alias
+    by (Some name) None parsed given = no_alias_before rules 0x26 ((name ++ (space ∷ [])) ++ (c ∷ t)) refl (anchor_no_alias rules)
+    by (Some name) (Some tag) parsed given = no_alias_before rules 0x26 (((name ++ (space ∷ tag)) ++ (space ∷ [])) ++ (c ∷ t)) refl (anchor_no_alias rules)
+    by None (Some tag) (Some parsed) given =
         ap (λ w. option_and_then (word_of_alias rules) (without_last_space ((w ++ (space ∷ [])) ++ (c ∷ t)))) given.tagged.begins
         ∙ no_alias_before rules 0x21 ((given.tagged.rest ++ (space ∷ [])) ++ (c ∷ t)) refl (tag_no_alias rules)
     by None (Some tag) None given = absurd given.tagged
@@ -133,68 +134,69 @@ first_nowhere : (rules : Rules) (breaks12 : Bool) (before t : Text) → KeyNowhe
 first_nowhere rules breaks12 before [] none = tt
 first_nowhere rules breaks12 before (c ∷ t) none = by (is_read_break breaks12 c) (first_nowhere rules breaks12 (before ++ (c ∷ [])) t none.1)
   where
-    extended : (lines : List Line) → KeyNowhere rules (before ++ (c ∷ [])) (first_text lines) → KeyNowhere rules before (first_text (extending c lines))
-    extended [] more = (none.0, more)
-    extended (line ∷ rest) more = (none.0, more)
+    prepend_to_elements : (lines : List Line) → KeyNowhere rules (before ++ (c ∷ [])) (first_text lines)
+        → KeyNowhere rules before (first_text (prepend_to_first_line c lines))
+    prepend_to_elements [] more = (none.0, more)
+    prepend_to_elements (line ∷ rest) more = (none.0, more)
 
     by : (x : Bool) → KeyNowhere rules (before ++ (c ∷ [])) (first_text (lines_of breaks12 (t ++ feed)))
-        → KeyNowhere rules before (first_text (character_before x c (lines_of breaks12 (t ++ feed))))
+        → KeyNowhere rules before (first_text (prepend_character x c (lines_of breaks12 (t ++ feed))))
     by true more = tt
-    by false more = extended (lines_of breaks12 (t ++ feed)) more
+    by false more = prepend_to_elements (lines_of breaks12 (t ++ feed)) more
 
 -- nothing is said of no value
-pub none_said : (properties : Properties) (standing : Stood) (x : Bool) → scalar_said properties standing (if x then None else None) ≡ None
-none_said properties standing true = refl
-none_said properties standing false = refl
+pub none_parsed : (properties : Properties) (standing : Stood) (x : Bool) → scalar_parsed properties standing (if x then None else None) ≡ None
+none_parsed properties standing true = refl
+none_parsed properties standing false = refl
 
 -- the beginning of a text in double quotes is no key
-double_part : (rules : Rules) (anchor tag : Option Text) (said : Option TagSaid) (t : Text) → Given rules anchor tag said
+double_part : (rules : Rules) (anchor tag : Option Text) (parsed : Option ParsedTag) (t : Text) → Given rules anchor tag parsed
     → read_double rules.breaks12 (0x22 ∷ t) ≡ None
     → key_of_text rules (lead anchor tag ++ (0x22 ∷ t)) ≡ None
-double_part rules anchor tag said t given none =
-    let properties : Properties = record { anchor = anchor; tag = said } in
-    behind_no_key rules anchor tag said 0x22 t given refl
+double_part rules anchor tag parsed t given none =
+    let properties : Properties = record { anchor = anchor; tag = parsed } in
+    behind_no_key rules anchor tag parsed 0x22 t given refl
     (ap (λ k. word_by_kind k rules false None properties (0x22 ∷ t)) (double_kind t)
-    ∙ ap (λ v. scalar_said properties stood_quoted (if is_tidy double_quoted rules.breaks12 None (0x22 ∷ t) then v else None)) none
-    ∙ none_said properties stood_quoted (is_tidy double_quoted rules.breaks12 None (0x22 ∷ t)))
+    ∙ ap (λ v. scalar_parsed properties stood_quoted (if is_tidy double_quoted rules.breaks12 None (0x22 ∷ t) then v else None)) none
+    ∙ none_parsed properties stood_quoted (is_tidy double_quoted rules.breaks12 None (0x22 ∷ t)))
     (double_no_alias rules)
 
-single_part : (rules : Rules) (anchor tag : Option Text) (said : Option TagSaid) (t : Text) → Given rules anchor tag said
+single_part : (rules : Rules) (anchor tag : Option Text) (parsed : Option ParsedTag) (t : Text) → Given rules anchor tag parsed
     → read_single rules.breaks12 (0x27 ∷ t) ≡ None
     → key_of_text rules (lead anchor tag ++ (0x27 ∷ t)) ≡ None
-single_part rules anchor tag said t given none =
-    let properties : Properties = record { anchor = anchor; tag = said } in
-    behind_no_key rules anchor tag said 0x27 t given refl
+single_part rules anchor tag parsed t given none =
+    let properties : Properties = record { anchor = anchor; tag = parsed } in
+    behind_no_key rules anchor tag parsed 0x27 t given refl
     (ap (λ k. word_by_kind k rules false None properties (0x27 ∷ t)) (single_kind t)
-    ∙ ap (λ v. scalar_said properties stood_quoted (if is_tidy single_quoted rules.breaks12 None (0x27 ∷ t) then v else None)) none
-    ∙ none_said properties stood_quoted (is_tidy single_quoted rules.breaks12 None (0x27 ∷ t)))
+    ∙ ap (λ v. scalar_parsed properties stood_quoted (if is_tidy single_quoted rules.breaks12 None (0x27 ∷ t) then v else None)) none
+    ∙ none_parsed properties stood_quoted (is_tidy single_quoted rules.breaks12 None (0x27 ∷ t)))
     (single_no_alias rules)
 
 -- so no key ends in what reads whole
-double_nowhere : (rules : Rules) (anchor tag : Option Text) (said : Option TagSaid) (b t v : Text) → Given rules anchor tag said
+double_nowhere : (rules : Rules) (anchor tag : Option Text) (parsed : Option ParsedTag) (b t v : Text) → Given rules anchor tag parsed
     → read_double rules.breaks12 ((0x22 ∷ b) ++ t) ≡ Some v → KeyNowhere rules (lead anchor tag ++ (0x22 ∷ b)) t
-double_nowhere rules anchor tag said b [] v given read = tt
-double_nowhere rules anchor tag said b (c ∷ t) v given read = (
-  λ h. double_part rules anchor tag said b given (double_quoted_whole rules.breaks12 (0x22 ∷ b) c t v read),
+double_nowhere rules anchor tag parsed b [] v given read = tt
+double_nowhere rules anchor tag parsed b (c ∷ t) v given read = (
+  λ h. double_part rules anchor tag parsed b given (double_quoted_whole rules.breaks12 (0x22 ∷ b) c t v read),
   subst (λ u. KeyNowhere rules u t) (sym (append_assoc (lead anchor tag) (0x22 ∷ b) (c ∷ [])))
-      (double_nowhere rules anchor tag said (b ++ (c ∷ [])) t v given (ap (read_double rules.breaks12) (append_assoc (0x22 ∷ b) (c ∷ []) t) ∙ read)),
+      (double_nowhere rules anchor tag parsed (b ++ (c ∷ [])) t v given (ap (read_double rules.breaks12) (append_assoc (0x22 ∷ b) (c ∷ []) t) ∙ read)),
 )
 
-single_nowhere : (rules : Rules) (anchor tag : Option Text) (said : Option TagSaid) (b t v : Text) → Given rules anchor tag said
+single_nowhere : (rules : Rules) (anchor tag : Option Text) (parsed : Option ParsedTag) (b t v : Text) → Given rules anchor tag parsed
     → read_single rules.breaks12 ((0x27 ∷ b) ++ t) ≡ Some v → KeyNowhere rules (lead anchor tag ++ (0x27 ∷ b)) t
-single_nowhere rules anchor tag said b [] v given read = tt
-single_nowhere rules anchor tag said b (c ∷ t) v given read = (
-  λ h. single_part rules anchor tag said b given
+single_nowhere rules anchor tag parsed b [] v given read = tt
+single_nowhere rules anchor tag parsed b (c ∷ t) v given read = (
+  λ h. single_part rules anchor tag parsed b given
       (single_quoted_whole rules.breaks12 (0x27 ∷ b) c t v (ap (λ n. n == 39) (eqb-true c 0x3A h)) read),
   subst (λ u. KeyNowhere rules u t) (sym (append_assoc (lead anchor tag) (0x27 ∷ b) (c ∷ [])))
-      (single_nowhere rules anchor tag said (b ++ (c ∷ [])) t v given (ap (read_single rules.breaks12) (append_assoc (0x27 ∷ b) (c ∷ []) t) ∙ read)),
+      (single_nowhere rules anchor tag parsed (b ++ (c ∷ [])) t v given (ap (read_single rules.breaks12) (append_assoc (0x27 ∷ b) (c ∷ []) t) ∙ read)),
 )
 
 -- a line that begins with a character that is no `:`
 pub first_passes : (rules : Rules) (before f : Text) (c : ℕ) → (c == 0x3A) ≡ false → key_from rules (before ++ (c ∷ [])) f ≡ None
     → key_from rules before (c ∷ f) ≡ None
 first_passes rules before f c other none =
-    ap (λ x. option_or (key_ends rules (x && ends_sign f) before f) (key_from rules (before ++ (c ∷ [])) f)) other ∙ none
+    ap (λ x. option_or (key_ends rules (x && ends_indicator f) before f) (key_from rules (before ++ (c ∷ [])) f)) other ∙ none
 
 -- Quotes
 
@@ -221,18 +223,18 @@ own_double rules column inside v tidy read =
       goes_on = (quotes_go_on rules.breaks12).0;
       no_item = refl;
       no_key = refl;
-      keyless = λ anchor tag said given.
+      keyless = λ anchor tag parsed given.
           first_passes rules (lead anchor tag) (first_text (lines_of rules.breaks12 (t ++ feed))) 0x22 refl
           (nowhere_alone rules (lead anchor tag ++ (0x22 ∷ [])) (first_text (lines_of rules.breaks12 (t ++ feed)))
-          (first_nowhere rules rules.breaks12 (lead anchor tag ++ (0x22 ∷ [])) t (double_nowhere rules anchor tag said [] t v given read)));
+          (first_nowhere rules rules.breaks12 (lead anchor tag ++ (0x22 ∷ [])) t (double_nowhere rules anchor tag parsed [] t v given read)));
       deeper = lines_deeper rules.breaks12 column 0x22 (t ++ feed) (quotes_go_on rules.breaks12).0
           (λ c e. deep_more rules.breaks12 (suc c) (0x22 ∷ t) (tidy_deep double_quoted rules.breaks12 column (0x22 ∷ t) tidy c e));
       read = λ properties.
           ap (word_after rules false column properties)
           (shown_trimmed rules.breaks12 0x22 t (last_shown rules.breaks12 (0x22 ∷ inside) 0x22 ∙ (quotes_show rules.breaks12).0))
           ∙ ap (λ k. word_by_kind k rules false column properties (0x22 ∷ t)) (double_kind t)
-          ∙ ap (λ x. scalar_said properties stood_quoted (if x then read_double rules.breaks12 (0x22 ∷ t) else None)) tidy
-          ∙ ap (scalar_said properties stood_quoted) read;
+          ∙ ap (λ x. scalar_parsed properties stood_quoted (if x then read_double rules.breaks12 (0x22 ∷ t) else None)) tidy
+          ∙ ap (scalar_parsed properties stood_quoted) read;
     }
 
 -- one in single quotes
@@ -248,16 +250,16 @@ own_single rules column inside v tidy read =
       goes_on = (quotes_go_on rules.breaks12).1;
       no_item = refl;
       no_key = refl;
-      keyless = λ anchor tag said given.
+      keyless = λ anchor tag parsed given.
           first_passes rules (lead anchor tag) (first_text (lines_of rules.breaks12 (t ++ feed))) 0x27 refl
           (nowhere_alone rules (lead anchor tag ++ (0x27 ∷ [])) (first_text (lines_of rules.breaks12 (t ++ feed)))
-          (first_nowhere rules rules.breaks12 (lead anchor tag ++ (0x27 ∷ [])) t (single_nowhere rules anchor tag said [] t v given read)));
+          (first_nowhere rules rules.breaks12 (lead anchor tag ++ (0x27 ∷ [])) t (single_nowhere rules anchor tag parsed [] t v given read)));
       deeper = lines_deeper rules.breaks12 column 0x27 (t ++ feed) (quotes_go_on rules.breaks12).1
           (λ c e. deep_more rules.breaks12 (suc c) (0x27 ∷ t) (tidy_deep single_quoted rules.breaks12 column (0x27 ∷ t) tidy c e));
       read = λ properties.
           ap (word_after rules false column properties)
           (shown_trimmed rules.breaks12 0x27 t (last_shown rules.breaks12 (0x27 ∷ inside) 0x27 ∙ (quotes_show rules.breaks12).1))
           ∙ ap (λ k. word_by_kind k rules false column properties (0x27 ∷ t)) (single_kind t)
-          ∙ ap (λ x. scalar_said properties stood_quoted (if x then read_single rules.breaks12 (0x27 ∷ t) else None)) tidy
-          ∙ ap (scalar_said properties stood_quoted) read;
+          ∙ ap (λ x. scalar_parsed properties stood_quoted (if x then read_single rules.breaks12 (0x27 ∷ t) else None)) tidy
+          ∙ ap (scalar_parsed properties stood_quoted) read;
     }

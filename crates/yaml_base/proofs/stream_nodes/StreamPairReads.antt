@@ -1,13 +1,13 @@
--- The entries of a mapping read as its pairs, where each of them fits; and how a mapping's text is laid out.
+-- The entries of a mapping read as its pairs, where each of them fits; and how a mapping's text is rendered.
 use Rattle.std.proofs.Common.{◌≡◌, suc, ◌≤◌, refl, sym, ap, ◌∙◌, append_assoc, append-nil, arith}
 use Rattle.std.proofs.lemmas.Bool.{true≢false, false≢true}
 use Rattle.std.specs.Prelude.{ℕ, Bool, true, false, Option, None, Some, List, [], ◌∷◌, ◌++◌, ◌+◌, ◌&&◌, fold, length, option_and_then, if◌then◌else◌}
 use Rattle.yaml_base.specs.Characters.{Text}
 use Rattle.yaml_base.specs.Settings.{Effective}
 use Rattle.yaml_base.specs.Event.{TagDirective}
-use Rattle.yaml_base.specs.Cursor.{Cursor, Laid, new_line, then_laid}
+use Rattle.yaml_base.specs.Cursor.{Cursor, Rendered, new_line, render_then}
 use Rattle.yaml_base.specs.Grammar.{Node, Pairs, no_pairs, pairs_and}
-use Rattle.yaml_base.specs.Layout.{Role, as_key, as_value, has_no_pairs, is_simple, entry_place, place_laid}
+use Rattle.yaml_base.specs.Layout.{Role, as_key, as_value, has_no_pairs, is_simple, entry_place, render_place}
 use Rattle.yaml_base.specs.streams.StreamContent.{Tree, TreePairs, tree_pairs_and}
 use Rattle.yaml_base.specs.streams.StreamLines.{Line, lines_of, spaces}
 use Rattle.yaml_base.specs.streams.StreamScalars.{Rules}
@@ -16,10 +16,10 @@ use Rattle.yaml_base.specs.streams.StreamNodes.{entry_at, entry_read, no_pairs_h
 use Rattle.yaml_base.proofs.stream_nodes.StreamAgrees.{node_tree, pairs_tree}
 use Rattle.yaml_base.proofs.stream_nodes.StreamTexts.{node_own, pairs_own}
 use Rattle.yaml_base.proofs.stream_lines.StreamInside.{past_spaces}
-use Rattle.yaml_base.proofs.stream_lines.StreamClosed.{closing, closed, Settled, new_line_closes, sign_cursor}
-use Rattle.yaml_base.proofs.stream_nodes.StreamFits.{size, pairs_size, Fits, tree_anywhere, signed_lines, blanked_lines}
+use Rattle.yaml_base.proofs.stream_lines.StreamClosed.{closing, closed, Settled, new_line_closes, indicator_cursor}
+use Rattle.yaml_base.proofs.stream_nodes.StreamFits.{size, pairs_size, Fits, tree_anywhere, indicated_lines, blanked_lines}
 use Rattle.yaml_base.proofs.stream_nodes.StreamItems.{Lays, regrouped}
-use Rattle.yaml_base.proofs.stream_nodes.StreamPairs.{KeyFits, key_place, value_place, colon_cursor, simple_key, signed_key, simple_value, signed_value}
+use Rattle.yaml_base.proofs.stream_nodes.StreamPairs.{KeyFits, key_place, value_place, colon_cursor, simple_key, indicated_key, simple_value, indicated_value}
 use Rattle.yaml_base.proofs.stream_nodes.StreamPairs.{pair_text, pairs_text, entries_of_pair, pair_entries, PairFits, PairsFit, question_line, colon_line}
 use Rattle.yaml_base.proofs.stream_nodes.StreamPairs.{keyed_lines}
 
@@ -30,34 +30,37 @@ abbrev held : TreePairs → Option Tree → Option HeldPairs
 held pairs key = Some (record { pairs = pairs; key = key })
 
 -- an entry that begins with `?`
-question : (rules : Rules) (n : ℕ) (own : Laid) (tree : Tree) (role : Role) (e : ℕ) (fit : Fits rules n own tree (entry_place false role e) (sign_cursor e))
+question : (rules : Rules) (n : ℕ) (own : Rendered) (tree : Tree) (role : Role) (e : ℕ)
+    (fit : Fits rules n own tree (entry_place false role e) (indicator_cursor e))
     (depth : ℕ) → n ≤ depth → (pairs : TreePairs)
     → entry_read rules (node_read depth rules) e (held pairs None) (lines_of rules.breaks12 (spaces e ++ (0x3F ∷ closed own))) ≡ held pairs (Some tree)
 question rules n own tree role e fit depth deep pairs =
     let o = fit.opens refl in
     let before : HeldPairs = record { pairs = pairs; key = None } in
-    ap (entry_read rules (node_read depth rules) e (held pairs None)) (signed_lines rules.breaks12 e 0x3F (closed own) o (question_line rules.breaks12))
+    ap (entry_read rules (node_read depth rules) e (held pairs None)) (indicated_lines rules.breaks12 e 0x3F (closed own) o (question_line rules.breaks12))
     ∙ ap (entry_at rules (node_read depth rules) e o.ending o.rest before) (past_spaces e (0x3F ∷ o.head))
-    ∙ ap (λ x. entry_by_kind (if x then key_entry else simple_entry) rules (node_read depth rules) e o.ending o.rest before (0x3F ∷ o.head)) o.sign
+    ∙ ap (λ x. entry_by_kind (if x then key_entry else simple_entry) rules (node_read depth rules) e o.ending o.rest before (0x3F ∷ o.head)) o.symbol
     ∙ ap (λ ls. with_key before (node_read depth rules true (Some e) ls)) (sym (blanked_lines rules.breaks12 (suc e) (closed own) o))
     ∙ ap (with_key before) (fit.reads depth deep true (suc e) (λ h. (refl, omega arith)))
 
 -- an entry that begins with `:`
-colon : (rules : Rules) (n : ℕ) (own : Laid) (tree : Tree) (role : Role) (e : ℕ) (fit : Fits rules n own tree (entry_place false role e) (sign_cursor e))
+colon : (rules : Rules) (n : ℕ) (own : Rendered) (tree : Tree) (role : Role) (e : ℕ)
+    (fit : Fits rules n own tree (entry_place false role e) (indicator_cursor e))
     (depth : ℕ) → n ≤ depth → (pairs : TreePairs) (key : Tree)
     → entry_read rules (node_read depth rules) e (held pairs (Some key)) (lines_of rules.breaks12 (spaces e ++ (0x3A ∷ closed own)))
     ≡ held (tree_pairs_and pairs key tree) None
 colon rules n own tree role e fit depth deep pairs key =
     let o = fit.opens refl in
     let before : HeldPairs = record { pairs = pairs; key = Some key } in
-    ap (entry_read rules (node_read depth rules) e (held pairs (Some key))) (signed_lines rules.breaks12 e 0x3A (closed own) o (colon_line rules.breaks12))
+    ap (entry_read rules (node_read depth rules) e (held pairs (Some key))) (indicated_lines rules.breaks12 e 0x3A (closed own) o (colon_line rules.breaks12))
     ∙ ap (entry_at rules (node_read depth rules) e o.ending o.rest before) (past_spaces e (0x3A ∷ o.head))
-    ∙ ap (λ x. entry_by_kind (if x then value_entry else simple_entry) rules (node_read depth rules) e o.ending o.rest before (0x3A ∷ o.head)) o.sign
+    ∙ ap (λ x. entry_by_kind (if x then value_entry else simple_entry) rules (node_read depth rules) e o.ending o.rest before (0x3A ∷ o.head)) o.symbol
     ∙ ap (λ ls. with_value pairs (Some key) (node_read depth rules true (Some e) ls)) (sym (blanked_lines rules.breaks12 (suc e) (closed own) o))
     ∙ ap (with_value pairs (Some key)) (fit.reads depth deep true (suc e) (λ h. (refl, omega arith)))
 
 -- an entry that begins with a simple key
-keyed : (rules : Rules) (text : Text) (key_tree : Tree) (n : ℕ) (own : Laid) (tree : Tree) (role : Role) (e : ℕ) (cursor : Cursor) → KeyFits rules text key_tree
+keyed : (rules : Rules) (text : Text) (key_tree : Tree) (n : ℕ) (own : Rendered) (tree : Tree) (role : Role) (e : ℕ) (cursor : Cursor)
+    → KeyFits rules text key_tree
     → (fit : Fits rules n own tree (entry_place false role e) cursor) → cursor.whitespace ≡ false → cursor.indention ≡ false → (depth : ℕ) → n ≤ depth
     → (pairs : TreePairs)
     → entry_read rules (node_read depth rules) e (held pairs None) (lines_of rules.breaks12 (spaces e ++ (text ++ (0x3A ∷ closed own))))
@@ -68,9 +71,9 @@ keyed rules text key_tree n own tree role e cursor key fit w i depth deep pairs 
     let line = text ++ (0x3A ∷ o.head) in
     ap (entry_read rules (node_read depth rules) e (held pairs None)) (keyed_lines rules text (closed own) key_tree e key o)
     ∙ ap (entry_at rules (node_read depth rules) e o.ending o.rest before) (past_spaces e line)
-    ∙ ap (λ k. entry_by_kind k rules (node_read depth rules) e o.ending o.rest before line) (key.simple o.head o.sign)
+    ∙ ap (λ k. entry_by_kind k rules (node_read depth rules) e o.ending o.rest before line) (key.simple o.head o.symbol)
     ∙ ap (option_and_then (λ (found : SimpleKey). simple_pair (node_read depth rules) e o.ending o.rest (with_key before (Some found.key)) (Some found)))
-    (key.cut o.head o.sign)
+    (key.cut o.head o.symbol)
     ∙ ap (λ ls. with_value pairs (Some key_tree) (node_read depth rules false (Some e) ls))
     (sym (blanked_lines rules.breaks12 (suc (e + length text)) (closed own) o))
     ∙ ap (with_value pairs (Some key_tree)) (fit.reads depth deep false (suc (e + length text)) (λ h. absurd (false≢true (sym i ∙ h))))
@@ -99,10 +102,10 @@ pair_reads true rules s directives pairs key value e fit depth deep_key deep_val
 pair_reads false rules s directives pairs key value e fit depth deep_key deep_value before rest =
     let k = node_tree key s directives (key_place pairs e) in
     ap (λ h. fold (entry_read rules (node_read depth rules) e)
-    (entry_read rules (node_read depth rules) e h (lines_of rules.breaks12 (spaces e ++ (0x3A ∷ closed (signed_value value s directives e))))) rest)
-    (question rules (size key) (signed_key pairs key s directives e) k (as_key (has_no_pairs pairs)) e fit.0 depth deep_key before)
+    (entry_read rules (node_read depth rules) e h (lines_of rules.breaks12 (spaces e ++ (0x3A ∷ closed (indicated_value value s directives e))))) rest)
+    (question rules (size key) (indicated_key pairs key s directives e) k (as_key (has_no_pairs pairs)) e fit.0 depth deep_key before)
     ∙ ap (λ h. fold (entry_read rules (node_read depth rules) e) h rest)
-    (colon rules (size value) (signed_value value s directives e) (node_tree value s directives (value_place false e))
+    (colon rules (size value) (indicated_value value s directives e) (node_tree value s directives (value_place false e))
     (as_value false) e fit.1 depth deep_value before k)
 
 -- the entries of a mapping read as its pairs, whatever entries follow
@@ -126,21 +129,21 @@ pairs_read_back rules s directives (pairs_and pairs key value) e fit depth deep 
 
 -- Layout
 
--- what is laid out for a pair after other text
-abbrev pair_own : (simple : Bool) → Pairs → Node → Node → Effective → List TagDirective → ℕ → Laid → Laid
+-- what is rendered for a pair after other text
+abbrev pair_own : (simple : Bool) → Pairs → Node → Node → Effective → List TagDirective → ℕ → Rendered → Rendered
 pair_own x pairs key value s directives e before =
-    then_laid
-    (then_laid before (λ after. then_laid (place_laid s (key_place pairs e) x after) (node_own key s directives (key_place pairs e))))
-    (λ after. then_laid (place_laid s (value_place x e) false after) (node_own value s directives (value_place x e)))
+    render_then
+    (render_then before (λ after. render_then (render_place s (key_place pairs e) x after) (node_own key s directives (key_place pairs e))))
+    (λ after. render_then (render_place s (value_place x e) false after) (node_own value s directives (value_place x e)))
 
 -- it leaves off settled
-pair_settled : (x : Bool) (rules : Rules) (s : Effective) (directives : List TagDirective) (pairs : Pairs) (key value : Node) (e : ℕ) (before : Laid)
+pair_settled : (x : Bool) (rules : Rules) (s : Effective) (directives : List TagDirective) (pairs : Pairs) (key value : Node) (e : ℕ) (before : Rendered)
     → PairFits x rules s directives pairs key value e → Settled (pair_own x pairs key value s directives e before).cursor
 pair_settled true rules s directives pairs key value e before fit = fit.1.settled
 pair_settled false rules s directives pairs key value e before fit = fit.1.settled
 
 -- it is a new line and the pair's text without its first spaces
-pub record PairLays (text before : Text) (own : Laid) (line : Text) (e : ℕ) : Type 0 where
+pub record PairLays (text before : Text) (own : Rendered) (line : Text) (e : ℕ) : Type 0 where
   pub head : ℕ
   pub tail : Text
   pub is : text ≡ spaces e ++ (head ∷ tail)
@@ -152,16 +155,16 @@ keyed_regrouped a n k v c =
     append_assoc (a ++ ((n ++ []) ++ k)) (0x3A ∷ v) c ∙ append_assoc a ((n ++ []) ++ k) (0x3A ∷ (v ++ c))
     ∙ ap (λ t. a ++ ((t ++ k) ++ (0x3A ∷ (v ++ c)))) (append-nil n) ∙ ap (λ t. a ++ t) (append_assoc n k (0x3A ∷ (v ++ c)))
 
--- regrouped: a key with its sign, and a value with its own
-signed_regrouped : (a n k m v c : Text)
+-- regrouped: a key with its indicator, and a value with its own
+indicated_regrouped : (a n k m v c : Text)
     → ((a ++ ((n ++ (0x3F ∷ [])) ++ k)) ++ ((m ++ (0x3A ∷ [])) ++ v)) ++ c ≡ a ++ (n ++ (0x3F ∷ (k ++ (m ++ (0x3A ∷ (v ++ c))))))
-signed_regrouped a n k m v c =
+indicated_regrouped a n k m v c =
     append_assoc (a ++ ((n ++ (0x3F ∷ [])) ++ k)) ((m ++ (0x3A ∷ [])) ++ v) c
     ∙ ap (λ t. (a ++ ((n ++ (0x3F ∷ [])) ++ k)) ++ t) (append_assoc (m ++ (0x3A ∷ [])) v c ∙ append_assoc m (0x3A ∷ []) (v ++ c))
     ∙ regrouped a n k (m ++ (0x3A ∷ (v ++ c))) 0x3F
 
 -- so it is for a pair of either kind
-pair_lays : (x : Bool) (rules : Rules) (s : Effective) (directives : List TagDirective) (pairs : Pairs) (key value : Node) (e : ℕ) (before : Laid)
+pair_lays : (x : Bool) (rules : Rules) (s : Effective) (directives : List TagDirective) (pairs : Pairs) (key value : Node) (e : ℕ) (before : Rendered)
     → PairFits x rules s directives pairs key value e
     → PairLays (pair_text x pairs key value s directives e) before.text (pair_own x pairs key value s directives e before) (new_line e before.cursor).text e
 pair_lays true rules s directives pairs key value e before fit =
@@ -176,14 +179,14 @@ pair_lays true rules s directives pairs key value e before fit =
           ∙ ap (λ t. before.text ++ ((new_line e before.cursor).text ++ (t ++ (0x3A ∷ closed v)))) fit.0.is;
     }
 pair_lays false rules s directives pairs key value e before fit =
-    let k = signed_key pairs key s directives e in
-    let v = signed_value value s directives e in
+    let k = indicated_key pairs key s directives e in
+    let v = indicated_value value s directives e in
     record {
       head = 0x3F;
       tail = closed k ++ (spaces e ++ (0x3A ∷ closed v));
       is = append_assoc (spaces e) (0x3F ∷ closed k) (spaces e ++ (0x3A ∷ closed v));
       lays =
-          signed_regrouped before.text (new_line e before.cursor).text k.text (new_line e k.cursor).text v.text (closing v.cursor)
+          indicated_regrouped before.text (new_line e before.cursor).text k.text (new_line e k.cursor).text v.text (closing v.cursor)
           ∙ ap (λ t. before.text ++ ((new_line e before.cursor).text ++ (0x3F ∷ t)))
           (ap (λ m. k.text ++ (m ++ (0x3A ∷ closed v))) (new_line_closes e k.cursor fit.0.settled)
           ∙ ap (λ m. k.text ++ m) (append_assoc (closing k.cursor) (spaces e) (0x3A ∷ closed v))
@@ -198,7 +201,7 @@ pairs_settled rules s directives no_pairs e cursor fit h = absurd (true≢false 
 pairs_settled rules s directives (pairs_and pairs key value) e cursor fit h =
     pair_settled (is_simple s.canonical directives key) rules s directives pairs key value e (pairs_own pairs s directives false e cursor) fit.1
 
--- the pairs of a mapping are laid out from a new line on
+-- the pairs of a mapping are rendered from a new line on
 pub pairs_lay : (rules : Rules) (s : Effective) (directives : List TagDirective) (pairs : Pairs) (e : ℕ) (cursor : Cursor) → PairsFit rules s directives pairs e
     → has_no_pairs pairs ≡ false → Lays e cursor (pairs_own pairs s directives false e cursor) (pairs_text pairs s directives e)
 pairs_lay rules s directives no_pairs e cursor fit h = absurd (true≢false h)

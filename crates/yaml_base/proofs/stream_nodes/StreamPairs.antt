@@ -7,36 +7,36 @@ use Rattle.std.specs.List.{list_all}
 use Rattle.yaml_base.specs.Characters.{Text, space}
 use Rattle.yaml_base.specs.Settings.{Effective}
 use Rattle.yaml_base.specs.Event.{TagDirective}
-use Rattle.yaml_base.specs.Cursor.{Cursor, Laid, indicator}
+use Rattle.yaml_base.specs.Cursor.{Cursor, Rendered, indicator}
 use Rattle.yaml_base.specs.Grammar.{Node, Pairs, no_pairs, pairs_and}
 use Rattle.yaml_base.specs.Layout.{Role, as_key, as_value, Place, is_in_mapping, has_no_pairs, is_simple, entry_place}
 use Rattle.yaml_base.specs.streams.StreamContent.{Tree}
-use Rattle.yaml_base.specs.streams.StreamLines.{Line, lines_of, ends_sign, begins_with_sign, is_inside, spaces}
+use Rattle.yaml_base.specs.streams.StreamLines.{Line, lines_of, ends_indicator, begins_with_indicator, belongs_to_entry, spaces}
 use Rattle.yaml_base.specs.streams.StreamScalars.{Rules}
 use Rattle.yaml_base.specs.streams.StreamNodes.{key_of_line, simple_entry, kind_of_entry}
-use Rattle.yaml_base.specs.streams.StreamDocuments.{mark_of}
+use Rattle.yaml_base.specs.streams.StreamDocuments.{marker_of}
 use Rattle.yaml_base.proofs.stream_lines.StreamSections.{is_unmarked}
 use Rattle.yaml_base.proofs.stream_nodes.StreamAgrees.{node_tree}
 use Rattle.yaml_base.proofs.stream_nodes.StreamTexts.{node_own}
 use Rattle.yaml_base.proofs.stream_lines.StreamLineLaws.{is_closed, OneLine, lines_after_break}
 use Rattle.yaml_base.proofs.stream_lines.StreamInside.{AllInside, Splits, splits_none, splits_both, splits_one, begins_entry, outside, inside_deeper}
 use Rattle.yaml_base.proofs.stream_lines.StreamTidyLaws.{lines_after_first}
-use Rattle.yaml_base.proofs.stream_lines.StreamClosed.{closed, sign_cursor, margin_cursor, spaces_line, lines_behind, closed_behind, closed_both, rank}
+use Rattle.yaml_base.proofs.stream_lines.StreamClosed.{closed, indicator_cursor, margin_cursor, spaces_line, lines_behind, closed_behind, closed_both, rank}
 use Rattle.yaml_base.proofs.stream_lines.StreamClosed.{inside_both}
-use Rattle.yaml_base.proofs.stream_nodes.StreamFits.{size, Opens, Fits, signed_lines, signed_ends}
+use Rattle.yaml_base.proofs.stream_nodes.StreamFits.{size, Opens, Fits, indicated_lines, indicated_ends}
 
--- what the text of a simple key is to the reader, before `:` and what a sign opens: a line begins with it, no sign of an
--- entry does, it is no mark, and it is cut off as the key
+-- what the text of a simple key is to the reader, before `:` and what an indicator opens: a line begins with it, no indicator of an
+-- entry does, it is no marker, and it is cut off as the key
 pub record KeyFits (rules : Rules) (text : Text) (tree : Tree) : Type 0 where
   pub first : ℕ
   pub tail : Text
   pub is : text ≡ first ∷ tail
   pub shows : (first == space) ≡ false
   pub one_line : OneLine rules.breaks12 text
-  pub no_dash : (after : Text) → ends_sign after ≡ true → begins_with_sign 0x2D (text ++ (0x3A ∷ after)) ≡ false
-  pub simple : (after : Text) → ends_sign after ≡ true → kind_of_entry (text ++ (0x3A ∷ after)) ≡ simple_entry
-  pub unmarked : (after : Text) → ends_sign after ≡ true → is_unmarked (mark_of (text ++ (0x3A ∷ after))) ≡ true
-  pub cut : (after : Text) → ends_sign after ≡ true
+  pub no_dash : (after : Text) → ends_indicator after ≡ true → begins_with_indicator 0x2D (text ++ (0x3A ∷ after)) ≡ false
+  pub simple : (after : Text) → ends_indicator after ≡ true → kind_of_entry (text ++ (0x3A ∷ after)) ≡ simple_entry
+  pub unmarked : (after : Text) → ends_indicator after ≡ true → is_unmarked (marker_of (text ++ (0x3A ∷ after))) ≡ true
+  pub cut : (after : Text) → ends_indicator after ≡ true
       → key_of_line rules (text ++ (0x3A ∷ after)) ≡ Some (record { key = tree; length = length text; after = after })
 
 -- the place of a key, and of a value
@@ -50,27 +50,27 @@ value_place simple e = entry_place false (as_value simple) e
 abbrev pub colon_cursor : Cursor → Cursor
 colon_cursor cursor = (indicator (codes ":") false false false cursor).cursor
 
--- what is laid out for a simple key, and for a key behind `?`
-abbrev pub simple_key : Pairs → Node → Effective → List TagDirective → ℕ → Laid
+-- what is rendered for a simple key, and for a key behind `?`
+abbrev pub simple_key : Pairs → Node → Effective → List TagDirective → ℕ → Rendered
 simple_key pairs key s directives e = node_own key s directives (key_place pairs e) (margin_cursor e)
 
-abbrev pub signed_key : Pairs → Node → Effective → List TagDirective → ℕ → Laid
-signed_key pairs key s directives e = node_own key s directives (key_place pairs e) (sign_cursor e)
+abbrev pub indicated_key : Pairs → Node → Effective → List TagDirective → ℕ → Rendered
+indicated_key pairs key s directives e = node_own key s directives (key_place pairs e) (indicator_cursor e)
 
--- what is laid out for a value behind a simple key, and behind a `:` of its own
-abbrev pub simple_value : Pairs → Node → Node → Effective → List TagDirective → ℕ → Laid
+-- what is rendered for a value behind a simple key, and behind a `:` of its own
+abbrev pub simple_value : Pairs → Node → Node → Effective → List TagDirective → ℕ → Rendered
 simple_value pairs key value s directives e =
     node_own value s directives (value_place true e) (colon_cursor (simple_key pairs key s directives e).cursor)
 
-abbrev pub signed_value : Node → Effective → List TagDirective → ℕ → Laid
-signed_value value s directives e = node_own value s directives (value_place false e) (sign_cursor e)
+abbrev pub indicated_value : Node → Effective → List TagDirective → ℕ → Rendered
+indicated_value value s directives e = node_own value s directives (value_place false e) (indicator_cursor e)
 
 -- a pair from its column on and up to its line's end
 abbrev pub pair_text : (simple : Bool) → Pairs → Node → Node → Effective → List TagDirective → ℕ → Text
 pair_text true pairs key value s directives e =
     spaces e ++ ((simple_key pairs key s directives e).text ++ (0x3A ∷ closed (simple_value pairs key value s directives e)))
 pair_text false pairs key value s directives e =
-    (spaces e ++ (0x3F ∷ closed (signed_key pairs key s directives e))) ++ (spaces e ++ (0x3A ∷ closed (signed_value value s directives e)))
+    (spaces e ++ (0x3F ∷ closed (indicated_key pairs key s directives e))) ++ (spaces e ++ (0x3A ∷ closed (indicated_value value s directives e)))
 
 -- the pairs of a mapping at a column
 abbrev pub pairs_text : Pairs → Effective → List TagDirective → ℕ → Text
@@ -82,8 +82,8 @@ pairs_text (pairs_and pairs key value) s directives e =
 abbrev pub entries_of_pair : Bool → (simple : Bool) → Pairs → Node → Node → Effective → List TagDirective → ℕ → List (List Line)
 entries_of_pair breaks12 true pairs key value s directives e = lines_of breaks12 (pair_text true pairs key value s directives e) ∷ []
 entries_of_pair breaks12 false pairs key value s directives e =
-    lines_of breaks12 (spaces e ++ (0x3F ∷ closed (signed_key pairs key s directives e)))
-    ∷ lines_of breaks12 (spaces e ++ (0x3A ∷ closed (signed_value value s directives e))) ∷ []
+    lines_of breaks12 (spaces e ++ (0x3F ∷ closed (indicated_key pairs key s directives e)))
+    ∷ lines_of breaks12 (spaces e ++ (0x3A ∷ closed (indicated_value value s directives e))) ∷ []
 
 -- those of all pairs
 abbrev pub pair_entries : Bool → Pairs → Effective → List TagDirective → ℕ → List (List Line)
@@ -98,8 +98,9 @@ PairFits true rules s directives pairs key value e =
     × Fits rules (size value) (simple_value pairs key value s directives e) (node_tree value s directives (value_place true e)) (value_place true e)
     (colon_cursor (simple_key pairs key s directives e).cursor)
 PairFits false rules s directives pairs key value e =
-    Fits rules (size key) (signed_key pairs key s directives e) (node_tree key s directives (key_place pairs e)) (key_place pairs e) (sign_cursor e)
-    × Fits rules (size value) (signed_value value s directives e) (node_tree value s directives (value_place false e)) (value_place false e) (sign_cursor e)
+    Fits rules (size key) (indicated_key pairs key s directives e) (node_tree key s directives (key_place pairs e)) (key_place pairs e) (indicator_cursor e)
+    × Fits rules (size value) (indicated_value value s directives e) (node_tree value s directives (value_place false e)) (value_place false e)
+    (indicator_cursor e)
 
 -- each pair fits
 abbrev pub PairsFit : Rules → Effective → List TagDirective → Pairs → ℕ → Type 0
@@ -107,7 +108,7 @@ PairsFit rules s directives no_pairs e = Unit {0}
 PairsFit rules s directives (pairs_and pairs key value) e =
     PairsFit rules s directives pairs e × PairFits (is_simple s.canonical directives key) rules s directives pairs key value e
 
--- the signs of a pair break no line
+-- the indicators of a pair break no line
 pub question_line : (breaks12 : Bool) → OneLine breaks12 (0x3F ∷ [])
 question_line true = refl
 question_line false = refl
@@ -126,12 +127,12 @@ keyed_lines rules text t tree e key o =
     (lines_behind rules.breaks12 (0x3A ∷ []) t o.head o.ending o.rest (colon_line rules.breaks12) o.is))
 
 -- a key begins an entry
-keyed_begins : (rules : Rules) (text after : Text) (tree : Tree) → KeyFits rules text tree → ends_sign after ≡ true
+keyed_begins : (rules : Rules) (text after : Text) (tree : Tree) → KeyFits rules text tree → ends_indicator after ≡ true
     → begins_entry false (text ++ (0x3A ∷ after)) ≡ true
 keyed_begins rules text after tree key h =
     ap (λ t. begins_entry false (t ++ (0x3A ∷ after))) key.is
-    ∙ and_from (not (key.first == space)) (not (begins_with_sign 0x2D ((key.first ∷ key.tail) ++ (0x3A ∷ after)))) (ap not key.shows)
-    (ap not (ap (λ t. begins_with_sign 0x2D (t ++ (0x3A ∷ after))) (sym key.is) ∙ key.no_dash after h))
+    ∙ and_from (not (key.first == space)) (not (begins_with_indicator 0x2D ((key.first ∷ key.tail) ++ (0x3A ∷ after)))) (ap not key.shows)
+    (ap not (ap (λ t. begins_with_indicator 0x2D (t ++ (0x3A ∷ after))) (sym key.is) ∙ key.no_dash after h))
 
 -- a place in a column is within those around
 within_less : (q : Bool) (d e : ℕ) (x : Bool) → d + rank q ≤ e → d + rank (q && x) ≤ e
@@ -139,22 +140,22 @@ within_less true d e true h = h
 within_less true d e false h = omega arith
 within_less false d e x h = h
 
--- the lines after the first of what a sign opens are inside the column, where the node fits there
-pub rest_inside : (rules : Rules) (n : ℕ) (own : Laid) (tree : Tree) (role : Role) (cursor : Cursor) (e : ℕ)
+-- the lines after the first of what an indicator opens are inside the column, where the node fits there
+pub rest_inside : (rules : Rules) (n : ℕ) (own : Rendered) (tree : Tree) (role : Role) (cursor : Cursor) (e : ℕ)
     (fit : Fits rules n own tree (entry_place false role e) cursor) (w : cursor.whitespace ≡ false)
     (q : Bool) (d : ℕ) → d + rank q ≤ e → AllInside q d (fit.opens w).rest
 rest_inside rules n own tree role cursor e fit w q d h =
-    ap (λ ls. list_all (λ line. is_inside q d line.text) (lines_after_first ls)) (sym (fit.opens w).is)
+    ap (λ ls. list_all (λ line. belongs_to_entry q d line.text) (lines_after_first ls)) (sym (fit.opens w).is)
     ∙ fit.inside q d (within_less q d e (is_in_mapping role) h)
 
--- all lines of a sign and what it opens are deeper than a column farther out
-signed_inside : (rules : Rules) (n : ℕ) (own : Laid) (tree : Tree) (role : Role) (cursor : Cursor) (e c : ℕ)
+-- all lines of an indicator and what it opens are deeper than a column farther out
+indicated_inside : (rules : Rules) (n : ℕ) (own : Rendered) (tree : Tree) (role : Role) (cursor : Cursor) (e c : ℕ)
     (fit : Fits rules n own tree (entry_place false role e) cursor) (w : cursor.whitespace ≡ false)
     → OneLine rules.breaks12 (c ∷ []) → (q : Bool) (d : ℕ) → d < e → AllInside q d (lines_of rules.breaks12 (spaces e ++ (c ∷ closed own)))
-signed_inside rules n own tree role cursor e c fit w one q d h =
+indicated_inside rules n own tree role cursor e c fit w one q d h =
     let o = fit.opens w in
-    ap (λ ls. list_all (λ line. is_inside q d line.text) ls) (signed_lines rules.breaks12 e c (closed own) o one)
-    ∙ and_from (is_inside q d (spaces e ++ (c ∷ o.head))) (list_all (λ line. is_inside q d line.text) o.rest) (inside_deeper q d e (c ∷ o.head) h)
+    ap (λ ls. list_all (λ line. belongs_to_entry q d line.text) ls) (indicated_lines rules.breaks12 e c (closed own) o one)
+    ∙ and_from (belongs_to_entry q d (spaces e ++ (c ∷ o.head))) (list_all (λ line. belongs_to_entry q d line.text) o.rest) (inside_deeper q d e (c ∷ o.head) h)
     (rest_inside rules n own tree role cursor e fit w q d (ranked q))
   where
     ranked : (q : Bool) → d + rank q ≤ e
@@ -162,13 +163,13 @@ signed_inside rules n own tree role cursor e c fit w one q d h =
     ranked false = omega arith
 
 -- they are one entry of a mapping
-signed_splits : (rules : Rules) (n : ℕ) (own : Laid) (tree : Tree) (role : Role) (cursor : Cursor) (e c : ℕ)
+indicated_splits : (rules : Rules) (n : ℕ) (own : Rendered) (tree : Tree) (role : Role) (cursor : Cursor) (e c : ℕ)
     (fit : Fits rules n own tree (entry_place false role e) cursor) (w : cursor.whitespace ≡ false)
     → OneLine rules.breaks12 (c ∷ []) → ((t : Text) → begins_entry false (c ∷ t) ≡ true)
     → Splits false e (lines_of rules.breaks12 (spaces e ++ (c ∷ closed own))) (lines_of rules.breaks12 (spaces e ++ (c ∷ closed own)) ∷ [])
-signed_splits rules n own tree role cursor e c fit w one begins =
+indicated_splits rules n own tree role cursor e c fit w one begins =
     let o = fit.opens w in
-    subst (λ ls. Splits false e ls (ls ∷ [])) (sym (signed_lines rules.breaks12 e c (closed own) o one))
+    subst (λ ls. Splits false e ls (ls ∷ [])) (sym (indicated_lines rules.breaks12 e c (closed own) o one))
     (splits_one false e (record { text = spaces e ++ (c ∷ o.head); ending = o.ending }) o.rest (outside false e (c ∷ o.head) (begins o.head))
     (rest_inside rules n own tree role cursor e fit w false e (omega arith)))
 
@@ -182,23 +183,23 @@ pair_ends true rules s directives pairs key value e fit =
     let k = (simple_key pairs key s directives e).text in
     let v = closed (simple_value pairs key value s directives e) in
     ap (is_closed rules.breaks12) (sym (append_assoc (spaces e) k (0x3A ∷ v)))
-    ∙ closed_behind rules.breaks12 (spaces e ++ k) 0x3A v (signed_ends rules.breaks12 0 0x3A v (fit.1.opens refl) fit.1.ends)
+    ∙ closed_behind rules.breaks12 (spaces e ++ k) 0x3A v (indicated_ends rules.breaks12 0 0x3A v (fit.1.opens refl) fit.1.ends)
 pair_ends false rules s directives pairs key value e fit =
-    let k = closed (signed_key pairs key s directives e) in
-    let v = closed (signed_value value s directives e) in
-    closed_both rules.breaks12 (spaces e ++ (0x3F ∷ k)) (spaces e ++ (0x3A ∷ v)) (signed_ends rules.breaks12 e 0x3F k (fit.0.opens refl) fit.0.ends)
-    (signed_ends rules.breaks12 e 0x3A v (fit.1.opens refl) fit.1.ends)
+    let k = closed (indicated_key pairs key s directives e) in
+    let v = closed (indicated_value value s directives e) in
+    closed_both rules.breaks12 (spaces e ++ (0x3F ∷ k)) (spaces e ++ (0x3A ∷ v)) (indicated_ends rules.breaks12 e 0x3F k (fit.0.opens refl) fit.0.ends)
+    (indicated_ends rules.breaks12 e 0x3A v (fit.1.opens refl) fit.1.ends)
 
 -- a pair with `?` has the lines of both
-pub signed_pair_lines : (rules : Rules) (s : Effective) (directives : List TagDirective) (pairs : Pairs) (key value : Node) (e : ℕ)
+pub indicated_pair_lines : (rules : Rules) (s : Effective) (directives : List TagDirective) (pairs : Pairs) (key value : Node) (e : ℕ)
     → PairFits false rules s directives pairs key value e
     → lines_of rules.breaks12 (pair_text false pairs key value s directives e)
-    ≡ lines_of rules.breaks12 (spaces e ++ (0x3F ∷ closed (signed_key pairs key s directives e)))
-    ++ lines_of rules.breaks12 (spaces e ++ (0x3A ∷ closed (signed_value value s directives e)))
-signed_pair_lines rules s directives pairs key value e fit =
-    lines_after_break rules.breaks12 (spaces e ++ (0x3F ∷ closed (signed_key pairs key s directives e)))
-    (spaces e ++ (0x3A ∷ closed (signed_value value s directives e)))
-    (signed_ends rules.breaks12 e 0x3F (closed (signed_key pairs key s directives e)) (fit.0.opens refl) fit.0.ends)
+    ≡ lines_of rules.breaks12 (spaces e ++ (0x3F ∷ closed (indicated_key pairs key s directives e)))
+    ++ lines_of rules.breaks12 (spaces e ++ (0x3A ∷ closed (indicated_value value s directives e)))
+indicated_pair_lines rules s directives pairs key value e fit =
+    lines_after_break rules.breaks12 (spaces e ++ (0x3F ∷ closed (indicated_key pairs key s directives e)))
+    (spaces e ++ (0x3A ∷ closed (indicated_value value s directives e)))
+    (indicated_ends rules.breaks12 e 0x3F (closed (indicated_key pairs key s directives e)) (fit.0.opens refl) fit.0.ends)
 
 -- a pair's lines split into its entries
 pair_splits : (x : Bool) (rules : Rules) (s : Effective) (directives : List TagDirective) (pairs : Pairs) (key value : Node) (e : ℕ)
@@ -210,19 +211,19 @@ pair_splits true rules s directives pairs key value e fit =
     let o = fit.1.opens refl in
     subst (λ ls. Splits false e ls (ls ∷ [])) (sym (keyed_lines rules k (closed (simple_value pairs key value s directives e)) tree e fit.0 o))
     (splits_one false e (record { text = spaces e ++ (k ++ (0x3A ∷ o.head)); ending = o.ending }) o.rest
-    (outside false e (k ++ (0x3A ∷ o.head)) (keyed_begins rules k o.head tree fit.0 o.sign))
+    (outside false e (k ++ (0x3A ∷ o.head)) (keyed_begins rules k o.head tree fit.0 o.symbol))
     (rest_inside rules (size value) (simple_value pairs key value s directives e) (node_tree value s directives (value_place true e)) (as_value true)
     (colon_cursor (simple_key pairs key s directives e).cursor) e fit.1 refl false e (omega arith)))
 pair_splits false rules s directives pairs key value e fit =
-    let k = spaces e ++ (0x3F ∷ closed (signed_key pairs key s directives e)) in
-    let v = spaces e ++ (0x3A ∷ closed (signed_value value s directives e)) in
+    let k = spaces e ++ (0x3F ∷ closed (indicated_key pairs key s directives e)) in
+    let v = spaces e ++ (0x3A ∷ closed (indicated_value value s directives e)) in
     subst (λ ls. Splits false e ls (lines_of rules.breaks12 k ∷ lines_of rules.breaks12 v ∷ []))
-    (sym (signed_pair_lines rules s directives pairs key value e fit))
+    (sym (indicated_pair_lines rules s directives pairs key value e fit))
     (splits_both false e (lines_of rules.breaks12 k) (lines_of rules.breaks12 v) (lines_of rules.breaks12 k ∷ []) (lines_of rules.breaks12 v ∷ [])
-    (signed_splits rules (size key) (signed_key pairs key s directives e) (node_tree key s directives (key_place pairs e)) (as_key (has_no_pairs pairs))
-    (sign_cursor e) e 0x3F fit.0 refl (question_line rules.breaks12) (λ t. refl))
-    (signed_splits rules (size value) (signed_value value s directives e) (node_tree value s directives (value_place false e)) (as_value false)
-    (sign_cursor e) e 0x3A fit.1 refl (colon_line rules.breaks12) (λ t. refl)))
+    (indicated_splits rules (size key) (indicated_key pairs key s directives e) (node_tree key s directives (key_place pairs e)) (as_key (has_no_pairs pairs))
+    (indicator_cursor e) e 0x3F fit.0 refl (question_line rules.breaks12) (λ t. refl))
+    (indicated_splits rules (size value) (indicated_value value s directives e) (node_tree value s directives (value_place false e)) (as_value false)
+    (indicator_cursor e) e 0x3A fit.1 refl (colon_line rules.breaks12) (λ t. refl)))
 
 -- a pair's lines are deeper than a column farther out
 pair_inside : (x : Bool) (rules : Rules) (s : Effective) (directives : List TagDirective) (pairs : Pairs) (key value : Node) (e : ℕ)
@@ -232,8 +233,8 @@ pair_inside true rules s directives pairs key value e fit q d h =
     let k = (simple_key pairs key s directives e).text in
     let tree = node_tree key s directives (key_place pairs e) in
     let o = fit.1.opens refl in
-    ap (λ ls. list_all (λ line. is_inside q d line.text) ls) (keyed_lines rules k (closed (simple_value pairs key value s directives e)) tree e fit.0 o)
-    ∙ and_from (is_inside q d (spaces e ++ (k ++ (0x3A ∷ o.head)))) (list_all (λ line. is_inside q d line.text) o.rest)
+    ap (λ ls. list_all (λ line. belongs_to_entry q d line.text) ls) (keyed_lines rules k (closed (simple_value pairs key value s directives e)) tree e fit.0 o)
+    ∙ and_from (belongs_to_entry q d (spaces e ++ (k ++ (0x3A ∷ o.head)))) (list_all (λ line. belongs_to_entry q d line.text) o.rest)
     (inside_deeper q d e (k ++ (0x3A ∷ o.head)) h)
     (rest_inside rules (size value) (simple_value pairs key value s directives e) (node_tree value s directives (value_place true e)) (as_value true)
     (colon_cursor (simple_key pairs key s directives e).cursor) e fit.1 refl q d (ranked q))
@@ -242,13 +243,13 @@ pair_inside true rules s directives pairs key value e fit q d h =
     ranked true = omega arith
     ranked false = omega arith
 pair_inside false rules s directives pairs key value e fit q d h =
-    ap (λ ls. list_all (λ line. is_inside q d line.text) ls) (signed_pair_lines rules s directives pairs key value e fit)
-    ∙ inside_both q d (lines_of rules.breaks12 (spaces e ++ (0x3F ∷ closed (signed_key pairs key s directives e))))
-    (lines_of rules.breaks12 (spaces e ++ (0x3A ∷ closed (signed_value value s directives e))))
-    (signed_inside rules (size key) (signed_key pairs key s directives e) (node_tree key s directives (key_place pairs e)) (as_key (has_no_pairs pairs))
-    (sign_cursor e) e 0x3F fit.0 refl (question_line rules.breaks12) q d h)
-    (signed_inside rules (size value) (signed_value value s directives e) (node_tree value s directives (value_place false e)) (as_value false)
-    (sign_cursor e) e 0x3A fit.1 refl (colon_line rules.breaks12) q d h)
+    ap (λ ls. list_all (λ line. belongs_to_entry q d line.text) ls) (indicated_pair_lines rules s directives pairs key value e fit)
+    ∙ inside_both q d (lines_of rules.breaks12 (spaces e ++ (0x3F ∷ closed (indicated_key pairs key s directives e))))
+    (lines_of rules.breaks12 (spaces e ++ (0x3A ∷ closed (indicated_value value s directives e))))
+    (indicated_inside rules (size key) (indicated_key pairs key s directives e) (node_tree key s directives (key_place pairs e)) (as_key (has_no_pairs pairs))
+    (indicator_cursor e) e 0x3F fit.0 refl (question_line rules.breaks12) q d h)
+    (indicated_inside rules (size value) (indicated_value value s directives e) (node_tree value s directives (value_place false e)) (as_value false)
+    (indicator_cursor e) e 0x3A fit.1 refl (colon_line rules.breaks12) q d h)
 
 -- All pairs
 
@@ -289,6 +290,6 @@ pub pairs_inside : (rules : Rules) (s : Effective) (directives : List TagDirecti
 pairs_inside rules s directives no_pairs e fit q d h = refl
 pairs_inside rules s directives (pairs_and pairs key value) e fit q d h =
     let x = is_simple s.canonical directives key in
-    ap (λ ls. list_all (λ line. is_inside q d line.text) ls) (pairs_lines rules s directives pairs key value e fit.0)
+    ap (λ ls. list_all (λ line. belongs_to_entry q d line.text) ls) (pairs_lines rules s directives pairs key value e fit.0)
     ∙ inside_both q d (lines_of rules.breaks12 (pairs_text pairs s directives e)) (lines_of rules.breaks12 (pair_text x pairs key value s directives e))
     (pairs_inside rules s directives pairs e fit.0 q d h) (pair_inside x rules s directives pairs key value e fit.1 q d h)

@@ -7,9 +7,9 @@ use Rattle.std.specs.Prelude.{ℕ, Bool, true, false, Option, None, Some, List, 
 use Rattle.std.specs.Prelude.{if◌then◌else◌}
 use Rattle.yaml_base.specs.Characters.{Text, space, is_alpha, is_blank, is_break}
 use Rattle.yaml_base.specs.Event.{TagDirective}
-use Rattle.yaml_base.specs.reading.ReadTags.{TagSaid, CutText, tag_said}
-use Rattle.yaml_base.specs.streams.StreamLines.{Indented, indented, indented_step, spaces, ends_sign}
-use Rattle.yaml_base.specs.streams.StreamScalars.{Rules, no_properties, PropertiesRead, word_step, word_cut, name_read, anchor_of_word, anchor_first}
+use Rattle.yaml_base.specs.reading.ReadTags.{ParsedTag, CutText, tag_parsed}
+use Rattle.yaml_base.specs.streams.StreamLines.{Indented, indented, indented_step, spaces, ends_indicator}
+use Rattle.yaml_base.specs.streams.StreamScalars.{Rules, no_properties, PropertiesRead, word_step, cut_before_space, name_read, anchor_of_word, anchor_first}
 use Rattle.yaml_base.specs.streams.StreamScalars.{tag_of_word, tag_first, properties_read, word_after, word_read}
 use Rattle.yaml_base.proofs.stream_lines.StreamCuts.{none_not_some}
 
@@ -18,16 +18,16 @@ abbrev pub holds_white : Text → Bool
 holds_white text = list_any (λ c. is_blank c || is_break c) text
 
 -- a written tag, and what it says
-pub record WrittenTag (directives : List TagDirective) (text : Text) (said : TagSaid) : Type 0 where
+pub record WrittenTag (directives : List TagDirective) (text : Text) (parsed : ParsedTag) : Type 0 where
   pub rest : Text
   pub begins : text ≡ 0x21 ∷ rest
   pub no_white : holds_white text ≡ false
-  pub says : tag_said directives text ≡ Some said
+  pub says : tag_parsed directives text ≡ Some parsed
 
 -- a written tag, if there is one, and what it says
-abbrev pub IsTagged : List TagDirective → Option Text → Option TagSaid → Type 0
+abbrev pub IsTagged : List TagDirective → Option Text → Option ParsedTag → Type 0
 IsTagged directives None None = Unit {0}
-IsTagged directives (Some text) (Some said) = WrittenTag directives text said
+IsTagged directives (Some text) (Some parsed) = WrittenTag directives text parsed
 IsTagged directives _ _ = ⊥
 
 -- an anchor's name, if there is one
@@ -63,13 +63,14 @@ not_true false h = refl
 -- Words
 
 -- a word is cut before a space or the end
-pub word_whole : (word rest : Text) → has_no_space word ≡ true → ends_sign rest ≡ true → word_cut (word ++ rest) ≡ record { front = word; rest = rest }
+pub word_whole : (word rest : Text) → has_no_space word ≡ true → ends_indicator rest ≡ true
+    → cut_before_space (word ++ rest) ≡ record { prefix = word; rest = rest }
 word_whole [] [] h ends = refl
-word_whole [] (c ∷ rest) h ends = ap (λ x. word_step x c rest (word_cut rest)) ends
+word_whole [] (c ∷ rest) h ends = ap (λ x. word_step x c rest (cut_before_space rest)) ends
 word_whole (c ∷ word) rest h ends =
     let parts = and_parts (not (c == space)) (has_no_space word) h in
-    ap (λ x. word_step x c (word ++ rest) (word_cut (word ++ rest))) (not_true (c == space) parts.0)
-    ∙ ap (λ (cut : CutText). let made : CutText = record { front = c ∷ cut.front; rest = cut.rest } in made) (word_whole word rest parts.1 ends)
+    ap (λ x. word_step x c (word ++ rest) (cut_before_space (word ++ rest))) (not_true (c == space) parts.0)
+    ∙ ap (λ (cut : CutText). let made : CutText = record { prefix = c ∷ cut.prefix; rest = cut.rest } in made) (word_whole word rest parts.1 ends)
 
 -- a letter is no space
 letter_no_space : (c : ℕ) → is_alpha c ≡ true → not (c == space) ≡ true
@@ -125,9 +126,9 @@ content_indented (suc n) t h = ap (λ (after : Indented). indented_step true (sp
 -- Properties
 
 -- what is read of properties, and spaces in their place
-abbrev pub read_as : Option Text → Option TagSaid → ℕ → Text → Option PropertiesRead
-read_as anchor said count rest =
-    Some (record { properties = record { anchor = anchor; tag = said }; text = spaces count ++ rest })
+abbrev pub read_as : Option Text → Option ParsedTag → ℕ → Text → Option PropertiesRead
+read_as anchor parsed count rest =
+    Some (record { properties = record { anchor = anchor; tag = parsed }; text = spaces count ++ rest })
 
 -- without a tag
 no_tag : (directives : List TagDirective) (anchor : Option Text) (column : ℕ) (rest : Text) → begins_content rest ≡ true
@@ -137,21 +138,21 @@ no_tag directives anchor column [] h =
     (sym (append-nil (spaces column)))
 no_tag directives anchor column (c ∷ rest) h =
     let parts = and_parts (not (c == space)) (not (c == 0x26) && not (c == 0x21)) h in
-    ap (λ x. if x then tag_of_word directives anchor column (word_cut (c ∷ rest)) else read_as anchor None column (c ∷ rest))
+    ap (λ x. if x then tag_of_word directives anchor column (cut_before_space (c ∷ rest)) else read_as anchor None column (c ∷ rest))
     (not_true (c == 0x21) (and_parts (not (c == 0x26)) (not (c == 0x21)) parts.1).1)
 
 -- a tag, before a space or the end
-with_tag : (directives : List TagDirective) (anchor : Option Text) (column : ℕ) (tag rest : Text) (said : TagSaid) → WrittenTag directives tag said
-    → ends_sign rest ≡ true → tag_first directives anchor column (tag ++ rest) ≡ read_as anchor (Some said) (column + length tag) rest
-with_tag directives anchor column [] rest said written h = absurd (begins_nothing written.begins)
+with_tag : (directives : List TagDirective) (anchor : Option Text) (column : ℕ) (tag rest : Text) (parsed : ParsedTag) → WrittenTag directives tag parsed
+    → ends_indicator rest ≡ true → tag_first directives anchor column (tag ++ rest) ≡ read_as anchor (Some parsed) (column + length tag) rest
+with_tag directives anchor column [] rest parsed written h = absurd (begins_nothing written.begins)
   where
     begins_nothing : {t : Text} → ◌≡◌ {A = Text} [] (0x21 ∷ t) → ⊥
     begins_nothing e = cc
-with_tag directives anchor column (c ∷ tag) rest said written h =
-    ap (λ x. if x then tag_of_word directives anchor column (word_cut ((c ∷ tag) ++ rest)) else read_as anchor None column ((c ∷ tag) ++ rest)) mark
+with_tag directives anchor column (c ∷ tag) rest parsed written h =
+    ap (λ x. if x then tag_of_word directives anchor column (cut_before_space ((c ∷ tag) ++ rest)) else read_as anchor None column ((c ∷ tag) ++ rest)) marker
     ∙ ap (tag_of_word directives anchor column) (word_whole (c ∷ tag) rest (no_white_no_space (c ∷ tag) written.no_white) h)
-    ∙ ap (option_map (λ said. let made : PropertiesRead = record {
-      properties = record { anchor = anchor; tag = Some said };
+    ∙ ap (option_map (λ parsed. let made : PropertiesRead = record {
+      properties = record { anchor = anchor; tag = Some parsed };
       text = spaces (column + length (c ∷ tag)) ++ rest;
     } in made)) written.says
   where
@@ -159,12 +160,12 @@ with_tag directives anchor column (c ∷ tag) rest said written h =
     first d [] = d
     first d (x ∷ t) = x
 
-    mark : (c == 0x21) ≡ true
-    mark = ap (λ t. first 0 t == 0x21) written.begins
+    marker : (c == 0x21) ≡ true
+    marker = ap (λ t. first 0 t == 0x21) written.begins
 
 -- an anchor, before a space or the end
-pub with_anchor : (name rest : Text) → name_read name ≡ Some name → ends_sign rest ≡ true
-    → anchor_of_word (word_cut (name ++ rest)) ≡ read_as (Some name) None (suc (length name)) rest
+pub with_anchor : (name rest : Text) → name_read name ≡ Some name → ends_indicator rest ≡ true
+    → anchor_of_word (cut_before_space (name ++ rest)) ≡ read_as (Some name) None (suc (length name)) rest
 with_anchor name rest h ends =
     ap anchor_of_word (word_whole name rest (letters_no_space name (name_letters name h)) ends)
     ∙ ap (option_map (λ name_read. let made : PropertiesRead = record {
@@ -178,7 +179,7 @@ no_anchor : (n : ℕ) (rest : Text) → begins_content rest ≡ true
 no_anchor zero [] own = refl
 no_anchor zero (c ∷ rest) own =
     let parts = and_parts (not (c == space)) (not (c == 0x26) && not (c == 0x21)) own in
-    ap (λ x. if x then anchor_of_word (word_cut rest) else Some (record { properties = no_properties; text = c ∷ rest }))
+    ap (λ x. if x then anchor_of_word (cut_before_space rest) else Some (record { properties = no_properties; text = c ∷ rest }))
     (not_true (c == 0x26) (and_parts (not (c == 0x26)) (not (c == 0x21)) parts.1).0)
 no_anchor (suc n) rest own = refl
 
@@ -188,9 +189,9 @@ then_tag directives found =
     option_and_then (λ read. let after : Indented = indented read.text in tag_first directives read.properties.anchor after.column after.text) found
 
 -- where a tag begins the text after spaces
-tag_content : (directives : List TagDirective) (n : ℕ) (tag rest : Text) (said : TagSaid) → WrittenTag directives tag said
+tag_content : (directives : List TagDirective) (n : ℕ) (tag rest : Text) (parsed : ParsedTag) → WrittenTag directives tag parsed
     → indented (spaces n ++ (tag ++ rest)) ≡ record { column = n; text = tag ++ rest }
-tag_content directives n tag rest said written =
+tag_content directives n tag rest parsed written =
     ap (λ t. indented (spaces n ++ (t ++ rest))) written.begins
     ∙ spaced n (written.rest ++ rest)
     ∙ ap (λ t. let made : Indented = record { column = n; text = t ++ rest } in made) (sym written.begins)
@@ -200,57 +201,57 @@ tag_content directives n tag rest said written =
     spaced (suc n) t = ap (λ (after : Indented). indented_step true (spaces (suc n) ++ (0x21 ∷ t)) after) (spaced n t)
 
 -- written properties are read as they were given, before spaces and what they belong to
-pub properties_said : (directives : List TagDirective) (anchor tag : Option Text) (said : Option TagSaid) (n : ℕ) (rest : Text)
-    → IsNamed anchor → IsTagged directives tag said → begins_content rest ≡ true
-    → (has_properties anchor tag ≡ true → ends_sign (spaces n ++ rest) ≡ true)
-    → properties_read directives (properties_text anchor tag ++ (spaces n ++ rest)) ≡ read_as anchor said (length (properties_text anchor tag) + n) rest
-properties_said directives None None None n rest named tagged own ends =
+pub properties_parsed : (directives : List TagDirective) (anchor tag : Option Text) (parsed : Option ParsedTag) (n : ℕ) (rest : Text)
+    → IsNamed anchor → IsTagged directives tag parsed → begins_content rest ≡ true
+    → (has_properties anchor tag ≡ true → ends_indicator (spaces n ++ rest) ≡ true)
+    → properties_read directives (properties_text anchor tag ++ (spaces n ++ rest)) ≡ read_as anchor parsed (length (properties_text anchor tag) + n) rest
+properties_parsed directives None None None n rest named tagged own ends =
     ap (then_tag directives) (no_anchor n rest own)
     ∙ ap (λ (after : Indented). tag_first directives None after.column after.text) (content_indented n rest own)
     ∙ no_tag directives None n rest own
     ∙ (let e : n ≡ zero + n = omega arith in ap (λ k. read_as None None k rest) e)
-properties_said directives (Some name) None None n rest named tagged own ends =
+properties_parsed directives (Some name) None None n rest named tagged own ends =
     ap (then_tag directives) (with_anchor name (spaces n ++ rest) named (ends refl))
     ∙ ap (λ t. let after : Indented = indented t in tag_first directives (Some name) after.column after.text) (spaces_both (suc (length name)) n rest)
     ∙ ap (λ (after : Indented). tag_first directives (Some name) after.column after.text) (content_indented (suc (length name) + n) rest own)
     ∙ no_tag directives (Some name) (suc (length name) + n) rest own
-properties_said directives None (Some tag) (Some said) n rest named tagged own ends =
+properties_parsed directives None (Some tag) (Some parsed) n rest named tagged own ends =
     ap (then_tag directives) (no_anchor_tag tagged.begins)
-    ∙ ap (λ (after : Indented). tag_first directives None after.column after.text) (tag_content directives 0 tag (spaces n ++ rest) said tagged)
-    ∙ with_tag directives None 0 tag (spaces n ++ rest) said tagged (ends refl)
-    ∙ ap (λ t. let made : Option PropertiesRead = Some (record { properties = record { anchor = None; tag = Some said }; text = t }) in made)
+    ∙ ap (λ (after : Indented). tag_first directives None after.column after.text) (tag_content directives 0 tag (spaces n ++ rest) parsed tagged)
+    ∙ with_tag directives None 0 tag (spaces n ++ rest) parsed tagged (ends refl)
+    ∙ ap (λ t. let made : Option PropertiesRead = Some (record { properties = record { anchor = None; tag = Some parsed }; text = t }) in made)
     (spaces_both (0 + length tag) n rest ∙ (let e : (0 + length tag) + n ≡ length tag + n = omega arith in ap (λ k. spaces k ++ rest) e))
   where
     no_anchor_tag : {more : Text} → tag ≡ 0x21 ∷ more
         → anchor_first (tag ++ (spaces n ++ rest)) ≡ Some (record { properties = no_properties; text = tag ++ (spaces n ++ rest) })
     no_anchor_tag {more} e = ap (λ t. anchor_first (t ++ (spaces n ++ rest))) e
         ∙ ap (λ t. let made : Option PropertiesRead = Some (record { properties = no_properties; text = t ++ (spaces n ++ rest) }) in made) (sym e)
-properties_said directives (Some name) (Some tag) (Some said) n rest named tagged own ends =
+properties_parsed directives (Some name) (Some tag) (Some parsed) n rest named tagged own ends =
     ap (λ t. then_tag directives (anchor_first (0x26 ∷ t))) (append_assoc name (space ∷ tag) (spaces n ++ rest))
     ∙ ap (then_tag directives) (with_anchor name (space ∷ (tag ++ (spaces n ++ rest))) named refl)
     ∙ ap (λ t. let after : Indented = indented t in tag_first directives (Some name) after.column after.text)
     (space_after (suc (length name)) (tag ++ (spaces n ++ rest)))
     ∙ ap (λ (after : Indented). tag_first directives (Some name) after.column after.text)
-    (tag_content directives (suc (suc (length name))) tag (spaces n ++ rest) said tagged)
-    ∙ with_tag directives (Some name) (suc (suc (length name))) tag (spaces n ++ rest) said tagged (ends refl)
-    ∙ ap (λ t. let made : Option PropertiesRead = Some (record { properties = record { anchor = Some name; tag = Some said }; text = t }) in made)
+    (tag_content directives (suc (suc (length name))) tag (spaces n ++ rest) parsed tagged)
+    ∙ with_tag directives (Some name) (suc (suc (length name))) tag (spaces n ++ rest) parsed tagged (ends refl)
+    ∙ ap (λ t. let made : Option PropertiesRead = Some (record { properties = record { anchor = Some name; tag = Some parsed }; text = t }) in made)
     (spaces_both (suc (suc (length name)) + length tag) n rest
     ∙ ap (λ k. spaces (k + n) ++ rest) (counted (length name) (length tag) ∙ ap suc (sym (length-append name (space ∷ tag)))))
   where
     counted : (a b : ℕ) → suc (suc a) + b ≡ suc (a + suc b)
     counted a b = omega arith
-properties_said directives None None (Some said) n rest named tagged own ends = absurd tagged
-properties_said directives None (Some tag) None n rest named tagged own ends = absurd tagged
-properties_said directives (Some name) None (Some said) n rest named tagged own ends = absurd tagged
-properties_said directives (Some name) (Some tag) None n rest named tagged own ends = absurd tagged
+properties_parsed directives None None (Some parsed) n rest named tagged own ends = absurd tagged
+properties_parsed directives None (Some tag) None n rest named tagged own ends = absurd tagged
+properties_parsed directives (Some name) None (Some parsed) n rest named tagged own ends = absurd tagged
+properties_parsed directives (Some name) (Some tag) None n rest named tagged own ends = absurd tagged
 
 -- a word with properties is what follows them, with these properties
-pub word_with_properties : (rules : Rules) (flow : Bool) (anchor tag : Option Text) (said : Option TagSaid) (n : ℕ) (rest : Text)
-    → IsNamed anchor → IsTagged rules.directives tag said → begins_content rest ≡ true
-    → (has_properties anchor tag ≡ true → ends_sign (spaces n ++ rest) ≡ true)
-    → word_read rules flow (properties_text anchor tag ++ (spaces n ++ rest)) ≡ word_after rules flow None (record { anchor = anchor; tag = said }) rest
-word_with_properties rules flow anchor tag said n rest named tagged own ends =
+pub word_with_properties : (rules : Rules) (flow : Bool) (anchor tag : Option Text) (parsed : Option ParsedTag) (n : ℕ) (rest : Text)
+    → IsNamed anchor → IsTagged rules.directives tag parsed → begins_content rest ≡ true
+    → (has_properties anchor tag ≡ true → ends_indicator (spaces n ++ rest) ≡ true)
+    → word_read rules flow (properties_text anchor tag ++ (spaces n ++ rest)) ≡ word_after rules flow None (record { anchor = anchor; tag = parsed }) rest
+word_with_properties rules flow anchor tag parsed n rest named tagged own ends =
     ap (option_and_then (λ read. word_after rules flow None read.properties (indented read.text).text))
-    (properties_said rules.directives anchor tag said n rest named tagged own ends)
-    ∙ ap (λ (after : Indented). word_after rules flow None (record { anchor = anchor; tag = said }) after.text)
+    (properties_parsed rules.directives anchor tag parsed n rest named tagged own ends)
+    ∙ ap (λ (after : Indented). word_after rules flow None (record { anchor = anchor; tag = parsed }) after.text)
     (content_indented (length (properties_text anchor tag) + n) rest own)

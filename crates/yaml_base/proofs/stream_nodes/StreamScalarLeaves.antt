@@ -7,12 +7,12 @@ use Rattle.yaml_base.specs.Settings.{Effective}
 use Rattle.yaml_base.specs.Cursor.{Cursor}
 use Rattle.yaml_base.specs.Event.{ScalarStyle, TagDirective, any_style, plain, single_quoted, double_quoted, literal, folded}
 use Rattle.yaml_base.specs.scalars.Analysis.{Allowances, allowances, allows_block, is_empty}
-use Rattle.yaml_base.specs.scalars.Style.{is_plain, style_asked, fits_plain}
+use Rattle.yaml_base.specs.scalars.Style.{is_plain, requested_style, fits_plain}
 use Rattle.yaml_base.specs.Meaning.{read_in_style}
 use Rattle.yaml_base.specs.reading.TidyText.{is_tidy}
 use Rattle.yaml_base.specs.Event.{scalar_tag}
 use Rattle.yaml_base.specs.Grammar.{scalar_node}
-use Rattle.yaml_base.specs.Layout.{Place, deeper, is_simple_at, body_laid, choice_of}
+use Rattle.yaml_base.specs.Layout.{Place, deeper, is_simple_at, render_body, choice_of}
 use Rattle.yaml_base.proofs.stream_nodes.StreamFits.{Fits}
 use Rattle.yaml_base.proofs.stream_nodes.StreamProperties.{IsNamed}
 use Rattle.yaml_base.proofs.stream_nodes.StreamStands.{TagStands}
@@ -20,7 +20,7 @@ use Rattle.yaml_base.proofs.stream_flow.StreamFlowWords.{scalar_in}
 use Rattle.yaml_base.proofs.stream_flow.StreamFlowScalars.{rules_of, bare_not_plain}
 use Rattle.yaml_base.proofs.stream_nodes.StreamLeaves.{block_place, ScalarsFit}
 use Rattle.yaml_base.proofs.stream_lines.StreamBlockEnds.{is_block, block_fitting}
-use Rattle.yaml_base.proofs.stream_nodes.StreamScalarsFit.{styled_laid, body_cursor, body_fits, styled_fits}
+use Rattle.yaml_base.proofs.stream_nodes.StreamScalarsFit.{render_styled, body_cursor, body_fits, styled_fits}
 use Rattle.yaml_base.proofs.stream_nodes.StreamEmptyFits.{empty_fits}
 
 -- a scalar in a style fits where its body is tidy and reads as its value
@@ -28,19 +28,20 @@ scalar_fits : (s : Effective) (own directives : List TagDirective) (anchor tag :
     (indent : ℕ) (value : Text)
     (place : Place) (cursor : Cursor) → 2 ≤ s.indent → s.indent ≤ 9 → IsNamed anchor → TagStands s.portable own directives tag
     → (bare ≡ true → is_plain style ≡ false) → (is_block style ≡ true → allows_block (record { unicode = s.unicode; breaks12 = s.breaks12 }) value ≡ true)
-    → is_tidy style s.breaks12 place.column (body_laid style s limit indent value (body_cursor s directives anchor tag bare style value cursor)).text ≡ true
+    → is_tidy style s.breaks12 place.column (render_body style s limit indent value (body_cursor s directives anchor tag bare style value cursor)).text ≡ true
     → read_in_style style s.breaks12 false place.column
-    (body_laid style s limit indent value (body_cursor s directives anchor tag bare style value cursor)).text ≡ Some value
-    → Fits (rules_of s own) 1 (styled_laid s directives anchor tag bare style limit indent value cursor) (scalar_in anchor tag style bare value) place cursor
+    (render_body style s limit indent value (body_cursor s directives anchor tag bare style value cursor)).text ≡ Some value
+    → Fits (rules_of s own) 1 (render_styled s directives anchor tag bare style limit indent value cursor) (scalar_in anchor tag style bare value) place cursor
 scalar_fits s own directives anchor tag bare style limit indent value place cursor low high named stands meant allowed tidy read =
     by style value bare meant allowed tidy read
   where
     full : (style : ScalarStyle) (value : Text) (bare : Bool) → (is_plain style && is_empty value) ≡ false → (bare ≡ true → is_plain style ≡ false)
         → (is_block style ≡ true → allows_block (record { unicode = s.unicode; breaks12 = s.breaks12 }) value ≡ true)
-        → is_tidy style s.breaks12 place.column (body_laid style s limit indent value (body_cursor s directives anchor tag bare style value cursor)).text ≡ true
+        → is_tidy style s.breaks12 place.column (render_body style s limit indent value
+        (body_cursor s directives anchor tag bare style value cursor)).text ≡ true
         → read_in_style style s.breaks12 false place.column
-        (body_laid style s limit indent value (body_cursor s directives anchor tag bare style value cursor)).text ≡ Some value
-        → Fits (rules_of s own) 1 (styled_laid s directives anchor tag bare style limit indent value cursor) (scalar_in anchor tag style bare value) place
+        (render_body style s limit indent value (body_cursor s directives anchor tag bare style value cursor)).text ≡ Some value
+        → Fits (rules_of s own) 1 (render_styled s directives anchor tag bare style limit indent value cursor) (scalar_in anchor tag style bare value) place
         cursor
     full style value bare some meant allowed tidy read =
         styled_fits s own directives anchor tag bare style limit indent value place cursor named stands meant some
@@ -48,10 +49,11 @@ scalar_fits s own directives anchor tag bare style limit indent value place curs
 
     by : (style : ScalarStyle) (value : Text) (bare : Bool) → (bare ≡ true → is_plain style ≡ false)
         → (is_block style ≡ true → allows_block (record { unicode = s.unicode; breaks12 = s.breaks12 }) value ≡ true)
-        → is_tidy style s.breaks12 place.column (body_laid style s limit indent value (body_cursor s directives anchor tag bare style value cursor)).text ≡ true
+        → is_tidy style s.breaks12 place.column (render_body style s limit indent value
+        (body_cursor s directives anchor tag bare style value cursor)).text ≡ true
         → read_in_style style s.breaks12 false place.column
-        (body_laid style s limit indent value (body_cursor s directives anchor tag bare style value cursor)).text ≡ Some value
-        → Fits (rules_of s own) 1 (styled_laid s directives anchor tag bare style limit indent value cursor) (scalar_in anchor tag style bare value) place
+        (render_body style s limit indent value (body_cursor s directives anchor tag bare style value cursor)).text ≡ Some value
+        → Fits (rules_of s own) 1 (render_styled s directives anchor tag bare style limit indent value cursor) (scalar_in anchor tag style bare value) place
         cursor
     by plain [] true meant allowed tidy read = absurd (true≢false (meant refl))
     by plain [] false meant allowed tidy read = empty_fits s own directives anchor tag limit indent place cursor named stands
@@ -78,5 +80,5 @@ scalars_fit s own directives low high content role column cursor complex stands 
     (and_parts allowed.block true
     (and_parts (allowed.block && true) (not simple)
     (block_fitting allowed (fits_plain allowed (is_empty content.value) (is_some tag) content.plain_implicit false simple) (allowed.block && true && not simple)
-    (style_asked (s.canonical || (simple && allowed.multiline)) content.style) h)).0).0)
+    (requested_style (s.canonical || (simple && allowed.multiline)) content.style) h)).0).0)
     body.tidy body.reads

@@ -4,21 +4,21 @@ use Rattle.std.proofs.lemmas.Bool.{true≢false, false≢true}
 use Rattle.std.specs.Prelude.{ℕ, Bool, true, false, Option, None, Some, List, [], ◌∷◌, ◌++◌, ◌&&◌, not, if◌then◌else◌}
 use Rattle.yaml_base.specs.Characters.{Text, space}
 use Rattle.yaml_base.specs.Settings.{Effective}
-use Rattle.yaml_base.specs.Cursor.{Cursor, Laid, then_laid, space_if, column_after, indicator}
+use Rattle.yaml_base.specs.Cursor.{Cursor, Rendered, render_then, space_if, column_after, indicator}
 use Rattle.yaml_base.specs.Event.{ScalarStyle, any_style, plain, single_quoted, double_quoted, literal, folded, TagDirective}
 use Rattle.yaml_base.specs.scalars.Analysis.{allows_block, is_empty}
 use Rattle.yaml_base.specs.scalars.Style.{is_plain}
-use Rattle.yaml_base.specs.scalars.Plain.{runs, runs_laid}
+use Rattle.yaml_base.specs.scalars.Plain.{runs, render_runs}
 use Rattle.yaml_base.specs.scalars.SingleQuoted.{quotes_doubled, single_quote}
-use Rattle.yaml_base.specs.scalars.DoubleQuoted.{double_inside, quote_laid}
+use Rattle.yaml_base.specs.scalars.DoubleQuoted.{double_inside, render_quote}
 use Rattle.yaml_base.specs.scalars.Lines.{parts}
-use Rattle.yaml_base.specs.scalars.BlockHeader.{ending, ends_in_break, indentation_hint, ending_hint, hint_laid, header_laid, block_body}
+use Rattle.yaml_base.specs.scalars.BlockHeader.{ending, ends_in_break, indentation_hint, ending_hint, render_hint, render_header, block_body}
 use Rattle.yaml_base.specs.scalars.Literal.{indented}
 use Rattle.yaml_base.specs.scalars.Folded.{folded_parts}
 use Rattle.yaml_base.specs.reading.ReadBlock.{read_block}
 use Rattle.yaml_base.specs.Meaning.{read_in_style}
 use Rattle.yaml_base.specs.reading.TidyText.{is_tidy}
-use Rattle.yaml_base.specs.Layout.{Place, properties_laid, separation_laid, body_laid}
+use Rattle.yaml_base.specs.Layout.{Place, render_properties, render_separation, render_body}
 use Rattle.yaml_base.specs.streams.StreamLines.{spaces}
 use Rattle.yaml_base.specs.streams.StreamScalars.{Rules}
 use Rattle.yaml_base.proofs.stream_lines.StreamLineLaws.{is_closed}
@@ -31,26 +31,26 @@ use Rattle.yaml_base.proofs.stream_nodes.StreamLeafFits.{text_fits}
 use Rattle.yaml_base.proofs.stream_nodes.StreamProperties.{IsNamed}
 use Rattle.yaml_base.proofs.stream_flow.StreamPropertyWords.{lead}
 use Rattle.yaml_base.proofs.stream_nodes.StreamStands.{tag_written, tag_meant, TagStands}
-use Rattle.yaml_base.proofs.stream_nodes.StreamLeads.{lead_laid, tag_is_written}
+use Rattle.yaml_base.proofs.stream_nodes.StreamLeads.{lead_rendered, tag_is_written}
 use Rattle.yaml_base.proofs.stream_flow.StreamFlowWords.{Given, scalar_in}
 use Rattle.yaml_base.proofs.stream_flow.StreamFlowScalars.{rules_of, is_flow_style, body_ended}
 use Rattle.yaml_base.proofs.stream_nodes.StreamOwnTexts.{OwnText, own_reads}
 use Rattle.yaml_base.proofs.stream_nodes.StreamOwnWords.{feed, own_double, own_single}
 use Rattle.yaml_base.proofs.stream_nodes.StreamOwnPlain.{own_plain}
-use Rattle.yaml_base.proofs.stream_nodes.StreamOwnBlocks.{block_sign, block_style, own_block, block_tidy_more}
+use Rattle.yaml_base.proofs.stream_nodes.StreamOwnBlocks.{block_indicator, block_style, own_block, block_tidy_more}
 use Rattle.yaml_base.proofs.stream_lines.StreamBlockEnds.{EndsBreak, ending_breaks, EndsLines, literal_end, folded_lines_end, column_ended, last_is_read}
 use Rattle.yaml_base.proofs.stream_lines.StreamBlockEnds.{hint_text, strips, is_block}
 
 -- Bodies
 
--- what is laid out for a scalar's body: it leaves off settled at a line's end, and up to there it is its own text
-pub record BodyFits (rules : Rules) (column : Option ℕ) (style : ScalarStyle) (value : Text) (body : Laid) : Type 0 where
+-- what is rendered for a scalar's body: it leaves off settled at a line's end, and up to there it is its own text
+pub record BodyFits (rules : Rules) (column : Option ℕ) (style : ScalarStyle) (value : Text) (body : Rendered) : Type 0 where
   pub settled : Settled body.cursor
   pub ends : is_closed rules.breaks12 (closed body) ≡ true
   pub own : OwnText rules column (closed body) style value
 
 -- one after which a new line begins with a break
-broken_body : (rules : Rules) (column : Option ℕ) (style : ScalarStyle) (value : Text) (body : Laid) → body.cursor.indention ≡ false
+broken_body : (rules : Rules) (column : Option ℕ) (style : ScalarStyle) (value : Text) (body : Rendered) → body.cursor.indention ≡ false
     → OwnText rules column (body.text ++ feed) style value → BodyFits rules column style value body
 broken_body rules column style value body h own =
     let same : closed body ≡ body.text ++ feed = ap (λ x. body.text ++ (if x then [] else feed)) h in
@@ -63,12 +63,12 @@ broken_body rules column style value body h own =
 -- a body that isn't empty in a style of flow
 flow_body : (s : Effective) (own : List TagDirective) (column : Option ℕ) (style : ScalarStyle) (limit : Option ℕ) (indent : ℕ) (value : Text) (cursor : Cursor)
     → is_flow_style style ≡ true → (is_plain style && is_empty value) ≡ false
-    → is_tidy style s.breaks12 column (body_laid style s limit indent value cursor).text ≡ true
-    → read_in_style style s.breaks12 false column (body_laid style s limit indent value cursor).text ≡ Some value
-    → BodyFits (rules_of s own) column style value (body_laid style s limit indent value cursor)
+    → is_tidy style s.breaks12 column (render_body style s limit indent value cursor).text ≡ true
+    → read_in_style style s.breaks12 false column (render_body style s limit indent value cursor).text ≡ Some value
+    → BodyFits (rules_of s own) column style value (render_body style s limit indent value cursor)
 flow_body s own column plain limit indent value cursor flow some tidy read =
-    broken_body (rules_of s own) column plain value (body_laid plain s limit indent value cursor) refl
-    (by (body_laid plain s limit indent value cursor).text value some tidy read)
+    broken_body (rules_of s own) column plain value (render_body plain s limit indent value cursor) refl
+    (by (render_body plain s limit indent value cursor).text value some tidy read)
   where
     by : (text value : Text) → is_empty value ≡ false → is_tidy plain s.breaks12 column text ≡ true
         → read_in_style plain s.breaks12 false column text ≡ Some value
@@ -77,80 +77,81 @@ flow_body s own column plain limit indent value cursor flow some tidy read =
     by [] (c ∷ value) some tidy read = cc
     by (c ∷ text) value some tidy read = own_plain (rules_of s own) column c text value tidy read
 flow_body s own column single_quoted limit indent value cursor flow some tidy read =
-    broken_body (rules_of s own) column single_quoted value (body_laid single_quoted s limit indent value cursor)
+    broken_body (rules_of s own) column single_quoted value (render_body single_quoted s limit indent value cursor)
     (body_ended s single_quoted limit indent value cursor refl).indention
-    (own_single (rules_of s own) column (runs_laid quotes_doubled limit indent true (runs value) (single_quote cursor).cursor).text value tidy read)
+    (own_single (rules_of s own) column (render_runs quotes_doubled limit indent true (runs value) (single_quote cursor).cursor).text value tidy read)
 flow_body s own column double_quoted limit indent value cursor flow some tidy read =
-    broken_body (rules_of s own) column double_quoted value (body_laid double_quoted s limit indent value cursor)
+    broken_body (rules_of s own) column double_quoted value (render_body double_quoted s limit indent value cursor)
     (body_ended s double_quoted limit indent value cursor refl).indention
-    (own_double (rules_of s own) column (double_inside s.unicode limit indent None value (quote_laid cursor).cursor).text value tidy read)
+    (own_double (rules_of s own) column (double_inside s.unicode limit indent None value (render_quote cursor).cursor).text value tidy read)
 flow_body s own column any_style limit indent value cursor flow some tidy read = absurd (none_not_some read)
 flow_body s own column literal limit indent value cursor flow some tidy read = absurd (false≢true flow)
 flow_body s own column folded limit indent value cursor flow some tidy read = absurd (false≢true flow)
 
 -- Block scalars
 
--- the text of a header and its lines, after the sign
+-- the text of a header and its lines, after the indicator
 abbrev header_rest : ℕ → Text → Text → Text
 header_rest best_indent value lines = (indentation_hint best_indent value ++ ending_hint (ending value)) ++ (feed ++ lines)
 
--- a block scalar's text is its sign and that
-block_text : (sign best_indent : ℕ) (value lines : Text) (cursor : Cursor)
-    → (block_body sign best_indent value lines cursor).text ≡ sign ∷ header_rest best_indent value lines
-block_text sign best_indent value lines cursor =
-    ap (λ t. sign ∷ (((t ++ (hint_laid (ending_hint (ending value)) first.cursor).text) ++ feed) ++ lines))
-    (hint_text (indentation_hint best_indent value) signed)
-    ∙ ap (λ t. sign ∷ (((indentation_hint best_indent value ++ t) ++ feed) ++ lines)) (hint_text (ending_hint (ending value)) first.cursor)
-    ∙ ap (λ t. sign ∷ t) (append_assoc (indentation_hint best_indent value ++ ending_hint (ending value)) feed lines)
+-- a block scalar's text is its indicator and that
+block_text : (symbol best_indent : ℕ) (value lines : Text) (cursor : Cursor)
+    → (block_body symbol best_indent value lines cursor).text ≡ symbol ∷ header_rest best_indent value lines
+block_text symbol best_indent value lines cursor =
+    ap (λ t. symbol ∷ (((t ++ (render_hint (ending_hint (ending value)) first.cursor).text) ++ feed) ++ lines))
+    (hint_text (indentation_hint best_indent value) indicated)
+    ∙ ap (λ t. symbol ∷ (((indentation_hint best_indent value ++ t) ++ feed) ++ lines)) (hint_text (ending_hint (ending value)) first.cursor)
+    ∙ ap (λ t. symbol ∷ t) (append_assoc (indentation_hint best_indent value ++ ending_hint (ending value)) feed lines)
   where
-    signed : Cursor
-    signed = (indicator (sign ∷ []) false false false cursor).cursor
+    indicated : Cursor
+    indicated = (indicator (symbol ∷ []) false false false cursor).cursor
 
-    first : Laid
-    first = hint_laid (indentation_hint best_indent value) signed
+    first : Rendered
+    first = render_hint (indentation_hint best_indent value) indicated
 
 -- where the value ends in a break, so do its lines
 block_kept : (s : Effective) (own : List TagDirective) (column : Option ℕ) (l : Bool) (value lines : Text) (cursor : Cursor)
     → ends_in_break (ending value) ≡ true → (end : EndsBreak value) → EndsLines lines end.last
     → allows_block (record { unicode = s.unicode; breaks12 = s.breaks12 }) value ≡ true
-    → OwnText (rules_of s own) column (block_body (block_sign l) s.indent value lines cursor).text (block_style l) value
-    → BodyFits (rules_of s own) column (block_style l) value (block_body (block_sign l) s.indent value lines cursor)
+    → OwnText (rules_of s own) column (block_body (block_indicator l) s.indent value lines cursor).text (block_style l) value
+    → BodyFits (rules_of s own) column (block_style l) value (block_body (block_indicator l) s.indent value lines cursor)
 block_kept s own column l value lines cursor h end lines_end allowed text =
-    let body = block_body (block_sign l) s.indent value lines cursor in
-    let header = header_laid (block_sign l) s.indent value cursor in
+    let body = block_body (block_indicator l) s.indent value lines cursor in
+    let header = render_header (block_indicator l) s.indent value cursor in
     let same : closed body ≡ body.text = ap (λ x. body.text ++ (if x then [] else feed)) h ∙ append-nil body.text in
-    let front = header.text ++ lines_end.front in
-    let whole : body.text ≡ front ++ (end.last ∷ []) =
-    ap (λ t. header.text ++ t) lines_end.is ∙ sym (append_assoc header.text lines_end.front (end.last ∷ [])) in
+    let prefix = header.text ++ lines_end.prefix in
+    let whole : body.text ≡ prefix ++ (end.last ∷ []) =
+    ap (λ t. header.text ++ t) lines_end.is ∙ sym (append_assoc header.text lines_end.prefix (end.last ∷ [])) in
     record {
-      settled = λ w. (ap (λ t. column_after t header.cursor.column) lines_end.is ∙ column_ended lines_end.front end.last header.cursor.column end.breaks, refl);
+      settled =
+          λ w. (ap (λ t. column_after t header.cursor.column) lines_end.is ∙ column_ended lines_end.prefix end.last header.cursor.column end.breaks, refl);
       ends =
           ap (is_closed s.breaks12) (same ∙ whole)
-          ∙ closed_behind s.breaks12 front end.last [] (last_is_read (record { unicode = s.unicode; breaks12 = s.breaks12 }) value end allowed);
+          ∙ closed_behind s.breaks12 prefix end.last [] (last_is_read (record { unicode = s.unicode; breaks12 = s.breaks12 }) value end allowed);
       own = subst (λ t. OwnText (rules_of s own) column t (block_style l) value) (sym same) text;
     }
 
 -- a block scalar
 block_fits_body : (s : Effective) (own : List TagDirective) (column : Option ℕ) (l : Bool) (value lines : Text) (cursor : Cursor) → 2 ≤ s.indent → s.indent ≤ 9
     → ((end : EndsBreak value) → EndsLines lines end.last) → allows_block (record { unicode = s.unicode; breaks12 = s.breaks12 }) value ≡ true
-    → is_tidy (block_style l) s.breaks12 column (block_body (block_sign l) s.indent value lines cursor).text ≡ true
-    → read_block s.breaks12 column (block_body (block_sign l) s.indent value lines cursor).text ≡ Some value
-    → BodyFits (rules_of s own) column (block_style l) value (block_body (block_sign l) s.indent value lines cursor)
+    → is_tidy (block_style l) s.breaks12 column (block_body (block_indicator l) s.indent value lines cursor).text ≡ true
+    → read_block s.breaks12 column (block_body (block_indicator l) s.indent value lines cursor).text ≡ Some value
+    → BodyFits (rules_of s own) column (block_style l) value (block_body (block_indicator l) s.indent value lines cursor)
 block_fits_body s own column l value lines cursor low high lines_end allowed tidy read = by (ends_in_break (ending value)) refl
   where
-    body : Laid
-    body = block_body (block_sign l) s.indent value lines cursor
+    body : Rendered
+    body = block_body (block_indicator l) s.indent value lines cursor
 
     rest : Text
     rest = header_rest s.indent value lines
 
-    same : body.text ≡ block_sign l ∷ rest
-    same = block_text (block_sign l) s.indent value lines cursor
+    same : body.text ≡ block_indicator l ∷ rest
+    same = block_text (block_indicator l) s.indent value lines cursor
 
-    tidy_here : is_tidy (block_style l) s.breaks12 column (block_sign l ∷ rest) ≡ true
+    tidy_here : is_tidy (block_style l) s.breaks12 column (block_indicator l ∷ rest) ≡ true
     tidy_here = ap (is_tidy (block_style l) s.breaks12 column) (sym same) ∙ tidy
 
-    read_here : read_block s.breaks12 column (block_sign l ∷ rest) ≡ Some value
+    read_here : read_block s.breaks12 column (block_indicator l ∷ rest) ≡ Some value
     read_here = ap (read_block s.breaks12 column) (sym same) ∙ read
 
     by : (x : Bool) → ends_in_break (ending value) ≡ x → BodyFits (rules_of s own) column (block_style l) value body
@@ -161,17 +162,17 @@ block_fits_body s own column l value lines cursor low high lines_end allowed tid
     by false h =
         broken_body (rules_of s own) column (block_style l) value body h
         (subst (λ t. OwnText (rules_of s own) column (t ++ feed) (block_style l) value) (sym same)
-        (own_block (rules_of s own) column l (rest ++ feed) value (block_tidy_more l s.breaks12 column (block_sign l ∷ rest) tidy_here)
-        (strip_more s.breaks12 column (block_sign l) rest value (strips s.indent value (feed ++ lines) low high h) read_here)))
+        (own_block (rules_of s own) column l (rest ++ feed) value (block_tidy_more l s.breaks12 column (block_indicator l ∷ rest) tidy_here)
+        (strip_more s.breaks12 column (block_indicator l) rest value (strips s.indent value (feed ++ lines) low high h) read_here)))
 
 -- a body that isn't empty fits in each style
 pub body_fits : (s : Effective) (own : List TagDirective) (column : Option ℕ) (style : ScalarStyle) (limit : Option ℕ) (indent : ℕ) (value : Text)
     (cursor : Cursor)
     → 2 ≤ s.indent → s.indent ≤ 9 → (is_block style ≡ true → allows_block (record { unicode = s.unicode; breaks12 = s.breaks12 }) value ≡ true)
     → (is_plain style && is_empty value) ≡ false
-    → is_tidy style s.breaks12 column (body_laid style s limit indent value cursor).text ≡ true
-    → read_in_style style s.breaks12 false column (body_laid style s limit indent value cursor).text ≡ Some value
-    → BodyFits (rules_of s own) column style value (body_laid style s limit indent value cursor)
+    → is_tidy style s.breaks12 column (render_body style s limit indent value cursor).text ≡ true
+    → read_in_style style s.breaks12 false column (render_body style s limit indent value cursor).text ≡ Some value
+    → BodyFits (rules_of s own) column style value (render_body style s limit indent value cursor)
 body_fits s own column literal limit indent value cursor low high allowed some tidy read =
     block_fits_body s own column true value (indented indent (parts value)) cursor low high (literal_end indent value) (allowed refl) tidy read
 body_fits s own column folded limit indent value cursor low high allowed some tidy read =
@@ -188,21 +189,21 @@ body_fits s own column any_style limit indent value cursor low high allowed some
 
 -- Scalars
 
--- what is laid out for a scalar after the signs of its place
-abbrev pub styled_laid : Effective → List TagDirective → Option Text → Option Text → (bare : Bool) → ScalarStyle → Option ℕ → ℕ → Text → Cursor → Laid
-styled_laid s directives anchor tag bare style limit indent value cursor =
-    then_laid
-    (then_laid (properties_laid s.portable directives anchor tag bare cursor) (separation_laid style false value))
-    (body_laid style s limit indent value)
+-- what is rendered for a scalar after the indicators of its place
+abbrev pub render_styled : Effective → List TagDirective → Option Text → Option Text → (bare : Bool) → ScalarStyle → Option ℕ → ℕ → Text → Cursor → Rendered
+render_styled s directives anchor tag bare style limit indent value cursor =
+    render_then
+    (render_then (render_properties s.portable directives anchor tag bare cursor) (render_separation style false value))
+    (render_body style s limit indent value)
 
 -- the cursor where its body begins
 abbrev pub body_cursor : Effective → List TagDirective → Option Text → Option Text → (bare : Bool) → ScalarStyle → Text → Cursor → Cursor
 body_cursor s directives anchor tag bare style value cursor =
-    (separation_laid style false value (properties_laid s.portable directives anchor tag bare cursor).cursor).cursor
+    (render_separation style false value (render_properties s.portable directives anchor tag bare cursor).cursor).cursor
 
 -- a space stands before each body but an empty plain one
 pub separation_text : (style : ScalarStyle) (value : Text) (cursor : Cursor) → (is_plain style && is_empty value) ≡ false
-    → (separation_laid style false value cursor).text ≡ space_if true cursor
+    → (render_separation style false value cursor).text ≡ space_if true cursor
 separation_text plain [] cursor h = absurd (true≢false h)
 separation_text plain (c ∷ value) cursor h = refl
 separation_text single_quoted value cursor h = refl
@@ -215,16 +216,16 @@ separation_text folded value cursor h = refl
 styled_closed : (s : Effective) (directives : List TagDirective) (anchor tag : Option Text) (bare : Bool) (style : ScalarStyle) (limit : Option ℕ)
     (indent : ℕ) (value : Text) (cursor : Cursor)
     → (is_plain style && is_empty value) ≡ false
-    → closed (styled_laid s directives anchor tag bare style limit indent value cursor)
+    → closed (render_styled s directives anchor tag bare style limit indent value cursor)
     ≡ space_if true cursor ++ (lead anchor (tag_written s.portable directives tag bare)
-    ++ closed (body_laid style s limit indent value (body_cursor s directives anchor tag bare style value cursor)))
+    ++ closed (render_body style s limit indent value (body_cursor s directives anchor tag bare style value cursor)))
 styled_closed s directives anchor tag bare style limit indent value cursor some =
-    let properties = properties_laid s.portable directives anchor tag bare cursor in
-    let body = body_laid style s limit indent value (body_cursor s directives anchor tag bare style value cursor) in
+    let properties = render_properties s.portable directives anchor tag bare cursor in
+    let body = render_body style s limit indent value (body_cursor s directives anchor tag bare style value cursor) in
     let before = lead anchor (tag_written s.portable directives tag bare) in
-    append_assoc (properties.text ++ (separation_laid style false value properties.cursor).text) body.text (closing body.cursor)
+    append_assoc (properties.text ++ (render_separation style false value properties.cursor).text) body.text (closing body.cursor)
     ∙ ap (λ t. (properties.text ++ t) ++ closed body) (separation_text style value properties.cursor some)
-    ∙ ap (λ t. t ++ closed body) (lead_laid s.portable directives anchor tag bare cursor)
+    ∙ ap (λ t. t ++ closed body) (lead_rendered s.portable directives anchor tag bare cursor)
     ∙ append_assoc (space_if true cursor) before (closed body)
 
 -- a scalar whose body fits does
@@ -232,15 +233,15 @@ pub styled_fits : (s : Effective) (own directives : List TagDirective) (anchor t
     (indent : ℕ) (value : Text)
     (place : Place) (cursor : Cursor) → IsNamed anchor → TagStands s.portable own directives
     tag → (bare ≡ true → is_plain style ≡ false) → (is_plain style && is_empty value) ≡ false
-    → BodyFits (rules_of s own) place.column style value (body_laid style s limit indent value (body_cursor s directives anchor tag bare style value cursor))
-    → Fits (rules_of s own) 1 (styled_laid s directives anchor tag bare style limit indent value cursor) (scalar_in anchor tag style bare value) place cursor
+    → BodyFits (rules_of s own) place.column style value (render_body style s limit indent value (body_cursor s directives anchor tag bare style value cursor))
+    → Fits (rules_of s own) 1 (render_styled s directives anchor tag bare style limit indent value cursor) (scalar_in anchor tag style bare value) place cursor
 styled_fits s own directives anchor tag bare style limit indent value place cursor named stands meant some body = by cursor.whitespace refl
   where
     rules : Rules
     rules = rules_of s own
 
-    laid : Laid
-    laid = styled_laid s directives anchor tag bare style limit indent value cursor
+    rendered : Rendered
+    rendered = render_styled s directives anchor tag bare style limit indent value cursor
 
     before : Text
     before = lead anchor (tag_written s.portable directives tag bare)
@@ -249,19 +250,19 @@ styled_fits s own directives anchor tag bare style limit indent value place curs
     given = record { named = named; tagged = tag_is_written s.portable own directives tag bare stands }
 
     text : Text
-    text = closed (body_laid style s limit indent value (body_cursor s directives anchor tag bare style value cursor))
+    text = closed (render_body style s limit indent value (body_cursor s directives anchor tag bare style value cursor))
 
     fits : (count : ℕ) → (space_if true cursor) ≡ spaces count → (cursor.whitespace ≡ false → 0 < count)
-        → Fits rules 1 laid (scalar_in anchor tag style bare value) place cursor
+        → Fits rules 1 rendered (scalar_in anchor tag style bare value) place cursor
     fits count spaced apart =
-        let same : closed laid ≡ spaces count ++ (before ++ text) =
+        let same : closed rendered ≡ spaces count ++ (before ++ text) =
         styled_closed s directives anchor tag bare style limit indent value cursor some ∙ ap (λ t. t ++ (before ++ text)) spaced in
-        text_fits rules laid place cursor count (before ++ text) (scalar_in anchor tag style bare value) same
+        text_fits rules rendered place cursor count (before ++ text) (scalar_in anchor tag style bare value) same
         (ap (is_closed rules.breaks12)
         (same ∙ ap (λ t. spaces count ++ (before ++ t)) body.own.is ∙ sym (append_assoc (spaces count) before (body.own.head ∷ body.own.tail)))
         ∙ closed_behind rules.breaks12 (spaces count ++ before) body.own.head body.own.tail (ap (is_closed rules.breaks12) (sym body.own.is) ∙ body.ends))
         body.settled apart (own_reads rules place.column text value style anchor (tag_written s.portable directives tag bare) tag bare body.own given meant)
 
-    by : (x : Bool) → cursor.whitespace ≡ x → Fits rules 1 laid (scalar_in anchor tag style bare value) place cursor
+    by : (x : Bool) → cursor.whitespace ≡ x → Fits rules 1 rendered (scalar_in anchor tag style bare value) place cursor
     by true h = fits 0 (ap (λ x. if true && not x then space ∷ [] else []) h) (λ w. absurd (true≢false (sym h ∙ w)))
     by false h = fits 1 (ap (λ x. if true && not x then space ∷ [] else []) h) (λ w. omega arith)

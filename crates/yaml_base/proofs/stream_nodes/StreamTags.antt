@@ -10,15 +10,16 @@ use Rattle.yaml_base.specs.Characters.{Text, is_alpha, is_among}
 use Rattle.yaml_base.specs.Event.{TagDirective}
 use Rattle.yaml_base.specs.Percent.{character_written, percent_escaped, suffix_escaped, is_tag_character}
 use Rattle.yaml_base.specs.reading.ReadPercent.{is_uri_character, percent_read}
-use Rattle.yaml_base.specs.reading.ReadTags.{bare_said, name_said, CutText, cut_after_mark, may_follow_handle, verbatim_said, shorthand_said, tag_said}
-use Rattle.yaml_base.specs.reading.ReadTags.{without_end_sign, name_joined, prefix_among, directives_assumed}
+use Rattle.yaml_base.specs.reading.ReadTags.{bare_parsed, name_parsed, CutText, cut_after_exclamation, may_follow_handle, verbatim_parsed}
+use Rattle.yaml_base.specs.reading.ReadTags.{shorthand_parsed, tag_parsed}
+use Rattle.yaml_base.specs.reading.ReadTags.{without_closing_angle, name_joined, prefix_among, directives_assumed}
 use Rattle.yaml_base.specs.reading.CanonicalReader.{shorthand_read, tag_read, verbatim_read}
-use Rattle.yaml_base.specs.Tags.{tag_mark, directives_fault, directives_in_force, Spelling, verbatim, spelling, spelled}
-use Rattle.yaml_base.specs.StreamLaw.{has_flow_sign}
-use Rattle.yaml_base.proofs.PercentLaws.{character_is_no_flow_sign, stands_written, escaped_stands, suffix_stands, escaped_begins, suffix_begins}
-use Rattle.yaml_base.proofs.PercentLaws.{written_is_no_less, alpha_is_no_less, portable_suffix_has_no_flow_sign}
-use Rattle.yaml_base.proofs.TagForms.{end_sign_dropped, IsHandle, handle_form, in_force_found, spelling_is}
-use Rattle.yaml_base.proofs.TagReads.{stands_no_mark, cut_at_handle, written_tag_reads}
+use Rattle.yaml_base.specs.Tags.{exclamation_mark, directives_fault, directives_in_force, Spelling, verbatim, spelling, spelled}
+use Rattle.yaml_base.specs.StreamLaw.{has_flow_indicator}
+use Rattle.yaml_base.proofs.PercentLaws.{character_is_no_flow_indicator, stands_written, escaped_stands, suffix_stands, escaped_begins, suffix_begins}
+use Rattle.yaml_base.proofs.PercentLaws.{written_is_no_less, alpha_is_no_less, portable_suffix_has_no_flow_indicator}
+use Rattle.yaml_base.proofs.TagForms.{closing_angle_dropped, IsHandle, handle_form, in_force_found, spelling_is}
+use Rattle.yaml_base.proofs.TagReads.{stands_no_exclamation, cut_at_handle, written_tag_reads}
 use Rattle.yaml_base.proofs.TagWords.{written_tag_ends_no_word}
 use Rattle.yaml_base.proofs.stream_nodes.StreamProperties.{WrittenTag}
 
@@ -34,82 +35,83 @@ uri_text (c ∷ text) h =
     let parts = and_parts (stands_written c) (list_all stands_written text) h in
     and_from (is_uri_character c) (list_all is_uri_character text) (uri_character c parts.0) (uri_text text parts.1)
 
--- a sign of flow
-abbrev is_flow_sign : ℕ → Bool
-is_flow_sign c = is_among (codes ",[]") c
+-- a flow indicator
+abbrev is_flow_indicator : ℕ → Bool
+is_flow_indicator c = is_among (codes ",[]") c
 
--- after a handle no sign of flow is written, in portable mode or where the text holds none
-pub suffix_has_no_flow_sign : (portable : Bool) (text : Text) → (portable || not (list_any is_flow_sign text)) ≡ true
-    → list_any is_flow_sign (suffix_escaped portable text) ≡ false
-suffix_has_no_flow_sign true text h = portable_suffix_has_no_flow_sign text
-suffix_has_no_flow_sign false text h = by text (not-true (list_any is_flow_sign text) h)
+-- after a handle no flow indicator is written, in portable mode or where the text holds none
+pub suffix_has_no_flow_indicator : (portable : Bool) (text : Text) → (portable || not (list_any is_flow_indicator text)) ≡ true
+    → list_any is_flow_indicator (suffix_escaped portable text) ≡ false
+suffix_has_no_flow_indicator true text h = portable_suffix_has_no_flow_indicator text
+suffix_has_no_flow_indicator false text h = by text (not-true (list_any is_flow_indicator text) h)
   where
-    by : (text : Text) → list_any is_flow_sign text ≡ false → list_any is_flow_sign (suffix_escaped false text) ≡ false
+    by : (text : Text) → list_any is_flow_indicator text ≡ false → list_any is_flow_indicator (suffix_escaped false text) ≡ false
     by [] h = refl
     by (c ∷ text) h =
-        let parts = or_parts (is_flow_sign c) (list_any is_flow_sign text) h in
-        list_any-append is_flow_sign (character_written (is_tag_character c) c) (suffix_escaped false text)
-        ∙ or_from (list_any is_flow_sign (character_written (is_tag_character c) c)) (list_any is_flow_sign (suffix_escaped false text))
-        (character_is_no_flow_sign (is_tag_character c) c (λ k. parts.0)) (by text parts.1)
+        let parts = or_parts (is_flow_indicator c) (list_any is_flow_indicator text) h in
+        list_any-append is_flow_indicator (character_written (is_tag_character c) c) (suffix_escaped false text)
+        ∙ or_from (list_any is_flow_indicator (character_written (is_tag_character c) c)) (list_any is_flow_indicator (suffix_escaped false text))
+        (character_is_no_flow_indicator (is_tag_character c) c (λ k. parts.0)) (by text parts.1)
 
--- a text in a URI without such a sign may stand after a handle
-suffix_text : (text : Text) → list_all is_uri_character text ≡ true → list_any is_flow_sign text ≡ false → list_all may_follow_handle text ≡ true
+-- a text in a URI without such an indicator may stand after a handle
+suffix_text : (text : Text) → list_all is_uri_character text ≡ true → list_any is_flow_indicator text ≡ false → list_all may_follow_handle text ≡ true
 suffix_text [] h k = refl
 suffix_text (c ∷ text) h k =
     let parts = and_parts (is_uri_character c) (list_all is_uri_character text) h in
-    let none = or_parts (is_flow_sign c) (list_any is_flow_sign text) k in
+    let none = or_parts (is_flow_indicator c) (list_any is_flow_indicator text) k in
     and_from (may_follow_handle c) (list_all may_follow_handle text)
-    (and_from (is_uri_character c) (not (is_flow_sign c)) parts.0 (ap not none.0)) (suffix_text text parts.1 none.1)
+    (and_from (is_uri_character c) (not (is_flow_indicator c)) parts.0 (ap not none.0)) (suffix_text text parts.1 none.1)
 
 -- what is written after a handle may stand there
-pub suffix_reads : (portable : Bool) (text : Text) → (portable || not (list_any is_flow_sign text)) ≡ true
+pub suffix_reads : (portable : Bool) (text : Text) → (portable || not (list_any is_flow_indicator text)) ≡ true
     → list_all may_follow_handle (suffix_escaped portable text) ≡ true
 suffix_reads portable text h =
-    suffix_text (suffix_escaped portable text) (uri_text (suffix_escaped portable text) (suffix_stands portable text)) (suffix_has_no_flow_sign portable text h)
+    suffix_text (suffix_escaped portable text) (uri_text (suffix_escaped portable text) (suffix_stands portable text))
+    (suffix_has_no_flow_indicator portable text h)
 
 -- Tags
 
 -- where what stands in a tag may stand there, a stream's tag says what a canonical one says
 verbatim_as_read : (own : List TagDirective) (c : ℕ) (name : Text) → list_all is_uri_character (c ∷ name) ≡ true
-    → tag_said own (codes "!<" ++ ((c ∷ name) ++ codes ">")) ≡ tag_read own (codes "!<" ++ ((c ∷ name) ++ codes ">"))
+    → tag_parsed own (codes "!<" ++ ((c ∷ name) ++ codes ">")) ≡ tag_read own (codes "!<" ++ ((c ∷ name) ++ codes ">"))
 verbatim_as_read own c name h =
-    ap verbatim_said (end_sign_dropped (c ∷ name))
-    ∙ ap (λ x. if x then option_map name_said (percent_read (c ∷ name)) else None) h
-    ∙ sym (ap verbatim_read (end_sign_dropped (c ∷ name)))
+    ap verbatim_parsed (closing_angle_dropped (c ∷ name))
+    ∙ ap (λ x. if x then option_map name_parsed (percent_read (c ∷ name)) else None) h
+    ∙ sym (ap verbatim_read (closing_angle_dropped (c ∷ name)))
 
 -- a text that begins with `!` and goes on with another character than `<`
 by_handle : (own : List TagDirective) (d : ℕ) (rest handle : Text) (c : ℕ) (suffix : Text) → (d == 0x3C) ≡ false
-    → cut_after_mark (tag_mark ∷ d ∷ rest) ≡ record { front = handle; rest = c ∷ suffix } → list_all may_follow_handle (c ∷ suffix) ≡ true
-    → tag_said own (tag_mark ∷ d ∷ rest) ≡ tag_read own (tag_mark ∷ d ∷ rest)
+    → cut_after_exclamation (exclamation_mark ∷ d ∷ rest) ≡ record { prefix = handle; rest = c ∷ suffix } → list_all may_follow_handle (c ∷ suffix) ≡ true
+    → tag_parsed own (exclamation_mark ∷ d ∷ rest) ≡ tag_read own (exclamation_mark ∷ d ∷ rest)
 by_handle own d rest handle c suffix less cut h =
-    let made : CutText = cut_after_mark (tag_mark ∷ d ∷ rest) in
-    ap (λ x. if x then verbatim_said (without_end_sign rest) else shorthand_said own made.front made.rest) less
-    ∙ ap (λ (cut : CutText). shorthand_said own cut.front cut.rest) cut
+    let made : CutText = cut_after_exclamation (exclamation_mark ∷ d ∷ rest) in
+    ap (λ x. if x then verbatim_parsed (without_closing_angle rest) else shorthand_parsed own made.prefix made.rest) less
+    ∙ ap (λ (cut : CutText). shorthand_parsed own cut.prefix cut.rest) cut
     ∙ ap (λ x. if x then name_joined (prefix_among (own ++ directives_assumed) handle) (percent_read (c ∷ suffix)) else None) h
     ∙ sym (ap (shorthand_read own) cut)
-    ∙ sym (ap (λ x. if x then verbatim_read (without_end_sign rest) else shorthand_read own made) less)
+    ∙ sym (ap (λ x. if x then verbatim_read (without_closing_angle rest) else shorthand_read own made) less)
 
 -- a handle and what stands after it go on so
-second_sign : (handle : Text) (c : ℕ) (suffix : Text) → IsHandle handle → stands_written c ≡ true
-    → (d : ℕ) × (rest : Text) × (handle ++ (c ∷ suffix) ≡ tag_mark ∷ d ∷ rest) × ((d == 0x3C) ≡ false)
-second_sign handle c suffix (inl e) h = (c, suffix, ap (λ t. t ++ (c ∷ suffix)) e, written_is_no_less c h)
-second_sign handle c suffix (inr form) h = by form.0 form.1 form.2
+second_indicator : (handle : Text) (c : ℕ) (suffix : Text) → IsHandle handle → stands_written c ≡ true
+    → (d : ℕ) × (rest : Text) × (handle ++ (c ∷ suffix) ≡ exclamation_mark ∷ d ∷ rest) × ((d == 0x3C) ≡ false)
+second_indicator handle c suffix (inl e) h = (c, suffix, ap (λ t. t ++ (c ∷ suffix)) e, written_is_no_less c h)
+second_indicator handle c suffix (inr form) h = by form.0 form.1 form.2
   where
-    by : (middle : Text) → handle ≡ (tag_mark ∷ middle) ++ tag_mark ∷ [] → list_all is_alpha middle ≡ true
-        → (d : ℕ) × (rest : Text) × (handle ++ (c ∷ suffix) ≡ tag_mark ∷ d ∷ rest) × ((d == 0x3C) ≡ false)
-    by [] e k = (tag_mark, c ∷ suffix, ap (λ t. t ++ (c ∷ suffix)) e, refl)
+    by : (middle : Text) → handle ≡ (exclamation_mark ∷ middle) ++ exclamation_mark ∷ [] → list_all is_alpha middle ≡ true
+        → (d : ℕ) × (rest : Text) × (handle ++ (c ∷ suffix) ≡ exclamation_mark ∷ d ∷ rest) × ((d == 0x3C) ≡ false)
+    by [] e k = (exclamation_mark, c ∷ suffix, ap (λ t. t ++ (c ∷ suffix)) e, refl)
     by (m ∷ middle) e k =
         let first = (and_parts (is_alpha m) (list_all is_alpha middle) k).0 in
-        (m, (middle ++ tag_mark ∷ []) ++ (c ∷ suffix), ap (λ t. t ++ (c ∷ suffix)) e, alpha_is_no_less m first)
+        (m, (middle ++ exclamation_mark ∷ []) ++ (c ∷ suffix), ap (λ t. t ++ (c ∷ suffix)) e, alpha_is_no_less m first)
 
 -- a shorthand says what a canonical one says
 shorthand_as_read : (own : List TagDirective) (handle : Text) (c : ℕ) (suffix : Text) → IsHandle handle → list_all stands_written (c ∷ suffix) ≡ true
-    → list_all may_follow_handle (c ∷ suffix) ≡ true → tag_said own (handle ++ (c ∷ suffix)) ≡ tag_read own (handle ++ (c ∷ suffix))
+    → list_all may_follow_handle (c ∷ suffix) ≡ true → tag_parsed own (handle ++ (c ∷ suffix)) ≡ tag_read own (handle ++ (c ∷ suffix))
 shorthand_as_read own handle c suffix form stands h =
-    let second = second_sign handle c suffix form (and_parts (stands_written c) (list_all stands_written suffix) stands).0 in
-    ap (tag_said own) second.2
+    let second = second_indicator handle c suffix form (and_parts (stands_written c) (list_all stands_written suffix) stands).0 in
+    ap (tag_parsed own) second.2
     ∙ by_handle own second.0 second.1 handle c suffix second.3
-    (ap cut_after_mark (sym second.2) ∙ cut_at_handle handle (c ∷ suffix) form (stands_no_mark (c ∷ suffix) stands)) h
+    (ap cut_after_exclamation (sym second.2) ∙ cut_at_handle handle (c ∷ suffix) form (stands_no_exclamation (c ∷ suffix) stands)) h
     ∙ ap (tag_read own) (sym second.2)
 
 nothing_begins : {c : ℕ} {t : Text} → ◌≡◌ {A = Text} [] (c ∷ t) → ⊥
@@ -118,7 +120,7 @@ nothing_begins e = cc
 -- a spelling is read as a canonical reader reads it
 abbrev AsRead : (portable : Bool) → List TagDirective → Spelling → Type 0
 AsRead portable own s =
-    (portable || not (has_flow_sign s)) ≡ true → tag_said own (spelled portable s) ≡ tag_read own (spelled portable s)
+    (portable || not (has_flow_indicator s)) ≡ true → tag_parsed own (spelled portable s) ≡ tag_read own (spelled portable s)
 
 spelling_as_read : (portable : Bool) (own : List TagDirective) (d : ℕ) (tag : Text) → directives_fault own ≡ None
     → AsRead portable own (spelling (directives_in_force own) (d ∷ tag))
@@ -131,34 +133,34 @@ spelling_as_read portable own d tag sound =
     whole k = at (percent_escaped (d ∷ tag)) (escaped_begins d tag) (uri_text (percent_escaped (d ∷ tag)) (escaped_stands (d ∷ tag)))
       where
         at : (name : Text) → (c : ℕ) × (more : Text) × (name ≡ c ∷ more) → list_all is_uri_character name ≡ true
-            → tag_said own (codes "!<" ++ name ++ codes ">") ≡ tag_read own (codes "!<" ++ name ++ codes ">")
+            → tag_parsed own (codes "!<" ++ name ++ codes ">") ≡ tag_read own (codes "!<" ++ name ++ codes ">")
         at [] begins h = absurd (nothing_begins begins.2)
         at (c ∷ name) begins h = verbatim_as_read own c name h
 
     by : (handle : Text) → IsHandle handle → (suffix : Text) → (c : ℕ) × (more : Text) × (suffix ≡ c ∷ more) → list_all stands_written suffix ≡ true
-        → list_all may_follow_handle suffix ≡ true → tag_said own (handle ++ suffix) ≡ tag_read own (handle ++ suffix)
+        → list_all may_follow_handle suffix ≡ true → tag_parsed own (handle ++ suffix) ≡ tag_read own (handle ++ suffix)
     by handle form [] begins stands h = absurd (nothing_begins begins.2)
     by handle form (c ∷ suffix) begins stands h = shorthand_as_read own handle c suffix form stands h
 
 -- a written tag begins with `!`
-begins_mark : (portable : Bool) (own : List TagDirective) (tag : Text) → directives_fault own ≡ None
-    → (rest : Text) × (spelled portable (spelling (directives_in_force own) tag) ≡ tag_mark ∷ rest)
-begins_mark portable own tag sound =
-    spelling_is (λ s. (rest : Text) × (spelled portable s ≡ tag_mark ∷ rest)) own (directives_in_force own) tag (in_force_found own sound)
+begins_exclamation : (portable : Bool) (own : List TagDirective) (tag : Text) → directives_fault own ≡ None
+    → (rest : Text) × (spelled portable (spelling (directives_in_force own) tag) ≡ exclamation_mark ∷ rest)
+begins_exclamation portable own tag sound =
+    spelling_is (λ s. (rest : Text) × (spelled portable s ≡ exclamation_mark ∷ rest)) own (directives_in_force own) tag (in_force_found own sound)
     (0x3C ∷ (percent_escaped tag ++ codes ">"), refl)
     (λ handle prefix c suffix f g e. by handle (handle_form handle f) (suffix_escaped portable (c ∷ suffix)))
   where
-    by : (handle : Text) → IsHandle handle → (suffix : Text) → (rest : Text) × (handle ++ suffix ≡ tag_mark ∷ rest)
+    by : (handle : Text) → IsHandle handle → (suffix : Text) → (rest : Text) × (handle ++ suffix ≡ exclamation_mark ∷ rest)
     by handle (inl e) suffix = (suffix, ap (λ t. t ++ suffix) e)
-    by handle (inr form) suffix = ((form.0 ++ tag_mark ∷ []) ++ suffix, ap (λ t. t ++ suffix) form.1)
+    by handle (inr form) suffix = ((form.0 ++ exclamation_mark ∷ []) ++ suffix, ap (λ t. t ++ suffix) form.1)
 
--- a tag of at least one character that is written is read as the tag, in portable mode or where no sign of flow stands after its handle
+-- a tag of at least one character that is written is read as the tag, in portable mode or where no flow indicator stands after its handle
 pub written_tag : (portable : Bool) (own : List TagDirective) (c : ℕ) (tag : Text) → directives_fault own ≡ None → all_scalars (c ∷ tag) ≡ true
-    → (portable || not (has_flow_sign (spelling (directives_in_force own) (c ∷ tag)))) ≡ true
-    → WrittenTag own (spelled portable (spelling (directives_in_force own) (c ∷ tag))) (name_said (c ∷ tag))
+    → (portable || not (has_flow_indicator (spelling (directives_in_force own) (c ∷ tag)))) ≡ true
+    → WrittenTag own (spelled portable (spelling (directives_in_force own) (c ∷ tag))) (name_parsed (c ∷ tag))
 written_tag portable own c tag sound scalars allowed = record {
-  rest = (begins_mark portable own (c ∷ tag) sound).0;
-  begins = (begins_mark portable own (c ∷ tag) sound).1;
+  rest = (begins_exclamation portable own (c ∷ tag) sound).0;
+  begins = (begins_exclamation portable own (c ∷ tag) sound).1;
   no_white = written_tag_ends_no_word portable own (c ∷ tag) sound;
   says = spelling_as_read portable own c tag sound allowed ∙ written_tag_reads portable own (c ∷ tag) sound scalars;
 }

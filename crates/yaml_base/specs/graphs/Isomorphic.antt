@@ -27,20 +27,20 @@ pub record Isomorphic (first second : Graph) : Type 0 where
   pub onto : (number : ℕ) → IsReached second number → partner (back number) ≡ number
 
 -- documents of isomorphic graphs, with the same version and the same directives
-pub record SayTheSame (first second : Graph) : Type 0 where
+pub record AreEquivalent (first second : Graph) : Type 0 where
   pub version : first.start.version ≡ second.start.version
   pub directives : first.start.directives ≡ second.start.directives
   pub graphs : Isomorphic first second
 
 -- so do documents of two streams, in order and as many
-abbrev pub AllSayTheSame : List Graph → List Graph → Type 0
-AllSayTheSame [] [] = ⊤
-AllSayTheSame (first ∷ firsts) (second ∷ seconds) = SayTheSame first second × AllSayTheSame firsts seconds
-AllSayTheSame _ _ = ⊥
+abbrev pub AllAreEquivalent : List Graph → List Graph → Type 0
+AllAreEquivalent [] [] = ⊤
+AllAreEquivalent (first ∷ firsts) (second ∷ seconds) = AreEquivalent first second × AllAreEquivalent firsts seconds
+AllAreEquivalent _ _ = ⊥
 
 -- documents that canonical mode writes alike: they say the same, and the ends of both are written, or of none
 pub record IsWrittenAlike (first second : Graph) : Type 0 where
-  pub says : SayTheSame first second
+  pub says : AreEquivalent first second
   pub end_implicit : first.end_implicit ≡ second.end_implicit
 
 -- so are documents of two streams, in order and as many
@@ -49,7 +49,7 @@ AreWrittenAlike [] [] = ⊤
 AreWrittenAlike (first ∷ firsts) (second ∷ seconds) = IsWrittenAlike first second × AreWrittenAlike firsts seconds
 AreWrittenAlike _ _ = ⊥
 
--- a graph's nodes in a document without version and directives, whose marks are implicit
+-- a graph's nodes in a document without version and directives, whose markers are implicit
 abbrev pub bare : Graph → Graph
 bare graph =
     record {

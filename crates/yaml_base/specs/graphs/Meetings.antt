@@ -135,35 +135,35 @@ abbrev pub mapping_tag : Text
 mapping_tag = codes "tag:yaml.org,2002:map"
 
 -- the event that begins a node; its flags are on exactly where it has the tag of its kind
-abbrev pub beginning_of : Option Text → Text → Held → Event
-beginning_of anchor tag (scalar_held value style) =
+abbrev pub opening_event_of : Option Text → Text → Held → Event
+opening_event_of anchor tag (scalar_held value style) =
     let implicit = bytes_eq tag string_tag in
     scalar (record { anchor = anchor; tag = Some tag; value = value; plain_implicit = implicit; quoted_implicit = implicit; style = style })
-beginning_of anchor tag (sequence_held items style) =
+opening_event_of anchor tag (sequence_held items style) =
     sequence_start (record { anchor = anchor; tag = Some tag; implicit = bytes_eq tag sequence_tag; style = style })
-beginning_of anchor tag (mapping_held pairs style) =
+opening_event_of anchor tag (mapping_held pairs style) =
     mapping_start (record { anchor = anchor; tag = Some tag; implicit = bytes_eq tag mapping_tag; style = style })
 
 -- the event with which a node begins, none where there is no such node
-abbrev pub beginning_events : Option Text → Option GraphNode → List Event
-beginning_events anchor None = []
-beginning_events anchor (Some node) = beginning_of anchor node.tag node.held ∷ []
+abbrev pub opening_events : Option Text → Option GraphNode → List Event
+opening_events anchor None = []
+opening_events anchor (Some node) = opening_event_of anchor node.tag node.held ∷ []
 
 -- the event that ends a node, where it has one
-abbrev pub ending_of : Held → List Event
-ending_of (scalar_held value style) = []
-ending_of (sequence_held items style) = sequence_end ∷ []
-ending_of (mapping_held pairs style) = mapping_end ∷ []
+abbrev pub closing_event_of : Held → List Event
+closing_event_of (scalar_held value style) = []
+closing_event_of (sequence_held items style) = sequence_end ∷ []
+closing_event_of (mapping_held pairs style) = mapping_end ∷ []
 
 -- the event with which a node ends, if it is a collection
-abbrev pub ending_events : Option GraphNode → List Event
-ending_events None = []
-ending_events (Some node) = ending_of node.held
+abbrev pub closing_events : Option GraphNode → List Event
+closing_events None = []
+closing_events (Some node) = closing_event_of node.held
 
 -- the events of a step of a walk
 abbrev pub step_events : Graph → List Step → Step → List Event
-step_events graph walk (enters number) = beginning_events (anchor_of walk number) (node_numbered graph number)
-step_events graph walk (leaves number) = ending_events (node_numbered graph number)
+step_events graph walk (enters number) = opening_events (anchor_of walk number) (node_numbered graph number)
+step_events graph walk (leaves number) = closing_events (node_numbered graph number)
 step_events graph walk (meets_again number) = alias (unwrap_or (anchor_of walk number) []) ∷ []
 
 -- the events of a document; a document without nodes has none

@@ -61,16 +61,16 @@ abbrev mutual
   pairs_shapes (pairs_and pairs key value) = shapes_and (shapes_and (pairs_shapes pairs) (node_shape_of key)) (node_shape_of value)
 
 -- the tag, where one was written
-abbrev pub tag_told : ScalarTag → Option Text
-tag_told (tagged tag) = Some tag
-tag_told (untagged quoted_implicit) = None
+abbrev pub explicit_tag : ScalarTag → Option Text
+explicit_tag (tagged tag) = Some tag
+explicit_tag (untagged quoted_implicit) = None
 
 -- the shape of a content, without styles
 abbrev mutual
   pub content_shape : Content → Shape
   content_shape (alias_content name) = alias_shape name
   content_shape (scalar_content anchor tag value) =
-      node_shape anchor (record { tag = tag_told tag; kind = scalar_kind value None }) no_shapes
+      node_shape anchor (record { tag = explicit_tag tag; kind = scalar_kind value None }) no_shapes
   content_shape (sequence_content anchor tag items) =
       node_shape anchor (record { tag = tag; kind = sequence_kind None }) (contents_shapes items)
   content_shape (mapping_content anchor tag pairs) =
@@ -90,11 +90,11 @@ abbrev mutual
 mutual
   pub data Placed : Type 0 where
     alias_placed : Text → ℕ → Placed
-    node_placed : Option Text → ℕ → PlacedAll → Placed
+    node_placed : Option Text → ℕ → PlacedNodes → Placed
 
-  pub data PlacedAll : Type 0 where
-    none_placed : PlacedAll
-    placed_and : PlacedAll → Placed → PlacedAll
+  pub data PlacedNodes : Type 0 where
+    none_placed : PlacedNodes
+    placed_and : PlacedNodes → Placed → PlacedNodes
 
 -- the number of the node at a place
 abbrev pub number_at : Placed → ℕ
@@ -102,7 +102,7 @@ number_at (alias_placed name number) = number
 number_at (node_placed anchor number below) = number
 
 -- the numbers of the nodes at some occurrences, in order
-abbrev pub numbers_at : PlacedAll → List ℕ
+abbrev pub numbers_at : PlacedNodes → List ℕ
 numbers_at none_placed = []
 numbers_at (placed_and before last) = numbers_at before ++ number_at last ∷ []
 
@@ -128,7 +128,7 @@ abbrev mutual
       × HaveShapes styled graph below shapes
   HasShape styled graph _ _ = ⊥
 
-  pub HaveShapes : Bool → Graph → PlacedAll → Shapes → Type 0
+  pub HaveShapes : Bool → Graph → PlacedNodes → Shapes → Type 0
   HaveShapes styled graph none_placed no_shapes = ⊤
   HaveShapes styled graph (placed_and before last) (shapes_and shapes shape) =
       HaveShapes styled graph before shapes × HasShape styled graph last shape
@@ -147,14 +147,14 @@ abbrev mutual
   occurrences (alias_placed name number) = alias_occurrence name number ∷ []
   occurrences (node_placed anchor number below) = node_occurrence anchor number ∷ occurrences_below below
 
-  pub occurrences_below : PlacedAll → List Occurrence
+  pub occurrences_below : PlacedNodes → List Occurrence
   occurrences_below none_placed = []
   occurrences_below (placed_and before last) = occurrences_below before ++ occurrences last
 
 -- a node that carries this anchor
-abbrev pub carries : Text → Occurrence → Bool
-carries name (node_occurrence (Some anchor) number) = bytes_eq name anchor
-carries name _ = false
+abbrev pub has_anchor : Text → Occurrence → Bool
+has_anchor name (node_occurrence (Some anchor) number) = bytes_eq name anchor
+has_anchor name _ = false
 
 -- the node with this number, and no alias of it
 abbrev pub is_occurrence_of : ℕ → Occurrence → Bool
@@ -164,7 +164,7 @@ is_occurrence_of number (alias_occurrence name other) = false
 -- an alias has the number of the one node that carries its anchor, which begins before it
 abbrev pub IsNamed : List Occurrence → List Occurrence → Occurrence → Type 0
 IsNamed all before (alias_occurrence name number) =
-    (count_by (carries name) all ≡ 1) × Contains before (node_occurrence (Some name) number)
+    (count_by (has_anchor name) all ≡ 1) × Contains before (node_occurrence (Some name) number)
 IsNamed all before (node_occurrence anchor number) = ⊤
 
 -- each alias among some occurrences, after those before them

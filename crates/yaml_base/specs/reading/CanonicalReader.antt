@@ -9,8 +9,8 @@ use Rattle.yaml_base.specs.Characters.{Text, space}
 use Rattle.yaml_base.specs.LineBreaks.{with_line_breaks_read}
 use Rattle.yaml_base.specs.Event.{Version, TagDirective}
 use Rattle.yaml_base.specs.reading.ReadPercent.{percent_read}
-use Rattle.yaml_base.specs.reading.ReadTags.{TagSaid, bare_said, name_said, CutText, prefix_among, directives_assumed, cut_after_mark, name_joined}
-use Rattle.yaml_base.specs.reading.ReadTags.{without_end_sign}
+use Rattle.yaml_base.specs.reading.ReadTags.{ParsedTag, bare_parsed, name_parsed, CutText, prefix_among, directives_assumed, cut_after_exclamation, name_joined}
+use Rattle.yaml_base.specs.reading.ReadTags.{without_closing_angle}
 use Rattle.yaml_base.specs.reading.Content.{ScalarTag, tagged, untagged, Content, alias_content, scalar_content, sequence_content, mapping_content, Contents}
 use Rattle.yaml_base.specs.reading.Content.{no_contents, contents_and, ContentPairs, no_content_pairs, content_pairs_and, DocumentContent}
 use Rattle.yaml_base.specs.reading.ReadBytes.{characters_read}
@@ -22,20 +22,20 @@ use Rattle.yaml_base.specs.reading.CanonicalTokens.{value_token, comma, free}
 
 -- a handle's prefix, by a document's own directives and those assumed, and what stands after the handle
 -- (YAML 1.1, section 8.2 Node Tags, c-ns-shorthand-tag)
-abbrev pub shorthand_read : List TagDirective → CutText → Option TagSaid
-shorthand_read own text = name_joined (prefix_among (own ++ directives_assumed) text.front) (percent_read text.rest)
+abbrev pub shorthand_read : List TagDirective → CutText → Option ParsedTag
+shorthand_read own text = name_joined (prefix_among (own ++ directives_assumed) text.prefix) (percent_read text.rest)
 
 -- what stands between `!<` and `>`, where that ends it (YAML 1.1, section 8.2 Node Tags, c-verbatim-tag)
-abbrev pub verbatim_read : Option Text → Option TagSaid
-verbatim_read text = option_map name_said (option_and_then percent_read text)
+abbrev pub verbatim_read : Option Text → Option ParsedTag
+verbatim_read text = option_map name_parsed (option_and_then percent_read text)
 
--- a written tag, from its `!` to its last character; since a space ends it, it may hold the signs of flow (YAML 1.1, section 8.2 Node Tags)
-abbrev pub tag_read : List TagDirective → Text → Option TagSaid
+-- a written tag, from its `!` to its last character; since a space ends it, it may hold the flow indicators (YAML 1.1, section 8.2 Node Tags)
+abbrev pub tag_read : List TagDirective → Text → Option ParsedTag
 tag_read own [] = None
-tag_read own (c ∷ []) = if c == 0x21 then Some bare_said else None
+tag_read own (c ∷ []) = if c == 0x21 then Some bare_parsed else None
 tag_read own (c ∷ d ∷ rest) =
     if not (c == 0x21) then None
-    else (if d == 0x3C then verbatim_read (without_end_sign rest) else shorthand_read own (cut_after_mark (c ∷ d ∷ rest)))
+    else (if d == 0x3C then verbatim_read (without_closing_angle rest) else shorthand_read own (cut_after_exclamation (c ∷ d ∷ rest)))
 
 -- ---- tokens to contents
 
@@ -47,7 +47,7 @@ pub data OpenContent : Type 0 where
 -- what may come next in a document: a node after these properties, an entry or the collection's end, the comma after
 -- an entry, or the sign between a key and its value
 pub data Awaited : Type 0 where
-  node_awaited : Option Text → Option TagSaid → Awaited
+  node_awaited : Option Text → Option ParsedTag → Awaited
   entry_awaited : Awaited
   comma_awaited : Awaited
   value_awaited : Awaited
@@ -80,25 +80,25 @@ with_content documents head (open_mapping anchor tag pairs (Some key) ∷ levels
     within documents head (open_mapping anchor tag (content_pairs_and pairs key content) None ∷ levels) comma_awaited
 
 -- a scalar without a tag may go without one where it isn't plain, unless it has the bare tag (this project)
-abbrev pub scalar_tag_read : Option TagSaid → ScalarTag
+abbrev pub scalar_tag_read : Option ParsedTag → ScalarTag
 scalar_tag_read None = untagged true
-scalar_tag_read (Some bare_said) = untagged false
-scalar_tag_read (Some (name_said name)) = tagged name
+scalar_tag_read (Some bare_parsed) = untagged false
+scalar_tag_read (Some (name_parsed name)) = tagged name
 
 -- a tag after an anchor or none, read with the document's directives (YAML 1.1, section 8.2 Node Tags)
-abbrev pub with_tag : List DocumentContent → Head → List OpenContent → Option Text → Option TagSaid → Reading
+abbrev pub with_tag : List DocumentContent → Head → List OpenContent → Option Text → Option ParsedTag → Reading
 with_tag documents head levels given None = failed
 with_tag documents head levels given (Some read) = within documents head levels (node_awaited given (Some read))
 
 -- a collection begins; the bare tag isn't one of its own (YAML 1.1, section 8.2 Node Tags; the refusal of the bare tag is this project's)
-abbrev pub with_open : List DocumentContent → Head → List OpenContent → (Option Text → OpenContent) → Option TagSaid → Reading
+abbrev pub with_open : List DocumentContent → Head → List OpenContent → (Option Text → OpenContent) → Option ParsedTag → Reading
 with_open documents head levels opened None = within documents head (opened None ∷ levels) entry_awaited
-with_open documents head levels opened (Some (name_said name)) = within documents head (opened (Some name) ∷ levels) entry_awaited
-with_open documents head levels opened (Some bare_said) = failed
+with_open documents head levels opened (Some (name_parsed name)) = within documents head (opened (Some name) ∷ levels) entry_awaited
+with_open documents head levels opened (Some bare_parsed) = failed
 
 -- where a node is awaited: an anchor, then a tag, then the node; an alias has neither
 -- (YAML 1.1, sections 8.4 Alias Nodes and 8.5 Complete Nodes, c-ns-alias-node)
-abbrev pub node_read : List DocumentContent → Head → List OpenContent → Option Text → Option TagSaid → Token → Reading
+abbrev pub node_read : List DocumentContent → Head → List OpenContent → Option Text → Option ParsedTag → Token → Reading
 node_read documents head levels None None (anchor_token name) = within documents head levels (node_awaited (Some name) None)
 node_read documents head levels given None (tag_token text) = with_tag documents head levels given (tag_read head.directives text)
 node_read documents head levels None None (alias_token name) = with_content documents head levels (alias_content name)

@@ -31,7 +31,7 @@ pub data Token : Type 0 where
   bad : Token
 
 -- a character stands between tokens, in a directive's line, name or tag after these characters, between quotes after
--- these units, or in a document mark of which so many signs follow the next one
+-- these units, or in a document marker of which so many indicators follow the next one
 pub data TokenPlace : Type 0 where
   free : TokenPlace
   in_line : Text → TokenPlace
@@ -39,23 +39,23 @@ pub data TokenPlace : Type 0 where
   in_alias : Text → TokenPlace
   in_tag : Text → TokenPlace
   in_quotes : QuotePlace → List FoldUnit → TokenPlace
-  in_mark : (sign more : ℕ) → TokenPlace
+  in_marker : (symbol more : ℕ) → TokenPlace
 
 -- the tokens that a character completes, and the place after it
-pub record TokenTurn : Type 0 where
+pub record TokenStep : Type 0 where
   pub tokens : List Token
   pub place : TokenPlace
 
 -- a character that ends no token
-abbrev pub goes_to : TokenPlace → TokenTurn
+abbrev pub goes_to : TokenPlace → TokenStep
 goes_to place = record { tokens = []; place = place }
 
 -- a character that ends a token
-abbrev pub completes : Token → TokenTurn
+abbrev pub completes : Token → TokenStep
 completes token = record { tokens = token ∷ []; place = free }
 
 -- a token, and then what a turn completes
-abbrev pub completes_before : Token → TokenTurn → TokenTurn
+abbrev pub completes_before : Token → TokenStep → TokenStep
 completes_before token next = record { tokens = token ∷ next.tokens; place = next.place }
 
 -- a name has at least one character (YAML 1.1, section 8.1 Node Anchors, c-ns-anchor-property)
@@ -90,52 +90,52 @@ directive_token (name ∷ handle ∷ prefix ∷ []) =
     if bytes_eq name (codes "%TAG") then tag_line_of handle (percent_read prefix) else bad
 directive_token _ = bad
 
--- the document mark of three `-` or of three `.` (YAML 1.1, section 7.2 Document Boundary Markers)
-abbrev pub mark_token : ℕ → Token
-mark_token sign = if sign == 0x2D then document_begins else document_ends
+-- the document marker of three `-` or of three `.` (YAML 1.1, section 7.2 Document Boundary Markers)
+abbrev pub marker_token : ℕ → Token
+marker_token symbol = if symbol == 0x2D then document_begins else document_ends
 
--- a sign that is a token by itself (YAML 1.1, section 5.3 Indicator Characters)
-abbrev pub sign_token : ℕ → Token
-sign_token c =
+-- an indicator that is a token by itself (YAML 1.1, section 5.3 Indicator Characters)
+abbrev pub indicator_token : ℕ → Token
+indicator_token c =
     if c == 0x5B then opens_sequence else (if c == 0x5D then closes_sequence
     else (if c == 0x7B then opens_mapping else (if c == 0x7D then closes_mapping
     else (if c == 0x3F then key_token else (if c == 0x3A then value_token else (if c == 0x2C then comma else bad))))))
 
 -- between tokens: blanks and breaks are free, and a first character tells what begins
-abbrev pub free_turn : Bool → ℕ → TokenTurn
-free_turn breaks12 c =
+abbrev pub step_between_tokens : Bool → ℕ → TokenStep
+step_between_tokens breaks12 c =
     if is_blank c || is_read_break breaks12 c then goes_to free
     else (if c == 0x25 then goes_to (in_line (c ∷ []))
     else (if c == 0x26 then goes_to (in_anchor [])
     else (if c == 0x2A then goes_to (in_alias [])
     else (if c == 0x21 then goes_to (in_tag (c ∷ []))
     else (if c == 0x22 then goes_to (in_quotes between [])
-    else (if c == 0x2D || c == 0x2E then goes_to (in_mark c 1) else completes (sign_token c)))))))
+    else (if c == 0x2D || c == 0x2E then goes_to (in_marker c 1) else completes (indicator_token c)))))))
 
 -- between quotes it is the reader of double quotes that goes on (YAML 1.1, section 9.1.1 Double Quoted, c-double-quoted(n,c))
-abbrev pub quotes_turn : List FoldUnit → QuoteStep → TokenTurn
-quotes_turn units (goes_on place) = goes_to (in_quotes place units)
-quotes_turn units (gives unit) = goes_to (in_quotes between (units ++ unit ∷ []))
-quotes_turn units ends_quotes = completes (scalar_token (folding_read units))
-quotes_turn units has_no_reading = completes bad
+abbrev pub quotes_step : List FoldUnit → QuoteStep → TokenStep
+quotes_step units (goes_on place) = goes_to (in_quotes place units)
+quotes_step units (gives unit) = goes_to (in_quotes between (units ++ unit ∷ []))
+quotes_step units ends_quotes = completes (scalar_token (folding_read units))
+quotes_step units has_no_reading = completes bad
 
--- one more `-` or `.` of a document mark, of which so many are still to come (YAML 1.1, section 7.2 Document Boundary Markers)
-abbrev pub mark_turn : (sign more : ℕ) → TokenTurn
-mark_turn sign zero = completes (mark_token sign)
-mark_turn sign (suc more) = goes_to (in_mark sign more)
+-- one more `-` or `.` of a document marker, of which so many are still to come (YAML 1.1, section 7.2 Document Boundary Markers)
+abbrev pub marker_step : (symbol more : ℕ) → TokenStep
+marker_step symbol zero = completes (marker_token symbol)
+marker_step symbol (suc more) = goes_to (in_marker symbol more)
 
 -- what a character does at a place: a name ends before any other character than its own, a tag at a space, a directive at a break
-abbrev pub token_turn : Bool → TokenPlace → ℕ → TokenTurn
-token_turn breaks12 free c = free_turn breaks12 c
-token_turn breaks12 (in_line line) c =
+abbrev pub token_step : Bool → TokenPlace → ℕ → TokenStep
+token_step breaks12 free c = step_between_tokens breaks12 c
+token_step breaks12 (in_line line) c =
     if is_read_break breaks12 c then completes (directive_token (words line)) else goes_to (in_line (line ++ c ∷ []))
-token_turn breaks12 (in_anchor name) c =
-    if is_alpha c then goes_to (in_anchor (name ++ c ∷ [])) else completes_before (anchor_named name) (free_turn breaks12 c)
-token_turn breaks12 (in_alias name) c =
-    if is_alpha c then goes_to (in_alias (name ++ c ∷ [])) else completes_before (alias_named name) (free_turn breaks12 c)
-token_turn breaks12 (in_tag text) c = if c == space then completes (tag_token text) else goes_to (in_tag (text ++ c ∷ []))
-token_turn breaks12 (in_quotes place units) c = quotes_turn units (quote_step breaks12 place c)
-token_turn breaks12 (in_mark sign more) c = if c == sign then mark_turn sign more else completes bad
+token_step breaks12 (in_anchor name) c =
+    if is_alpha c then goes_to (in_anchor (name ++ c ∷ [])) else completes_before (anchor_named name) (step_between_tokens breaks12 c)
+token_step breaks12 (in_alias name) c =
+    if is_alpha c then goes_to (in_alias (name ++ c ∷ [])) else completes_before (alias_named name) (step_between_tokens breaks12 c)
+token_step breaks12 (in_tag text) c = if c == space then completes (tag_token text) else goes_to (in_tag (text ++ c ∷ []))
+token_step breaks12 (in_quotes place units) c = quotes_step units (quote_step breaks12 place c)
+token_step breaks12 (in_marker symbol more) c = if c == symbol then marker_step symbol more else completes bad
 
 -- what is left at the end: a name may end there, nothing else
 abbrev pub tokens_at_end : TokenPlace → List Token
@@ -148,4 +148,4 @@ tokens_at_end _ = bad ∷ []
 abbrev pub tokens_from : Bool → TokenPlace → Text → List Token
 tokens_from breaks12 place [] = tokens_at_end place
 tokens_from breaks12 place (c ∷ rest) =
-    let here = token_turn breaks12 place c in here.tokens ++ tokens_from breaks12 here.place rest
+    let here = token_step breaks12 place c in here.tokens ++ tokens_from breaks12 here.place rest

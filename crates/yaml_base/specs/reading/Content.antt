@@ -1,5 +1,5 @@
 -- What canonical bytes keep of a list of events: versions, directives, and the trees of kinds, anchors, tags, values and aliases.
--- Styles, other flags and document marks are dropped.
+-- Styles, other flags and document markers are dropped.
 -- Source, unless a definition names its own: YAML 1.1, section 3.2.2 Serialization Tree.
 use Rattle.std.specs.Prelude.{Bool, Option, None, Some, List, [], ◌∷◌, ◌++◌, option_map}
 use Rattle.yaml_base.specs.Characters.{Text}

@@ -11,19 +11,19 @@ pub data Element : Type 0 where
   line_end : ℕ → Element
 
 -- a character before elements: it begins their first content, or is one of its own
-abbrev pub extended : ℕ → List Element → List Element
-extended c [] = content (c ∷ []) ∷ []
-extended c (content text ∷ rest) = content (c ∷ text) ∷ rest
-extended c (line_end b ∷ rest) = content (c ∷ []) ∷ line_end b ∷ rest
+abbrev pub prepend_to_elements : ℕ → List Element → List Element
+prepend_to_elements c [] = content (c ∷ []) ∷ []
+prepend_to_elements c (content text ∷ rest) = content (c ∷ text) ∷ rest
+prepend_to_elements c (line_end b ∷ rest) = content (c ∷ []) ∷ line_end b ∷ rest
 
 -- a break or another character, before elements
-abbrev pub element_before : Bool → ℕ → List Element → List Element
-element_before breaks12 c elements = if is_read_break breaks12 c then line_end c ∷ elements else extended c elements
+abbrev pub prepend_element : Bool → ℕ → List Element → List Element
+prepend_element breaks12 c elements = if is_read_break breaks12 c then line_end c ∷ elements else prepend_to_elements c elements
 
 -- a text cut at its breaks (YAML 1.1, section 5.4 Line Break Characters)
 abbrev pub elements : Bool → Text → List Element
 elements breaks12 [] = []
-elements breaks12 (c ∷ rest) = element_before breaks12 c (elements breaks12 rest)
+elements breaks12 (c ∷ rest) = prepend_element breaks12 c (elements breaks12 rest)
 
 -- how many spaces a text begins with (YAML 1.1, section 6.1 Indentation Spaces)
 abbrev pub leading_spaces : Text → ℕ
@@ -31,15 +31,15 @@ leading_spaces [] = 0
 leading_spaces (c ∷ rest) = if is_space c then suc (leading_spaces rest) else 0
 
 -- the spaces before the first content (YAML 1.1, section 9.2.2 Block Indentation Indicator)
-abbrev pub detected : List Element → ℕ
-detected [] = 0
-detected (content text ∷ rest) = leading_spaces text
-detected (line_end b ∷ rest) = detected rest
+abbrev pub detected_indentation : List Element → ℕ
+detected_indentation [] = 0
+detected_indentation (content text ∷ rest) = leading_spaces text
+detected_indentation (line_end b ∷ rest) = detected_indentation rest
 
 -- the indentation: what the digit adds to the column of the enclosing block's entries (the digit itself at the root), or else what
 -- the first content shows (YAML 1.1, section 9.2.2 Block Indentation Indicator, c-indentation-indicator)
 abbrev pub read_indentation : (digit column : Option ℕ) → List Element → ℕ
-read_indentation None column lines = detected lines
+read_indentation None column lines = detected_indentation lines
 read_indentation (Some digit) None lines = digit
 read_indentation (Some digit) (Some column) lines = column + digit
 
@@ -85,15 +85,15 @@ joined (content text ∷ rest) = text ++ joined rest
 joined (line_end b ∷ rest) = b ∷ joined rest
 
 -- the text doesn't begin with a blank (YAML 1.1, section 9.3.2 Folded)
-abbrev pub is_even : Text → Bool
-is_even [] = true
-is_even (c ∷ rest) = not (is_blank c)
+abbrev pub begins_unindented : Text → Bool
+begins_unindented [] = true
+begins_unindented (c ∷ rest) = not (is_blank c)
 
 -- there is a next content, and it doesn't begin with a blank (YAML 1.1, section 9.3.2 Folded)
-abbrev pub even_next : List Element → Bool
-even_next [] = false
-even_next (content text ∷ rest) = is_even text
-even_next (line_end b ∷ rest) = even_next rest
+abbrev pub next_content_unindented : List Element → Bool
+next_content_unindented [] = false
+next_content_unindented (content text ∷ rest) = begins_unindented text
+next_content_unindented (line_end b ∷ rest) = next_content_unindented rest
 
 -- what a folded LF reads as: a space where it stands alone, else nothing beside the breaks that follow it
 -- (YAML 1.1, sections 6.5 Line Folding and 9.3.2 Folded)
@@ -105,9 +105,9 @@ fold_read (line_end b ∷ rest) = []
 -- folded: a LF at the end of a content is folded, where neither that content nor the next begins with a blank (YAML 1.1, section 9.3.2 Folded)
 abbrev pub unfolded : (after_even : Bool) → List Element → Text
 unfolded after_even [] = []
-unfolded after_even (content text ∷ rest) = text ++ unfolded (is_even text) rest
+unfolded after_even (content text ∷ rest) = text ++ unfolded (begins_unindented text) rest
 unfolded after_even (line_end b ∷ rest) =
-    (if after_even && b == line_feed && even_next rest then fold_read rest else b ∷ []) ++ unfolded false rest
+    (if after_even && b == line_feed && next_content_unindented rest then fold_read rest else b ∷ []) ++ unfolded false rest
 
 -- what becomes of the final breaks (YAML 1.1, section 9.2.3 Block Chomping Indicator, c-chomping-indicator(t))
 pub data Chomping : Type 0 where
@@ -138,12 +138,12 @@ abbrev pub after_digit : Text → Text
 after_digit [] = []
 after_digit (c ∷ rest) = if is_between 49 57 c then rest else c ∷ rest
 
--- `-` strips, `+` keeps, no sign clips (YAML 1.1, section 9.2.3 Block Chomping Indicator, c-chomping-indicator(t))
+-- `-` strips, `+` keeps, no indicator clips (YAML 1.1, section 9.2.3 Block Chomping Indicator, c-chomping-indicator(t))
 abbrev pub chomping_first : Text → Chomping
 chomping_first [] = clip
 chomping_first (c ∷ rest) = if c == 45 then strip else (if c == 43 then keep else clip)
 
--- what follows the chomping sign, or all where there is none (YAML 1.1, section 9.2.3 Block Chomping Indicator)
+-- what follows the chomping indicator, or all where there is none (YAML 1.1, section 9.2.3 Block Chomping Indicator)
 abbrev pub after_chomping : Text → Text
 after_chomping [] = []
 after_chomping (c ∷ rest) = if c == 45 || c == 43 then rest else c ∷ rest
@@ -158,14 +158,14 @@ abbrev pub read_lines : (folded : Bool) → Chomping → (digit column : Option 
 read_lines folded chomping digit column lines =
     option_map (lines_read folded chomping) (all_unindented (read_indentation digit column lines) lines)
 
--- a block scalar from its sign on: `|` or `>`, a digit or none, a chomping sign or none, a break, lines;
+-- a block scalar from its indicator on: `|` or `>`, a digit or none, a chomping indicator or none, a break, lines;
 -- the column is that of the enclosing block's entries, none at the root
 -- (YAML 1.1, section 9.3 Block Scalar Styles, c-l+literal(n), c-l+folded(n))
 abbrev pub read_block : (breaks12 : Bool) (column : Option ℕ) → Text → Option Text
 read_block breaks12 column [] = None
-read_block breaks12 column (sign ∷ rest) =
-    if sign == 124 || sign == 62
+read_block breaks12 column (symbol ∷ rest) =
+    if symbol == 124 || symbol == 62
     then option_and_then
-    (λ body. read_lines (sign == 62) (chomping_first (after_digit rest)) (digit_first rest) column (elements breaks12 body))
+    (λ body. read_lines (symbol == 62) (chomping_first (after_digit rest)) (digit_first rest) column (elements breaks12 body))
     (after_break breaks12 (after_chomping (after_digit rest)))
     else None

@@ -1,4 +1,4 @@
--- Bytes to characters: UTF-16 by the mark that a stream begins with, else UTF-8.
+-- Bytes to characters: UTF-16 by the byte order mark that a stream begins with, else UTF-8.
 -- Source, unless a definition names its own: YAML 1.1, section 5.2 Character Encoding.
 use Rattle.std.specs.Prelude.{ℕ, Bool, true, false, Option, None, Some, List, [], ◌∷◌, ◌==◌, ◌&&◌, ◌+◌, ◌*◌, chars, option_map, option_and_then, if◌then◌else◌}
 use Rattle.std.specs.Str.{is_utf8}
@@ -26,7 +26,7 @@ utf16_read (Some high) (unit ∷ rest) =
 abbrev pub utf8_read : List ℕ → Option Text
 utf8_read bytes = if is_utf8 bytes then Some (chars bytes) else None
 
--- the characters of a stream: UTF-16 by the mark that it begins with, else UTF-8 (YAML 1.1, section 5.2 Character Encoding, c-byte-order-mark)
+-- the characters of a stream: UTF-16 by the byte order mark that it begins with, else UTF-8 (YAML 1.1, section 5.2 Character Encoding, c-byte-order-mark)
 abbrev pub characters_read : List ℕ → Option Text
 characters_read (a ∷ b ∷ rest) =
     if a == 0xFE && b == 0xFF then option_and_then (utf16_read None) (units_read true rest)

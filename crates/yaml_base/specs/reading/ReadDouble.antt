@@ -104,9 +104,9 @@ quoted_reading (Some quoted) = Some (record { value = folding_read quoted.units;
 
 -- a text that begins with a double-quoted scalar: its value, and what follows the closing quote
 -- (YAML 1.1, section 9.1.1 Double Quoted, c-double-quoted(n,c))
-abbrev pub double_quoted_front : Bool → Text → Option QuotedReading
-double_quoted_front breaks12 [] = None
-double_quoted_front breaks12 (c ∷ rest) =
+abbrev pub double_quoted_prefix : Bool → Text → Option QuotedReading
+double_quoted_prefix breaks12 [] = None
+double_quoted_prefix breaks12 (c ∷ rest) =
     if c == 0x22 then quoted_reading (quoted_from breaks12 between rest) else None
 
 -- a value counts where nothing follows it
@@ -121,4 +121,4 @@ value_alone (Some reading) = value_before reading.rest reading.value
 
 -- a text that is a double-quoted scalar: its value (YAML 1.1, section 9.1.1 Double Quoted, c-double-quoted(n,c))
 abbrev pub read_double : Bool → Text → Option Text
-read_double breaks12 text = value_alone (double_quoted_front breaks12 text)
+read_double breaks12 text = value_alone (double_quoted_prefix breaks12 text)

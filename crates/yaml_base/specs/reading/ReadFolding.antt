@@ -15,8 +15,8 @@ abbrev pub unit_of : Bool → ℕ → FoldUnit
 unit_of breaks12 c =
     if is_blank c then literal_blank c else if is_read_break breaks12 c then literal_break c else itself c
 
--- a text seen from its front: the blanks that stand there or the run of breaks, and what the rest reads as
-pub record Front : Type 0 where
+-- a text seen from its start: the blanks that stand there or the run of breaks, and what the rest reads as
+pub record FoldState : Type 0 where
   pub blanks : Text
   pub breaks : Text
   pub rest : Text
@@ -29,9 +29,9 @@ run_read [] = []
 run_read (first ∷ []) = if first == line_feed then space ∷ [] else first ∷ []
 run_read (first ∷ second ∷ more) = if first == line_feed then second ∷ more else first ∷ second ∷ more
 
--- the text that a front stands for
-abbrev pub front_read : Front → Text
-front_read front = front.blanks ++ (run_read front.breaks ++ front.rest)
+-- the text that a fold state stands for
+abbrev pub fold_state_text : FoldState → Text
+fold_state_text prefix = prefix.blanks ++ (run_read prefix.breaks ++ prefix.rest)
 
 -- a blank more before others, or before the breaks of a run, where it is dropped
 -- (YAML 1.1, sections 6.4 Ignored Line Prefix and 9.1 Flow Scalar Styles)
@@ -39,18 +39,18 @@ abbrev pub blanks_before : (breaks : Text) → (blanks : Text) → Text
 blanks_before [] blanks = blanks
 blanks_before (first ∷ more) blanks = []
 
--- one more unit before a front: blanks before, between and after the breaks of a run are dropped
+-- one more unit before a fold state: blanks before, between and after the breaks of a run are dropped
 -- (YAML 1.1, sections 6.4 Ignored Line Prefix and 9.1 Flow Scalar Styles)
-abbrev pub unit_before : FoldUnit → Front → Front
-unit_before (literal_blank c) front = record front { blanks = blanks_before front.breaks (c ∷ front.blanks) }
-unit_before (literal_break c) front = record front { blanks = []; breaks = c ∷ front.breaks }
-unit_before (itself c) front = record { blanks = []; breaks = []; rest = c ∷ front_read front }
+abbrev pub prepend_unit : FoldUnit → FoldState → FoldState
+prepend_unit (literal_blank c) prefix = record prefix { blanks = blanks_before prefix.breaks (c ∷ prefix.blanks) }
+prepend_unit (literal_break c) prefix = record prefix { blanks = []; breaks = c ∷ prefix.breaks }
+prepend_unit (itself c) prefix = record { blanks = []; breaks = []; rest = c ∷ fold_state_text prefix }
 
--- the front of some units, read from the last to the first
-abbrev pub front_of : List FoldUnit → Front
-front_of [] = record { blanks = []; breaks = []; rest = [] }
-front_of (unit ∷ units) = unit_before unit (front_of units)
+-- the fold state of some units, read from the last to the first
+abbrev pub fold_state_of : List FoldUnit → FoldState
+fold_state_of [] = record { blanks = []; breaks = []; rest = [] }
+fold_state_of (unit ∷ units) = prepend_unit unit (fold_state_of units)
 
 -- what units read as: runs of breaks fold, blanks beside them are dropped, all else stays
 abbrev pub folding_read : List FoldUnit → Text
-folding_read units = front_read (front_of units)
+folding_read units = fold_state_text (fold_state_of units)

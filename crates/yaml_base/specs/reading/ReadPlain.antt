@@ -16,8 +16,8 @@ begins_white breaks12 (c ∷ rest) = is_read_white breaks12 c
 
 -- a text begins with three of this character
 abbrev pub begins_with_three : ℕ → Text → Bool
-begins_with_three mark (a ∷ b ∷ c ∷ rest) = a == mark && b == mark && c == mark
-begins_with_three mark _ = false
+begins_with_three marker (a ∷ b ∷ c ∷ rest) = a == marker && b == marker && c == marker
+begins_with_three marker _ = false
 
 -- what no plain text begins with: `---` or `...`, an indicator, or `-`, `?`, `:` before a blank, a break or the end
 -- (YAML 1.1, sections 5.3 Indicator Characters, 7.2 Document Boundary Markers and 9.1.3 Plain, c-indicator)

@@ -7,13 +7,13 @@ use Rattle.yaml_base.specs.Event.{TagDirective}
 use Rattle.yaml_base.specs.reading.ReadPercent.{is_uri_character, percent_read}
 
 -- what a written tag says: the bare tag `!`, or a tag by its name
-pub data TagSaid : Type 0 where
-  bare_said : TagSaid
-  name_said : Text → TagSaid
+pub data ParsedTag : Type 0 where
+  bare_parsed : ParsedTag
+  name_parsed : Text → ParsedTag
 
 -- a text cut in two
 pub record CutText : Type 0 where
-  pub front : Text
+  pub prefix : Text
   pub rest : Text
 
 -- the prefix that the first directive with this handle gives (YAML 1.1, section 7.1.2 "TAG" Directive, ns-tag-directive)
@@ -41,58 +41,58 @@ is_handle_text (c ∷ []) = c == 0x21
 is_handle_text (c ∷ d ∷ rest) = c == 0x21 && closes_handle (d ∷ rest)
 
 -- a character before a text that is cut after its last `!`
-abbrev pub before_cut : ℕ → Text → Text → CutText
-before_cut c [] rest = if c == 0x21 then record { front = c ∷ []; rest = rest } else record { front = []; rest = c ∷ rest }
-before_cut c (d ∷ front) rest = record { front = c ∷ d ∷ front; rest = rest }
+abbrev pub prepend_to_cut : ℕ → Text → Text → CutText
+prepend_to_cut c [] rest = if c == 0x21 then record { prefix = c ∷ []; rest = rest } else record { prefix = []; rest = c ∷ rest }
+prepend_to_cut c (d ∷ prefix) rest = record { prefix = c ∷ d ∷ prefix; rest = rest }
 
 -- a text cut after its last `!`
-abbrev pub cut_after_mark : Text → CutText
-cut_after_mark [] = record { front = []; rest = [] }
-cut_after_mark (c ∷ text) = let cut = cut_after_mark text in before_cut c cut.front cut.rest
+abbrev pub cut_after_exclamation : Text → CutText
+cut_after_exclamation [] = record { prefix = []; rest = [] }
+cut_after_exclamation (c ∷ text) = let cut = cut_after_exclamation text in prepend_to_cut c cut.prefix cut.rest
 
--- may stand after a handle: what may stand in a URI but for the signs of flow (this project, since readers end a tag at these signs)
+-- may stand after a handle: what may stand in a URI but for the flow indicators (this project, since readers end a tag at these signs)
 abbrev pub may_follow_handle : ℕ → Bool
 may_follow_handle c = is_uri_character c && not (is_among (codes ",[]") c)
 
 -- a prefix, and the text that stands after it
-abbrev pub name_joined : Option Text → Option Text → Option TagSaid
-name_joined (Some prefix) (Some suffix) = Some (name_said (prefix ++ suffix))
+abbrev pub name_joined : Option Text → Option Text → Option ParsedTag
+name_joined (Some prefix) (Some suffix) = Some (name_parsed (prefix ++ suffix))
 name_joined _ _ = None
 
 -- a handle's prefix and what stands after the handle, which is at least one character (YAML 1.1, section 8.2 Node Tags, c-ns-shorthand-tag)
-abbrev pub shorthand_said : List TagDirective → Text → Text → Option TagSaid
-shorthand_said own handle [] = None
-shorthand_said own handle (c ∷ suffix) =
+abbrev pub shorthand_parsed : List TagDirective → Text → Text → Option ParsedTag
+shorthand_parsed own handle [] = None
+shorthand_parsed own handle (c ∷ suffix) =
     if list_all may_follow_handle (c ∷ suffix) then name_joined (prefix_among (own ++ directives_assumed) handle) (percent_read (c ∷ suffix))
     else None
 
 -- a text without a `>` at its end; none where it doesn't end so (YAML 1.1, section 8.2 Node Tags, c-verbatim-tag)
-abbrev pub without_end_sign : Text → Option Text
-without_end_sign [] = None
-without_end_sign (c ∷ []) = if c == 0x3E then Some [] else None
-without_end_sign (c ∷ d ∷ rest) = option_map (λ text. c ∷ text) (without_end_sign (d ∷ rest))
+abbrev pub without_closing_angle : Text → Option Text
+without_closing_angle [] = None
+without_closing_angle (c ∷ []) = if c == 0x3E then Some [] else None
+without_closing_angle (c ∷ d ∷ rest) = option_map (λ text. c ∷ text) (without_closing_angle (d ∷ rest))
 
 -- a name of at least one character (YAML 1.1, section 8.2 Node Tags, c-verbatim-tag)
-abbrev pub verbatim_said : Option Text → Option TagSaid
-verbatim_said None = None
-verbatim_said (Some []) = None
-verbatim_said (Some (c ∷ name)) = if list_all is_uri_character (c ∷ name) then option_map name_said (percent_read (c ∷ name)) else None
+abbrev pub verbatim_parsed : Option Text → Option ParsedTag
+verbatim_parsed None = None
+verbatim_parsed (Some []) = None
+verbatim_parsed (Some (c ∷ name)) = if list_all is_uri_character (c ∷ name) then option_map name_parsed (percent_read (c ∷ name)) else None
 
 -- a written tag, from its `!` to its last character, by a document's own directives and those assumed (YAML 1.1, section 8.2 Node Tags)
-abbrev pub tag_said : List TagDirective → Text → Option TagSaid
-tag_said own [] = None
-tag_said own (c ∷ []) = if c == 0x21 then Some bare_said else None
-tag_said own (c ∷ d ∷ rest) =
+abbrev pub tag_parsed : List TagDirective → Text → Option ParsedTag
+tag_parsed own [] = None
+tag_parsed own (c ∷ []) = if c == 0x21 then Some bare_parsed else None
+tag_parsed own (c ∷ d ∷ rest) =
     if not (c == 0x21) then None
-    else (if d == 0x3C then verbatim_said (without_end_sign rest)
-    else (let cut = cut_after_mark (c ∷ d ∷ rest) in shorthand_said own cut.front cut.rest))
+    else (if d == 0x3C then verbatim_parsed (without_closing_angle rest)
+    else (let cut = cut_after_exclamation (c ∷ d ∷ rest) in shorthand_parsed own cut.prefix cut.rest))
 
 -- a prefix of a directive: percent forms and characters of a URI, at least one; a `!` may begin it (YAML 1.1, section 7.1.2.1 Tag Prefixes)
-abbrev pub prefix_said : Text → Option Text
-prefix_said [] = None
-prefix_said (c ∷ rest) =
+abbrev pub prefix_parsed : Text → Option Text
+prefix_parsed [] = None
+prefix_parsed (c ∷ rest) =
     if (c == 0x21 || is_uri_character c) && list_all is_uri_character rest then percent_read (c ∷ rest) else None
 
 -- some directive gives this handle (YAML 1.1, section 7.1.2 "TAG" Directive)
-abbrev pub is_given : Text → List TagDirective → Bool
-is_given handle directives = list_any (λ directive. bytes_eq directive.handle handle) directives
+abbrev pub is_handle_given : Text → List TagDirective → Bool
+is_handle_given handle directives = list_any (λ directive. bytes_eq directive.handle handle) directives

@@ -50,9 +50,9 @@ is_special charset c =
     || (charset.breaks12 && (c == line_separator || c == paragraph_separator))
 
 -- `---` or `...` (libyaml's emitter, for YAML 1.1, section 7.2 Document Boundary Markers)
-abbrev pub begins_like_mark : Text → Bool
-begins_like_mark (a ∷ b ∷ c ∷ rest) = (a == 45 || a == 46) && b == a && c == a
-begins_like_mark _ = false
+abbrev pub begins_like_marker : Text → Bool
+begins_like_marker (a ∷ b ∷ c ∷ rest) = (a == 45 || a == 46) && b == a && c == a
+begins_like_marker _ = false
 
 -- a first character that means something else to a reader of plain text
 -- (YAML 1.1, section 5.3 Indicator Characters, c-indicator; without `-`, `?` and `:`)
@@ -64,7 +64,7 @@ abbrev pub begins_unlike_plain : Text → Bool
 begins_unlike_plain [] = false
 begins_unlike_plain (c ∷ rest) =
     is_space c
-    || begins_like_mark (c ∷ rest)
+    || begins_like_marker (c ∷ rest)
     || is_indicator c
     || (is_among (codes "?:-") c && ends_word rest)
 
@@ -72,8 +72,8 @@ begins_unlike_plain (c ∷ rest) =
 abbrev pub is_key_or_comment : ℕ → Text → Bool
 is_key_or_comment c rest = (c == 58 && ends_word rest) || (is_gap c && begins_with (λ d. d == 35) rest)
 
--- no plain text holds a special character, a break, a last space, a key or comment sign; in flow also
--- none of the signs of flow collections
+-- no plain text holds a special character, a break, a last space, a key or comment indicator; in flow also
+-- none of the flow indicators
 abbrev pub bars_plain : Charset → Bool → ℕ → Text → Bool
 bars_plain charset flow c rest =
     is_special charset c

@@ -3,7 +3,7 @@
 use Rattle.std.specs.Prelude.{ℕ, Bool, true, false, Option, None, Some, [], ◌∷◌, ◌||◌, ◌+◌, ◌≡◌, if◌then◌else◌}
 use Rattle.yaml_base.specs.Characters.{Text, is_break, is_space, line_feed}
 use Rattle.yaml_base.specs.scalars.Analysis.{begins_with}
-use Rattle.yaml_base.specs.Cursor.{Cursor, Laid, nothing_laid, then_laid, text_laid, with_flags, indicator}
+use Rattle.yaml_base.specs.Cursor.{Cursor, Rendered, render_nothing, render_then, render_text, with_flags, indicator}
 
 -- how a text ends: not in a break, in exactly one break after another character, or otherwise
 pub data Ending : Type 0 where
@@ -34,31 +34,31 @@ ending_hint one_break = []
 ending_hint more_breaks = 43 ∷ []
 
 -- a hint, where there is one
-abbrev pub hint_laid : Text → Cursor → Laid
-hint_laid [] cursor = nothing_laid cursor
-hint_laid (c ∷ rest) cursor = indicator (c ∷ rest) false false false cursor
+abbrev pub render_hint : Text → Cursor → Rendered
+render_hint [] cursor = render_nothing cursor
+render_hint (c ∷ rest) cursor = indicator (c ∷ rest) false false false cursor
 
 -- both hints
-abbrev pub hints_laid : (best_indent : ℕ) (value : Text) → Cursor → Laid
-hints_laid best_indent value cursor =
-    then_laid (hint_laid (indentation_hint best_indent value) cursor) (hint_laid (ending_hint (ending value)))
+abbrev pub render_hints : (best_indent : ℕ) (value : Text) → Cursor → Rendered
+render_hints best_indent value cursor =
+    render_then (render_hint (indentation_hint best_indent value) cursor) (render_hint (ending_hint (ending value)))
 
--- the style's sign, the hints and a break (YAML 1.1, section 9.2 Block Scalar Header)
-abbrev pub header_laid : (sign best_indent : ℕ) (value : Text) → Cursor → Laid
-header_laid sign best_indent value cursor =
-    then_laid (indicator (sign ∷ []) false false false cursor)
-    (λ signed. then_laid (hints_laid best_indent value signed)
-    (λ hinted. with_flags true true (text_laid (line_feed ∷ []) hinted)))
+-- the style's indicator, the hints and a break (YAML 1.1, section 9.2 Block Scalar Header)
+abbrev pub render_header : (symbol best_indent : ℕ) (value : Text) → Cursor → Rendered
+render_header symbol best_indent value cursor =
+    render_then (indicator (symbol ∷ []) false false false cursor)
+    (λ signed. render_then (render_hints best_indent value signed)
+    (λ hinted. with_flags true true (render_text (line_feed ∷ []) hinted)))
 
--- the open mark after a header: 2 where `+` keeps all final breaks, so that the document's end must be written
-abbrev pub ending_mark : Ending → ℕ
-ending_mark without_break = 0
-ending_mark one_break = 0
-ending_mark more_breaks = 2
+-- the open-ended state after a header: 2 where `+` keeps all final breaks, so that the document's end must be written
+abbrev pub ending_open_ended : Ending → ℕ
+ending_open_ended without_break = 0
+ending_open_ended one_break = 0
+ending_open_ended more_breaks = 2
 
--- the open mark after a value's header
-abbrev pub header_mark : Text → ℕ
-header_mark value = ending_mark (ending value)
+-- the open-ended state after a value's header
+abbrev pub header_open_ended : Text → ℕ
+header_open_ended value = ending_open_ended (ending value)
 
 -- the value's last character is a break
 abbrev pub ends_in_break : Ending → Bool
@@ -66,15 +66,15 @@ ends_in_break without_break = false
 ends_in_break one_break = true
 ends_in_break more_breaks = true
 
--- lines as they are laid out under a value's header: after them the cursor stands in white space, and in
+-- lines as they are rendered under a value's header: after them the cursor stands in white space, and in
 -- indentation where the value ends in a break
-abbrev pub lines_laid : (value lines : Text) → Cursor → Laid
-lines_laid value lines cursor = with_flags true (ends_in_break (ending value)) (text_laid lines cursor)
+abbrev pub render_lines : (value lines : Text) → Cursor → Rendered
+render_lines value lines cursor = with_flags true (ends_in_break (ending value)) (render_text lines cursor)
 
 -- a block scalar's text: its header, and then its lines (YAML 1.1, section 9.3 Block Scalar Styles)
-abbrev pub block_body : (sign best_indent : ℕ) (value lines : Text) → Cursor → Laid
-block_body sign best_indent value lines cursor =
-    then_laid (header_laid sign best_indent value cursor) (lines_laid value lines)
+abbrev pub block_body : (symbol best_indent : ℕ) (value lines : Text) → Cursor → Rendered
+block_body symbol best_indent value lines cursor =
+    render_then (render_header symbol best_indent value cursor) (render_lines value lines)
 
 -- the entries of the enclosing block stand at the scalar's indentation less the indent; at the root there are none,
 -- and the two are equal (this project)

@@ -2,7 +2,7 @@
 -- Source, unless a definition names its own: libyaml's emitter.
 use Rattle.std.specs.Prelude.{ℕ, Bool, true, false, Option, None, Some, List, [], ◌∷◌, ◌==◌, ◌||◌, ◌&&◌, not, nat_le, if◌then◌else◌}
 use Rattle.yaml_base.specs.Characters.{Text, hex_digits, is_ascii, is_break, is_printable, is_space}
-use Rattle.yaml_base.specs.Cursor.{Cursor, Laid, indicator, is_past_width, new_line, nothing_laid, space_if, text_laid, then_laid}
+use Rattle.yaml_base.specs.Cursor.{Cursor, Rendered, indicator, is_past_width, new_line, render_nothing, space_if, render_text, render_then}
 
 -- U+0022 (YAML 1.1, section 9.1.1 Double Quoted)
 abbrev pub quote : ℕ
@@ -70,38 +70,38 @@ space_kept [] = []
 space_kept (c ∷ rest) = if is_space c then backslash ∷ [] else []
 
 -- a new line in place of a space
-abbrev pub double_fold : (indent : ℕ) → (rest : Text) → Cursor → Laid
-double_fold indent rest cursor = then_laid (new_line indent cursor) (text_laid (space_kept rest))
+abbrev pub double_fold : (indent : ℕ) → (rest : Text) → Cursor → Rendered
+double_fold indent rest cursor = render_then (new_line indent cursor) (render_text (space_kept rest))
 
 -- one character of the value, after another or at its start, before the rest
 abbrev pub double_character :
-    (unicode : Bool) → (limit : Option ℕ) → (indent : ℕ) → (before : Option ℕ) → ℕ → (rest : Text) → Cursor → Laid
+    (unicode : Bool) → (limit : Option ℕ) → (indent : ℕ) → (before : Option ℕ) → ℕ → (rest : Text) → Cursor → Rendered
 double_character unicode limit indent before c rest cursor =
     if is_space c && may_fold before rest && is_past_width limit cursor
     then double_fold indent rest cursor
-    else text_laid (character_text unicode c) cursor
+    else render_text (character_text unicode c) cursor
 
 -- one character after another
 abbrev pub double_inside :
-    (unicode : Bool) → (limit : Option ℕ) → (indent : ℕ) → (before : Option ℕ) → (value : Text) → Cursor → Laid
-double_inside unicode limit indent before [] cursor = nothing_laid cursor
+    (unicode : Bool) → (limit : Option ℕ) → (indent : ℕ) → (before : Option ℕ) → (value : Text) → Cursor → Rendered
+double_inside unicode limit indent before [] cursor = render_nothing cursor
 double_inside unicode limit indent before (c ∷ rest) cursor =
-    then_laid
+    render_then
     (double_character unicode limit indent before c rest cursor)
     (double_inside unicode limit indent (Some c) rest)
 
 -- a quote, from which the cursor's flags are off
-abbrev pub quote_laid : Cursor → Laid
-quote_laid cursor = indicator (quote ∷ []) false false false cursor
+abbrev pub render_quote : Cursor → Rendered
+render_quote cursor = indicator (quote ∷ []) false false false cursor
 
 -- from quote to quote (YAML 1.1, section 9.1.1 Double Quoted, c-double-quoted(n,c))
-abbrev pub double_quoted_body : (unicode : Bool) → (limit : Option ℕ) → (indent : ℕ) → (value : Text) → Cursor → Laid
+abbrev pub double_quoted_body : (unicode : Bool) → (limit : Option ℕ) → (indent : ℕ) → (value : Text) → Cursor → Rendered
 double_quoted_body unicode limit indent value cursor =
-    then_laid
-    (then_laid (quote_laid cursor) (double_inside unicode limit indent None value))
-    quote_laid
+    render_then
+    (render_then (render_quote cursor) (double_inside unicode limit indent None value))
+    render_quote
 
 -- a space before it, where none stands there
-abbrev pub double_quoted_laid : (unicode : Bool) → (limit : Option ℕ) → (indent : ℕ) → (value : Text) → Cursor → Laid
-double_quoted_laid unicode limit indent value cursor =
-    then_laid (text_laid (space_if true cursor) cursor) (double_quoted_body unicode limit indent value)
+abbrev pub render_double_quoted : (unicode : Bool) → (limit : Option ℕ) → (indent : ℕ) → (value : Text) → Cursor → Rendered
+render_double_quoted unicode limit indent value cursor =
+    render_then (render_text (space_if true cursor) cursor) (double_quoted_body unicode limit indent value)

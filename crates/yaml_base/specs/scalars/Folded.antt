@@ -1,21 +1,21 @@
--- How a folded scalar is laid out: as literal, after its long lines are cut.
+-- How a folded scalar is rendered: as literal, after its long lines are cut.
 -- Source, unless a definition names its own: libyaml's emitter.
 use Rattle.std.specs.Prelude.{ℕ, Bool, true, false, Option, None, Some, List, [], ◌∷◌, ◌++◌, ◌==◌, ◌&&◌, ◌+◌, not, nat_lt, if◌then◌else◌}
 use Rattle.yaml_base.specs.Characters.{Text, is_space, line_feed}
 use Rattle.yaml_base.specs.scalars.Analysis.{begins_with}
-use Rattle.yaml_base.specs.Cursor.{Cursor, Laid, then_laid, text_laid, space_if}
+use Rattle.yaml_base.specs.Cursor.{Cursor, Rendered, render_then, render_text, space_if}
 use Rattle.yaml_base.specs.scalars.Lines.{Part, line, line_break, begun, parts}
 use Rattle.yaml_base.specs.scalars.BlockHeader.{block_body}
 use Rattle.yaml_base.specs.scalars.Literal.{indented}
 
 -- a column past the limit; no limit is never passed
-abbrev pub is_past : Option ℕ → ℕ → Bool
-is_past None column = false
-is_past (Some width) column = nat_lt width column
+abbrev pub is_past_limit : Option ℕ → ℕ → Bool
+is_past_limit None column = false
+is_past_limit (Some width) column = nat_lt width column
 
 -- a fold stands in place of the last space of a run, where it would be put past the limit
 abbrev pub folds : (limit : Option ℕ) (column c : ℕ) (rest : Text) → Bool
-folds limit column c rest = is_space c && not (begins_with is_space rest) && is_past limit column
+folds limit column c rest = is_space c && not (begins_with is_space rest) && is_past_limit limit column
 
 -- a line from a column on, cut at its folds; after a fold it goes on at the indentation
 abbrev pub cut_from : (limit : Option ℕ) (indent column : ℕ) → Text → List Part
@@ -30,10 +30,10 @@ abbrev pub cut_line : (limit : Option ℕ) (indent : ℕ) → Text → List Part
 cut_line limit indent text = if begins_with is_space text then line text ∷ [] else cut_from limit indent indent text
 
 -- a next line exists and doesn't begin with a space
-abbrev pub next_even : List Part → Bool
-next_even [] = false
-next_even (line text ∷ rest) = not (begins_with is_space text)
-next_even (line_break b ∷ rest) = next_even rest
+abbrev pub next_line_unindented : List Part → Bool
+next_line_unindented [] = false
+next_line_unindented (line text ∷ rest) = not (begins_with is_space text)
+next_line_unindented (line_break b ∷ rest) = next_line_unindented rest
 
 -- the value's parts as they are written, after a line that doesn't begin with a space or not: a LF between
 -- two lines that don't is doubled, since alone it would read as a space (YAML 1.1, sections 6.5 Line Folding and 9.3.2 Folded)
@@ -42,15 +42,15 @@ folded_parts limit indent after_even [] = []
 folded_parts limit indent after_even (line text ∷ rest) =
     cut_line limit indent text ++ folded_parts limit indent (not (begins_with is_space text)) rest
 folded_parts limit indent after_even (line_break b ∷ rest) =
-    (if after_even && b == line_feed && next_even rest then line_break b ∷ line_break b ∷ [] else line_break b ∷ [])
+    (if after_even && b == line_feed && next_line_unindented rest then line_break b ∷ line_break b ∷ [] else line_break b ∷ [])
     ++ folded_parts limit indent false rest
 
 -- `>`, the header and the value's lines (YAML 1.1, section 9.3.2 Folded, c-l+folded(n))
-abbrev pub folded_body : (limit : Option ℕ) (indent best_indent : ℕ) (value : Text) → Cursor → Laid
+abbrev pub folded_body : (limit : Option ℕ) (indent best_indent : ℕ) (value : Text) → Cursor → Rendered
 folded_body limit indent best_indent value cursor =
     block_body 62 best_indent value (indented indent (folded_parts limit indent false (parts value))) cursor
 
 -- a separating space where one is needed, and the body
-abbrev pub folded_laid : (limit : Option ℕ) (indent best_indent : ℕ) (value : Text) → Cursor → Laid
-folded_laid limit indent best_indent value cursor =
-    then_laid (text_laid (space_if true cursor) cursor) (folded_body limit indent best_indent value)
+abbrev pub render_folded : (limit : Option ℕ) (indent best_indent : ℕ) (value : Text) → Cursor → Rendered
+render_folded limit indent best_indent value cursor =
+    render_then (render_text (space_if true cursor) cursor) (folded_body limit indent best_indent value)

@@ -15,10 +15,10 @@ begun c (line text ∷ rest) = line (c ∷ text) ∷ rest
 begun c (line_break b ∷ rest) = line (c ∷ []) ∷ line_break b ∷ rest
 
 -- a break or another character, before parts
-abbrev pub part_before : ℕ → List Part → List Part
-part_before c parts = if is_break c then line_break c ∷ parts else begun c parts
+abbrev pub prepend_part : ℕ → List Part → List Part
+prepend_part c parts = if is_break c then line_break c ∷ parts else begun c parts
 
 -- a text cut into its parts
 abbrev pub parts : Text → List Part
 parts [] = []
-parts (c ∷ rest) = part_before c (parts rest)
+parts (c ∷ rest) = prepend_part c (parts rest)

@@ -3,7 +3,7 @@
 use Rattle.std.specs.Prelude.{ℕ, Bool, true, false, Option, List, [], ◌∷◌, ◌++◌, ◌==◌, ◌||◌, ◌&&◌, not, replicate, if◌then◌else◌}
 use Rattle.yaml_base.specs.Characters.{Text, is_break, is_space, line_feed, space}
 use Rattle.yaml_base.specs.scalars.Analysis.{begins_with, is_empty}
-use Rattle.yaml_base.specs.Cursor.{Cursor, Laid, nothing_laid, then_laid, text_laid, with_flags, space_if, is_past_width}
+use Rattle.yaml_base.specs.Cursor.{Cursor, Rendered, render_nothing, render_then, render_text, with_flags, space_if, is_past_width}
 
 -- spaces, line breaks, or any other characters
 pub data Kind : Type 0 where
@@ -28,21 +28,21 @@ pub record Run : Type 0 where
   pub text : Text
 
 -- a character before runs joins the first of them where that is of its kind
-abbrev pub joined_to : ℕ → List Run → List Run
-joined_to c [] = record { kind = kind_of c; text = c ∷ [] } ∷ []
-joined_to c (first ∷ more) =
+abbrev pub cons_run : ℕ → List Run → List Run
+cons_run c [] = record { kind = kind_of c; text = c ∷ [] } ∷ []
+cons_run c (first ∷ more) =
     if is_same_kind (kind_of c) first.kind then record first { text = c ∷ first.text } ∷ more
     else record { kind = kind_of c; text = c ∷ [] } ∷ first ∷ more
 
 -- a value cut into its runs of spaces, of breaks and of other characters
 abbrev pub runs : Text → List Run
 runs [] = []
-runs (c ∷ rest) = joined_to c (runs rest)
+runs (c ∷ rest) = cons_run c (runs rest)
 
 -- a run of one character
-abbrev pub is_lone : Text → Bool
-is_lone (c ∷ []) = true
-is_lone _ = false
+abbrev pub is_single_character : Text → Bool
+is_single_character (c ∷ []) = true
+is_single_character _ = false
 
 -- indentation is spaces (YAML 1.1, section 6.1 Indentation Spaces, s-indent(n))
 abbrev pub indentation : ℕ → Text
@@ -53,7 +53,7 @@ indentation indent = replicate indent space
 -- (YAML 1.1, section 6.5 Line Folding; which space folds is libyaml's rule)
 abbrev pub run_text : (written : Text → Text) (folds : Bool) (indent : ℕ) → Kind → Text → Text
 run_text written folds indent spaces text =
-    if folds && is_lone text then line_feed ∷ indentation indent else text
+    if folds && is_single_character text then line_feed ∷ indentation indent else text
 run_text written folds indent breaks text =
     (if begins_with (λ c. c == line_feed) text then line_feed ∷ [] else []) ++ (text ++ indentation indent)
 run_text written folds indent others text = written text
@@ -64,18 +64,18 @@ is_last [] = true
 is_last _ = false
 
 -- runs one after another; no fold stands at an edge
-abbrev pub runs_laid : (written : Text → Text) (limit : Option ℕ) (indent : ℕ) (edge : Bool) → List Run → Cursor → Laid
-runs_laid written limit indent edge [] cursor = nothing_laid cursor
-runs_laid written limit indent edge (run ∷ more) cursor =
+abbrev pub render_runs : (written : Text → Text) (limit : Option ℕ) (indent : ℕ) (edge : Bool) → List Run → Cursor → Rendered
+render_runs written limit indent edge [] cursor = render_nothing cursor
+render_runs written limit indent edge (run ∷ more) cursor =
     let folds = is_past_width limit cursor && not (edge || is_last more) in
-    then_laid (text_laid (run_text written folds indent run.kind run.text) cursor) (runs_laid written limit indent false more)
+    render_then (render_text (run_text written folds indent run.kind run.text) cursor) (render_runs written limit indent false more)
 
 -- a plain scalar's characters stand for themselves (YAML 1.1, section 9.1.3 Plain, ns-plain(n,c))
-abbrev pub plain_body : (limit : Option ℕ) (indent : ℕ) (value : Text) → Cursor → Laid
+abbrev pub plain_body : (limit : Option ℕ) (indent : ℕ) (value : Text) → Cursor → Rendered
 plain_body limit indent value cursor =
-    with_flags false false (runs_laid (λ text. text) limit indent true (runs value) cursor)
+    with_flags false false (render_runs (λ text. text) limit indent true (runs value) cursor)
 
 -- a space first where one is needed: the empty value needs none in a block
-abbrev pub plain_laid : (flow : Bool) (limit : Option ℕ) (indent : ℕ) (value : Text) → Cursor → Laid
-plain_laid flow limit indent value cursor =
-    then_laid (text_laid (space_if (flow || not (is_empty value)) cursor) cursor) (plain_body limit indent value)
+abbrev pub render_plain : (flow : Bool) (limit : Option ℕ) (indent : ℕ) (value : Text) → Cursor → Rendered
+render_plain flow limit indent value cursor =
+    render_then (render_text (space_if (flow || not (is_empty value)) cursor) cursor) (plain_body limit indent value)

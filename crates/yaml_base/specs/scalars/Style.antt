@@ -20,22 +20,22 @@ is_plain plain = true
 is_plain _ = false
 
 -- what is asked for: double quotes where they must stand, else the event's style; any is plain
-abbrev pub style_asked : (must_be_double : Bool) → ScalarStyle → ScalarStyle
-style_asked true style = double_quoted
-style_asked false any_style = plain
-style_asked false style = style
+abbrev pub requested_style : (must_be_double : Bool) → ScalarStyle → ScalarStyle
+requested_style true style = double_quoted
+requested_style false any_style = plain
+requested_style false style = style
 
 -- single quotes where the value allows them, else double quotes
-abbrev pub style_quoted : Allowances → ScalarStyle
-style_quoted allowed = if allowed.single_quoted then single_quoted else double_quoted
+abbrev pub quoted_style : Allowances → ScalarStyle
+quoted_style allowed = if allowed.single_quoted then single_quoted else double_quoted
 
 -- the style asked for where it fits; quotes in place of plain, double quotes in place of a block style
-abbrev pub style_fitting : Allowances → (plain_fits block_fits : Bool) → ScalarStyle → ScalarStyle
-style_fitting allowed plain_fits block_fits plain = if plain_fits then plain else style_quoted allowed
-style_fitting allowed plain_fits block_fits single_quoted = style_quoted allowed
-style_fitting allowed plain_fits block_fits literal = if block_fits then literal else double_quoted
-style_fitting allowed plain_fits block_fits folded = if block_fits then folded else double_quoted
-style_fitting allowed plain_fits block_fits _ = double_quoted
+abbrev pub fitting_style : Allowances → (plain_fits block_fits : Bool) → ScalarStyle → ScalarStyle
+fitting_style allowed plain_fits block_fits plain = if plain_fits then plain else quoted_style allowed
+fitting_style allowed plain_fits block_fits single_quoted = quoted_style allowed
+fitting_style allowed plain_fits block_fits literal = if block_fits then literal else double_quoted
+fitting_style allowed plain_fits block_fits folded = if block_fits then folded else double_quoted
+fitting_style allowed plain_fits block_fits _ = double_quoted
 
 -- plain fits where the value allows it in its context, isn't empty in flow or as a simple key, and is
 -- told apart from a quoted scalar by a tag or by its flag
@@ -52,8 +52,8 @@ abbrev pub chosen :
     → (empty tag_written plain_implicit quoted_implicit flow simple_key canonical : Bool) → Choice
 chosen allowed asked empty tag_written plain_implicit quoted_implicit flow simple_key canonical =
     let style =
-    style_fitting allowed
+    fitting_style allowed
     (fits_plain allowed empty tag_written plain_implicit flow simple_key)
     (allowed.block && not flow && not simple_key)
-    (style_asked (canonical || (simple_key && allowed.multiline)) asked) in
+    (requested_style (canonical || (simple_key && allowed.multiline)) asked) in
     record { style = style; bare = not tag_written && not quoted_implicit && not (is_plain style) }

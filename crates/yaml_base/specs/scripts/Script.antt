@@ -11,9 +11,10 @@ use Rattle.yaml_base.specs.Settings.{largest_i32, Settings, Encoding, LineBreak}
 use Rattle.yaml_base.specs.Event.{Event, stream_start, stream_end, document_start, document_end, alias, scalar, sequence_start, sequence_end, mapping_start}
 use Rattle.yaml_base.specs.Event.{mapping_end, ScalarStyle, CollectionStyle, Version, TagDirective, Collection}
 use Rattle.yaml_base.specs.Words.{is_word, named}
-pub use Rattle.yaml_base.specs.scripts.ScriptWords.{quotation_mark, number_sign, backslash, Within, Turn, numbered_turn, turn, text_from, Field}
+pub use Rattle.yaml_base.specs.scripts.ScriptWords.{quotation_mark, number_sign, backslash, Within, TextStep, numbered_step, text_step, text_from, Field}
 pub use Rattle.yaml_base.specs.Words.{is_word}
-pub use Rattle.yaml_base.specs.scripts.ScriptWords.{FieldState, state_after, separates, cut_before, pieces_from, field_read, field_and, each_field, fields_read}
+pub use Rattle.yaml_base.specs.scripts.ScriptWords.{FieldState, state_after, separates, cut_before, pieces_from, field_read, field_and, read_fields}
+pub use Rattle.yaml_base.specs.scripts.ScriptWords.{fields_read}
 pub use Rattle.yaml_base.specs.scripts.ScriptWords.{flags, switches, indentations, encodings, line_breaks, scalar_styles, collection_styles, number_up_to}
 pub use Rattle.yaml_base.specs.Words.{named}
 pub use Rattle.yaml_base.specs.scripts.ScriptWords.{signed_number, at_character, at_escape, at_brace, at_digits, goes_on, stands_for, ends, fails, bare, quoted}
@@ -229,17 +230,17 @@ line_understood bytes = if is_utf8 bytes then line_read (chars bytes) else None
 -- ---- the whole
 
 -- what the lines so far set, and the events that they gave
-pub record Sofar : Type 0 where
+pub record ScriptState : Type 0 where
   pub settings : List Setting
   pub events : List Numbered
 
 -- a setting may stand where no event stands before it and no line sets the same
-abbrev pub may_be_set : Setting → Sofar → Bool
+abbrev pub may_be_set : Setting → ScriptState → Bool
 may_be_set setting before =
     length before.events == 0 && not (list_any (λ other. is_word (setting_name setting) (setting_name other)) before.settings)
 
 -- with one more line of this number, unless it's a setting out of place
-abbrev pub with_line : ℕ → Sofar → Line → Option Sofar
+abbrev pub with_line : ℕ → ScriptState → Line → Option ScriptState
 with_line number before says_nothing = Some before
 with_line number before (sets setting) =
     if may_be_set setting before then Some (record before { settings = before.settings ++ setting ∷ [] }) else None
@@ -247,7 +248,7 @@ with_line number before (gives event) =
     Some (record before { events = before.events ++ record { line = number; event = event } ∷ [] })
 
 -- the script whose lines from this number on follow what others said
-abbrev pub script_from : ℕ → Sofar → List (List ℕ) → Script
+abbrev pub script_from : ℕ → ScriptState → List (List ℕ) → Script
 script_from number before [] = understood (settings_of unset before.settings) before.events
 script_from number before (line ∷ rest) =
     elim (option_and_then (with_line number before) (line_understood line)) as (λ _. Script) [

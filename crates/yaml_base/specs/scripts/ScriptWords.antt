@@ -33,35 +33,35 @@ pub data Within : Type 0 where
   at_digits : Text → Within
 
 -- the next character goes on with an escape, completes one that stands for a character, ends the text, or is wrong there
-pub data Turn : Type 0 where
-  goes_on : Within → Turn
-  stands_for : ℕ → Turn
-  ends : Turn
-  fails : Turn
+pub data TextStep : Type 0 where
+  goes_on : Within → TextStep
+  stands_for : ℕ → TextStep
+  ends : TextStep
+  fails : TextStep
 
 -- the character of `\u{..}`: one to six hexadecimal digits of a Unicode scalar value
-abbrev pub numbered_turn : Text → Turn
-numbered_turn digits =
+abbrev pub numbered_step : Text → TextStep
+numbered_step digits =
     let number = digits_value 16 digits in
     if is_between 1 6 (length digits) && list_all (λ digit. is_digit digit 16) digits && all_scalars (number ∷ [])
     then stands_for number else fails
 
 -- what a character does in a text: `\\`, `\"`, `\n` and `\u{..}` stand for characters, any other but these two for itself
-abbrev pub turn : Within → ℕ → Turn
-turn at_character c =
+abbrev pub text_step : Within → ℕ → TextStep
+text_step at_character c =
     if c == quotation_mark then ends else (if c == backslash then goes_on at_escape else stands_for c)
-turn at_escape c =
+text_step at_escape c =
     if c == 0x75 then goes_on at_brace
     else (if c == 0x6E then stands_for line_feed
     else (if c == backslash || c == quotation_mark then stands_for c else fails))
-turn at_brace c = if c == 0x7B then goes_on (at_digits []) else fails
-turn (at_digits digits) c = if c == 0x7D then numbered_turn digits else goes_on (at_digits (digits ++ c ∷ []))
+text_step at_brace c = if c == 0x7B then goes_on (at_digits []) else fails
+text_step (at_digits digits) c = if c == 0x7D then numbered_step digits else goes_on (at_digits (digits ++ c ∷ []))
 
 -- what the characters behind an opening mark stand for, where the last of them is the closing mark
 abbrev pub text_from : Within → Text → Option Text
 text_from within [] = None
 text_from within (c ∷ rest) =
-    elim (turn within c) as (λ _. Option Text) [
+    elim (text_step within c) as (λ _. Option Text) [
       | goes_on next ↦ text_from next rest
       | stands_for character ↦ option_map (λ value. character ∷ value) (text_from at_character rest)
       | ends ↦ if length rest == 0 then Some [] else None
@@ -115,13 +115,13 @@ field_and (Some field) (Some fields) = Some (field ∷ fields)
 field_and _ _ = None
 
 -- each piece read as a field
-abbrev pub each_field : List Text → Option (List Field)
-each_field [] = Some []
-each_field (piece ∷ pieces) = field_and (field_read piece) (each_field pieces)
+abbrev pub read_fields : List Text → Option (List Field)
+read_fields [] = Some []
+read_fields (piece ∷ pieces) = field_and (field_read piece) (read_fields pieces)
 
 -- the fields of a line: exactly one space stands between two, and none at either end
 abbrev pub fields_read : Text → Option (List Field)
-fields_read line = each_field (pieces_from outside line)
+fields_read line = read_fields (pieces_from outside line)
 
 -- ---- words and numbers
 

@@ -1,4 +1,4 @@
--- The documents of a stream: its lines are cut at the marks `---` and `...`, and what stands before the first of them is the first
+-- The documents of a stream: its lines are cut at the markers `---` and `...`, and what stands before the first of them is the first
 -- document or its directives.
 -- Source, unless a definition names its own: that of its part, in this project's steps.
 use Rattle.std.specs.Prelude.{ℕ, suc, pos, Bool, true, false, Option, None, Some, List, [], ◌∷◌, ◌++◌, ◌==◌, ◌&&◌, not, length, fold, codes, bytes_eq}
@@ -6,51 +6,51 @@ use Rattle.std.specs.Prelude.{option_map, option_and_then, is_some, if◌then◌
 use Rattle.std.specs.List.{slice_split}
 use Rattle.yaml_base.specs.Characters.{Text, is_space}
 use Rattle.yaml_base.specs.Event.{Version, TagDirective}
-use Rattle.yaml_base.specs.reading.ReadTags.{is_handle_text, prefix_said, is_given}
+use Rattle.yaml_base.specs.reading.ReadTags.{is_handle_text, prefix_parsed, is_handle_given}
 use Rattle.yaml_base.specs.streams.StreamContent.{Tree, DocumentTree}
-use Rattle.yaml_base.specs.streams.StreamLines.{Line, lines_of, is_spaces, without_blank_lines, all_blank, ends_sign, blanked}
+use Rattle.yaml_base.specs.streams.StreamLines.{Line, lines_of, is_spaces, without_blank_lines, all_blank, ends_indicator, blanked}
 use Rattle.yaml_base.specs.streams.StreamScalars.{Rules}
 use Rattle.yaml_base.specs.streams.StreamNodes.{node_read}
 
 -- Marks. Source: YAML 1.1, section 7.2 Document Boundary Markers.
 
--- a line begins with three of a sign, before a space or its end
-abbrev pub begins_with_mark : ℕ → Text → Bool
-begins_with_mark sign (a ∷ b ∷ c ∷ rest) = a == sign && b == sign && c == sign && ends_sign rest
-begins_with_mark sign _ = false
+-- a line begins with three of an indicator, before a space or its end
+abbrev pub begins_with_marker : ℕ → Text → Bool
+begins_with_marker symbol (a ∷ b ∷ c ∷ rest) = a == symbol && b == symbol && c == symbol && ends_indicator rest
+begins_with_marker symbol _ = false
 
 -- what a line is: it begins a document, ends one, or stands inside
-pub data MarkKind : Type 0 where
-  start_mark : MarkKind
-  end_mark : MarkKind
-  no_mark : MarkKind
+pub data MarkerKind : Type 0 where
+  start_marker : MarkerKind
+  end_marker : MarkerKind
+  no_exclamation : MarkerKind
 
 -- `---`, `...`, or neither
-abbrev pub mark_of : Text → MarkKind
-mark_of text =
-    if begins_with_mark 0x2D text then start_mark else (if begins_with_mark 0x2E text then end_mark else no_mark)
+abbrev pub marker_of : Text → MarkerKind
+marker_of text =
+    if begins_with_marker 0x2D text then start_marker else (if begins_with_marker 0x2E text then end_marker else no_exclamation)
 
--- a line with a mark, and those after it up to the next mark
+-- a line with a marker, and those after it up to the next marker
 pub record Section : Type 0 where
-  pub mark : MarkKind
+  pub marker : MarkerKind
   pub line : Line
   pub rest : List Line
 
--- the lines before the first mark, and then a section for each mark
+-- the lines before the first marker, and then a section for each marker
 pub record Sections : Type 0 where
   pub before : List Line
   pub sections : List Section
 
 -- a line before sections
-abbrev pub section_before : MarkKind → Line → Sections → Sections
-section_before no_mark line after = record { before = line ∷ after.before; sections = after.sections }
-section_before mark line after =
-    record { before = []; sections = record { mark = mark; line = line; rest = after.before } ∷ after.sections }
+abbrev pub prepend_section : MarkerKind → Line → Sections → Sections
+prepend_section no_exclamation line after = record { before = line ∷ after.before; sections = after.sections }
+prepend_section marker line after =
+    record { before = []; sections = record { marker = marker; line = line; rest = after.before } ∷ after.sections }
 
--- the lines of a stream, cut at its marks
+-- the lines of a stream, cut at its markers
 abbrev pub sections_of : List Line → Sections
 sections_of [] = record { before = []; sections = [] }
-sections_of (line ∷ rest) = section_before (mark_of line.text) line (sections_of rest)
+sections_of (line ∷ rest) = prepend_section (marker_of line.text) line (sections_of rest)
 
 -- Directives. Source: YAML 1.1, section 7.1 Directives.
 
@@ -68,29 +68,29 @@ abbrev pub is_no_heading : Heading → Bool
 is_no_heading heading = not (is_some heading.version) && length heading.directives == 0
 
 -- 1.1 and 1.2 (YAML 1.1, section 7.1.1 "YAML" Directive; 1.2 is libyaml's)
-abbrev pub version_said : Text → Option Version
-version_said word =
+abbrev pub version_parsed : Text → Option Version
+version_parsed word =
     if bytes_eq word (codes "1.1") then Some (record { major = pos 1; minor = pos 1 })
     else (if bytes_eq word (codes "1.2") then Some (record { major = pos 1; minor = pos 2 }) else None)
 
 -- a version stands first (this project; YAML 1.1, section 7.1.1 "YAML" Directive, asks for one at most)
 abbrev pub with_version : Heading → Option Version → Option Heading
 with_version heading version =
-    if is_no_heading heading then option_map (λ said. record { version = Some said; directives = [] }) version else None
+    if is_no_heading heading then option_map (λ parsed. record { version = Some parsed; directives = [] }) version else None
 
 -- a handle is given once (YAML 1.1, section 7.1.2 "TAG" Directive, ns-tag-directive)
 abbrev pub with_directive : Heading → Text → Option Text → Option Heading
 with_directive heading handle prefix =
-    if is_handle_text handle && not (is_given handle heading.directives)
+    if is_handle_text handle && not (is_handle_given handle heading.directives)
     then option_map
-    (λ said. record { version = heading.version; directives = heading.directives ++ record { handle = handle; prefix = said } ∷ [] })
+    (λ parsed. record { version = heading.version; directives = heading.directives ++ record { handle = handle; prefix = parsed } ∷ [] })
     prefix else None
 
 -- a directive by its words (YAML 1.1, section 7.1 Directives, l-directive)
 abbrev pub directive_by_words : Heading → List Text → Option Heading
-directive_by_words heading (name ∷ word ∷ []) = if bytes_eq name (codes "%YAML") then with_version heading (version_said word) else None
+directive_by_words heading (name ∷ word ∷ []) = if bytes_eq name (codes "%YAML") then with_version heading (version_parsed word) else None
 directive_by_words heading (name ∷ handle ∷ prefix ∷ []) =
-    if bytes_eq name (codes "%TAG") then with_directive heading handle (prefix_said prefix) else None
+    if bytes_eq name (codes "%TAG") then with_directive heading handle (prefix_parsed prefix) else None
 directive_by_words heading _ = None
 
 -- one line more of directives, whose words stand one space apart (this project; YAML 1.1, section 7.1 Directives, allows more white space)
@@ -107,30 +107,30 @@ heading_of lines = fold directive_line (Some no_heading) lines
 -- a line begins with a character that is no space (this project)
 abbrev pub stands_at_margin : List Line → Bool
 stands_at_margin [] = true
-stands_at_margin (line ∷ rest) = not (ends_sign line.text)
+stands_at_margin (line ∷ rest) = not (ends_indicator line.text)
 
 -- a root on lines of its own, the first of which stands at column 0; nothing is the empty scalar (this project)
 abbrev pub root_below : ℕ → Rules → List Line → Option Tree
 root_below depth rules lines = if stands_at_margin lines then node_read depth rules true None lines else None
 
 -- a root on the line of `---` or below it; no block begins on that line (libyaml's scanner)
-abbrev pub root_after_mark : (mark_alone : Bool) → ℕ → Rules → Line → List Line → Option Tree
-root_after_mark true depth rules line rest = root_below depth rules (without_blank_lines rest)
-root_after_mark false depth rules line rest = node_read depth rules false None (line ∷ rest)
+abbrev pub root_after_marker : (exclamation_alone : Bool) → ℕ → Rules → Line → List Line → Option Tree
+root_after_marker true depth rules line rest = root_below depth rules (without_blank_lines rest)
+root_after_marker false depth rules line rest = node_read depth rules false None (line ∷ rest)
 
--- the text after a mark
-abbrev pub after_mark : Text → Text
-after_mark (a ∷ b ∷ c ∷ rest) = rest
-after_mark _ = []
+-- the text after a marker
+abbrev pub after_marker : Text → Text
+after_marker (a ∷ b ∷ c ∷ rest) = rest
+after_marker _ = []
 
 -- the root of a document that begins with `---`
 abbrev pub root_marked : ℕ → Rules → Line → List Line → Option Tree
 root_marked depth rules line rest =
-    root_after_mark (is_spaces (after_mark line.text)) depth rules (blanked 3 (after_mark line.text) line.ending) rest
+    root_after_marker (is_spaces (after_marker line.text)) depth rules (blanked 3 (after_marker line.text) line.ending) rest
 
 -- Streams. Source: YAML 1.1, section 7.4 Complete Stream.
 
--- what may come after the documents so far: a mark of either kind, or after directives and `...` only `---`
+-- what may come after the documents so far: a marker of either kind, or after directives and `...` only `---`
 pub data StreamPlace : Type 0 where
   after_root : StreamPlace
   after_heading : Heading → StreamPlace
@@ -141,8 +141,8 @@ pub record StreamRead : Type 0 where
   pub place : StreamPlace
 
 -- one document more (YAML 1.1, section 7.3 Documents)
-abbrev pub document_added : List DocumentTree → Heading → Option Tree → Option StreamRead
-document_added documents heading root =
+abbrev pub with_read_document : List DocumentTree → Heading → Option Tree → Option StreamRead
+with_read_document documents heading root =
     option_map
     (λ tree. record {
       documents = documents ++ record { version = heading.version; directives = heading.directives; root = tree } ∷ [];
@@ -153,32 +153,32 @@ document_added documents heading root =
 -- the document of `---`, with the directives before it (YAML 1.1, section 7.3 Documents)
 abbrev pub document_read : ℕ → Bool → List DocumentTree → Heading → Section → Option StreamRead
 document_read depth breaks12 documents heading section =
-    document_added documents heading
+    with_read_document documents heading
     (root_marked depth (record { breaks12 = breaks12; directives = heading.directives }) section.line section.rest)
 
 -- directives before a `---`
-abbrev pub heading_added : List DocumentTree → Option Heading → Option StreamRead
-heading_added documents heading = option_map (λ said. record { documents = documents; place = after_heading said }) heading
+abbrev pub with_heading : List DocumentTree → Option Heading → Option StreamRead
+with_heading documents heading = option_map (λ parsed. record { documents = documents; place = after_heading parsed }) heading
 
 -- one section more: `...` stands alone on its line, blank lines may follow it, and then directives
 -- (YAML 1.1, sections 7.2 Document Boundary Markers and 7.3 Documents; `...` alone on its line is this project's rule)
-abbrev pub section_by_kind : MarkKind → ℕ → Bool → List DocumentTree → StreamPlace → Section → Option StreamRead
-section_by_kind start_mark depth breaks12 documents after_root section = document_read depth breaks12 documents no_heading section
-section_by_kind start_mark depth breaks12 documents (after_heading heading) section = document_read depth breaks12 documents heading section
-section_by_kind end_mark depth breaks12 documents after_root section =
-    if length section.line.text == 3 then heading_added documents (heading_of (without_blank_lines section.rest)) else None
+abbrev pub section_by_kind : MarkerKind → ℕ → Bool → List DocumentTree → StreamPlace → Section → Option StreamRead
+section_by_kind start_marker depth breaks12 documents after_root section = document_read depth breaks12 documents no_heading section
+section_by_kind start_marker depth breaks12 documents (after_heading heading) section = document_read depth breaks12 documents heading section
+section_by_kind end_marker depth breaks12 documents after_root section =
+    if length section.line.text == 3 then with_heading documents (heading_of (without_blank_lines section.rest)) else None
 section_by_kind _ depth breaks12 documents place section = None
 
 -- one section more of a stream
 abbrev pub section_read : ℕ → Bool → Option StreamRead → Section → Option StreamRead
 section_read depth breaks12 None section = None
-section_read depth breaks12 (Some read) section = section_by_kind section.mark depth breaks12 read.documents read.place section
+section_read depth breaks12 (Some read) section = section_by_kind section.marker depth breaks12 read.documents read.place section
 
--- what the lines before the first mark begin with
-pub data FrontKind : Type 0 where
-  no_lines : FrontKind
-  directive_lines : FrontKind
-  document_lines : FrontKind
+-- what the lines before the first marker begin with
+pub data PrefixKind : Type 0 where
+  no_lines : PrefixKind
+  directive_lines : PrefixKind
+  document_lines : PrefixKind
 
 -- a line begins with `%` (YAML 1.1, section 7.1 Directives)
 abbrev pub begins_with_percent : Text → Bool
@@ -186,16 +186,16 @@ begins_with_percent [] = false
 begins_with_percent (c ∷ rest) = c == 0x25
 
 -- nothing, a `%`, or a document's text
-abbrev pub front_kind : List Line → FrontKind
-front_kind [] = no_lines
-front_kind (line ∷ rest) = if begins_with_percent line.text then directive_lines else document_lines
+abbrev pub prefix_kind : List Line → PrefixKind
+prefix_kind [] = no_lines
+prefix_kind (line ∷ rest) = if begins_with_percent line.text then directive_lines else document_lines
 
--- the lines before the first mark: none, directives, or a document that has no `---` (YAML 1.1, section 7.3 Documents)
-abbrev pub front_read : FrontKind → ℕ → Bool → List Line → Option StreamRead
-front_read no_lines depth breaks12 lines = Some (record { documents = []; place = after_heading no_heading })
-front_read directive_lines depth breaks12 lines = heading_added [] (heading_of lines)
-front_read document_lines depth breaks12 lines =
-    document_added [] no_heading (root_below depth (record { breaks12 = breaks12; directives = [] }) lines)
+-- the lines before the first marker: none, directives, or a document that has no `---` (YAML 1.1, section 7.3 Documents)
+abbrev pub lines_before_marker_read : PrefixKind → ℕ → Bool → List Line → Option StreamRead
+lines_before_marker_read no_lines depth breaks12 lines = Some (record { documents = []; place = after_heading no_heading })
+lines_before_marker_read directive_lines depth breaks12 lines = with_heading [] (heading_of lines)
+lines_before_marker_read document_lines depth breaks12 lines =
+    with_read_document [] no_heading (root_below depth (record { breaks12 = breaks12; directives = [] }) lines)
 
 -- a stream ends after a document, or where no directives wait for one
 abbrev pub may_end : StreamPlace → Bool
@@ -206,11 +206,11 @@ may_end (after_heading heading) = is_no_heading heading
 abbrev pub documents_at_end : StreamRead → Option (List DocumentTree)
 documents_at_end read = if may_end read.place then Some read.documents else None
 
--- the documents of a stream's lines, cut at its marks
+-- the documents of a stream's lines, cut at its markers
 abbrev pub sections_read : ℕ → Bool → Sections → Option (List DocumentTree)
 sections_read depth breaks12 all =
     option_and_then documents_at_end
-    (fold (section_read depth breaks12) (front_read (front_kind all.before) depth breaks12 all.before) all.sections)
+    (fold (section_read depth breaks12) (lines_before_marker_read (prefix_kind all.before) depth breaks12 all.before) all.sections)
 
 -- the documents of a text whose line breaks are read; blank lines alone hold none (YAML 1.1, section 7.4 Complete Stream, l-yaml-stream)
 abbrev pub documents_of : Bool → Text → Option (List DocumentTree)

@@ -7,9 +7,9 @@ use Rattle.yaml_base.specs.Characters.{Text}
 use Rattle.yaml_base.specs.LineBreaks.{is_read_break}
 use Rattle.yaml_base.specs.streams.StreamContent.{Tree, alias_tree, sequence_tree, mapping_tree, Trees, no_trees, trees_and, TreePairs, no_tree_pairs}
 use Rattle.yaml_base.specs.streams.StreamContent.{tree_pairs_and}
-use Rattle.yaml_base.specs.streams.StreamScalars.{Rules, Properties, PropertiesRead, properties_read, collection_tag_said, word_after, word_read}
+use Rattle.yaml_base.specs.streams.StreamScalars.{Rules, Properties, PropertiesRead, properties_read, collection_tag_parsed, word_after, word_read}
 use Rattle.yaml_base.specs.streams.StreamLines.{is_spaces}
-use Rattle.yaml_base.specs.streams.StreamTokens.{FlowToken, word, opens, sign, blank, line_end, free, flow_tokens}
+use Rattle.yaml_base.specs.streams.StreamTokens.{FlowToken, word, opens, symbol, blank, line_end, free, flow_tokens}
 
 -- Simple keys
 
@@ -39,9 +39,9 @@ pub data HeldKey : Type 0 where
   key_held : Tree → HeldKey
 
 -- an open collection: its anchor, its tag and what it holds so far
-pub data Level : Type 0 where
-  in_sequence : Option Text → Option Text → Trees → Level
-  in_mapping : Option Text → Option Text → TreePairs → HeldKey → Level
+pub data OpenFlow : Type 0 where
+  in_sequence : Option Text → Option Text → Trees → OpenFlow
+  in_mapping : Option Text → Option Text → TreePairs → HeldKey → OpenFlow
 
 -- where the `:` after a key may stand: at once, after one blank, or after something white, which came or didn't yet
 pub data ColonPlace : Type 0 where
@@ -62,12 +62,12 @@ pub data Awaited : Type 0 where
 pub data FlowReading : Type 0 where
   failed : FlowReading
   done : Tree → FlowReading
-  within : List Level → Awaited → FlowReading
+  within : List OpenFlow → Awaited → FlowReading
 
 -- Steps
 
 -- a finished node takes its place in the innermost collection; it is no simple key
-abbrev pub with_tree : List Level → Tree → FlowReading
+abbrev pub with_tree : List OpenFlow → Tree → FlowReading
 with_tree [] tree = done tree
 with_tree (in_sequence anchor tag trees ∷ levels) tree = within (in_sequence anchor tag (trees_and trees tree) ∷ levels) comma_awaited
 with_tree (in_mapping anchor tag pairs no_key ∷ levels) tree = failed
@@ -81,96 +81,96 @@ abbrev pub colon_after : Tree → ColonPlace
 colon_after key = if is_alias key then after_blank else at_once
 
 -- a word is a simple key where a mapping has none, and a node elsewhere
-abbrev pub with_word : Bool → List Level → Text → Tree → FlowReading
+abbrev pub with_word : Bool → List OpenFlow → Text → Tree → FlowReading
 with_word breaks12 (in_mapping anchor tag pairs no_key ∷ levels) text tree =
     if is_key_text breaks12 tree text
     then within (in_mapping anchor tag pairs (key_held tree) ∷ levels) (colon_awaited (colon_after tree)) else failed
 with_word breaks12 levels text tree = with_tree levels tree
 
 -- a word that reads
-abbrev pub word_step : Bool → List Level → Text → Option Tree → FlowReading
+abbrev pub word_step : Bool → List OpenFlow → Text → Option Tree → FlowReading
 word_step breaks12 levels text None = failed
 word_step breaks12 levels text (Some tree) = with_word breaks12 levels text tree
 
 -- an open collection that holds nothing yet
-abbrev pub level_opened : ℕ → Option Text → Option Text → Level
+abbrev pub level_opened : ℕ → Option Text → Option Text → OpenFlow
 level_opened bracket anchor tag =
     if bracket == 0x5B then in_sequence anchor tag no_trees else in_mapping anchor tag no_tree_pairs no_key
 
 -- a collection opens with its anchor and tag, if its tag is one of its own (this project)
-abbrev pub opened : List Level → ℕ → Option Text → Option (Option Text) → FlowReading
+abbrev pub opened : List OpenFlow → ℕ → Option Text → Option (Option Text) → FlowReading
 opened levels bracket anchor None = failed
 opened levels bracket anchor (Some tag) = within (level_opened bracket anchor tag ∷ levels) entry_awaited
 
 -- a collection that holds something is no simple key (this project)
-abbrev pub may_open : List Level → Bool
+abbrev pub may_open : List OpenFlow → Bool
 may_open (in_mapping anchor tag pairs no_key ∷ levels) = false
 may_open levels = true
 
 -- properties that fill their text, and a bracket
-abbrev pub opened_with : List Level → ℕ → Option PropertiesRead → FlowReading
+abbrev pub opened_with : List OpenFlow → ℕ → Option PropertiesRead → FlowReading
 opened_with levels bracket None = failed
 opened_with levels bracket (Some read) =
     if may_open levels && is_spaces read.text
-    then opened levels bracket read.properties.anchor (collection_tag_said read.properties.tag) else failed
+    then opened levels bracket read.properties.anchor (collection_tag_parsed read.properties.tag) else failed
 
 -- where a node may begin
-abbrev pub node_step : Rules → List Level → FlowToken → FlowReading
+abbrev pub node_step : Rules → List OpenFlow → FlowToken → FlowReading
 node_step rules levels (word text) = word_step rules.breaks12 levels text (word_read rules true text)
 node_step rules levels (opens properties bracket) = opened_with levels bracket (properties_read rules.directives properties)
 node_step rules levels _ = failed
 
 -- the innermost collection ends
-abbrev pub closed : List Level → ℕ → FlowReading
+abbrev pub closed : List OpenFlow → ℕ → FlowReading
 closed (in_sequence anchor tag trees ∷ levels) c = if c == 0x5D then with_tree levels (sequence_tree anchor tag trees) else failed
 closed (in_mapping anchor tag pairs no_key ∷ levels) c = if c == 0x7D then with_tree levels (mapping_tree anchor tag pairs) else failed
 closed _ c = failed
 
 -- a `?` asks for a key
-abbrev pub key_asked : List Level → FlowReading
+abbrev pub key_asked : List OpenFlow → FlowReading
 key_asked (in_mapping anchor tag pairs no_key ∷ levels) = within (in_mapping anchor tag pairs key_due ∷ levels) (node_awaited false)
 key_asked levels = failed
 
 -- where an entry may begin or the collection end
-abbrev pub entry_step : Rules → List Level → FlowToken → FlowReading
+abbrev pub entry_step : Rules → List OpenFlow → FlowToken → FlowReading
 entry_step rules levels blank = within levels entry_awaited
 entry_step rules levels line_end = within levels entry_awaited
-entry_step rules levels (sign c) = if c == 0x3F then key_asked levels else closed levels c
+entry_step rules levels (symbol c) = if c == 0x3F then key_asked levels else closed levels c
 entry_step rules levels token = node_step rules levels token
 
 -- where a node stands on the line of the `?` or `:` before it, after a blank
 -- (this project, stricter than YAML 1.1, section 6.3 Separation Spaces)
-abbrev pub spaced_step : Rules → List Level → (blank_came : Bool) → FlowToken → FlowReading
+abbrev pub spaced_step : Rules → List OpenFlow → (blank_came : Bool) → FlowToken → FlowReading
 spaced_step rules levels came blank = within levels (node_awaited true)
 spaced_step rules levels true token = node_step rules levels token
 spaced_step rules levels false token = failed
 
 -- where an entry has ended
-abbrev pub comma_step : List Level → FlowToken → FlowReading
-comma_step levels (sign c) = if c == 0x2C then within levels entry_awaited else closed levels c
+abbrev pub comma_step : List OpenFlow → FlowToken → FlowReading
+comma_step levels (symbol c) = if c == 0x2C then within levels entry_awaited else closed levels c
 comma_step levels token = failed
 
 -- the `:` itself
-abbrev pub colon_sign : List Level → ℕ → FlowReading
-colon_sign levels c = if c == 0x3A then within levels (node_awaited false) else failed
+abbrev pub colon_indicator : List OpenFlow → ℕ → FlowReading
+colon_indicator levels c = if c == 0x3A then within levels (node_awaited false) else failed
 
 -- where a key has ended
-abbrev pub colon_step : List Level → ColonPlace → FlowToken → FlowReading
-colon_step levels at_once (sign c) = colon_sign levels c
+abbrev pub colon_step : List OpenFlow → ColonPlace → FlowToken → FlowReading
+colon_step levels at_once (symbol c) = colon_indicator levels c
 colon_step levels after_blank blank = within levels (colon_awaited at_once)
 colon_step levels (after_white came) blank = within levels (colon_awaited (after_white true))
 colon_step levels (after_white came) line_end = within levels (colon_awaited (after_white true))
-colon_step levels (after_white true) (sign c) = colon_sign levels c
+colon_step levels (after_white true) (symbol c) = colon_indicator levels c
 colon_step levels _ token = failed
 
 -- the first token: an empty collection whole, or a bracket
 abbrev pub collection_step : Rules → Properties → FlowToken → FlowReading
 collection_step rules properties (word text) = word_step rules.breaks12 [] text (word_after rules true None properties text)
-collection_step rules properties (opens [] bracket) = opened [] bracket properties.anchor (collection_tag_said properties.tag)
+collection_step rules properties (opens [] bracket) = opened [] bracket properties.anchor (collection_tag_parsed properties.tag)
 collection_step rules properties _ = failed
 
 -- one token more within collections
-abbrev pub awaited_step : Rules → List Level → Awaited → FlowToken → FlowReading
+abbrev pub awaited_step : Rules → List OpenFlow → Awaited → FlowToken → FlowReading
 awaited_step rules levels (collection_awaited properties) token = collection_step rules properties token
 awaited_step rules levels entry_awaited token = entry_step rules levels token
 awaited_step rules levels (node_awaited came) token = spaced_step rules levels came token

@@ -11,19 +11,19 @@ pub record Line : Type 0 where
   pub ending : Text
 
 -- a character before some lines begins the first of them
-abbrev pub extending : ℕ → List Line → List Line
-extending c [] = record { text = c ∷ []; ending = [] } ∷ []
-extending c (line ∷ rest) = record { text = c ∷ line.text; ending = line.ending } ∷ rest
+abbrev pub prepend_to_first_line : ℕ → List Line → List Line
+prepend_to_first_line c [] = record { text = c ∷ []; ending = [] } ∷ []
+prepend_to_first_line c (line ∷ rest) = record { text = c ∷ line.text; ending = line.ending } ∷ rest
 
 -- a break or another character before some lines
-abbrev pub character_before : (is_break : Bool) → ℕ → List Line → List Line
-character_before true c rest = record { text = []; ending = c ∷ [] } ∷ rest
-character_before false c rest = extending c rest
+abbrev pub prepend_character : (is_break : Bool) → ℕ → List Line → List Line
+prepend_character true c rest = record { text = []; ending = c ∷ [] } ∷ rest
+prepend_character false c rest = prepend_to_first_line c rest
 
 -- the lines of a text, whose line breaks are read (YAML 1.1, section 5.4 Line Break Characters)
 abbrev pub lines_of : Bool → Text → List Line
 lines_of breaks12 [] = []
-lines_of breaks12 (c ∷ rest) = character_before (is_read_break breaks12 c) c (lines_of breaks12 rest)
+lines_of breaks12 (c ∷ rest) = prepend_character (is_read_break breaks12 c) c (lines_of breaks12 rest)
 
 -- the text of some lines
 abbrev pub text_of_lines : List Line → Text
@@ -50,22 +50,22 @@ abbrev pub all_blank : List Line → Bool
 all_blank [] = true
 all_blank (line ∷ rest) = is_spaces line.text && all_blank rest
 
--- a sign stands before a space or the end of its line (this project, stricter than YAML 1.1, section 6.3 Separation Spaces)
-abbrev pub ends_sign : Text → Bool
-ends_sign [] = true
-ends_sign (c ∷ rest) = c == space
+-- an indicator stands before a space or the end of its line (this project, stricter than YAML 1.1, section 6.3 Separation Spaces)
+abbrev pub ends_indicator : Text → Bool
+ends_indicator [] = true
+ends_indicator (c ∷ rest) = c == space
 
--- a line begins with this sign
-abbrev pub begins_with_sign : ℕ → Text → Bool
-begins_with_sign sign [] = false
-begins_with_sign sign (c ∷ rest) = c == sign && ends_sign rest
+-- a line begins with this indicator
+abbrev pub begins_with_indicator : ℕ → Text → Bool
+begins_with_indicator symbol [] = false
+begins_with_indicator symbol (c ∷ rest) = c == symbol && ends_indicator rest
 
 -- a line belongs to the entry above it at a column: it is blank or deeper; a `-` at the column of a mapping is too
 -- (YAML 1.1, section 6.1 Indentation Spaces)
-abbrev pub is_inside : (in_sequence : Bool) → ℕ → Text → Bool
-is_inside in_sequence column [] = true
-is_inside in_sequence zero (c ∷ rest) = c == space || (not in_sequence && begins_with_sign 0x2D (c ∷ rest))
-is_inside in_sequence (suc column) (c ∷ rest) = c == space && is_inside in_sequence column rest
+abbrev pub belongs_to_entry : (in_sequence : Bool) → ℕ → Text → Bool
+belongs_to_entry in_sequence column [] = true
+belongs_to_entry in_sequence zero (c ∷ rest) = c == space || (not in_sequence && begins_with_indicator 0x2D (c ∷ rest))
+belongs_to_entry in_sequence (suc column) (c ∷ rest) = c == space && belongs_to_entry in_sequence column rest
 
 -- the entries of a collection, each with the lines that belong to it, and the lines before them
 pub record Entries : Type 0 where
@@ -73,21 +73,21 @@ pub record Entries : Type 0 where
   pub entries : List (List Line)
 
 -- a line before some entries belongs to the entry above it, or begins one
-abbrev pub line_before : (inside : Bool) → Line → Entries → Entries
-line_before true line after = record { before = line ∷ after.before; entries = after.entries }
-line_before false line after = record { before = []; entries = (line ∷ after.before) ∷ after.entries }
+abbrev pub prepend_line : (inside : Bool) → Line → Entries → Entries
+prepend_line true line after = record { before = line ∷ after.before; entries = after.entries }
+prepend_line false line after = record { before = []; entries = (line ∷ after.before) ∷ after.entries }
 
 -- the lines of a collection at a column, cut into its entries (YAML 1.1, sections 10.1.2 Block Sequences and 10.2.2 Block Mappings)
 abbrev pub entries_at : (in_sequence : Bool) → ℕ → List Line → Entries
 entries_at in_sequence column [] = record { before = []; entries = [] }
 entries_at in_sequence column (line ∷ rest) =
-    line_before (is_inside in_sequence column line.text) line (entries_at in_sequence column rest)
+    prepend_line (belongs_to_entry in_sequence column line.text) line (entries_at in_sequence column rest)
 
 -- each line is blank or deeper than the column; at the root any line is
 abbrev pub all_deeper : Option ℕ → List Line → Bool
 all_deeper None lines = true
 all_deeper (Some column) [] = true
-all_deeper (Some column) (line ∷ rest) = is_inside true column line.text && all_deeper (Some column) rest
+all_deeper (Some column) (line ∷ rest) = belongs_to_entry true column line.text && all_deeper (Some column) rest
 
 -- a line's text after its indentation, and the column where it stands
 pub record Indented : Type 0 where

@@ -7,10 +7,12 @@ use Rattle.std.specs.Option.{option_or}
 use Rattle.yaml_base.specs.Characters.{Text, space}
 use Rattle.yaml_base.specs.reading.ReadPlain.{is_read_white}
 use Rattle.yaml_base.specs.streams.StreamContent.{Tree, sequence_tree, mapping_tree, Trees, no_trees, trees_and, TreePairs, no_tree_pairs, tree_pairs_and}
-use Rattle.yaml_base.specs.streams.StreamLines.{Line, text_of_lines, without_blank_lines, begins_blank, ends_sign, begins_with_sign, Entries, entries_at}
+use Rattle.yaml_base.specs.streams.StreamLines.{Line, text_of_lines, without_blank_lines, begins_blank, ends_indicator, begins_with_indicator}
+use Rattle.yaml_base.specs.streams.StreamLines.{Entries, entries_at}
 use Rattle.yaml_base.specs.streams.StreamLines.{all_deeper, Indented, indented, past_column, blanked}
-use Rattle.yaml_base.specs.streams.StreamScalars.{Rules, Properties, no_properties, PropertiesRead, properties_read, collection_tag_said, style_begun}
-use Rattle.yaml_base.specs.streams.StreamScalars.{scalar_of_style, nothing_said, word_after, word_read}
+use Rattle.yaml_base.specs.streams.StreamScalars.{Rules, Properties, no_properties, PropertiesRead, properties_read, collection_tag_parsed}
+use Rattle.yaml_base.specs.streams.StreamScalars.{style_of_first_character}
+use Rattle.yaml_base.specs.streams.StreamScalars.{scalar_of_style, nothing_parsed, word_after, word_read}
 use Rattle.yaml_base.specs.streams.StreamFlow.{is_alias, longest_key, flow_read}
 
 -- Simple keys. Source: YAML 1.1, section 10.2 Mapping Styles.
@@ -51,7 +53,7 @@ key_ends rules true text after = option_map (λ key. record { key = key; length 
 abbrev pub key_from : Rules → Text → Text → Option SimpleKey
 key_from rules before [] = None
 key_from rules before (c ∷ rest) =
-    option_or (key_ends rules (c == 0x3A && ends_sign rest) before rest) (key_from rules (before ++ c ∷ []) rest)
+    option_or (key_ends rules (c == 0x3A && ends_indicator rest) before rest) (key_from rules (before ++ c ∷ []) rest)
 
 -- the simple key that a line begins with
 abbrev pub key_of_line : Rules → Text → Option SimpleKey
@@ -63,25 +65,25 @@ key_of_line rules text = key_from rules [] text
 abbrev pub Reads : Type 0
 Reads = (here : Bool) → Option ℕ → List Line → Option Tree
 
--- an item whose sign stands at the column (YAML 1.1, section 10.1.2 Block Sequences)
-abbrev pub item_by_sign : Reads → ℕ → Text → List Line → Option Text → Option Tree
-item_by_sign reads column ending rest (Some (c ∷ text)) =
-    if begins_with_sign 0x2D (c ∷ text) then reads true (Some column) (blanked (suc column) text ending ∷ rest) else None
-item_by_sign reads column ending rest _ = None
+-- an item whose indicator stands at the column (YAML 1.1, section 10.1.2 Block Sequences)
+abbrev pub item_by_indicator : Reads → ℕ → Text → List Line → Option Text → Option Tree
+item_by_indicator reads column ending rest (Some (c ∷ text)) =
+    if begins_with_indicator 0x2D (c ∷ text) then reads true (Some column) (blanked (suc column) text ending ∷ rest) else None
+item_by_indicator reads column ending rest _ = None
 
 -- an item of a sequence at a column (YAML 1.1, section 10.1.2 Block Sequences)
 abbrev pub item_read : Reads → ℕ → List Line → Option Tree
 item_read reads column [] = None
-item_read reads column (line ∷ rest) = item_by_sign reads column line.ending rest (past_column column line.text)
+item_read reads column (line ∷ rest) = item_by_indicator reads column line.ending rest (past_column column line.text)
 
 -- one more item
-abbrev pub item_added : Option Trees → Option Tree → Option Trees
-item_added (Some trees) (Some tree) = Some (trees_and trees tree)
-item_added _ _ = None
+abbrev pub with_item : Option Trees → Option Tree → Option Trees
+with_item (Some trees) (Some tree) = Some (trees_and trees tree)
+with_item _ _ = None
 
 -- the items of a sequence at a column (YAML 1.1, section 10.1.2 Block Sequences)
 abbrev pub items_read : Reads → ℕ → List (List Line) → Option Trees
-items_read reads column entries = fold (λ before entry. item_added before (item_read reads column entry)) (Some no_trees) entries
+items_read reads column entries = fold (λ before entry. with_item before (item_read reads column entry)) (Some no_trees) entries
 
 -- the pairs so far, and a key whose value is due
 pub record HeldPairs : Type 0 where
@@ -112,7 +114,7 @@ pub data EntryKind : Type 0 where
 -- `?`, `:`, or a simple key (YAML 1.1, section 10.2.2 Block Mappings)
 abbrev pub kind_of_entry : Text → EntryKind
 kind_of_entry text =
-    if begins_with_sign 0x3F text then key_entry else (if begins_with_sign 0x3A text then value_entry else simple_entry)
+    if begins_with_indicator 0x3F text then key_entry else (if begins_with_indicator 0x3A text then value_entry else simple_entry)
 
 -- an entry of a mapping at a column, by its kind (YAML 1.1, section 10.2.2 Block Mappings)
 abbrev pub entry_by_kind : EntryKind → Rules → Reads → ℕ → Text → List Line → HeldPairs → Text → Option HeldPairs
@@ -159,7 +161,7 @@ sequence_read reads properties column lines =
     option_and_then
     (λ tag. option_map (sequence_tree properties.anchor tag)
     (option_and_then (items_read reads column) (entries_whole (entries_at true column lines))))
-    (collection_tag_said properties.tag)
+    (collection_tag_parsed properties.tag)
 
 -- a mapping at a column, whose tag is one of its own (YAML 1.1, section 10.2.2 Block Mappings)
 abbrev pub mapping_read : Rules → Reads → Properties → ℕ → List Line → Option Tree
@@ -167,19 +169,19 @@ mapping_read rules reads properties column lines =
     option_and_then
     (λ tag. option_map (mapping_tree properties.anchor tag)
     (option_and_then (pairs_read rules reads column) (entries_whole (entries_at false column lines))))
-    (collection_tag_said properties.tag)
+    (collection_tag_parsed properties.tag)
 
 -- Texts. Source: YAML 1.1, section 8.5 Complete Nodes.
 
 -- a white character before a text that has none at its end
-abbrev pub before_trimmed : (is_white : Bool) → ℕ → Text → Text
-before_trimmed true c [] = []
-before_trimmed _ c text = c ∷ text
+abbrev pub prepend_to_trimmed : (is_white : Bool) → ℕ → Text → Text
+prepend_to_trimmed true c [] = []
+prepend_to_trimmed _ c text = c ∷ text
 
 -- a text without the blanks and breaks that it ends with
 abbrev pub trimmed : Bool → Text → Text
 trimmed breaks12 [] = []
-trimmed breaks12 (c ∷ rest) = before_trimmed (is_read_white breaks12 c) c (trimmed breaks12 rest)
+trimmed breaks12 (c ∷ rest) = prepend_to_trimmed (is_read_white breaks12 c) c (trimmed breaks12 rest)
 
 -- what a text's first character tells: a block scalar, a flow collection, or a node's own text
 pub data TextKind : Type 0 where
@@ -195,7 +197,7 @@ kind_of_text (c ∷ rest) =
 
 -- a text by its kind; white space at its end counts in a block scalar alone
 abbrev pub text_by_kind : TextKind → Rules → Option ℕ → Properties → Text → Option Tree
-text_by_kind block_text rules column properties text = scalar_of_style (style_begun text) rules false column properties text
+text_by_kind block_text rules column properties text = scalar_of_style (style_of_first_character text) rules false column properties text
 text_by_kind flow_text rules column properties text = flow_read rules properties (trimmed rules.breaks12 text)
 text_by_kind word_text rules column properties text = word_after rules false column properties (trimmed rules.breaks12 text)
 
@@ -216,31 +218,31 @@ pub data NodeKind : Type 0 where
 -- `-`; `?` or a simple key; a text
 abbrev pub kind_of_node : Rules → Text → NodeKind
 kind_of_node rules text =
-    if begins_with_sign 0x2D text then begins_sequence
-    else (if begins_with_sign 0x3F text || is_some (key_of_line rules text) then begins_mapping else begins_text)
+    if begins_with_indicator 0x2D text then begins_sequence
+    else (if begins_with_indicator 0x3F text || is_some (key_of_line rules text) then begins_mapping else begins_text)
 
 -- how a text on the first line is read: the column where it stands, the text, its break, and the lines after it
 abbrev pub ReadsText : Type 0
 ReadsText = ℕ → Text → Text → List Line → Option Tree
 
 -- only where it is so
-abbrev pub only_if : Bool → Option Tree → Option Tree
-only_if true tree = tree
-only_if false tree = None
+abbrev pub tree_if : Bool → Option Tree → Option Tree
+tree_if true tree = tree
+tree_if false tree = None
 
 -- a node by its kind: a block where one may begin, a text on the first line
 abbrev pub node_by_kind :
     NodeKind → Rules → Reads → ReadsText → Properties → (here first : Bool) → Indented → Text → List Line → List Line → Option Tree
 node_by_kind begins_sequence rules reads reads_text properties here first line ending rest lines =
-    only_if here (sequence_read reads properties line.column lines)
+    tree_if here (sequence_read reads properties line.column lines)
 node_by_kind begins_mapping rules reads reads_text properties here first line ending rest lines =
-    only_if here (mapping_read rules reads properties line.column lines)
+    tree_if here (mapping_read rules reads properties line.column lines)
 node_by_kind begins_text rules reads reads_text properties here first line ending rest lines =
-    only_if first (reads_text line.column line.text ending rest)
+    tree_if first (reads_text line.column line.text ending rest)
 
 -- a node's lines from one that isn't blank on; none are the empty scalar
 abbrev pub node_at : Rules → Reads → ReadsText → Properties → (here first : Bool) → List Line → Option Tree
-node_at rules reads reads_text properties here first [] = nothing_said properties
+node_at rules reads reads_text properties here first [] = nothing_parsed properties
 node_at rules reads reads_text properties here first (line ∷ rest) =
     let begun = indented line.text in
     node_by_kind (kind_of_node rules begun.text) rules reads reads_text properties here first begun line.ending rest (line ∷ rest)

@@ -10,7 +10,7 @@ use Rattle.yaml_base.specs.reading.ReadPlain.{read_plain}
 use Rattle.yaml_base.specs.reading.ReadSingle.{read_single}
 use Rattle.yaml_base.specs.reading.ReadDouble.{read_double}
 use Rattle.yaml_base.specs.reading.ReadBlock.{read_block}
-use Rattle.yaml_base.specs.reading.ReadTags.{TagSaid, bare_said, name_said, CutText, tag_said}
+use Rattle.yaml_base.specs.reading.ReadTags.{ParsedTag, bare_parsed, name_parsed, CutText, tag_parsed}
 use Rattle.yaml_base.specs.reading.TidyText.{is_tidy}
 use Rattle.yaml_base.specs.streams.StreamContent.{Stood, stood_plain, stood_quoted, stood_bare, Tagging, with_tag, without_tag, Tree, alias_tree, scalar_tree}
 use Rattle.yaml_base.specs.streams.StreamContent.{sequence_tree, mapping_tree, no_trees, no_tree_pairs}
@@ -26,7 +26,7 @@ pub record Rules : Type 0 where
 -- a node's anchor and what its tag says
 pub record Properties : Type 0 where
   pub anchor : Option Text
-  pub tag : Option TagSaid
+  pub tag : Option ParsedTag
 
 -- neither anchor nor tag
 abbrev pub no_properties : Properties
@@ -39,13 +39,13 @@ pub record PropertiesRead : Type 0 where
 
 -- a space ends a word, any other character is of it
 abbrev pub word_step : (is_space : Bool) → ℕ → Text → CutText → CutText
-word_step true c rest after = record { front = []; rest = c ∷ rest }
-word_step false c rest after = record { front = c ∷ after.front; rest = after.rest }
+word_step true c rest after = record { prefix = []; rest = c ∷ rest }
+word_step false c rest after = record { prefix = c ∷ after.prefix; rest = after.rest }
 
 -- a text cut before its first space
-abbrev pub word_cut : Text → CutText
-word_cut [] = record { front = []; rest = [] }
-word_cut (c ∷ rest) = word_step (c == space) c rest (word_cut rest)
+abbrev pub cut_before_space : Text → CutText
+cut_before_space [] = record { prefix = []; rest = [] }
+cut_before_space (c ∷ rest) = word_step (c == space) c rest (cut_before_space rest)
 
 -- a name: at least one character, all of the anchor alphabet (libyaml's scanner; YAML 1.1, section 8.1 Node Anchors, allows more)
 abbrev pub name_read : Text → Option Text
@@ -56,27 +56,27 @@ name_read (c ∷ rest) = if list_all is_alpha (c ∷ rest) then Some (c ∷ rest
 abbrev pub anchor_of_word : CutText → Option PropertiesRead
 anchor_of_word word =
     option_map
-    (λ name. record { properties = record { anchor = Some name; tag = None }; text = spaces (suc (length word.front)) ++ word.rest })
-    (name_read word.front)
+    (λ name. record { properties = record { anchor = Some name; tag = None }; text = spaces (suc (length word.prefix)) ++ word.rest })
+    (name_read word.prefix)
 
 -- the anchor that a text begins with, if it begins with one (YAML 1.1, section 8.1 Node Anchors, c-ns-anchor-property)
 abbrev pub anchor_first : Text → Option PropertiesRead
 anchor_first [] = Some (record { properties = no_properties; text = [] })
 anchor_first (c ∷ rest) =
-    if c == 0x26 then anchor_of_word (word_cut rest) else Some (record { properties = no_properties; text = c ∷ rest })
+    if c == 0x26 then anchor_of_word (cut_before_space rest) else Some (record { properties = no_properties; text = c ∷ rest })
 
 -- a tag's word, at a column (YAML 1.1, section 8.2 Node Tags)
 abbrev pub tag_of_word : List TagDirective → Option Text → ℕ → CutText → Option PropertiesRead
 tag_of_word directives anchor column word =
     option_map
-    (λ said. record { properties = record { anchor = anchor; tag = Some said }; text = spaces (column + length word.front) ++ word.rest })
-    (tag_said directives word.front)
+    (λ parsed. record { properties = record { anchor = anchor; tag = Some parsed }; text = spaces (column + length word.prefix) ++ word.rest })
+    (tag_parsed directives word.prefix)
 
 -- the tag that a text begins with at a column, if it begins with one (YAML 1.1, section 8.2 Node Tags)
 abbrev pub tag_first : List TagDirective → Option Text → ℕ → Text → Option PropertiesRead
 tag_first directives anchor column [] = Some (record { properties = record { anchor = anchor; tag = None }; text = spaces column })
 tag_first directives anchor column (c ∷ rest) =
-    if c == 0x21 then tag_of_word directives anchor column (word_cut (c ∷ rest))
+    if c == 0x21 then tag_of_word directives anchor column (cut_before_space (c ∷ rest))
     else Some (record { properties = record { anchor = anchor; tag = None }; text = spaces column ++ c ∷ rest })
 
 -- the anchor, and then the tag (this project; YAML 1.1, chapter 8 Nodes, allows either order)
@@ -87,24 +87,24 @@ properties_read directives text =
     (anchor_first text)
 
 -- the tag of a collection: the bare tag isn't one (this project)
-abbrev pub collection_tag_said : Option TagSaid → Option (Option Text)
-collection_tag_said None = Some None
-collection_tag_said (Some (name_said name)) = Some (Some name)
-collection_tag_said (Some bare_said) = None
+abbrev pub collection_tag_parsed : Option ParsedTag → Option (Option Text)
+collection_tag_parsed None = Some None
+collection_tag_parsed (Some (name_parsed name)) = Some (Some name)
+collection_tag_parsed (Some bare_parsed) = None
 
 -- how a scalar is tagged that stood so: the bare tag stands before none that is plain (this project)
-abbrev pub tagging_said : Option TagSaid → Stood → Option Tagging
-tagging_said None standing = Some (without_tag standing)
-tagging_said (Some (name_said name)) standing = Some (with_tag name)
-tagging_said (Some bare_said) stood_quoted = Some (without_tag stood_bare)
-tagging_said (Some bare_said) _ = None
+abbrev pub tagging_parsed : Option ParsedTag → Stood → Option Tagging
+tagging_parsed None standing = Some (without_tag standing)
+tagging_parsed (Some (name_parsed name)) standing = Some (with_tag name)
+tagging_parsed (Some bare_parsed) stood_quoted = Some (without_tag stood_bare)
+tagging_parsed (Some bare_parsed) _ = None
 
 -- Scalars
 
 -- the style that a text's first character tells (YAML 1.1, section 5.3 Indicator Characters)
-abbrev pub style_begun : Text → ScalarStyle
-style_begun [] = plain
-style_begun (c ∷ rest) =
+abbrev pub style_of_first_character : Text → ScalarStyle
+style_of_first_character [] = plain
+style_of_first_character (c ∷ rest) =
     if c == 0x27 then single_quoted
     else (if c == 0x22 then double_quoted else (if c == 0x7C then literal else (if c == 0x3E then folded else plain)))
 
@@ -122,26 +122,26 @@ standing_of plain = stood_plain
 standing_of _ = stood_quoted
 
 -- a scalar after its properties
-abbrev pub scalar_said : Properties → Stood → Option Text → Option Tree
-scalar_said properties standing value =
-    option_and_then (λ text. option_map (λ tagging. scalar_tree properties.anchor tagging text) (tagging_said properties.tag standing)) value
+abbrev pub scalar_parsed : Properties → Stood → Option Text → Option Tree
+scalar_parsed properties standing value =
+    option_and_then (λ text. option_map (λ tagging. scalar_tree properties.anchor tagging text) (tagging_parsed properties.tag standing)) value
 
 -- a scalar's text, tidy where it stands (this project)
 abbrev pub scalar_of_style : ScalarStyle → Rules → (flow : Bool) → Option ℕ → Properties → Text → Option Tree
 scalar_of_style style rules flow column properties text =
-    scalar_said properties (standing_of style)
+    scalar_parsed properties (standing_of style)
     (if is_tidy style rules.breaks12 column text then value_read style rules.breaks12 flow column text else None)
 
 -- the empty plain scalar
-abbrev pub nothing_said : Properties → Option Tree
-nothing_said properties = scalar_said properties stood_plain (Some [])
+abbrev pub nothing_parsed : Properties → Option Tree
+nothing_parsed properties = scalar_parsed properties stood_plain (Some [])
 
 -- Words
 
 -- an alias has no properties (YAML 1.1, section 8.4 Alias Nodes, c-ns-alias-node)
-abbrev pub alias_said : Option Text → Option TagSaid → Option Text → Option Tree
-alias_said None None name = option_map alias_tree name
-alias_said _ _ name = None
+abbrev pub alias_parsed : Option Text → Option ParsedTag → Option Text → Option Tree
+alias_parsed None None name = option_map alias_tree name
+alias_parsed _ _ name = None
 
 -- what a word's first character tells
 pub data WordKind : Type 0 where
@@ -162,13 +162,13 @@ kind_of_word (c ∷ d ∷ e ∷ rest) = if c == 0x2A then an_alias else a_scalar
 -- a word after its properties, by its kind
 abbrev pub word_by_kind : WordKind → Rules → (flow : Bool) → Option ℕ → Properties → Text → Option Tree
 word_by_kind an_alias rules flow column properties [] = None
-word_by_kind an_alias rules flow column properties (c ∷ name) = alias_said properties.anchor properties.tag (name_read name)
+word_by_kind an_alias rules flow column properties (c ∷ name) = alias_parsed properties.anchor properties.tag (name_read name)
 word_by_kind empty_sequence rules flow column properties text =
-    option_map (λ tag. sequence_tree properties.anchor tag no_trees) (collection_tag_said properties.tag)
+    option_map (λ tag. sequence_tree properties.anchor tag no_trees) (collection_tag_parsed properties.tag)
 word_by_kind empty_mapping rules flow column properties text =
-    option_map (λ tag. mapping_tree properties.anchor tag no_tree_pairs) (collection_tag_said properties.tag)
+    option_map (λ tag. mapping_tree properties.anchor tag no_tree_pairs) (collection_tag_parsed properties.tag)
 word_by_kind a_scalar rules flow column properties [] = None
-word_by_kind a_scalar rules flow column properties (c ∷ rest) = scalar_of_style (style_begun (c ∷ rest)) rules flow column properties (c ∷ rest)
+word_by_kind a_scalar rules flow column properties (c ∷ rest) = scalar_of_style (style_of_first_character (c ∷ rest)) rules flow column properties (c ∷ rest)
 
 -- a node's own text after its properties: an alias, an empty collection, or a scalar of at least one character
 abbrev pub word_after : Rules → (flow : Bool) → Option ℕ → Properties → Text → Option Tree

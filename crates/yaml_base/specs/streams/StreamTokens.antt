@@ -1,17 +1,17 @@
 -- The tokens of a flow collection's text, one character after another: words, each the whole text of a scalar, an alias or an empty
--- collection with its properties, and signs, blanks and breaks.
+-- collection with its properties, and indicators, blanks and breaks.
 -- Source, unless a definition names its own: YAML 1.1, sections 9.1 Flow Scalar Styles, 10.1.1 Flow Sequences and 10.2.1 Flow Mappings, in this
 -- project's steps.
 use Rattle.std.specs.Prelude.{ℕ, Bool, true, false, List, [], ◌∷◌, ◌++◌, ◌==◌, ◌||◌, ◌&&◌, map, codes, if◌then◌else◌}
 use Rattle.yaml_base.specs.Characters.{Text, is_among, is_blank}
 use Rattle.yaml_base.specs.LineBreaks.{is_read_break}
 
--- a node's own text; a bracket that opens a collection, after the text of its properties; a sign; a blank; a break; a
+-- a node's own text; a bracket that opens a collection, after the text of its properties; an indicator; a blank; a break; a
 -- fault of the text
 pub data FlowToken : Type 0 where
   word : Text → FlowToken
   opens : (properties : Text) (bracket : ℕ) → FlowToken
-  sign : ℕ → FlowToken
+  symbol : ℕ → FlowToken
   blank : FlowToken
   line_end : FlowToken
   bad : FlowToken
@@ -30,27 +30,27 @@ pub data FlowPlace : Type 0 where
   after_bracket : (properties : Text) (bracket : ℕ) → FlowPlace
 
 -- the tokens that a character completes, and the place after it
-pub record FlowTurn : Type 0 where
+pub record FlowStep : Type 0 where
   pub tokens : List FlowToken
   pub place : FlowPlace
 
 -- a character that completes nothing
-abbrev pub goes_to : FlowPlace → FlowTurn
+abbrev pub goes_to : FlowPlace → FlowStep
 goes_to place = record { tokens = []; place = place }
 
 -- a character that is a token or ends one
-abbrev pub completes : FlowToken → FlowTurn
+abbrev pub completes : FlowToken → FlowStep
 completes token = record { tokens = token ∷ []; place = free }
 
 -- tokens before a turn
-abbrev pub tokens_before : List FlowToken → FlowTurn → FlowTurn
-tokens_before tokens turn = record { tokens = tokens ++ turn.tokens; place = turn.place }
+abbrev pub prepend_tokens : List FlowToken → FlowStep → FlowStep
+prepend_tokens tokens turn = record { tokens = tokens ++ turn.tokens; place = turn.place }
 
 -- what a character is to a place between tokens
 pub data FlowClass : Type 0 where
   is_white_blank : FlowClass
   is_white_break : FlowClass
-  is_flow_sign : FlowClass
+  is_flow_indicator : FlowClass
   begins_property : FlowClass
   begins_double : FlowClass
   begins_single : FlowClass
@@ -63,17 +63,17 @@ abbrev pub class_of : Bool → ℕ → FlowClass
 class_of breaks12 c =
     if is_blank c then is_white_blank
     else (if is_read_break breaks12 c then is_white_break
-    else (if is_among (codes "]},:?") c then is_flow_sign
+    else (if is_among (codes "]},:?") c then is_flow_indicator
     else (if is_among (codes "&!") c then begins_property
     else (if c == 0x22 then begins_double
     else (if c == 0x27 then begins_single
     else (if is_among (codes "[{") c then begins_bracket else begins_plain))))))
 
 -- a token's first character, after the text of properties before it
-abbrev pub begun : FlowClass → (properties : Text) → ℕ → FlowTurn
+abbrev pub begun : FlowClass → (properties : Text) → ℕ → FlowStep
 begun is_white_blank properties c = completes blank
 begun is_white_break properties c = completes line_end
-begun is_flow_sign properties c = completes (sign c)
+begun is_flow_indicator properties c = completes (symbol c)
 begun begins_property properties c = goes_to (in_property (properties ++ c ∷ []))
 begun begins_double properties c = goes_to (in_double (properties ++ c ∷ []))
 begun begins_single properties c = goes_to (in_single (properties ++ c ∷ []))
@@ -81,17 +81,17 @@ begun begins_bracket properties c = goes_to (after_bracket properties c)
 begun begins_plain properties c = goes_to (in_plain (properties ++ c ∷ []) [])
 
 -- after properties: more blanks, or what they belong to on the same line (this project, stricter than YAML 1.1, section 6.3 Separation Spaces)
-abbrev pub begun_after_property : FlowClass → Text → ℕ → FlowTurn
+abbrev pub begun_after_property : FlowClass → Text → ℕ → FlowStep
 begun_after_property is_white_blank text c = goes_to (after_property (text ++ c ∷ []))
 begun_after_property is_white_break text c = completes bad
-begun_after_property is_flow_sign text c = completes bad
+begun_after_property is_flow_indicator text c = completes bad
 begun_after_property class text c = begun class text c
 
 -- an anchor or a tag goes on to a blank (YAML 1.1, sections 8.1 Node Anchors and 8.2 Node Tags)
-abbrev pub property_turn : FlowClass → Text → ℕ → FlowTurn
-property_turn is_white_blank text c = goes_to (after_property (text ++ c ∷ []))
-property_turn is_white_break text c = completes bad
-property_turn class text c = goes_to (in_property (text ++ c ∷ []))
+abbrev pub property_step : FlowClass → Text → ℕ → FlowStep
+property_step is_white_blank text c = goes_to (after_property (text ++ c ∷ []))
+property_step is_white_break text c = completes bad
+property_step class text c = goes_to (in_property (text ++ c ∷ []))
 
 -- the token of a class of white characters
 abbrev pub white_of_class : FlowClass → FlowToken
@@ -102,43 +102,43 @@ white_of_class _ = line_end
 abbrev pub white_token : Bool → ℕ → FlowToken
 white_token breaks12 c = white_of_class (class_of breaks12 c)
 
--- a word that ended, the white space after it, and the sign that ended it
-abbrev pub word_ends : Bool → Text → Text → FlowTurn → FlowTurn
-word_ends breaks12 text white turn = tokens_before (word text ∷ map (white_token breaks12) white) turn
+-- a word that ended, the white space after it, and the indicator that ended it
+abbrev pub word_ends : Bool → Text → Text → FlowStep → FlowStep
+word_ends breaks12 text white turn = prepend_tokens (word text ∷ map (white_token breaks12) white) turn
 
--- plain text goes on, also over white space, to a sign of flow (YAML 1.1, section 9.1.3 Plain)
-abbrev pub plain_turn : FlowClass → Bool → Text → Text → ℕ → FlowTurn
-plain_turn is_white_blank breaks12 text white c = goes_to (in_plain text (white ++ c ∷ []))
-plain_turn is_white_break breaks12 text white c = goes_to (in_plain text (white ++ c ∷ []))
-plain_turn is_flow_sign breaks12 text white c = word_ends breaks12 text white (begun is_flow_sign [] c)
-plain_turn begins_bracket breaks12 text white c = word_ends breaks12 text white (begun begins_bracket [] c)
-plain_turn class breaks12 text white c = goes_to (in_plain (text ++ (white ++ c ∷ [])) [])
+-- plain text goes on, also over white space, to a flow indicator (YAML 1.1, section 9.1.3 Plain)
+abbrev pub plain_step : FlowClass → Bool → Text → Text → ℕ → FlowStep
+plain_step is_white_blank breaks12 text white c = goes_to (in_plain text (white ++ c ∷ []))
+plain_step is_white_break breaks12 text white c = goes_to (in_plain text (white ++ c ∷ []))
+plain_step is_flow_indicator breaks12 text white c = word_ends breaks12 text white (begun is_flow_indicator [] c)
+plain_step begins_bracket breaks12 text white c = word_ends breaks12 text white (begun begins_bracket [] c)
+plain_step class breaks12 text white c = goes_to (in_plain (text ++ (white ++ c ∷ [])) [])
 
 -- after a bracket: the one that closes it makes a word, all else stands inside
-abbrev pub bracket_turn : (closes : Bool) → FlowClass → Text → ℕ → ℕ → FlowTurn
-bracket_turn true class properties bracket c = completes (word (properties ++ (bracket ∷ c ∷ [])))
-bracket_turn false class properties bracket c = tokens_before (opens properties bracket ∷ []) (begun class [] c)
+abbrev pub bracket_step : (closes : Bool) → FlowClass → Text → ℕ → ℕ → FlowStep
+bracket_step true class properties bracket c = completes (word (properties ++ (bracket ∷ c ∷ [])))
+bracket_step false class properties bracket c = prepend_tokens (opens properties bracket ∷ []) (begun class [] c)
 
 -- a closing bracket matches an opening one
 abbrev pub is_pair : ℕ → ℕ → Bool
 is_pair bracket c = (bracket == 0x5B && c == 0x5D) || (bracket == 0x7B && c == 0x7D)
 
 -- what a character does at a place
-abbrev pub flow_turn : Bool → FlowPlace → ℕ → FlowTurn
-flow_turn breaks12 free c = begun (class_of breaks12 c) [] c
-flow_turn breaks12 (in_property text) c = property_turn (class_of breaks12 c) text c
-flow_turn breaks12 (after_property text) c = begun_after_property (class_of breaks12 c) text c
-flow_turn breaks12 (in_plain text white) c = plain_turn (class_of breaks12 c) breaks12 text white c
-flow_turn breaks12 (in_double text) c =
+abbrev pub flow_step_at : Bool → FlowPlace → ℕ → FlowStep
+flow_step_at breaks12 free c = begun (class_of breaks12 c) [] c
+flow_step_at breaks12 (in_property text) c = property_step (class_of breaks12 c) text c
+flow_step_at breaks12 (after_property text) c = begun_after_property (class_of breaks12 c) text c
+flow_step_at breaks12 (in_plain text white) c = plain_step (class_of breaks12 c) breaks12 text white c
+flow_step_at breaks12 (in_double text) c =
     if c == 0x22 then completes (word (text ++ c ∷ []))
     else goes_to (if c == 0x5C then after_backslash (text ++ c ∷ []) else in_double (text ++ c ∷ []))
-flow_turn breaks12 (after_backslash text) c = goes_to (in_double (text ++ c ∷ []))
-flow_turn breaks12 (in_single text) c = goes_to (if c == 0x27 then after_quote (text ++ c ∷ []) else in_single (text ++ c ∷ []))
-flow_turn breaks12 (after_quote text) c =
+flow_step_at breaks12 (after_backslash text) c = goes_to (in_double (text ++ c ∷ []))
+flow_step_at breaks12 (in_single text) c = goes_to (if c == 0x27 then after_quote (text ++ c ∷ []) else in_single (text ++ c ∷ []))
+flow_step_at breaks12 (after_quote text) c =
     if c == 0x27 then goes_to (in_single (text ++ c ∷ []))
-    else tokens_before (word text ∷ []) (begun (class_of breaks12 c) [] c)
-flow_turn breaks12 (after_bracket properties bracket) c =
-    bracket_turn (is_pair bracket c) (class_of breaks12 c) properties bracket c
+    else prepend_tokens (word text ∷ []) (begun (class_of breaks12 c) [] c)
+flow_step_at breaks12 (after_bracket properties bracket) c =
+    bracket_step (is_pair bracket c) (class_of breaks12 c) properties bracket c
 
 -- a text ends between tokens; anywhere else it is cut short
 abbrev pub tokens_at_end : FlowPlace → List FlowToken
@@ -149,4 +149,4 @@ tokens_at_end _ = bad ∷ []
 abbrev pub flow_tokens : Bool → FlowPlace → Text → List FlowToken
 flow_tokens breaks12 place [] = tokens_at_end place
 flow_tokens breaks12 place (c ∷ rest) =
-    let here = flow_turn breaks12 place c in here.tokens ++ flow_tokens breaks12 here.place rest
+    let here = flow_step_at breaks12 place c in here.tokens ++ flow_tokens breaks12 here.place rest

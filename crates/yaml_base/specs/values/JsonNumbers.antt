@@ -5,7 +5,7 @@ use Rattle.std.specs.Str.Parse.{digits_value}
 use Rattle.std.specs.Ordering.{int_eq}
 use Rattle.yaml_base.specs.Characters.{Text}
 use Rattle.yaml_base.specs.Words.{is_word}
-use Rattle.yaml_base.specs.values.Resolved.{Decimal, Resolved, meant_integer, meant_decimal, first_is, signed, are_digits}
+use Rattle.yaml_base.specs.values.Resolved.{Decimal, Resolved, meant_integer, meant_decimal, first_meets, signed, are_digits}
 use Rattle.yaml_base.specs.values.SchemaCore.{resolved_by_core}
 use Rattle.yaml_base.specs.values.SchemaOf11.{resolved_by_11}
 
@@ -24,7 +24,7 @@ pub record JsonNumber : Type 0 where
 
 -- `0`, or digits of which the first isn't 0
 abbrev pub is_whole : Text → Bool
-is_whole digits = are_digits 10 digits && (is_word digits (codes "0") || not (first_is (λ c. c == 0x30) digits))
+is_whole digits = are_digits 10 digits && (is_word digits (codes "0") || not (first_meets (λ c. c == 0x30) digits))
 
 -- digits stand wherever they have to
 abbrev pub is_json_number : JsonNumber → Bool
@@ -84,15 +84,15 @@ value_with number fraction = record {
 }
 
 -- the digits after a number's point
-abbrev pub fraction_or : Text → JsonNumber → Text
-fraction_or digits number = elim number.fraction as (λ _. Text) [
+abbrev pub fraction_or_default : Text → JsonNumber → Text
+fraction_or_default digits number = elim number.fraction as (λ _. Text) [
   | None ↦ digits
   | Some fraction ↦ fraction
 ]
 
 -- a number's exact value
 abbrev pub json_value : JsonNumber → Decimal
-json_value number = value_with number (fraction_or [] number)
+json_value number = value_with number (fraction_or_default [] number)
 
 -- an integer of JSON, but for `-0`
 abbrev pub is_json_integer : JsonNumber → Bool
@@ -108,13 +108,13 @@ exponent_spelled (Some exponent) = codes "e" ++ (if exponent_negative exponent t
 abbrev pub yaml_number : JsonNumber → Text
 yaml_number number =
     minus number.negative ++ number.whole
-    ++ (if is_json_integer number then [] else codes "." ++ fraction_or (codes "0") number ++ exponent_spelled number.exponent)
+    ++ (if is_json_integer number then [] else codes "." ++ fraction_or_default (codes "0") number ++ exponent_spelled number.exponent)
 
 -- what that spelling means by either schema
 abbrev pub number_meant : JsonNumber → Resolved
 number_meant number =
     if is_json_integer number then meant_integer (signed number.negative (digits_value 10 number.whole))
-    else meant_decimal (value_with number (fraction_or (codes "0") number))
+    else meant_decimal (value_with number (fraction_or_default (codes "0") number))
 
 -- how far one exponent lies above another; 0 where it doesn't
 abbrev pub above : ℤ → ℤ → ℕ

@@ -1,5 +1,6 @@
 -- What a plain scalar without a tag can mean, and the words and digits of which both schemas are made: the type
 -- repository of YAML 1.1 (yaml.org/type) and the core schema of YAML 1.2 (section 10.3 of its text).
+pub use Rattle.yaml_base.specs.Options.{some_if}
 use Rattle.std.specs.Prelude.{ℕ, ℤ, pos, neg_ℤ, Bool, true, false, Option, None, Some, List, [], ◌∷◌, ◌++◌, ◌==◌, ◌||◌, ◌&&◌, ◌+ℤ◌, not, length, codes, map}
 use Rattle.std.specs.Prelude.{if◌then◌else◌}
 use Rattle.std.specs.List.{list_all, slice_split}
@@ -33,10 +34,6 @@ first_reading [] = meant_text
 first_reading (None ∷ rest) = first_reading rest
 first_reading (Some meant ∷ rest) = meant
 
--- a reading where a condition holds
-abbrev pub reading_if : Bool → Resolved → Option Resolved
-reading_if condition meant = if condition then Some meant else None
-
 -- ---- words
 
 -- words, one space apart, that all mean the same
@@ -55,8 +52,8 @@ words_of_core =
     ++ all_mean (codes ".nan .NaN .NAN") meant_nan
 
 -- those that the type repository has besides
-abbrev pub words_besides : List (Text × Resolved)
-words_besides =
+abbrev pub words_of_repository : List (Text × Resolved)
+words_of_repository =
     all_mean (codes "y Y yes Yes YES on On ON") (meant_boolean true)
     ++ all_mean (codes "n N no No NO off Off OFF") (meant_boolean false)
     ++ all_mean (codes "<<") meant_merge
@@ -64,7 +61,7 @@ words_besides =
 
 -- the words of the type repository
 abbrev pub words_of_11 : List (Text × Resolved)
-words_of_11 = words_of_core ++ words_besides
+words_of_11 = words_of_core ++ words_of_repository
 
 -- ---- signs and digits
 
@@ -73,30 +70,30 @@ abbrev pub is_point : ℕ → Bool
 is_point c = c == 0x2E
 
 -- the signs before an exponent
-abbrev pub is_exponent_mark : ℕ → Bool
-is_exponent_mark c = c == 0x65 || c == 0x45
+abbrev pub is_exponent_letter : ℕ → Bool
+is_exponent_letter c = c == 0x65 || c == 0x45
 
 -- `+` or `-`
-abbrev pub is_sign : ℕ → Bool
-is_sign c = c == 0x2B || c == 0x2D
+abbrev pub is_plus_or_minus : ℕ → Bool
+is_plus_or_minus c = c == 0x2B || c == 0x2D
 
 -- a decimal digit
 abbrev pub is_decimal : ℕ → Bool
 is_decimal c = is_digit c 10
 
 -- a text's first character passes a test
-abbrev pub first_is : (ℕ → Bool) → Text → Bool
-first_is test [] = false
-first_is test (c ∷ rest) = test c
+abbrev pub first_meets : (ℕ → Bool) → Text → Bool
+first_meets test [] = false
+first_meets test (c ∷ rest) = test c
 
 -- a text past its sign, where it has one
 abbrev pub past_sign : Text → Text
 past_sign [] = []
-past_sign (c ∷ rest) = if is_sign c then rest else c ∷ rest
+past_sign (c ∷ rest) = if is_plus_or_minus c then rest else c ∷ rest
 
 -- a text begins with `-`
 abbrev pub is_negative : Text → Bool
-is_negative text = first_is (λ c. c == 0x2D) text
+is_negative text = first_meets (λ c. c == 0x2D) text
 
 -- a number with a sign
 abbrev pub signed : (negative : Bool) → ℕ → ℤ
@@ -111,8 +108,8 @@ abbrev pub counted_digits : ℕ → ℕ → Text → Bool
 counted_digits least most text = is_between least most (length text) && list_all is_decimal text
 
 -- the decimal of digits before and after the point, one or more in all
-abbrev pub pointed : (negative : Bool) → (whole fraction : Text) → Option Decimal
-pointed negative whole fraction =
+abbrev pub decimal_of_digits : (negative : Bool) → (whole fraction : Text) → Option Decimal
+decimal_of_digits negative whole fraction =
     if are_digits 10 (whole ++ fraction)
     then Some (record { digits = signed negative (digits_value 10 (whole ++ fraction)); exponent = neg_ℤ (pos (length fraction)) })
     else None
@@ -123,12 +120,12 @@ exponent_read text =
     if are_digits 10 (past_sign text) then Some (signed (is_negative text) (digits_value 10 (past_sign text))) else None
 
 -- a decimal times ten to an exponent
-abbrev pub scaled : Option Decimal → Option ℤ → Option Resolved
-scaled (Some decimal) (Some exponent) = Some (meant_decimal (record { digits = decimal.digits; exponent = decimal.exponent +ℤ exponent }))
-scaled _ _ = None
+abbrev pub times_power_of_ten : Option Decimal → Option ℤ → Option Resolved
+times_power_of_ten (Some decimal) (Some exponent) = Some (meant_decimal (record { digits = decimal.digits; exponent = decimal.exponent +ℤ exponent }))
+times_power_of_ten _ _ = None
 
 -- a number by what stands before and after its `e`
 abbrev pub scientific : (mantissa : Text → Option Decimal) → (exponent : Text → Option ℤ) → List Text → Option Resolved
-scientific mantissa exponent (m ∷ []) = scaled (mantissa m) (Some (pos 0))
-scientific mantissa exponent (m ∷ e ∷ []) = scaled (mantissa m) (exponent e)
+scientific mantissa exponent (m ∷ []) = times_power_of_ten (mantissa m) (Some (pos 0))
+scientific mantissa exponent (m ∷ e ∷ []) = times_power_of_ten (mantissa m) (exponent e)
 scientific mantissa exponent _ = None

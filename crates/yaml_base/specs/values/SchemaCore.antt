@@ -4,31 +4,31 @@ use Rattle.std.specs.List.{slice_split}
 use Rattle.std.specs.Str.Parse.{digits_value}
 use Rattle.yaml_base.specs.Characters.{Text}
 use Rattle.yaml_base.specs.Words.{named}
-use Rattle.yaml_base.specs.values.Resolved.{Decimal, Resolved, meant_integer, first_reading, reading_if, words_of_core, is_point, is_exponent_mark, past_sign}
-use Rattle.yaml_base.specs.values.Resolved.{is_negative, signed, are_digits, pointed, exponent_read, scientific}
+use Rattle.yaml_base.specs.values.Resolved.{Decimal, Resolved, meant_integer, first_reading, some_if, words_of_core, is_point, is_exponent_letter, past_sign}
+use Rattle.yaml_base.specs.values.Resolved.{is_negative, signed, are_digits, decimal_of_digits, exponent_read, scientific}
 
 -- decimal digits after a sign or none
 abbrev pub core_integer : Text → Option Resolved
 core_integer text =
-    reading_if (are_digits 10 (past_sign text)) (meant_integer (signed (is_negative text) (digits_value 10 (past_sign text))))
+    some_if (are_digits 10 (past_sign text)) (meant_integer (signed (is_negative text) (digits_value 10 (past_sign text))))
 
 -- `0`, a letter, and digits in its base; no sign
 abbrev pub core_based : (letter base : ℕ) → Text → Option Resolved
 core_based letter base (zero_digit ∷ c ∷ digits) =
-    reading_if (zero_digit == 0x30 && c == letter && are_digits base digits) (meant_integer (pos (digits_value base digits)))
+    some_if (zero_digit == 0x30 && c == letter && are_digits base digits) (meant_integer (pos (digits_value base digits)))
 core_based letter base _ = None
 
 -- digits with at most one point
 abbrev pub core_mantissa : (negative : Bool) → List Text → Option Decimal
-core_mantissa negative (whole ∷ []) = pointed negative whole []
-core_mantissa negative (whole ∷ fraction ∷ []) = pointed negative whole fraction
+core_mantissa negative (whole ∷ []) = decimal_of_digits negative whole []
+core_mantissa negative (whole ∷ fraction ∷ []) = decimal_of_digits negative whole fraction
 core_mantissa negative _ = None
 
 -- a mantissa, and an exponent after `e` or `E` or none
 abbrev pub core_decimal : Text → Option Resolved
 core_decimal text =
     scientific (λ mantissa. core_mantissa (is_negative text) (slice_split is_point mantissa)) exponent_read
-    (slice_split is_exponent_mark (past_sign text))
+    (slice_split is_exponent_letter (past_sign text))
 
 -- what a scalar means by the core schema
 abbrev pub resolved_by_core : Text → Resolved

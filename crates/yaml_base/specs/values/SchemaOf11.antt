@@ -7,9 +7,10 @@ use Rattle.std.specs.Char.{is_digit}
 use Rattle.std.specs.Str.Parse.{digits_value}
 use Rattle.yaml_base.specs.Characters.{Text, is_blank}
 use Rattle.yaml_base.specs.Words.{named, is_word}
-use Rattle.yaml_base.specs.values.Resolved.{Decimal, Resolved, meant_integer, meant_decimal, meant_timestamp, meant_by_nobody, first_reading, reading_if}
-use Rattle.yaml_base.specs.values.Resolved.{words_of_11, is_point, is_exponent_mark, is_sign, is_decimal, first_is, past_sign, is_negative, signed, are_digits}
-use Rattle.yaml_base.specs.values.Resolved.{counted_digits, pointed, exponent_read, scientific}
+use Rattle.yaml_base.specs.values.Resolved.{Decimal, Resolved, meant_integer, meant_decimal, meant_timestamp, meant_by_nobody, first_reading, some_if}
+use Rattle.yaml_base.specs.values.Resolved.{words_of_11, is_point, is_exponent_letter, is_plus_or_minus, is_decimal, first_meets, past_sign}
+use Rattle.yaml_base.specs.values.Resolved.{is_negative, signed, are_digits}
+use Rattle.yaml_base.specs.values.Resolved.{counted_digits, decimal_of_digits, exponent_read, scientific}
 
 -- ---- integers
 
@@ -27,7 +28,7 @@ are_grouped base text = list_all (λ c. is_digit c base || is_underscore c) text
 
 -- decimal digits and underscores, the first of which is a digit that passes a test
 abbrev pub begins_grouped : (ℕ → Bool) → Text → Bool
-begins_grouped test text = first_is test text && are_grouped 10 text
+begins_grouped test text = first_meets test text && are_grouped 10 text
 
 -- a decimal digit that isn't 0
 abbrev pub is_leading : ℕ → Bool
@@ -41,19 +42,19 @@ integer_of negative base digits =
 -- `0`, a letter, and digits in its base
 abbrev pub based_11 : (negative : Bool) → (letter base : ℕ) → Text → Option Resolved
 based_11 negative letter base (zero_digit ∷ c ∷ d ∷ digits) =
-    reading_if (zero_digit == 0x30 && c == letter && are_grouped base (d ∷ digits)) (integer_of negative base (ungrouped (d ∷ digits)))
+    some_if (zero_digit == 0x30 && c == letter && are_grouped base (d ∷ digits)) (integer_of negative base (ungrouped (d ∷ digits)))
 based_11 negative letter base _ = None
 
 -- `0` and octal digits
 abbrev pub octal_11 : (negative : Bool) → Text → Option Resolved
 octal_11 negative (zero_digit ∷ d ∷ digits) =
-    reading_if (zero_digit == 0x30 && are_grouped 8 (d ∷ digits)) (meant_integer (signed negative (digits_value 8 (ungrouped (d ∷ digits)))))
+    some_if (zero_digit == 0x30 && are_grouped 8 (d ∷ digits)) (meant_integer (signed negative (digits_value 8 (ungrouped (d ∷ digits)))))
 octal_11 negative _ = None
 
 -- `0`, or decimal digits of which the first isn't 0
 abbrev pub decimal_11 : (negative : Bool) → Text → Option Resolved
 decimal_11 negative text =
-    reading_if (is_word text (codes "0") || begins_grouped is_leading text) (meant_integer (signed negative (digits_value 10 (ungrouped text))))
+    some_if (is_word text (codes "0") || begins_grouped is_leading text) (meant_integer (signed negative (digits_value 10 (ungrouped text))))
 
 -- ---- numbers to the base of sixty
 
@@ -76,14 +77,14 @@ is_colon c = c == 0x3A
 
 -- groups to the base of sixty: hours, minutes and seconds, as one integer
 abbrev pub sixties_11 : (negative : Bool) → List Text → Option Resolved
-sixties_11 negative groups = reading_if (are_sixtieths is_leading groups) (meant_integer (signed negative (sexagesimal groups)))
+sixties_11 negative groups = some_if (are_sixtieths is_leading groups) (meant_integer (signed negative (sexagesimal groups)))
 
 -- such groups, a point, and decimals of the last of them
 abbrev pub fine_sixties_11 : (negative : Bool) → List Text → Option Resolved
 fine_sixties_11 negative (whole ∷ fraction ∷ []) =
     let groups = slice_split is_colon whole in
     let decimals = ungrouped fraction in
-    reading_if (are_sixtieths is_decimal groups && are_grouped 10 fraction)
+    some_if (are_sixtieths is_decimal groups && are_grouped 10 fraction)
     (meant_decimal (record {
       digits = signed negative (sexagesimal groups * 10 ^ length decimals + digits_value 10 decimals);
       exponent = neg_ℤ (pos (length decimals));
@@ -94,19 +95,19 @@ fine_sixties_11 negative _ = None
 
 -- digits with one point; where one stands before it, underscores may
 abbrev pub mantissa_11 : (negative : Bool) → List Text → Option Decimal
-mantissa_11 negative ([] ∷ fraction ∷ []) = pointed negative [] fraction
+mantissa_11 negative ([] ∷ fraction ∷ []) = decimal_of_digits negative [] fraction
 mantissa_11 negative (whole ∷ fraction ∷ []) =
-    if begins_grouped is_decimal whole && are_grouped 10 fraction then pointed negative (ungrouped whole) (ungrouped fraction) else None
+    if begins_grouped is_decimal whole && are_grouped 10 fraction then decimal_of_digits negative (ungrouped whole) (ungrouped fraction) else None
 mantissa_11 negative _ = None
 
 -- an exponent has a sign
 abbrev pub exponent_11 : Text → Option ℤ
-exponent_11 text = if first_is is_sign text then exponent_read text else None
+exponent_11 text = if first_meets is_plus_or_minus text then exponent_read text else None
 
 -- a mantissa with a point, and an exponent after `e` or `E` or none
 abbrev pub float_11 : (negative : Bool) → Text → Option Resolved
 float_11 negative text =
-    scientific (λ mantissa. mantissa_11 negative (slice_split is_point mantissa)) exponent_11 (slice_split is_exponent_mark text)
+    scientific (λ mantissa. mantissa_11 negative (slice_split is_point mantissa)) exponent_11 (slice_split is_exponent_letter text)
 
 -- digits with two points or more
 abbrev pub has_more_points : List Text → Bool
@@ -117,18 +118,18 @@ has_more_points _ = false
 
 -- a mantissa with two points or more is meant by nobody
 abbrev pub more_points_11 : List Text → Option Resolved
-more_points_11 (mantissa ∷ []) = reading_if (has_more_points (slice_split is_point mantissa)) meant_by_nobody
+more_points_11 (mantissa ∷ []) = some_if (has_more_points (slice_split is_point mantissa)) meant_by_nobody
 more_points_11 (mantissa ∷ exponent ∷ []) =
-    reading_if (has_more_points (slice_split is_point mantissa) && first_is is_sign exponent && are_digits 10 (past_sign exponent)) meant_by_nobody
+    some_if (has_more_points (slice_split is_point mantissa) && first_meets is_plus_or_minus exponent && are_digits 10 (past_sign exponent)) meant_by_nobody
 more_points_11 _ = None
 
 -- nor are points alone
 abbrev pub points_11 : Text → Option Resolved
-points_11 text = reading_if (first_is is_point text && list_all is_point text) meant_by_nobody
+points_11 text = some_if (first_meets is_point text && list_all is_point text) meant_by_nobody
 
 -- ---- timestamps
 
--- what stands after the longest front whose characters pass a test
+-- what stands after the longest prefix whose characters pass a test
 abbrev pub past : (ℕ → Bool) → Text → Text
 past test text = drop (prefix_len test text) text
 
@@ -162,7 +163,7 @@ is_offset _ = false
 -- `Z`, or a sign and an offset
 abbrev pub is_zone : Text → Bool
 is_zone [] = false
-is_zone (c ∷ rest) = (c == 0x5A && length rest == 0) || (is_sign c && is_offset (slice_split is_colon rest))
+is_zone (c ∷ rest) = (c == 0x5A && length rest == 0) || (is_plus_or_minus c && is_offset (slice_split is_colon rest))
 
 -- may stand in a time of day
 abbrev pub in_clock : ℕ → Bool
@@ -189,7 +190,7 @@ abbrev pub timestamp_11 : Text → Option Resolved
 timestamp_11 text =
     let date = slice_split is_hyphen (take_while in_date text) in
     let rest = past in_date text in
-    reading_if ((is_date 2 date && length rest == 0) || (is_date 1 date && is_time_after_date rest)) meant_timestamp
+    some_if ((is_date 2 date && length rest == 0) || (is_date 1 date && is_time_after_date rest)) meant_timestamp
 
 -- ---- all
 
@@ -203,7 +204,7 @@ numbers_11 negative text =
     ∷ decimal_11 negative text
     ∷ sixties_11 negative (slice_split is_colon text)
     ∷ fine_sixties_11 negative (slice_split is_point text)
-    ∷ more_points_11 (slice_split is_exponent_mark text)
+    ∷ more_points_11 (slice_split is_exponent_letter text)
     ∷ points_11 text
     ∷ []
 

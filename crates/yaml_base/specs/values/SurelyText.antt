@@ -4,7 +4,7 @@ use Rattle.std.specs.Char.{to_ascii_lowercase}
 use Rattle.std.specs.List.{list_all, list_any, slice_split, take_while}
 use Rattle.yaml_base.specs.Characters.{Text, is_among, is_ascii, is_blank, is_space}
 use Rattle.yaml_base.specs.Words.{is_word}
-use Rattle.yaml_base.specs.values.Resolved.{meant_text, is_point, is_exponent_mark, is_sign, is_decimal, first_is}
+use Rattle.yaml_base.specs.values.Resolved.{meant_text, is_point, is_exponent_letter, is_plus_or_minus, is_decimal, first_meets}
 use Rattle.yaml_base.specs.values.SchemaCore.{resolved_by_core}
 use Rattle.yaml_base.specs.values.SchemaOf11.{is_underscore, is_colon, past, resolved_by_11}
 
@@ -17,24 +17,24 @@ reserved_words =
     (codes "~ null true false y n yes no on off << = .inf .nan inf nan infinity +.inf +.nan +inf +nan +infinity -.inf -.nan -inf -nan -infinity")
 
 -- the characters before the first past U+007F, in lower case
-abbrev pub ascii_front : Text → Text
-ascii_front text = map to_ascii_lowercase (take_while is_ascii text)
+abbrev pub ascii_prefix : Text → Text
+ascii_prefix text = map to_ascii_lowercase (take_while is_ascii text)
 
 -- nothing, or a word in any case, alone or before a character past U+007F
 abbrev pub is_reserved : Text → Bool
-is_reserved text = length text == 0 || list_any (is_word (ascii_front text)) reserved_words
+is_reserved text = length text == 0 || list_any (is_word (ascii_prefix text)) reserved_words
 
 -- ---- symbols
 
 -- begins as a symbol of Ruby
 abbrev pub is_symbol : Text → Bool
-is_symbol text = first_is is_colon text
+is_symbol text = first_meets is_colon text
 
 -- ---- numbers
 
 -- stands before a number
 abbrev pub precedes_number : ℕ → Bool
-precedes_number c = is_sign c || is_underscore c
+precedes_number c = is_plus_or_minus c || is_underscore c
 
 -- `_`, or the letter of a base
 abbrev pub names_base : ℕ → Bool
@@ -51,7 +51,7 @@ is_based text = begins_based (past precedes_number text)
 
 -- begins a number
 abbrev pub begins_number : ℕ → Bool
-begins_number c = is_decimal c || is_point c || precedes_number c || is_exponent_mark c
+begins_number c = is_decimal c || is_point c || precedes_number c || is_exponent_letter c
 
 -- a letter of numbers and timestamps
 abbrev pub is_number_letter : ℕ → Bool
@@ -64,7 +64,7 @@ in_number c = is_decimal c || is_number_letter c || is_blank c || is_among (code
 -- begins as a number, has no other characters than numbers and timestamps, and a digit if it has a letter
 abbrev pub is_numeric : Text → Bool
 is_numeric text =
-    first_is begins_number text && list_all in_number text && (list_any is_decimal text || not (list_any is_number_letter text))
+    first_meets begins_number text && list_all in_number text && (list_any is_decimal text || not (list_any is_number_letter text))
 
 -- ---- texts
 

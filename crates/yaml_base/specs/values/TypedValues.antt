@@ -164,7 +164,7 @@ abbrev mutual
   value_pairs no_value_pairs = no_pairs
   value_pairs (value_pairs_and pairs key value) = pairs_and (value_pairs pairs) (value_node key) (value_node value)
 
--- a stream of one document, whose marks are implicit
+-- a stream of one document, whose markers are implicit
 abbrev pub value_stream : TypedValue → Stream
 value_stream value =
     record {

@@ -26,9 +26,9 @@ text_none : text_at arena (span 5 0) ≡ Some []
 unfolding chars is_utf8 encode_utf8
 text_none = refl
 
-text_behind : text_at arena (span 6 0) ≡ None
+text_after_quote : text_at arena (span 6 0) ≡ None
 unfolding chars is_utf8 encode_utf8
-text_behind = refl
+text_after_quote = refl
 
 text_past : text_at arena (span 3 3) ≡ None
 unfolding chars is_utf8 encode_utf8

@@ -66,11 +66,11 @@ module _ (s : Effective) (wide : 2 ≤ s.indent) (stream : Stream) (ok : Documen
   -- The bytes of a stream in canonical mode read as its documents.
   pub bytes_read : (breaks12 : Bool) → canonical_content breaks12 (bytes_written (in_canonical s) pieces) ≡ Some (documents_content stream.documents)
   bytes_read breaks12 =
-      let said = stream_says breaks12 s wide stream ok in
+      let parsed = stream_says breaks12 s wide stream ok in
       let written = with_breaks_written s.line_break (text_of pieces) in
       ap (option_and_then (λ text. documents_read (tokens_from breaks12 free (with_line_breaks_read text))))
-      (characters_back s.encoding written (written_scalars s.line_break (text_of pieces) said.scalars))
-      ∙ ap (λ text. documents_read (tokens_from breaks12 free text)) (breaks-round s.line_break (text_of pieces) said.laid)
+      (characters_back s.encoding written (written_scalars s.line_break (text_of pieces) parsed.scalars))
+      ∙ ap (λ text. documents_read (tokens_from breaks12 free text)) (breaks-round s.line_break (text_of pieces) parsed.rendered)
       ∙ ap documents_read (tokens_are breaks12)
       ∙ stream_read s.portable stream.documents (each_document s.portable stream.documents ok)
 
@@ -83,9 +83,9 @@ list_read s breaks12 events wide e accepted texts =
     ap (list_all is_good_canonical) accepted.is_stream ∙ all_good true events accepted.sound texts in
     let same : s ≡ in_canonical s = ap (λ b. let made : Effective = record s { canonical = b } in made) e in
     let tree : tree_of events ≡ Some stream = ap tree_of (sym accepted.is_stream) ∙ tree_of-stream_events stream in
-    let laid : list_layout s events ≡ layout s stream = ap (λ (t : Option Stream). unwrap_or (option_map (layout s) t) []) tree in
+    let rendered : list_layout s events ≡ layout s stream = ap (λ (t : Option Stream). unwrap_or (option_map (layout s) t) []) tree in
     let content : content_of events ≡ Some (documents_content stream.documents) = ap (option_map (λ (t : Stream). documents_content t.documents)) tree in
-    ap (λ (p : List Piece). canonical_content breaks12 (bytes_written s p)) laid
+    ap (λ (p : List Piece). canonical_content breaks12 (bytes_written s p)) rendered
     ∙ ap (λ (t : Effective). canonical_content breaks12 (bytes_written t (layout t stream))) same
     ∙ bytes_read s wide stream (good_stream stream good) breaks12
     ∙ sym content

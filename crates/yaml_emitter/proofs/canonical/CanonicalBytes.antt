@@ -18,7 +18,7 @@ use Rattle.yaml_base.specs.Encoding.{utf16_units, upper_first, lower_first, text
 use Rattle.yaml_base.specs.reading.ReadBytes.{units_read, utf16_read, utf8_read, characters_read}
 use Rattle.yaml_base.proofs.Decoding.{units_of, text_bytes-big, text_bytes-little, text_bytes-utf8}
 
--- UTF-8 has no byte of a mark of UTF-16
+-- UTF-8 has no byte of a byte order mark of UTF-16
 abbrev below : List ℕ → Bool
 below bytes = list_all (λ b. nat_lt b 0xF8) bytes
 
@@ -36,14 +36,14 @@ encodes_below (c ∷ text) h =
     list_all-append (λ b. nat_lt b 0xF8) (encode c) (encodes text)
     ∙ (rw (encode_below c (scalar_below c both.0)) (encodes_below text both.1))
 
-no_mark : (a : ℕ) → nat_lt a 0xF8 ≡ true → ((a == 0xFE) ≡ false) × ((a == 0xFF) ≡ false)
-no_mark a h = (grind (arith, nat_tests), grind (arith, nat_tests))
+no_exclamation : (a : ℕ) → nat_lt a 0xF8 ≡ true → ((a == 0xFE) ≡ false) × ((a == 0xFF) ≡ false)
+no_exclamation a h = (grind (arith, nat_tests), grind (arith, nat_tests))
 
 as_utf8 : (bytes : List ℕ) → below bytes ≡ true → characters_read bytes ≡ utf8_read bytes
 as_utf8 [] h = refl
 as_utf8 (a ∷ []) h = refl
 as_utf8 (a ∷ b ∷ rest) h =
-    let no = no_mark a (and_parts (nat_lt a 0xF8) (below (b ∷ rest)) h).0 in
+    let no = no_exclamation a (and_parts (nat_lt a 0xF8) (below (b ∷ rest)) h).0 in
     rw (no.0, no.1) refl
 
 utf8_back : (text : Text) → scalars text ≡ true → utf8_read (encodes text) ≡ Some text

@@ -1,4 +1,4 @@
--- What document marks and directives say to the canonical reader.
+-- What document markers and directives say to the canonical reader.
 use Rattle.std.proofs.Common.{◌≡◌, ◌⊎◌, ℕ, refl, sym, ap, ◌∙◌, subst, append_assoc, append-nil, arith, inl, inr}
 use Rattle.std.proofs.lemmas.Bool.{and_parts, and_from}
 use Rattle.std.proofs.lemmas.Bool.Decides.{nat_tests}
@@ -12,43 +12,43 @@ use Rattle.yaml_base.specs.LineBreaks.{is_read_break}
 use Rattle.yaml_base.specs.Cursor.{Cursor, new_line, space_if}
 use Rattle.yaml_base.specs.Event.{Version, TagDirective}
 use Rattle.yaml_base.specs.Percent.{prefix_escaped}
-use Rattle.yaml_base.specs.Tags.{version_fault, prefix_fault, tag_mark}
-use Rattle.yaml_base.specs.Indicators.{indicator_laid, spaced, document_start, document_end, yaml_directive}
-use Rattle.yaml_base.specs.Layout.{closing_mark_laid, version_laid, tag_directive_laid, tag_directives_laid, document_mark_laid}
+use Rattle.yaml_base.specs.Tags.{version_fault, prefix_fault, exclamation_mark}
+use Rattle.yaml_base.specs.Indicators.{render_indicator, spaced, document_start, document_end, yaml_directive}
+use Rattle.yaml_base.specs.Layout.{render_closing_marker, render_version, render_tag_directive, render_tag_directives, render_document_marker}
 use Rattle.yaml_base.specs.reading.CanonicalTokens.{version_line, tag_line, document_begins, document_ends, free, in_line, tokens_from, words, directive_token}
 use Rattle.yaml_base.specs.reading.CanonicalTokens.{tag_line_of}
 use Rattle.yaml_base.proofs.PercentLaws.{decoded_prefix, prefix_begins}
 use Rattle.yaml_base.proofs.TagForms.{IsHandle}
-use Rattle.yaml_base.proofs.BreakLaws.{laid-append}
+use Rattle.yaml_base.proofs.BreakLaws.{rendered-append}
 use Rattle.yaml_base.proofs.stream_documents.StreamHeadings.{handle_reads, version_of, version_form}
 use Rattle.yaml_emitter.proofs.canonical.CanonicalText.{anything, Says, says_after, says_text, says_nothing, says_white, space_if-white, new_line-white}
 use Rattle.yaml_emitter.proofs.canonical.CanonicalText.{indicator_says, scalars-append, and_false}
-use Rattle.yaml_emitter.proofs.canonical.CanonicalNames.{is_written, all_written, all-scalars, all-laid, prefix-written, handle_text}
+use Rattle.yaml_emitter.proofs.canonical.CanonicalNames.{is_written, all_written, all-scalars, all-rendered, prefix-written, handle_text}
 use Rattle.yaml_emitter.proofs.canonical.CanonicalTokens.{version_tokens, tag_line_tokens}
 
 -- Marks.
 
 says_begins : (breaks12 : Bool) → Says breaks12 anything (codes "---") (document_begins ∷ [])
-says_begins true = record { scalars = refl; laid = refl; reads = λ rest meets. refl }
-says_begins false = record { scalars = refl; laid = refl; reads = λ rest meets. refl }
+says_begins true = record { scalars = refl; rendered = refl; reads = λ rest meets. refl }
+says_begins false = record { scalars = refl; rendered = refl; reads = λ rest meets. refl }
 
 says_ends : (breaks12 : Bool) → Says breaks12 anything (codes "...") (document_ends ∷ [])
-says_ends true = record { scalars = refl; laid = refl; reads = λ rest meets. refl }
-says_ends false = record { scalars = refl; laid = refl; reads = λ rest meets. refl }
+says_ends true = record { scalars = refl; rendered = refl; reads = λ rest meets. refl }
+says_ends false = record { scalars = refl; rendered = refl; reads = λ rest meets. refl }
 
 module _ (breaks12 : Bool) where
   line_says : (at : ℕ) (cursor : Cursor) → Says breaks12 anything (new_line at cursor).text []
   line_says at cursor = says_white breaks12 (new_line at cursor).text (new_line-white at cursor)
 
-  pub closing_says : (cursor : Cursor) → Says breaks12 anything (closing_mark_laid cursor).text (document_ends ∷ [])
+  pub closing_says : (cursor : Cursor) → Says breaks12 anything (render_closing_marker cursor).text (document_ends ∷ [])
   closing_says cursor =
-      says_after (indicator_says true false false cursor (says_ends breaks12)) (line_says 0 (indicator_laid document_end cursor).cursor)
+      says_after (indicator_says true false false cursor (says_ends breaks12)) (line_says 0 (render_indicator document_end cursor).cursor)
 
-  pub mark_says : (cursor : Cursor) → Says breaks12 anything (document_mark_laid true cursor).text (document_begins ∷ [])
-  mark_says cursor =
+  pub marker_says : (cursor : Cursor) → Says breaks12 anything (render_document_marker true cursor).text (document_begins ∷ [])
+  marker_says cursor =
       let line = new_line 0 cursor in
-      let sign = indicator_laid document_start line.cursor in
-      says_after (says_after (line_says 0 cursor) (indicator_says true false false line.cursor (says_begins breaks12))) (line_says 0 sign.cursor)
+      let symbol = render_indicator document_start line.cursor in
+      says_after (says_after (line_says 0 cursor) (indicator_says true false false line.cursor (says_begins breaks12))) (line_says 0 symbol.cursor)
 
 -- a new line after what leaves indention off breaks the line
 pub line_breaks : (at : ℕ) (cursor : Cursor) → cursor.indention ≡ false → (new_line at cursor).text ≡ line_feed ∷ replicate at space
@@ -57,12 +57,12 @@ line_breaks at cursor e = rw e refl
 -- Versions.
 
 first_version : (breaks12 : Bool) → Says breaks12 anything (codes "%YAML 1.1\n") (version_line (version_of 1) ∷ [])
-first_version true = record { scalars = refl; laid = refl; reads = λ rest meets. refl }
-first_version false = record { scalars = refl; laid = refl; reads = λ rest meets. refl }
+first_version true = record { scalars = refl; rendered = refl; reads = λ rest meets. refl }
+first_version false = record { scalars = refl; rendered = refl; reads = λ rest meets. refl }
 
 second_version : (breaks12 : Bool) → Says breaks12 anything (codes "%YAML 1.2\n") (version_line (version_of 2) ∷ [])
-second_version true = record { scalars = refl; laid = refl; reads = λ rest meets. refl }
-second_version false = record { scalars = refl; laid = refl; reads = λ rest meets. refl }
+second_version true = record { scalars = refl; rendered = refl; reads = λ rest meets. refl }
+second_version false = record { scalars = refl; rendered = refl; reads = λ rest meets. refl }
 
 -- a line of two words is ended by a break
 version_text_is : (cursor : Cursor) (word : Text) (end : Cursor) → end.indention ≡ false
@@ -78,22 +78,22 @@ VersionOk None = Unit {0}
 VersionOk (Some version) = version_fault version ≡ None
 
 pub version_says : (breaks12 : Bool) (version : Option Version) (cursor : Cursor) → VersionOk version
-    → Says breaks12 anything (version_laid version cursor).text (version_tokens version)
+    → Says breaks12 anything (render_version version cursor).text (version_tokens version)
 version_says breaks12 None cursor ok = says_nothing breaks12
 version_says breaks12 (Some version) cursor ok = by (version_form version ok)
   where
     says : (word : Text) (v : Version) → Says breaks12 anything (codes "%YAML" ++ ((space ∷ word) ++ line_feed ∷ [])) (version_line v ∷ [])
         → Says breaks12 anything (((space_if true cursor ++ codes "%YAML") ++ (space ∷ word))
-        ++ (new_line 0 (indicator_laid (spaced word) (indicator_laid yaml_directive cursor).cursor).cursor).text) (version_line v ∷ [])
+        ++ (new_line 0 (render_indicator (spaced word) (render_indicator yaml_directive cursor).cursor).cursor).text) (version_line v ∷ [])
     says word v line =
-        let end = (indicator_laid (spaced word) (indicator_laid yaml_directive cursor).cursor).cursor in
+        let end = (render_indicator (spaced word) (render_indicator yaml_directive cursor).cursor).cursor in
         says_text (((space_if true cursor ++ codes "%YAML") ++ (space ∷ word)) ++ (new_line 0 end).text) (version_text_is cursor word end (and_false _))
         (says_after (says_white breaks12 (space_if true cursor) (space_if-white true cursor)) line)
 
-    by : (version ≡ version_of 1) ⊎ (version ≡ version_of 2) → Says breaks12 anything (version_laid (Some version) cursor).text (version_line version ∷ [])
-    by (inl e) = subst (λ v. Says breaks12 anything (version_laid (Some v) cursor).text (version_line v ∷ [])) (sym e)
+    by : (version ≡ version_of 1) ⊎ (version ≡ version_of 2) → Says breaks12 anything (render_version (Some version) cursor).text (version_line version ∷ [])
+    by (inl e) = subst (λ v. Says breaks12 anything (render_version (Some v) cursor).text (version_line v ∷ [])) (sym e)
         (says (codes "1.1") (version_of 1) (first_version breaks12))
-    by (inr e) = subst (λ v. Says breaks12 anything (version_laid (Some v) cursor).text (version_line v ∷ [])) (sym e)
+    by (inr e) = subst (λ v. Says breaks12 anything (render_version (Some v) cursor).text (version_line v ∷ [])) (sym e)
         (says (codes "1.2") (version_of 2) (second_version breaks12))
 
 -- Tag directives.
@@ -155,7 +155,7 @@ handle_written : (handle : Text) → IsHandle handle → all_written handle ≡ 
 handle_written handle is = let tag = handle_text handle is in rw tag.is tag.written
 
 handle_counts : (handle : Text) → IsHandle handle → counts handle ≡ true
-handle_counts handle is = let tag = handle_text handle is in rw tag.is (some_counts tag_mark tag.rest)
+handle_counts handle is = let tag = handle_text handle is in rw tag.is (some_counts exclamation_mark tag.rest)
 
 -- a directive whose handle and prefix are as they must be
 pub record DirectiveOk (directive : TagDirective) : Type 0 where
@@ -197,9 +197,9 @@ module _ (breaks12 portable : Bool) where
         scalars = scalars-append inner (line_feed ∷ [])
             (scalars-append directive.handle (space ∷ prefix_escaped portable directive.prefix) (all-scalars directive.handle h)
             (all-scalars (prefix_escaped portable directive.prefix) p)) refl;
-        laid = laid-append inner (line_feed ∷ [])
-            (laid-append directive.handle (space ∷ prefix_escaped portable directive.prefix) (all-laid directive.handle h)
-            (all-laid (prefix_escaped portable directive.prefix) p)) refl;
+        rendered = rendered-append inner (line_feed ∷ [])
+            (rendered-append directive.handle (space ∷ prefix_escaped portable directive.prefix) (all-rendered directive.handle h)
+            (all-rendered (prefix_escaped portable directive.prefix) p)) refl;
         reads = λ rest meets.
             enter_line ((inner ++ line_feed ∷ []) ++ rest)
             ∙ ap (tokens_from breaks12 (in_line (codes "%TAG" ++ space ∷ []))) (append_assoc inner (line_feed ∷ []) rest)
@@ -210,7 +210,7 @@ module _ (breaks12 portable : Bool) where
       }
 
   directive_says : (directive : TagDirective) (cursor : Cursor) → DirectiveOk directive
-      → Says breaks12 anything (tag_directive_laid portable directive cursor).text (tag_line directive ∷ [])
+      → Says breaks12 anything (render_tag_directive portable directive cursor).text (tag_line directive ∷ [])
   directive_says directive cursor ok =
       let sp = space_if true cursor in
       let esc = prefix_escaped portable directive.prefix in
@@ -219,12 +219,12 @@ module _ (breaks12 portable : Bool) where
       ∙ append_assoc (sp ++ codes "%TAG") (space ∷ directive.handle) ((space ∷ esc) ++ line_feed ∷ [])
       ∙ append_assoc sp (codes "%TAG") ((space ∷ directive.handle) ++ ((space ∷ esc) ++ line_feed ∷ []))
       ∙ ap (λ t. sp ++ (codes "%TAG" ++ (space ∷ t))) (sym (append_assoc directive.handle (space ∷ esc) (line_feed ∷ []))) in
-      says_text (tag_directive_laid portable directive cursor).text e
+      says_text (render_tag_directive portable directive cursor).text e
       (says_after (says_white breaks12 sp (space_if-white true cursor)) (whole_line directive ok))
 
   pub directives_say : (directives : List TagDirective) (cursor : Cursor) → EachDirective directives
-      → Says breaks12 anything (tag_directives_laid portable directives cursor).text (tag_line_tokens directives)
+      → Says breaks12 anything (render_tag_directives portable directives cursor).text (tag_line_tokens directives)
   directives_say [] cursor ok = says_nothing breaks12
   directives_say (directive ∷ rest) cursor ok =
-      let first = tag_directive_laid portable directive cursor in
+      let first = render_tag_directive portable directive cursor in
       says_after (directive_says directive cursor ok.0) (directives_say rest first.cursor ok.1)

@@ -9,12 +9,12 @@ use Rattle.std.specs.Prelude.{Bool, true, false, None, List, [], ◌∷◌, ◌+
 use lib.Utf8.{scalar}
 use Rattle.yaml_base.specs.Characters.{Text, is_alpha, is_among, is_space, space, carriage_return, next_line}
 use Rattle.yaml_base.specs.scalars.Analysis.{begins_with}
-use Rattle.yaml_base.specs.LineBreaks.{is_laid_text}
+use Rattle.yaml_base.specs.LineBreaks.{is_rendered_text}
 use Rattle.yaml_base.specs.Event.{TagDirective}
 use Rattle.yaml_base.specs.Percent.{percent_escaped, suffix_escaped, prefix_escaped}
-use Rattle.yaml_base.specs.Tags.{Spelling, spelling, spelled, directives_fault, directives_in_force, tag_mark}
+use Rattle.yaml_base.specs.Tags.{Spelling, spelling, spelled, directives_fault, directives_in_force, exclamation_mark}
 use Rattle.yaml_base.specs.reading.CanonicalTokens.{anchor_token, alias_token, tag_token, anchor_named, alias_named, free, in_anchor, in_alias, in_tag}
-use Rattle.yaml_base.specs.reading.CanonicalTokens.{tokens_from, free_turn, goes_to}
+use Rattle.yaml_base.specs.reading.CanonicalTokens.{tokens_from, step_between_tokens, goes_to}
 use Rattle.yaml_base.proofs.PercentLaws.{stands_written, escaped_stands, suffix_stands, stands_in_prefix, prefix_stands}
 use Rattle.yaml_base.proofs.TagForms.{IsHandle, handle_form, spelling_is, in_force_found}
 use Rattle.yaml_emitter.proofs.canonical.CanonicalText.{name_ends, space_next, Says}
@@ -26,8 +26,8 @@ is_written c = stands_written c || is_among (codes "!<>") c
 written-scalar : (c : ℕ) → is_written c ≡ true → scalar c ≡ true
 written-scalar c h = grind (arith, nat_tests)
 
-written-laid : (c : ℕ) → is_written c ≡ true → not (c == carriage_return || c == next_line) ≡ true
-written-laid c h = grind (arith, nat_tests)
+written-rendered : (c : ℕ) → is_written c ≡ true → not (c == carriage_return || c == next_line) ≡ true
+written-rendered c h = grind (arith, nat_tests)
 
 pub written-space : (c : ℕ) → is_written c ≡ true → (c == space) ≡ false
 written-space c h = grind (arith, nat_tests)
@@ -45,9 +45,9 @@ pub all-scalars : (text : Text) → all_written text ≡ true → all_scalars te
 all-scalars [] h = refl
 all-scalars (c ∷ text) h = let p = and_parts (is_written c) (all_written text) h in and_from _ _ (written-scalar c p.0) (all-scalars text p.1)
 
-pub all-laid : (text : Text) → all_written text ≡ true → is_laid_text text ≡ true
-all-laid [] h = refl
-all-laid (c ∷ text) h = let p = and_parts (is_written c) (all_written text) h in and_from _ _ (written-laid c p.0) (all-laid text p.1)
+pub all-rendered : (text : Text) → all_written text ≡ true → is_rendered_text text ≡ true
+all-rendered [] h = refl
+all-rendered (c ∷ text) h = let p = and_parts (is_written c) (all_written text) h in and_from _ _ (written-rendered c p.0) (all-rendered text p.1)
 
 pub alphas-written : (text : Text) → list_all is_alpha text ≡ true → all_written text ≡ true
 alphas-written [] h = refl
@@ -113,11 +113,11 @@ alias-goes breaks12 (c ∷ name) seen rest h k =
     ∙ ap (λ t. alias_named t ∷ tokens_from breaks12 free rest) (append_assoc seen (c ∷ []) name))
 
 -- `&` and `*` begin names
-free-anchor : (breaks12 : Bool) → free_turn breaks12 0x26 ≡ goes_to (in_anchor [])
+free-anchor : (breaks12 : Bool) → step_between_tokens breaks12 0x26 ≡ goes_to (in_anchor [])
 free-anchor true = refl
 free-anchor false = refl
 
-free-alias : (breaks12 : Bool) → free_turn breaks12 0x2A ≡ goes_to (in_alias [])
+free-alias : (breaks12 : Bool) → step_between_tokens breaks12 0x2A ≡ goes_to (in_alias [])
 free-alias true = refl
 free-alias false = refl
 
@@ -132,7 +132,7 @@ named-alias (c ∷ name) h = refl
 pub anchor_says : (breaks12 : Bool) (name : Text) → IsName name → Says breaks12 name_ends (codes "&" ++ name) (anchor_token name ∷ [])
 anchor_says breaks12 name is = record {
   scalars = all-scalars name (alphas-written name is.alphas);
-  laid = all-laid name (alphas-written name is.alphas);
+  rendered = all-rendered name (alphas-written name is.alphas);
   reads = λ rest meets.
       rw (free-anchor breaks12)
       (anchor-goes breaks12 name [] rest is.alphas meets
@@ -142,7 +142,7 @@ anchor_says breaks12 name is = record {
 pub alias_says : (breaks12 : Bool) (name : Text) → IsName name → Says breaks12 name_ends (codes "*" ++ name) (alias_token name ∷ [])
 alias_says breaks12 name is = record {
   scalars = all-scalars name (alphas-written name is.alphas);
-  laid = all-laid name (alphas-written name is.alphas);
+  rendered = all-rendered name (alphas-written name is.alphas);
   reads = λ rest meets.
       rw (free-alias breaks12)
       (alias-goes breaks12 name [] rest is.alphas meets
@@ -165,14 +165,14 @@ tag-goes breaks12 (c ∷ text) seen rest h k =
     (tag-goes breaks12 text (seen ++ c ∷ []) rest p.1 k
     ∙ ap (λ t. tag_token t ∷ tokens_from breaks12 free rest) (append_assoc seen (c ∷ []) text))
 
-free-tag : (breaks12 : Bool) → free_turn breaks12 0x21 ≡ goes_to (in_tag (0x21 ∷ []))
+free-tag : (breaks12 : Bool) → step_between_tokens breaks12 0x21 ≡ goes_to (in_tag (0x21 ∷ []))
 free-tag true = refl
 free-tag false = refl
 
 -- a text of a tag, from its `!` on
 pub record IsTagText (text : Text) : Type 0 where
   pub rest : Text
-  pub is : text ≡ tag_mark ∷ rest
+  pub is : text ≡ exclamation_mark ∷ rest
   pub written : all_written rest ≡ true
 
 pub tag_says : (breaks12 : Bool) (text : Text) → IsTagText text → Says breaks12 space_next text (tag_token text ∷ [])
@@ -180,7 +180,7 @@ tag_says breaks12 text tag =
     subst (λ t. Says breaks12 space_next t (tag_token t ∷ [])) (sym tag.is)
     (record {
       scalars = all-scalars tag.rest tag.written;
-      laid = all-laid tag.rest tag.written;
+      rendered = all-rendered tag.rest tag.written;
       reads = λ rest meets. rw (free-tag breaks12) (tag-goes breaks12 tag.rest (0x21 ∷ []) rest tag.written meets);
     })
 
@@ -190,9 +190,9 @@ tag-append a b tag h = record { rest = tag.rest ++ b; is = ap (λ t. t ++ b) tag
 pub handle_text : (handle : Text) → IsHandle handle → IsTagText handle
 handle_text handle (inl e) = record { rest = []; is = e; written = refl }
 handle_text handle (inr form) = record {
-  rest = form.0 ++ tag_mark ∷ [];
+  rest = form.0 ++ exclamation_mark ∷ [];
   is = form.1;
-  written = written-append form.0 (tag_mark ∷ []) (alphas-written form.0 form.2) refl;
+  written = written-append form.0 (exclamation_mark ∷ []) (alphas-written form.0 form.2) refl;
 }
 
 -- A written tag is such a text.

@@ -1,4 +1,4 @@
--- What the signs of places and the properties of nodes say to the canonical reader.
+-- What the indicators of places and the properties of nodes say to the canonical reader.
 use Rattle.std.proofs.Common.{◌≡◌, ℕ, refl, sym, ◌∙◌, subst, append_assoc, append-nil}
 use Rattle.std.specs.Prelude.{Bool, true, false, Option, None, Some, List, [], ◌∷◌, ◌++◌, codes}
 use Rattle.yaml_base.specs.Characters.{Text}
@@ -7,15 +7,15 @@ use Rattle.yaml_base.specs.Cursor.{Cursor, new_line, indicator, space_if}
 use Rattle.yaml_base.specs.Event.{TagDirective}
 use Rattle.yaml_base.specs.Percent.{percent_escaped, suffix_escaped}
 use Rattle.yaml_base.specs.Tags.{Spelling, shorthand, verbatim, spelling, spelled, directives_fault, directives_in_force}
-use Rattle.yaml_base.specs.Layout.{Role, as_root, as_item, as_key, as_value, Place, opening_or_comma, place_laid, root_place, entry_place, anchor_laid}
-use Rattle.yaml_base.specs.Layout.{spelling_laid, properties_laid}
+use Rattle.yaml_base.specs.Layout.{Role, as_root, as_item, as_key, as_value, Place, opening_or_comma, render_place, root_place, entry_place, render_anchor}
+use Rattle.yaml_base.specs.Layout.{render_spelling, render_properties}
 use Rattle.yaml_base.specs.reading.CanonicalTokens.{Token, opens_sequence, closes_sequence, opens_mapping, closes_mapping, key_token, value_token, comma}
 use Rattle.yaml_base.specs.reading.CanonicalTokens.{tag_token}
 use Rattle.yaml_emitter.proofs.canonical.CanonicalText.{Demand, anything, name_ends, space_next, Says, Opens, opens_append, opens_any, says_then, says_after}
 use Rattle.yaml_emitter.proofs.canonical.CanonicalText.{says_text, says_nothing, says_white, white-opens, space_if-white, new_line-white, indicator_says}
 use Rattle.yaml_emitter.proofs.canonical.CanonicalText.{indicator_opens, space_first}
 use Rattle.yaml_emitter.proofs.canonical.CanonicalNames.{IsName, anchor_says, tag_says, IsTagText, tag_text}
-use Rattle.yaml_emitter.proofs.canonical.CanonicalTokens.{anchor_tokens, properties_tokens, entry_sign}
+use Rattle.yaml_emitter.proofs.canonical.CanonicalTokens.{anchor_tokens, properties_tokens, entry_indicator}
 
 -- settings in canonical mode
 abbrev pub in_canonical : Effective → Effective
@@ -32,8 +32,8 @@ place_of (Some spot) = entry_place true spot.role spot.column
 
 abbrev pub role_tokens : Role → List Token
 role_tokens as_root = []
-role_tokens (as_item first) = entry_sign opens_sequence first ∷ []
-role_tokens (as_key first) = entry_sign opens_mapping first ∷ key_token ∷ []
+role_tokens (as_item first) = entry_indicator opens_sequence first ∷ []
+role_tokens (as_key first) = entry_indicator opens_mapping first ∷ key_token ∷ []
 role_tokens (as_value simple) = value_token ∷ []
 
 abbrev pub spot_tokens : Option Spot → List Token
@@ -60,47 +60,47 @@ abbrev pub Follows : Option Spot → Demand → Cursor → Type 0
 Follows None demand cursor = demand ≡ anything
 Follows (Some spot) demand cursor = RoleFollows spot.role demand cursor
 
--- Signs.
+-- Indicators.
 
 pub says_square : (breaks12 : Bool) → Says breaks12 anything (codes "[") (opens_sequence ∷ [])
-says_square true = record { scalars = refl; laid = refl; reads = λ rest meets. refl }
-says_square false = record { scalars = refl; laid = refl; reads = λ rest meets. refl }
+says_square true = record { scalars = refl; rendered = refl; reads = λ rest meets. refl }
+says_square false = record { scalars = refl; rendered = refl; reads = λ rest meets. refl }
 
 pub says_square_end : (breaks12 : Bool) → Says breaks12 anything (codes "]") (closes_sequence ∷ [])
-says_square_end true = record { scalars = refl; laid = refl; reads = λ rest meets. refl }
-says_square_end false = record { scalars = refl; laid = refl; reads = λ rest meets. refl }
+says_square_end true = record { scalars = refl; rendered = refl; reads = λ rest meets. refl }
+says_square_end false = record { scalars = refl; rendered = refl; reads = λ rest meets. refl }
 
 pub says_curly : (breaks12 : Bool) → Says breaks12 anything (codes "{") (opens_mapping ∷ [])
-says_curly true = record { scalars = refl; laid = refl; reads = λ rest meets. refl }
-says_curly false = record { scalars = refl; laid = refl; reads = λ rest meets. refl }
+says_curly true = record { scalars = refl; rendered = refl; reads = λ rest meets. refl }
+says_curly false = record { scalars = refl; rendered = refl; reads = λ rest meets. refl }
 
 pub says_curly_end : (breaks12 : Bool) → Says breaks12 anything (codes "}") (closes_mapping ∷ [])
-says_curly_end true = record { scalars = refl; laid = refl; reads = λ rest meets. refl }
-says_curly_end false = record { scalars = refl; laid = refl; reads = λ rest meets. refl }
+says_curly_end true = record { scalars = refl; rendered = refl; reads = λ rest meets. refl }
+says_curly_end false = record { scalars = refl; rendered = refl; reads = λ rest meets. refl }
 
 says_key : (breaks12 : Bool) → Says breaks12 anything (codes "?") (key_token ∷ [])
-says_key true = record { scalars = refl; laid = refl; reads = λ rest meets. refl }
-says_key false = record { scalars = refl; laid = refl; reads = λ rest meets. refl }
+says_key true = record { scalars = refl; rendered = refl; reads = λ rest meets. refl }
+says_key false = record { scalars = refl; rendered = refl; reads = λ rest meets. refl }
 
 says_value : (breaks12 : Bool) → Says breaks12 anything (codes ":") (value_token ∷ [])
-says_value true = record { scalars = refl; laid = refl; reads = λ rest meets. refl }
-says_value false = record { scalars = refl; laid = refl; reads = λ rest meets. refl }
+says_value true = record { scalars = refl; rendered = refl; reads = λ rest meets. refl }
+says_value false = record { scalars = refl; rendered = refl; reads = λ rest meets. refl }
 
 pub says_comma : (breaks12 : Bool) → Says breaks12 anything (codes ",") (comma ∷ [])
-says_comma true = record { scalars = refl; laid = refl; reads = λ rest meets. refl }
-says_comma false = record { scalars = refl; laid = refl; reads = λ rest meets. refl }
+says_comma true = record { scalars = refl; rendered = refl; reads = λ rest meets. refl }
+says_comma false = record { scalars = refl; rendered = refl; reads = λ rest meets. refl }
 
 module _ (breaks12 : Bool) (s : Effective) where
   line_says : (at : ℕ) (cursor : Cursor) → Says breaks12 anything (new_line at cursor).text []
   line_says at cursor = says_white breaks12 (new_line at cursor).text (new_line-white at cursor)
 
   opening_says : (bracket : Text) (token : Token) → Says breaks12 anything bracket (token ∷ []) → (first : Bool) (cursor : Cursor)
-      → Says breaks12 anything (opening_or_comma bracket first cursor).text (entry_sign token first ∷ [])
+      → Says breaks12 anything (opening_or_comma bracket first cursor).text (entry_indicator token first ∷ [])
   opening_says bracket token says true cursor = indicator_says true true false cursor says
   opening_says bracket token says false cursor = indicator_says false false false cursor (says_comma breaks12)
 
   role_says : (role : Role) (column : ℕ) (cursor : Cursor)
-      → Says breaks12 anything (place_laid (in_canonical s) (entry_place true role column) false cursor).text (role_tokens role)
+      → Says breaks12 anything (render_place (in_canonical s) (entry_place true role column) false cursor).text (role_tokens role)
   role_says as_root column cursor = says_nothing breaks12
   role_says (as_item first) column cursor =
       let opening = opening_or_comma (codes "[") first cursor in
@@ -115,7 +115,8 @@ module _ (breaks12 : Bool) (s : Effective) where
       let line = new_line column cursor in
       says_after (line_says column cursor) (indicator_says true false false line.cursor (says_value breaks12))
 
-  pub place_says : (at : Option Spot) (cursor : Cursor) → Says breaks12 anything (place_laid (in_canonical s) (place_of at) false cursor).text (spot_tokens at)
+  pub place_says : (at : Option Spot) (cursor : Cursor)
+      → Says breaks12 anything (render_place (in_canonical s) (place_of at) false cursor).text (spot_tokens at)
   place_says None cursor = says_nothing breaks12
   place_says (Some spot) cursor = role_says spot.role spot.column cursor
 
@@ -130,7 +131,7 @@ opening_opens bracket demand false cursor o h =
 
 module _ (s : Effective) where
   role_opens : (role : Role) (column : ℕ) (demand : Demand) (cursor : Cursor) → RoleFollows role demand cursor
-      → Opens demand (place_laid (in_canonical s) (entry_place true role column) false cursor).text
+      → Opens demand (render_place (in_canonical s) (entry_place true role column) false cursor).text
   role_opens as_root column demand cursor h = subst (λ d. Opens d []) (sym h) (opens_any [])
   role_opens (as_item first) column demand cursor h =
       let opening = opening_or_comma (codes "[") first cursor in
@@ -142,16 +143,16 @@ module _ (s : Effective) where
       opens_append (opening.text ++ line.text) (indicator (codes "?") true false false line.cursor).text
       (opens_append opening.text line.text (opening_opens (codes "{") demand first cursor (record { meets = λ rest. refl }) h))
   role_opens (as_value true) column demand cursor h =
-      subst (λ d. Opens d (place_laid (in_canonical s) (entry_place true (as_value true) column) false cursor).text) (sym h)
+      subst (λ d. Opens d (render_place (in_canonical s) (entry_place true (as_value true) column) false cursor).text) (sym h)
       (indicator_opens (codes ":") false false false cursor (record { meets = λ rest. refl }))
   role_opens (as_value false) column demand cursor h =
       let line = new_line column cursor in
-      subst (λ d. Opens d (place_laid (in_canonical s) (entry_place true (as_value false) column) false cursor).text) (sym h)
+      subst (λ d. Opens d (render_place (in_canonical s) (entry_place true (as_value false) column) false cursor).text) (sym h)
       (white-opens line.text (indicator (codes ":") true false false line.cursor).text (new_line-white column cursor)
       (indicator_opens (codes ":") true false false line.cursor (record { meets = λ rest. refl })))
 
   pub place_opens : (at : Option Spot) (demand : Demand) (cursor : Cursor) → Follows at demand cursor
-      → Opens demand (place_laid (in_canonical s) (place_of at) false cursor).text
+      → Opens demand (render_place (in_canonical s) (place_of at) false cursor).text
   place_opens None demand cursor h = subst (λ d. Opens d []) (sym h) (opens_any [])
   place_opens (Some spot) demand cursor h = role_opens spot.role spot.column demand cursor h
 
@@ -172,13 +173,13 @@ abbrev anchor_demand : Option Text → Demand
 anchor_demand None = anything
 anchor_demand (Some name) = name_ends
 
-spelling_text : (portable : Bool) (x : Spelling) (cursor : Cursor) → (spelling_laid portable x cursor).text ≡ space_if true cursor ++ spelled portable x
+spelling_text : (portable : Bool) (x : Spelling) (cursor : Cursor) → (render_spelling portable x cursor).text ≡ space_if true cursor ++ spelled portable x
 spelling_text portable (shorthand handle suffix) cursor = append_assoc (space_if true cursor) handle (suffix_escaped portable suffix)
 spelling_text portable (verbatim tag) cursor =
     append_assoc (space_if true cursor ++ codes "!<") (percent_escaped tag) (codes ">")
     ∙ append_assoc (space_if true cursor) (codes "!<") (percent_escaped tag ++ codes ">")
 
-spelling_ends : (portable : Bool) (x : Spelling) (cursor : Cursor) → (spelling_laid portable x cursor).cursor.whitespace ≡ false
+spelling_ends : (portable : Bool) (x : Spelling) (cursor : Cursor) → (render_spelling portable x cursor).cursor.whitespace ≡ false
 spelling_ends portable (shorthand handle suffix) cursor = refl
 spelling_ends portable (verbatim tag) cursor = refl
 
@@ -189,18 +190,18 @@ tag_opens demand cursor text tag =
 
 module _ (breaks12 portable : Bool) (own : List TagDirective) (sound : directives_fault own ≡ None) where
   anchored : (anchor : Option Text) (cursor : Cursor) → AnchorOk anchor
-      → Says breaks12 (anchor_demand anchor) (anchor_laid anchor cursor).text (anchor_tokens anchor)
+      → Says breaks12 (anchor_demand anchor) (render_anchor anchor cursor).text (anchor_tokens anchor)
   anchored None cursor ok = says_nothing breaks12
   anchored (Some name) cursor ok =
-      says_text (anchor_laid (Some name) cursor).text (append_assoc (space_if true cursor) (codes "&") name)
+      says_text (render_anchor (Some name) cursor).text (append_assoc (space_if true cursor) (codes "&") name)
       (says_after (says_white breaks12 (space_if true cursor) (space_if-white true cursor)) (anchor_says breaks12 name ok))
 
   -- a tag's text after an anchor or none
   tag_after : (anchor : Option Text) (cursor : Cursor) (text tag : Text) → AnchorOk anchor → IsTagText tag
-      → text ≡ space_if true (anchor_laid anchor cursor).cursor ++ tag
-      → Says breaks12 space_next ((anchor_laid anchor cursor).text ++ text) (anchor_tokens anchor ++ tag_token tag ∷ [])
+      → text ≡ space_if true (render_anchor anchor cursor).cursor ++ tag
+      → Says breaks12 space_next ((render_anchor anchor cursor).text ++ text) (anchor_tokens anchor ++ tag_token tag ∷ [])
   tag_after anchor cursor text tag ok is e =
-      let after = (anchor_laid anchor cursor).cursor in
+      let after = (render_anchor anchor cursor).cursor in
       let tag_part = says_after (says_white breaks12 (space_if true after) (space_if-white true after)) (tag_says breaks12 tag is) in
       says_then (anchored anchor cursor ok) (subst (λ t. Opens (anchor_demand anchor) t) (sym e) (opens anchor after)) (says_text text e tag_part)
     where
@@ -209,23 +210,23 @@ module _ (breaks12 portable : Bool) (own : List TagDirective) (sound : directive
       opens (Some name) after = tag_opens anything after tag is
 
   pub properties_say : (anchor tag : Option Text) (bare : Bool) (cursor : Cursor) → AnchorOk anchor
-      → Says breaks12 (demand_of anchor tag bare) (properties_laid portable (directives_in_force own) anchor tag bare cursor).text
+      → Says breaks12 (demand_of anchor tag bare) (render_properties portable (directives_in_force own) anchor tag bare cursor).text
       (properties_tokens portable own anchor tag bare)
   properties_say anchor (Some tag) bare cursor ok =
-      let after = (anchor_laid anchor cursor).cursor in
-      tag_after anchor cursor (spelling_laid portable (spelling (directives_in_force own) tag) after).text
+      let after = (render_anchor anchor cursor).cursor in
+      tag_after anchor cursor (render_spelling portable (spelling (directives_in_force own) tag) after).text
       (spelled portable (spelling (directives_in_force own) tag)) ok
       (tag_text portable own tag sound) (spelling_text portable (spelling (directives_in_force own) tag) after)
   properties_say anchor None true cursor ok =
-      let after = (anchor_laid anchor cursor).cursor in
+      let after = (render_anchor anchor cursor).cursor in
       tag_after anchor cursor (space_if true after ++ codes "!") (codes "!") ok (record { rest = []; is = refl; written = refl }) refl
   properties_say None None false cursor ok = says_nothing breaks12
   properties_say (Some name) None false cursor ok =
-      says_text ((anchor_laid (Some name) cursor).text ++ []) (append-nil (anchor_laid (Some name) cursor).text) (anchored (Some name) cursor ok)
+      says_text ((render_anchor (Some name) cursor).text ++ []) (append-nil (render_anchor (Some name) cursor).text) (anchored (Some name) cursor ok)
 
   pub properties_fit : (anchor tag : Option Text) (bare : Bool) (cursor : Cursor)
-      → Fits (demand_of anchor tag bare) (properties_laid portable (directives_in_force own) anchor tag bare cursor).cursor
-  properties_fit anchor (Some tag) bare cursor = spelling_ends portable (spelling (directives_in_force own) tag) (anchor_laid anchor cursor).cursor
+      → Fits (demand_of anchor tag bare) (render_properties portable (directives_in_force own) anchor tag bare cursor).cursor
+  properties_fit anchor (Some tag) bare cursor = spelling_ends portable (spelling (directives_in_force own) tag) (render_anchor anchor cursor).cursor
   properties_fit anchor None true cursor = refl
   properties_fit None None false cursor = tt
   properties_fit (Some name) None false cursor = refl

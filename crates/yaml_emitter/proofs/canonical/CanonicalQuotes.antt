@@ -5,15 +5,15 @@ use Rattle.std.specs.Str.{all_scalars}
 use Rattle.std.specs.Prelude.{Bool, true, false, Option, None, Some, List, [], ◌∷◌, ◌++◌, ◌&&◌, ◌==◌, nat_le, if◌then◌else◌}
 use lib.Utf8.{scalar}
 use Rattle.yaml_base.specs.Characters.{Text, is_space, hex_digit, hex_digits}
-use Rattle.yaml_base.specs.Cursor.{Cursor, new_line, is_past_width, text_laid}
+use Rattle.yaml_base.specs.Cursor.{Cursor, new_line, is_past_width, render_text}
 use Rattle.yaml_base.specs.scalars.DoubleQuoted.{quote, backslash, ShortEscape, short_escapes, letter_among, escape_after_backslash, escape_text, needs_escape}
-use Rattle.yaml_base.specs.scalars.DoubleQuoted.{character_text, may_fold, space_kept, double_character, double_inside, double_quoted_body, quote_laid}
+use Rattle.yaml_base.specs.scalars.DoubleQuoted.{character_text, may_fold, space_kept, double_character, double_inside, double_quoted_body, render_quote}
 use Rattle.yaml_base.specs.scalars.DoubleQuoted.{double_fold}
 use Rattle.yaml_base.specs.reading.ReadFolding.{FoldUnit, folding_read}
 use Rattle.yaml_base.specs.reading.ReadDouble.{QuotePlace, between, QuoteStep, goes_on, gives, ends_quotes, has_no_reading, quote_step, Quoted, QuotedReading}
-use Rattle.yaml_base.specs.reading.ReadDouble.{with_unit, after_step, quoted_from, quoted_reading, double_quoted_front}
-use Rattle.yaml_base.specs.reading.CanonicalTokens.{Token, scalar_token, free, in_quotes, tokens_from, quotes_turn, free_turn, goes_to}
-use Rattle.yaml_scalar.proofs.DoubleReads.{double-front, double-laid}
+use Rattle.yaml_base.specs.reading.ReadDouble.{with_unit, after_step, quoted_from, quoted_reading, double_quoted_prefix}
+use Rattle.yaml_base.specs.reading.CanonicalTokens.{Token, scalar_token, free, in_quotes, tokens_from, quotes_step, step_between_tokens, goes_to}
+use Rattle.yaml_scalar.proofs.DoubleReads.{double-prefix, double-rendered}
 use Rattle.yaml_emitter.proofs.canonical.CanonicalText.{anything, Says, says_white, new_line-white, scalars-append}
 
 -- a unit before what was read
@@ -26,7 +26,7 @@ with-unit unit (Some p) q e =
 
 module _ (breaks12 : Bool) where
   abbrev after : List FoldUnit → QuoteStep → Text → List Token
-  after units step rest = (quotes_turn units step).tokens ++ tokens_from breaks12 (quotes_turn units step).place rest
+  after units step rest = (quotes_step units step).tokens ++ tokens_from breaks12 (quotes_step units step).place rest
 
   -- a text is read from within quotes on
   abbrev ReadsOn : Text → Type 0
@@ -67,17 +67,17 @@ module _ (breaks12 : Bool) where
       ∙ ap (λ v. scalar_token v ∷ tokens_from breaks12 free q.rest) same_value
       ∙ ap (λ r. scalar_token value ∷ tokens_from breaks12 free r) same_rest
 
-  free-quote : free_turn breaks12 0x22 ≡ goes_to (in_quotes between [])
+  free-quote : step_between_tokens breaks12 0x22 ≡ goes_to (in_quotes between [])
   free-quote = by breaks12
     where
-      by : (b : Bool) → free_turn b 0x22 ≡ goes_to (in_quotes between [])
+      by : (b : Bool) → step_between_tokens b 0x22 ≡ goes_to (in_quotes between [])
       by true = refl
       by false = refl
 
-  front_tokens : (text value rest : Text) → double_quoted_front breaks12 text ≡ Some (record { value = value; rest = rest })
+  prefix_tokens : (text value rest : Text) → double_quoted_prefix breaks12 text ≡ Some (record { value = value; rest = rest })
       → tokens_from breaks12 free text ≡ scalar_token value ∷ tokens_from breaks12 free rest
-  front_tokens [] value rest e = absurd (cc)
-  front_tokens (c ∷ text) value rest e = by (c == 0x22) refl e
+  prefix_tokens [] value rest e = absurd (cc)
+  prefix_tokens (c ∷ text) value rest e = by (c == 0x22) refl e
     where
       by : (b : Bool) → (c == 0x22) ≡ b
           → (if b then quoted_reading (quoted_from breaks12 between text) else None) ≡ Some (record { value = value; rest = rest })
@@ -142,7 +142,7 @@ module _ (unicode : Bool) (limit : Option ℕ) (indent : ℕ) where
       → all_scalars (double_character unicode limit indent before c rest cursor).text ≡ true
   character-scalars before c rest cursor h = by (is_space c && may_fold before rest && is_past_width limit cursor)
     where
-      by : (b : Bool) → all_scalars (if b then double_fold indent rest cursor else text_laid (character_text unicode c) cursor).text ≡ true
+      by : (b : Bool) → all_scalars (if b then double_fold indent rest cursor else render_text (character_text unicode c) cursor).text ≡ true
       by true = scalars-append (new_line indent cursor).text (space_kept rest)
           (says_white false (new_line indent cursor).text (new_line-white indent cursor)).scalars (kept-scalars rest)
       by false = text-scalars unicode c h
@@ -158,16 +158,16 @@ module _ (unicode : Bool) (limit : Option ℕ) (indent : ℕ) where
 
   body-scalars : (value : Text) (cursor : Cursor) → all_scalars value ≡ true → all_scalars (double_quoted_body unicode limit indent value cursor).text ≡ true
   body-scalars value cursor h =
-      scalars-append (double_inside unicode limit indent None value (quote_laid cursor).cursor).text (quote ∷ [])
-      (inside-scalars value None (quote_laid cursor).cursor h) refl
+      scalars-append (double_inside unicode limit indent None value (render_quote cursor).cursor).text (quote ∷ [])
+      (inside-scalars value None (render_quote cursor).cursor h) refl
 
   -- A body says its value.
   pub body_says : (breaks12 : Bool) (value : Text) (cursor : Cursor) → 2 ≤ indent → all_scalars value ≡ true
       → Says breaks12 anything (double_quoted_body unicode limit indent value cursor).text (scalar_token value ∷ [])
   body_says breaks12 value cursor wide h = record {
     scalars = body-scalars value cursor h;
-    laid = double-laid unicode limit indent value cursor wide h;
+    rendered = double-rendered unicode limit indent value cursor wide h;
     reads = λ rest meets.
-        front_tokens breaks12 ((double_quoted_body unicode limit indent value cursor).text ++ rest) value rest
-        (double-front breaks12 unicode limit indent value cursor rest wide h);
+        prefix_tokens breaks12 ((double_quoted_body unicode limit indent value cursor).text ++ rest) value rest
+        (double-prefix breaks12 unicode limit indent value cursor rest wide h);
   }

@@ -7,35 +7,36 @@ use Rattle.yaml_base.specs.Settings.{Effective}
 use Rattle.yaml_base.specs.Cursor.{Cursor, new_line}
 use Rattle.yaml_base.specs.Tags.{directives_in_force}
 use Rattle.yaml_base.specs.Grammar.{Document, Documents, no_documents, documents_and, Stream}
-use Rattle.yaml_base.specs.Layout.{text_of, Standing, PiecesLaid, root_place, node_laid, laid_if, closing_mark_laid, version_laid, tag_directives_laid}
-use Rattle.yaml_base.specs.Layout.{has_directives, is_explicit, document_mark_laid, document_start_laid, document_start_piece, document_end_piece}
-use Rattle.yaml_base.specs.Layout.{document_laid, has_no_documents, documents_laid, first_standing, stream_start_piece, stream_end_piece, layout}
+use Rattle.yaml_base.specs.Layout.{text_of, Standing, RenderedPieces, root_place, render_node, render_if, render_closing_marker, render_version}
+use Rattle.yaml_base.specs.Layout.{render_tag_directives}
+use Rattle.yaml_base.specs.Layout.{has_directives, is_explicit, render_document_marker, render_document_start, document_start_piece, document_end_piece}
+use Rattle.yaml_base.specs.Layout.{render_document, has_no_documents, render_documents, first_standing, stream_start_piece, stream_end_piece, layout}
 use Rattle.yaml_base.specs.reading.CanonicalTokens.{Token, document_begins}
 use Rattle.yaml_emitter.proofs.canonical.CanonicalText.{anything, name_ends, Says, Opens, opens_append, says_then, says_after, says_text, says_tokens}
 use Rattle.yaml_emitter.proofs.canonical.CanonicalText.{says_nothing, says_white, new_line-white}
 use Rattle.yaml_emitter.proofs.canonical.CanonicalPlaces.{in_canonical}
 use Rattle.yaml_emitter.proofs.canonical.CanonicalNodes.{lead_text, more_text, node_after}
-use Rattle.yaml_emitter.proofs.canonical.CanonicalLines.{closing_says, mark_says, version_says, directives_say, line_breaks}
+use Rattle.yaml_emitter.proofs.canonical.CanonicalLines.{closing_says, marker_says, version_says, directives_say, line_breaks}
 use Rattle.yaml_emitter.proofs.canonical.CanonicalSound.{DocumentOk, DocumentsOk}
 use Rattle.yaml_emitter.proofs.canonical.CanonicalTokens.{node_tokens, version_tokens, tag_line_tokens, end_tokens, document_tokens, left_open}
 use Rattle.yaml_emitter.proofs.canonical.CanonicalTokens.{documents_tokens}
 
--- the open mark between documents, after one that was left open or not
-abbrev mark_of : Bool → ℕ
-mark_of true = 1
-mark_of false = 0
+-- the open-ended state between documents, after one that was left open or not
+abbrev open_ended_of : Bool → ℕ
+open_ended_of true = 1
+open_ended_of false = 0
 
-mark_tells : (mark : ℕ) (left : Bool) → mark ≡ mark_of left → not (mark == 0) ≡ left
-mark_tells mark left e = ap (λ m. not (m == 0)) e ∙ by left
+open_ended_tells : (open_ended : ℕ) (left : Bool) → open_ended ≡ open_ended_of left → not (open_ended == 0) ≡ left
+open_ended_tells open_ended left e = ap (λ m. not (m == 0)) e ∙ by left
   where
-    by : (b : Bool) → not (mark_of b == 0) ≡ b
+    by : (b : Bool) → not (open_ended_of b == 0) ≡ b
     by true = refl
     by false = refl
 
-mark_kept : (mark : ℕ) (left : Bool) → mark ≡ mark_of left → (mark == 2) ≡ false
-mark_kept mark left e = ap (λ m. m == 2) e ∙ by left
+open_ended_kept : (open_ended : ℕ) (left : Bool) → open_ended ≡ open_ended_of left → (open_ended == 2) ≡ false
+open_ended_kept open_ended left e = ap (λ m. m == 2) e ∙ by left
   where
-    by : (b : Bool) → (mark_of b == 2) ≡ false
+    by : (b : Bool) → (open_ended_of b == 2) ≡ false
     by true = refl
     by false = refl
 
@@ -44,36 +45,36 @@ explicit true b d = refl
 explicit false true d = refl
 explicit false false d = refl
 
--- documents that were laid after a text
-record Between (breaks12 : Bool) (text : Text) (tokens : List Token) (left : Bool) (laid : PiecesLaid) : Type 0 where
-  says : Says breaks12 anything (text ++ text_of laid.pieces) tokens
-  mark : laid.standing.mark ≡ mark_of left
+-- documents that were rendered after a text
+record Between (breaks12 : Bool) (text : Text) (tokens : List Token) (left : Bool) (rendered : RenderedPieces) : Type 0 where
+  says : Says breaks12 anything (text ++ text_of rendered.pieces) tokens
+  open_ended : rendered.standing.open_ended ≡ open_ended_of left
 
 module _ (breaks12 : Bool) (s : Effective) (wide : 2 ≤ s.indent) where
-  closing_if : (b : Bool) (cursor : Cursor) → Says breaks12 anything (laid_if b closing_mark_laid cursor).text (end_tokens b)
+  closing_if : (b : Bool) (cursor : Cursor) → Says breaks12 anything (render_if b render_closing_marker cursor).text (end_tokens b)
   closing_if true cursor = closing_says breaks12 cursor
   closing_if false cursor = says_nothing breaks12
 
-  mark_if : (b : Bool) (cursor : Cursor) → b ≡ true → Says breaks12 anything (laid_if b (document_mark_laid true) cursor).text (document_begins ∷ [])
-  mark_if true cursor e = mark_says breaks12 cursor
-  mark_if false cursor e = absurd (false≢true e)
+  marker_if : (b : Bool) (cursor : Cursor) → b ≡ true → Says breaks12 anything (render_if b (render_document_marker true) cursor).text (document_begins ∷ [])
+  marker_if true cursor e = marker_says breaks12 cursor
+  marker_if false cursor e = absurd (false≢true e)
 
-  head_says : (first left : Bool) (x : Document) (standing : Standing) → DocumentOk x → standing.mark ≡ mark_of left
-      → Says breaks12 anything (document_start_laid (in_canonical s) first x.start standing).text
+  head_says : (first left : Bool) (x : Document) (standing : Standing) → DocumentOk x → standing.open_ended ≡ open_ended_of left
+      → Says breaks12 anything (render_document_start (in_canonical s) first x.start standing).text
       (((end_tokens (has_directives x.start && left) ++ version_tokens x.start.version) ++ tag_line_tokens x.start.directives) ++ document_begins ∷ [])
   head_says first left x standing ok e =
       let some = has_directives x.start in
-      let closing = laid_if (some && not (standing.mark == 0)) closing_mark_laid standing.cursor in
-      let version = version_laid x.start.version closing.cursor in
-      let lines = tag_directives_laid s.portable x.start.directives version.cursor in
+      let closing = render_if (some && not (standing.open_ended == 0)) render_closing_marker standing.cursor in
+      let version = render_version x.start.version closing.cursor in
+      let lines = render_tag_directives s.portable x.start.directives version.cursor in
       says_tokens (((end_tokens (some && left) ++ version_tokens x.start.version) ++ tag_line_tokens x.start.directives) ++ document_begins ∷ [])
       (ap (λ b. ((end_tokens (some && b) ++ version_tokens x.start.version) ++ tag_line_tokens x.start.directives) ++ document_begins ∷ [])
-      (mark_tells standing.mark left e))
+      (open_ended_tells standing.open_ended left e))
       (says_after
       (says_after
-      (says_after (closing_if (some && not (standing.mark == 0)) standing.cursor) (version_says breaks12 x.start.version closing.cursor ok.version))
+      (says_after (closing_if (some && not (standing.open_ended == 0)) standing.cursor) (version_says breaks12 x.start.version closing.cursor ok.version))
       (directives_say breaks12 s.portable x.start.directives version.cursor ok.directives))
-      (mark_if (is_explicit true first x.start) lines.cursor (explicit (not x.start.implicit) (not first) some)))
+      (marker_if (is_explicit true first x.start) lines.cursor (explicit (not x.start.implicit) (not first) some)))
 
   end_says : (implicit : Bool) (standing : Standing) → Says breaks12 anything (document_end_piece implicit standing).piece.lead (end_tokens (not implicit))
   end_says true standing = says_white breaks12 (new_line 0 standing.cursor).text (new_line-white 0 standing.cursor)
@@ -88,20 +89,21 @@ module _ (breaks12 : Bool) (s : Effective) (wide : 2 ≤ s.indent) where
   end_opens true standing e = line_opens standing.cursor e
   end_opens false standing e =
       let line = new_line 0 standing.cursor in
-      opens_append line.text (closing_mark_laid line.cursor).text (line_opens standing.cursor e)
+      opens_append line.text (render_closing_marker line.cursor).text (line_opens standing.cursor e)
 
-  end_mark : (implicit : Bool) (standing : Standing) → standing.mark ≡ 0 → (document_end_piece implicit standing).standing.mark ≡ mark_of implicit
-  end_mark true standing e = ap (λ m. if m == 0 then 1 else m) e
-  end_mark false standing e = refl
+  end_open_ended : (implicit : Bool) (standing : Standing) → standing.open_ended ≡ 0
+      → (document_end_piece implicit standing).standing.open_ended ≡ open_ended_of implicit
+  end_open_ended true standing e = ap (λ m. if m == 0 then 1 else m) e
+  end_open_ended false standing e = refl
 
   document_says : (x : Document) (first left : Bool) (text : Text) (tokens : List Token) (standing : Standing) → Says breaks12 anything text tokens
-      → standing.mark ≡ mark_of left → DocumentOk x
-      → Between breaks12 text (tokens ++ document_tokens s.portable left x) x.end_implicit (document_laid (in_canonical s) first x standing)
+      → standing.open_ended ≡ open_ended_of left → DocumentOk x
+      → Between breaks12 text (tokens ++ document_tokens s.portable left x) x.end_implicit (render_document (in_canonical s) first x standing)
   document_says x first left text tokens standing says e ok =
       let own = x.start.directives in
-      let head = document_start_laid (in_canonical s) first x.start standing in
+      let head = render_document_start (in_canonical s) first x.start standing in
       let start = document_start_piece (in_canonical s) first x.start standing in
-      let node = node_laid x.root (in_canonical s) (directives_in_force own) root_place start.standing in
+      let node = render_node x.root (in_canonical s) (directives_in_force own) root_place start.standing in
       let end = document_end_piece x.end_implicit node.standing in
       let h = ((end_tokens (has_directives x.start && left) ++ version_tokens x.start.version) ++ tag_line_tokens own) ++ document_begins ∷ [] in
       let n = node_tokens s.portable x.root own in
@@ -120,7 +122,7 @@ module _ (breaks12 : Bool) (s : Effective) (wide : 2 ≤ s.indent) where
             ∙ ap (λ u. u ++ text_of (end.piece ∷ [])) (more_text text (start.piece ∷ []) node.pieces)
             ∙ ap (λ u. ((text ++ text_of (start.piece ∷ [])) ++ text_of node.pieces) ++ u) (end_text x.end_implicit node.standing))
             all);
-        mark = end_mark x.end_implicit node.standing after.mark;
+        open_ended = end_open_ended x.end_implicit node.standing after.open_ended;
       }
     where
       end_text : (implicit : Bool) (standing : Standing)
@@ -129,24 +131,24 @@ module _ (breaks12 : Bool) (s : Effective) (wide : 2 ≤ s.indent) where
       end_text false standing = lead_text (document_end_piece false standing).piece.lead
 
   documents_say : (x : Documents) (text : Text) (tokens : List Token) (standing : Standing) → Says breaks12 anything text tokens
-      → standing.mark ≡ 0 → DocumentsOk x
-      → Between breaks12 text (tokens ++ documents_tokens s.portable x) (left_open x) (documents_laid (in_canonical s) x standing)
+      → standing.open_ended ≡ 0 → DocumentsOk x
+      → Between breaks12 text (tokens ++ documents_tokens s.portable x) (left_open x) (render_documents (in_canonical s) x standing)
   documents_say no_documents text tokens standing says e ok = record {
     says = says_text (text ++ []) (append-nil text) (says_tokens (tokens ++ []) (sym (append-nil tokens)) says);
-    mark = e;
+    open_ended = e;
   }
   documents_say (documents_and before last) text tokens standing says e ok =
-      let front = documents_laid (in_canonical s) before standing in
-      let said = documents_say before text tokens standing says e ok.0 in
-      let back = document_laid (in_canonical s) (has_no_documents before) last front.standing in
-      let more = document_says last (has_no_documents before) (left_open before) (text ++ text_of front.pieces)
-      (tokens ++ documents_tokens s.portable before) front.standing said.says said.mark ok.1 in
+      let prefix = render_documents (in_canonical s) before standing in
+      let parsed = documents_say before text tokens standing says e ok.0 in
+      let back = render_document (in_canonical s) (has_no_documents before) last prefix.standing in
+      let more = document_says last (has_no_documents before) (left_open before) (text ++ text_of prefix.pieces)
+      (tokens ++ documents_tokens s.portable before) prefix.standing parsed.says parsed.open_ended ok.1 in
       record {
         says =
             says_tokens (tokens ++ documents_tokens s.portable (documents_and before last))
             (append_assoc tokens (documents_tokens s.portable before) (document_tokens s.portable (left_open before) last))
-            (says_text (text ++ text_of (front.pieces ++ back.pieces)) (more_text text front.pieces back.pieces) more.says);
-        mark = more.mark;
+            (says_text (text ++ text_of (prefix.pieces ++ back.pieces)) (more_text text prefix.pieces back.pieces) more.says);
+        open_ended = more.open_ended;
       }
 
   -- The text of a stream says its documents.
@@ -154,12 +156,12 @@ module _ (breaks12 : Bool) (s : Effective) (wide : 2 ≤ s.indent) where
       → Says breaks12 anything (text_of (layout (in_canonical s) stream)) (documents_tokens s.portable stream.documents)
   stream_says stream ok =
       let start = stream_start_piece first_standing in
-      let inner = documents_laid (in_canonical s) stream.documents start.standing in
-      let said = documents_say stream.documents [] [] start.standing (says_nothing breaks12) refl ok in
+      let inner = render_documents (in_canonical s) stream.documents start.standing in
+      let parsed = documents_say stream.documents [] [] start.standing (says_nothing breaks12) refl ok in
       let end = stream_end_piece inner.standing in
       let none : text_of (end.piece ∷ []) ≡ [] =
-      lead_text end.piece.lead ∙ ap (λ b. (laid_if b closing_mark_laid inner.standing.cursor).text)
-      (mark_kept inner.standing.mark (left_open stream.documents) said.mark) in
+      lead_text end.piece.lead ∙ ap (λ b. (render_if b render_closing_marker inner.standing.cursor).text)
+      (open_ended_kept inner.standing.open_ended (left_open stream.documents) parsed.open_ended) in
       says_text (text_of (((start.piece ∷ []) ++ inner.pieces) ++ end.piece ∷ []))
       (more_text [] ((start.piece ∷ []) ++ inner.pieces) (end.piece ∷ []) ∙ ap (λ u. text_of inner.pieces ++ u) none ∙ append-nil (text_of inner.pieces))
-      said.says
+      parsed.says

@@ -6,10 +6,10 @@ use Rattle.std.specs.Str.{all_scalars}
 use Rattle.std.specs.Prelude.{Bool, true, false, List, [], ◌∷◌, ◌++◌, ◌&&◌, ◌||◌, ◌-◌, ◌==◌, not, replicate, if◌then◌else◌}
 use Rattle.yaml_base.specs.Characters.{Text, is_alpha, is_space, space, line_feed}
 use Rattle.yaml_base.specs.scalars.Analysis.{begins_with}
-use Rattle.yaml_base.specs.LineBreaks.{is_laid_text}
+use Rattle.yaml_base.specs.LineBreaks.{is_rendered_text}
 use Rattle.yaml_base.specs.Cursor.{Cursor, breaks_line, new_line, indicator, space_if}
 use Rattle.yaml_base.specs.reading.CanonicalTokens.{Token, free, tokens_from}
-use Rattle.yaml_base.proofs.BreakLaws.{laid-append}
+use Rattle.yaml_base.proofs.BreakLaws.{rendered-append}
 
 -- what may follow a text: anything, no letter of a name, or a space alone
 pub data Demand : Type 0 where
@@ -24,7 +24,7 @@ Meets space_next rest = begins_with is_space rest ≡ true
 
 pub record Says (breaks12 : Bool) (demand : Demand) (text : Text) (tokens : List Token) : Type 0 where
   pub scalars : all_scalars text ≡ true
-  pub laid : is_laid_text text ≡ true
+  pub rendered : is_rendered_text text ≡ true
   pub reads : (rest : Text) → Meets demand rest → tokens_from breaks12 free (text ++ rest) ≡ tokens ++ tokens_from breaks12 free rest
 
 -- a text meets a demand, whatever follows it
@@ -49,7 +49,7 @@ pub says_then : {breaks12 : Bool} {d e : Demand} {a b : Text} {j k : List Token}
 says_then {breaks12} {d} {e} {a} {b} {j} {k} first opens second =
     record {
       scalars = scalars-append a b first.scalars second.scalars;
-      laid = laid-append a b first.laid second.laid;
+      rendered = rendered-append a b first.rendered second.rendered;
       reads = λ rest meets.
           ap (tokens_from breaks12 free) (append_assoc a b rest)
           ∙ first.reads (b ++ rest) (opens.meets rest)
@@ -69,10 +69,10 @@ says_tokens {breaks12} {d} {a} k e says = subst (λ t. Says breaks12 d a t) e sa
 
 -- what may be followed by anything may be followed by what meets a demand
 pub says_less : {breaks12 : Bool} {a : Text} {k : List Token} (d : Demand) → Says breaks12 anything a k → Says breaks12 d a k
-says_less d says = record { scalars = says.scalars; laid = says.laid; reads = λ rest meets. says.reads rest tt }
+says_less d says = record { scalars = says.scalars; rendered = says.rendered; reads = λ rest meets. says.reads rest tt }
 
 pub says_nothing : (breaks12 : Bool) → Says breaks12 anything [] []
-says_nothing breaks12 = record { scalars = refl; laid = refl; reads = λ rest meets. refl }
+says_nothing breaks12 = record { scalars = refl; rendered = refl; reads = λ rest meets. refl }
 
 -- Spaces and line feeds say nothing.
 abbrev pub is_white : Text → Bool
@@ -92,8 +92,8 @@ says_white breaks12 (c ∷ text) h =
     let p : ((c == space || c == line_feed) ≡ true) × (is_white text ≡ true) = and_parts _ _ h in
     let more = says_white breaks12 text p.1 in
     white-cases c (λ x. Says breaks12 anything (x ∷ text) []) p.0
-    (record { scalars = more.scalars; laid = more.laid; reads = more.reads })
-    (record { scalars = more.scalars; laid = more.laid; reads = more.reads })
+    (record { scalars = more.scalars; rendered = more.rendered; reads = more.reads })
+    (record { scalars = more.scalars; rendered = more.rendered; reads = more.reads })
 
 pub white-opens : (a b : Text) → is_white a ≡ true → Opens name_ends b → Opens name_ends (a ++ b)
 white-opens [] b h o = o
@@ -119,15 +119,16 @@ new_line-white at cursor = by (breaks_line at cursor)
     by true = spaces-white at
     by false = spaces-white (at - cursor.column)
 
--- A sign after a space or none.
-pub indicator_says : {breaks12 : Bool} {d : Demand} {sign : Text} {k : List Token} (need whitespace indention : Bool) (cursor : Cursor) → Says breaks12 d sign k
-    → Says breaks12 d (indicator sign need whitespace indention cursor).text k
+-- An indicator after a space or none.
+pub indicator_says : {breaks12 : Bool} {d : Demand} {symbol : Text} {k : List Token} (need whitespace indention : Bool) (cursor : Cursor)
+    → Says breaks12 d symbol k
+    → Says breaks12 d (indicator symbol need whitespace indention cursor).text k
 indicator_says {breaks12} need whitespace indention cursor says =
     says_after (says_white breaks12 (space_if need cursor) (space_if-white need cursor)) says
 
-pub indicator_opens : (sign : Text) (need whitespace indention : Bool) (cursor : Cursor) → Opens name_ends sign
-    → Opens name_ends (indicator sign need whitespace indention cursor).text
-indicator_opens sign need whitespace indention cursor o = white-opens (space_if need cursor) sign (space_if-white need cursor) o
+pub indicator_opens : (symbol : Text) (need whitespace indention : Bool) (cursor : Cursor) → Opens name_ends symbol
+    → Opens name_ends (indicator symbol need whitespace indention cursor).text
+indicator_opens symbol need whitespace indention cursor o = white-opens (space_if need cursor) symbol (space_if-white need cursor) o
 
 pub and_false : (a : Bool) → (a && false) ≡ false
 and_false true = refl

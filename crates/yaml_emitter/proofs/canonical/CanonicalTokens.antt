@@ -1,4 +1,4 @@
--- The tokens of a tree's canonical text, as they are laid: a comma or an opening bracket stands before each entry.
+-- The tokens of a tree's canonical text, as they are rendered: a comma or an opening bracket stands before each entry.
 use Rattle.std.specs.Prelude.{Bool, true, false, Option, None, Some, List, [], ◌∷◌, ◌++◌, ◌&&◌, not, codes}
 use Rattle.yaml_base.specs.Characters.{Text}
 use Rattle.yaml_base.specs.Event.{Version, TagDirective}
@@ -22,10 +22,10 @@ tag_tokens portable own None false = []
 abbrev pub properties_tokens : (portable : Bool) → List TagDirective → Option Text → Option Text → (bare : Bool) → List Token
 properties_tokens portable own anchor tag bare = anchor_tokens anchor ++ tag_tokens portable own tag bare
 
--- the sign before an entry, or before the end
-abbrev pub entry_sign : Token → (first : Bool) → Token
-entry_sign opening true = opening
-entry_sign opening false = comma
+-- the indicator before an entry, or before the end
+abbrev pub entry_indicator : Token → (first : Bool) → Token
+entry_indicator opening true = opening
+entry_indicator opening false = comma
 
 abbrev mutual
   pub node_tokens : (portable : Bool) → Node → List TagDirective → List Token
@@ -34,20 +34,20 @@ abbrev mutual
       properties_tokens portable own content.anchor content.tag (not content.quoted_implicit) ++ scalar_token content.value ∷ []
   node_tokens portable (sequence_node start items) own =
       (properties_tokens portable own start.anchor start.tag false ++ nodes_tokens portable items own)
-      ++ (entry_sign opens_sequence (has_no_nodes items) ∷ closes_sequence ∷ [])
+      ++ (entry_indicator opens_sequence (has_no_nodes items) ∷ closes_sequence ∷ [])
   node_tokens portable (mapping_node start pairs) own =
       (properties_tokens portable own start.anchor start.tag false ++ pairs_tokens portable pairs own)
-      ++ (entry_sign opens_mapping (has_no_pairs pairs) ∷ closes_mapping ∷ [])
+      ++ (entry_indicator opens_mapping (has_no_pairs pairs) ∷ closes_mapping ∷ [])
 
   pub nodes_tokens : (portable : Bool) → Nodes → List TagDirective → List Token
   nodes_tokens portable no_nodes own = []
   nodes_tokens portable (nodes_and items last) own =
-      nodes_tokens portable items own ++ (entry_sign opens_sequence (has_no_nodes items) ∷ node_tokens portable last own)
+      nodes_tokens portable items own ++ (entry_indicator opens_sequence (has_no_nodes items) ∷ node_tokens portable last own)
 
   pub pairs_tokens : (portable : Bool) → Pairs → List TagDirective → List Token
   pairs_tokens portable no_pairs own = []
   pairs_tokens portable (pairs_and pairs key value) own =
-      (pairs_tokens portable pairs own ++ (entry_sign opens_mapping (has_no_pairs pairs) ∷ key_token ∷ node_tokens portable key own))
+      (pairs_tokens portable pairs own ++ (entry_indicator opens_mapping (has_no_pairs pairs) ∷ key_token ∷ node_tokens portable key own))
       ++ (value_token ∷ node_tokens portable value own)
 
 abbrev pub version_tokens : Option Version → List Token

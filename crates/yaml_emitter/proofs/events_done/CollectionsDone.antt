@@ -6,8 +6,8 @@ use Rattle.yaml_base.specs.Cursor.{Cursor}
 use Rattle.yaml_base.specs.Settings.{Effective}
 use Rattle.yaml_base.specs.Event.{TagDirective, Collection, CollectionStyle}
 use Rattle.yaml_base.specs.Layout.{Place, is_key, is_simple_collection, start_piece, end_piece, is_written_in_flow, entry_place, entries_column}
-use Rattle.yaml_base.specs.Refusal.{name_or_tag_fault, fault_if, most_open}
-use Rattle.yaml_base.specs.Output.{hands_out}
+use Rattle.yaml_base.specs.Refusal.{name_or_tag_fault, some_if, most_open}
+use Rattle.yaml_base.specs.Output.{flushes}
 use Rattle.yaml_base.specs.Steps.{Frame, Stage, at_node, next_place, stage_after, stage_refusal, step, node_allowed, is_first}
 use Rattle.yaml_base.specs.declared.errors.yaml_error_t.{yaml_error_t}
 use Rattle.yaml_pen.specs.Page.{Page}
@@ -16,7 +16,7 @@ use Rattle.yaml_emitter.specs.State.{MachineState}
 use Rattle.yaml_emitter.specs.NodeEvents.{start_event, end_event, brackets_of, first_entry, starts_undented}
 use Rattle.yaml_emitter.specs.WrittenPieces.{piece_at}
 use Rattle.yaml_emitter.specs.Processing.{Processed}
-use Rattle.yaml_pen.specs.Page.{encoded, told}
+use Rattle.yaml_pen.specs.Page.{encoded, result_of_error}
 use Rattle.yaml_base.specs.declared.errors.yaml_error_t.TheVariants.{ExpectedNode, TooDeep, Memory}
 use Rattle.yaml_emitter.proofs.events_done.ProcessedBy.{IsInStream, processed_after_writing, processed_cut_at, processed_refused_at, processed_written_at}
 
@@ -42,13 +42,13 @@ start_simple s directives start empty place = is_key place.role && (not s.canoni
 start_refusal : (canonical : Bool) (directives : List TagDirective) (frames : List Frame) (mapping : Bool) (start : Collection) (room : Bool)
     → name_or_tag_fault canonical (start_event mapping start) ≡ None
     → nat_lt (length frames) most_open ≡ room
-    → stage_refusal canonical (at_node directives frames) (start_event mapping start) ≡ fault_if (not room) TooDeep
+    → stage_refusal canonical (at_node directives frames) (start_event mapping start) ≡ some_if (not room) TooDeep
 start_refusal canonical directives frames true start room none is =
-    ap (λ (o : Option yaml_error_t). option_or o (fault_if (not (nat_lt (length frames) most_open)) TooDeep)) none
-    ∙ ap (λ (b : Bool). fault_if (not b) TooDeep) is
+    ap (λ (o : Option yaml_error_t). option_or o (some_if (not (nat_lt (length frames) most_open)) TooDeep)) none
+    ∙ ap (λ (b : Bool). some_if (not b) TooDeep) is
 start_refusal canonical directives frames false start room none is =
-    ap (λ (o : Option yaml_error_t). option_or o (fault_if (not (nat_lt (length frames) most_open)) TooDeep)) none
-    ∙ ap (λ (b : Bool). fault_if (not b) TooDeep) is
+    ap (λ (o : Option yaml_error_t). option_or o (some_if (not (nat_lt (length frames) most_open)) TooDeep)) none
+    ∙ ap (λ (b : Bool). some_if (not b) TooDeep) is
 
 pub start_refused : (before : MachineState) (directives : List TagDirective) (frames : List Frame) (mapping : Bool) (start : Collection) (empty : Bool)
     → before.stage ≡ at_node directives frames
@@ -61,19 +61,22 @@ start_refused before directives frames mapping start empty at none full =
 start_wrote : (before : MachineState) (directives : List TagDirective) (frames : List Frame) (mapping : Bool) (start : Collection) (empty simple : Bool)
     (place : Place) (page : Page) (answer : Result (Unit {0}) yaml_error_t)
     → place ≡ next_place frames → simple ≡ start_simple before.settings directives start empty place
-    → Wrote (piece_at (start_piece before.settings directives place simple start) before.mark) before.page page answer
-    → Wrote (piece_at (λ standing. (step before.settings (at_node directives frames) (start_event mapping start) empty standing).laid) before.mark) before.page
+    → Wrote (piece_at (start_piece before.settings directives place simple start) before.open_ended) before.page page answer
+    → Wrote (piece_at (λ standing. (step before.settings (at_node directives frames)
+    (start_event mapping start) empty standing).rendered) before.open_ended) before.page
     page answer
 start_wrote before directives frames mapping start empty simple place page answer place_is simple_is wrote =
     by mapping
-    (subst (λ (p : Place). Wrote (piece_at (start_piece before.settings directives p (start_simple before.settings directives start empty p) start) before.mark)
+    (subst (λ (p : Place). Wrote (piece_at (start_piece before.settings directives p
+    (start_simple before.settings directives start empty p) start) before.open_ended)
     before.page page answer) place_is
-    (subst (λ (b : Bool). Wrote (piece_at (start_piece before.settings directives place b start) before.mark) before.page page answer) simple_is wrote))
+    (subst (λ (b : Bool). Wrote (piece_at (start_piece before.settings directives place b start) before.open_ended) before.page page answer) simple_is wrote))
   where
     by : (mapping : Bool) → Wrote (piece_at
         (start_piece before.settings directives (next_place frames) (start_simple before.settings directives start empty (next_place frames)) start)
-        before.mark) before.page page answer
-        → Wrote (piece_at (λ standing. (step before.settings (at_node directives frames) (start_event mapping start) empty standing).laid) before.mark)
+        before.open_ended) before.page page answer
+        → Wrote (piece_at (λ standing. (step before.settings (at_node directives frames)
+        (start_event mapping start) empty standing).rendered) before.open_ended)
         before.page page answer
     by true w = w
     by false w = w
@@ -83,14 +86,14 @@ pub start_cut : (before : MachineState) (directives : List TagDirective) (frames
     → before.stage ≡ at_node directives frames → name_or_tag_fault before.given.canonical (start_event mapping start) ≡ None
     → nat_lt (length frames) most_open ≡ true
     → place ≡ next_place frames → simple ≡ start_simple before.settings directives start empty place
-    → Wrote (piece_at (start_piece before.settings directives place simple start) before.mark) before.page page (Err error)
+    → Wrote (piece_at (start_piece before.settings directives place simple start) before.open_ended) before.page page (Err error)
     → Processed (start_event mapping start) empty before (record before { page = page }) (Err error)
 start_cut before directives frames mapping start empty simple place page error at none room place_is simple_is wrote =
     processed_cut_at (start_event mapping start) empty before (record before { page = page }) (at_node directives frames) error at refl refl
     (start_refusal before.given.canonical directives frames mapping start true none room)
     (start_wrote before directives frames mapping start empty simple place page (Err error) place_is simple_is wrote)
 
-told_well : (given : Option yaml_error_t) → Ok tt ≡ told given → given ≡ None
+told_well : (given : Option yaml_error_t) → Ok tt ≡ result_of_error given → given ≡ None
 told_well None is = refl
 told_well (Some other) is = cc
 
@@ -100,7 +103,7 @@ pub start_unkept : (before : MachineState) (directives : List TagDirective) (fra
     → before.stage ≡ at_node directives frames → name_or_tag_fault before.given.canonical (start_event mapping start) ≡ None
     → nat_lt (length frames) most_open ≡ true
     → place ≡ next_place frames → simple ≡ start_simple before.settings directives start empty place
-    → Wrote (piece_at (start_piece before.settings directives place simple start) before.mark) before.page page (Ok tt)
+    → Wrote (piece_at (start_piece before.settings directives place simple start) before.open_ended) before.page page (Ok tt)
     → Processed (start_event mapping start) empty before (record before { stage = after; page = page }) (Err Memory)
 start_unkept before directives frames mapping start empty simple place after page at none room place_is simple_is wrote =
     let well = told_well page.error wrote.answered in
@@ -115,7 +118,8 @@ opened s mapping in_flow simple place cursor =
       simple = simple;
     }
 
-pub start_written : (before : MachineState) (directives : List TagDirective) (frames : List Frame) (mapping : Bool) (start : Collection) (empty simple in_flow : Bool)
+pub start_written : (before : MachineState) (directives : List TagDirective) (frames : List Frame) (mapping : Bool) (start : Collection)
+    (empty simple in_flow : Bool)
     (place : Place) (frame : Frame) (after : Stage) (page : Page)
     → before.stage ≡ at_node directives frames → name_or_tag_fault before.given.canonical (start_event mapping start) ≡ None
     → nat_lt (length frames) most_open ≡ true
@@ -123,7 +127,7 @@ pub start_written : (before : MachineState) (directives : List TagDirective) (fr
     → in_flow ≡ is_written_in_flow before.settings place start empty
     → frame ≡ opened before.settings mapping in_flow simple place page.cursor
     → after ≡ at_node directives (frame ∷ frames)
-    → Wrote (piece_at (start_piece before.settings directives place simple start) before.mark) before.page page (Ok tt)
+    → Wrote (piece_at (start_piece before.settings directives place simple start) before.open_ended) before.page page (Ok tt)
     → Processed (start_event mapping start) empty before (record before { stage = after; page = page }) (Ok tt)
 start_written before directives frames mapping start empty simple in_flow place frame after page at none room place_is simple_is in_flow_is frame_is after_is
     wrote =
@@ -138,29 +142,29 @@ start_written before directives frames mapping start empty simple in_flow place 
     processed_written_at (start_event mapping start) empty before (record before { stage = after; page = page }) (at_node directives frames) at
     (in_stream mapping) refl
     (start_refusal before.given.canonical directives frames mapping start true none room) refl
-    (after_is ∙ ap (λ (f : Frame). at_node directives (f ∷ frames)) framed ∙ stage_by mapping) (mark_by mapping) whole (hands mapping)
+    (after_is ∙ ap (λ (f : Frame). at_node directives (f ∷ frames)) framed ∙ stage_by mapping) (open_ended_by mapping) whole (hands mapping)
   where
     in_stream : (mapping : Bool) → IsInStream (start_event mapping start)
     in_stream true = tt
     in_stream false = tt
 
-    hands : (mapping : Bool) → hands_out (start_event mapping start) ≡ true → page.output ≡ encoded page
+    hands : (mapping : Bool) → flushes (start_event mapping start) ≡ true → page.output ≡ encoded page
     hands true is = cc
     hands false is = cc
 
-    mark_by : (mapping : Bool) → before.mark
+    open_ended_by : (mapping : Bool) → before.open_ended
         ≡ (step before.settings (at_node directives frames) (start_event mapping start) empty
-        (record { cursor = before.page.cursor; mark = before.mark })).laid.standing.mark
-    mark_by true = refl
-    mark_by false = refl
+        (record { cursor = before.page.cursor; open_ended = before.open_ended })).rendered.standing.open_ended
+    open_ended_by true = refl
+    open_ended_by false = refl
 
     stage_by : (mapping : Bool) → at_node directives
         (opened before.settings mapping (is_written_in_flow before.settings (next_place frames) start empty)
         (start_simple before.settings directives start empty (next_place frames)) (next_place frames)
         (step before.settings (at_node directives frames) (start_event mapping start) empty
-        (record { cursor = before.page.cursor; mark = before.mark })).laid.standing.cursor ∷ frames)
+        (record { cursor = before.page.cursor; open_ended = before.open_ended })).rendered.standing.cursor ∷ frames)
         ≡ (step before.settings (at_node directives frames) (start_event mapping start) empty
-        (record { cursor = before.page.cursor; mark = before.mark })).stage
+        (record { cursor = before.page.cursor; open_ended = before.open_ended })).stage
     stage_by true = refl
     stage_by false = refl
 
@@ -173,34 +177,41 @@ may_end_here frames frame outer mapping false parts is answered = cc
 
 end_refusal : (canonical : Bool) (directives : List TagDirective) (frames : List Frame) (mapping allowed : Bool)
     → node_allowed frames (end_event mapping) ≡ allowed
-    → stage_refusal canonical (at_node directives frames) (end_event mapping) ≡ option_or (fault_if (not allowed) ExpectedNode) None
-end_refusal canonical directives frames true allowed is = ap (λ (b : Bool). option_or (fault_if (not b) ExpectedNode) None) is
-end_refusal canonical directives frames false allowed is = ap (λ (b : Bool). option_or (fault_if (not b) ExpectedNode) None) is
+    → stage_refusal canonical (at_node directives frames) (end_event mapping) ≡ option_or (some_if (not allowed) ExpectedNode) None
+end_refusal canonical directives frames true allowed is = ap (λ (b : Bool). option_or (some_if (not b) ExpectedNode) None) is
+end_refusal canonical directives frames false allowed is = ap (λ (b : Bool). option_or (some_if (not b) ExpectedNode) None) is
 
-end_wrote_at : (before : MachineState) (directives : List TagDirective) (frame : Frame) (outer : List Frame) (mapping empty : Bool) (column : Option ℕ) (page : Page)
+end_wrote_at : (before : MachineState) (directives : List TagDirective) (frame : Frame) (outer : List Frame) (mapping empty : Bool) (column : Option ℕ)
+    (page : Page)
     (answer : Result (Unit {0}) yaml_error_t)
     → column ≡ (next_place outer).column
-    → Wrote (piece_at (end_piece before.settings (brackets_of mapping) frame.place.in_flow (is_first frame.place.role) column) before.mark) before.page page
+    → Wrote (piece_at (end_piece before.settings (brackets_of mapping) frame.place.in_flow
+    (is_first frame.place.role) column) before.open_ended) before.page page
     answer
-    → Wrote (piece_at (λ standing. (step before.settings (at_node directives (frame ∷ outer)) (end_event mapping) empty standing).laid) before.mark) before.page
+    → Wrote (piece_at (λ standing. (step before.settings (at_node directives (frame ∷ outer))
+    (end_event mapping) empty standing).rendered) before.open_ended) before.page
     page answer
 end_wrote_at before directives frame outer mapping empty column page answer column_is wrote =
     by mapping (subst (λ (c : Option ℕ).
-    Wrote (piece_at (end_piece before.settings (brackets_of mapping) frame.place.in_flow (is_first frame.place.role) c) before.mark) before.page page
+    Wrote (piece_at (end_piece before.settings (brackets_of mapping) frame.place.in_flow (is_first frame.place.role) c) before.open_ended) before.page page
     answer) column_is wrote)
   where
     by : (mapping : Bool) → Wrote (piece_at
-        (end_piece before.settings (brackets_of mapping) frame.place.in_flow (is_first frame.place.role) (next_place outer).column) before.mark) before.page
+        (end_piece before.settings (brackets_of mapping) frame.place.in_flow (is_first frame.place.role)
+        (next_place outer).column) before.open_ended) before.page
         page answer
-        → Wrote (piece_at (λ standing. (step before.settings (at_node directives (frame ∷ outer)) (end_event mapping) empty standing).laid) before.mark)
+        → Wrote (piece_at (λ standing. (step before.settings (at_node directives (frame ∷ outer))
+        (end_event mapping) empty standing).rendered) before.open_ended)
         before.page page answer
     by true w = w
     by false w = w
 
-pub end_cut : (before : MachineState) (directives : List TagDirective) (frame : Frame) (outer : List Frame) (mapping empty : Bool) (column : Option ℕ) (after : Stage)
+pub end_cut : (before : MachineState) (directives : List TagDirective) (frame : Frame) (outer : List Frame) (mapping empty : Bool) (column : Option ℕ)
+    (after : Stage)
     (page : Page) (error : yaml_error_t)
     → before.stage ≡ at_node directives (frame ∷ outer) → node_allowed (frame ∷ outer) (end_event mapping) ≡ true → column ≡ (next_place outer).column
-    → Wrote (piece_at (end_piece before.settings (brackets_of mapping) frame.place.in_flow (is_first frame.place.role) column) before.mark) before.page page
+    → Wrote (piece_at (end_piece before.settings (brackets_of mapping) frame.place.in_flow
+    (is_first frame.place.role) column) before.open_ended) before.page page
     (Err error)
     → Processed (end_event mapping) empty before (record before { stage = after; page = page }) (Err error)
 end_cut before directives frame outer mapping empty column after page error at allowed column_is wrote =
@@ -212,31 +223,32 @@ pub end_written : (before : MachineState) (directives : List TagDirective) (fram
     (after : Stage) (page : Page)
     → before.stage ≡ at_node directives (frame ∷ outer) → node_allowed (frame ∷ outer) (end_event mapping) ≡ true → column ≡ (next_place outer).column
     → after ≡ stage_after directives outer frame.simple
-    → Wrote (piece_at (end_piece before.settings (brackets_of mapping) frame.place.in_flow (is_first frame.place.role) column) before.mark) before.page page
+    → Wrote (piece_at (end_piece before.settings (brackets_of mapping) frame.place.in_flow
+    (is_first frame.place.role) column) before.open_ended) before.page page
     (Ok tt)
     → Processed (end_event mapping) empty before (record before { stage = after; page = page }) (Ok tt)
 end_written before directives frame outer mapping empty column after page at allowed column_is after_is wrote =
     processed_written_at (end_event mapping) empty before (record before { stage = after; page = page }) (at_node directives (frame ∷ outer)) at
     (in_stream mapping) refl
-    (end_refusal before.given.canonical directives (frame ∷ outer) mapping true allowed) refl (after_is ∙ stage_by mapping) (mark_by mapping)
+    (end_refusal before.given.canonical directives (frame ∷ outer) mapping true allowed) refl (after_is ∙ stage_by mapping) (open_ended_by mapping)
     (end_wrote_at before directives frame outer mapping empty column page (Ok tt) column_is wrote) (hands mapping)
   where
     in_stream : (mapping : Bool) → IsInStream (end_event mapping)
     in_stream true = tt
     in_stream false = tt
 
-    hands : (mapping : Bool) → hands_out (end_event mapping) ≡ true → page.output ≡ encoded page
+    hands : (mapping : Bool) → flushes (end_event mapping) ≡ true → page.output ≡ encoded page
     hands true is = cc
     hands false is = cc
 
-    mark_by : (mapping : Bool) → before.mark
+    open_ended_by : (mapping : Bool) → before.open_ended
         ≡ (step before.settings (at_node directives (frame ∷ outer)) (end_event mapping) empty
-        (record { cursor = before.page.cursor; mark = before.mark })).laid.standing.mark
-    mark_by true = refl
-    mark_by false = refl
+        (record { cursor = before.page.cursor; open_ended = before.open_ended })).rendered.standing.open_ended
+    open_ended_by true = refl
+    open_ended_by false = refl
 
     stage_by : (mapping : Bool) → stage_after directives outer frame.simple
         ≡ (step before.settings (at_node directives (frame ∷ outer)) (end_event mapping) empty
-        (record { cursor = before.page.cursor; mark = before.mark })).stage
+        (record { cursor = before.page.cursor; open_ended = before.open_ended })).stage
     stage_by true = refl
     stage_by false = refl

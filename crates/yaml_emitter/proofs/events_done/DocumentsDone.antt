@@ -7,8 +7,9 @@ use Rattle.yaml_base.specs.Characters.{Text, is_alpha}
 use Rattle.yaml_base.specs.Event.{Version, TagDirective, DocumentStart, Event, stream_start, stream_end, document_start, document_end, alias, scalar}
 use Rattle.yaml_base.specs.Event.{sequence_start, sequence_end, mapping_start, mapping_end}
 use Rattle.yaml_base.specs.Tags.{anchor_fault, tag_fault, name_fault, version_fault, handle_fault, prefix_fault, directive_fault, next_directive_fault}
-use Rattle.yaml_base.specs.Tags.{directives_fault, directives_fault_after, directives_in_force, gives_handle, is_the_number, last_from, without_last, tag_mark}
-use Rattle.yaml_base.specs.Refusal.{content_fault, properties_fault, name_or_tag_fault, fault_if, begins_collection, most_open}
+use Rattle.yaml_base.specs.Tags.{directives_fault, directives_fault_after, directives_in_force, gives_handle, equals_integer, last_from, without_last}
+use Rattle.yaml_base.specs.Tags.{exclamation_mark}
+use Rattle.yaml_base.specs.Refusal.{content_fault, properties_fault, name_or_tag_fault, some_if, begins_collection, most_open}
 use Rattle.yaml_base.specs.Event.{scalar_tag, collection_tag}
 use Rattle.yaml_base.specs.Layout.{document_start_piece}
 use Rattle.yaml_base.specs.Steps.{Frame, Stage, at_document, at_node, stage_refusal, stage_allows, stage_expected, open_frames}
@@ -39,15 +40,16 @@ if_other_fault false a b first second = second
 version_other : (version : Option Version) → is_other_fault (option_and_then version_fault version) ≡ true
 version_other None = refl
 version_other (Some version) =
-    if_other_fault (is_the_number 1 version.major && (is_the_number 1 version.minor || is_the_number 2 version.minor)) None (Some IncompatibleVersion) refl refl
+    if_other_fault (equals_integer 1 version.major && (equals_integer 1 version.minor || equals_integer 2 version.minor)) None
+    (Some IncompatibleVersion) refl refl
 
 handle_other : (handle : Text) → is_other_fault (handle_fault handle) ≡ true
 handle_other [] = refl
 handle_other (c ∷ rest) =
     let alphabet : Option yaml_error_t = if list_all is_alpha (without_last rest) then None else Some TagHandleAlphabet in
-    let ending : Option yaml_error_t = if not (last_from c rest == tag_mark) then Some TagHandleEnd else alphabet in
-    if_other_fault (not (c == tag_mark)) (Some TagHandleStart) ending refl
-    (if_other_fault (not (last_from c rest == tag_mark)) (Some TagHandleEnd) alphabet refl
+    let ending : Option yaml_error_t = if not (last_from c rest == exclamation_mark) then Some TagHandleEnd else alphabet in
+    if_other_fault (not (c == exclamation_mark)) (Some TagHandleStart) ending refl
+    (if_other_fault (not (last_from c rest == exclamation_mark)) (Some TagHandleEnd) alphabet refl
     (if_other_fault (list_all is_alpha (without_last rest)) None (Some TagHandleAlphabet) refl refl))
 
 prefix_other : (prefix : Text) → is_other_fault (prefix_fault prefix) ≡ true
@@ -79,7 +81,8 @@ start_refusal : (canonical first : Bool) (start : DocumentStart)
 start_refusal canonical first start = or_none (option_or (option_and_then version_fault start.version) (directives_fault start.directives))
 
 -- an error that is a fault, or want of memory: nothing is written
-pub processed_fault : (event : Event) (empty : Bool) (state : MachineState) (stage : Stage) (error : yaml_error_t) (fault : Option yaml_error_t) → state.stage ≡ stage
+pub processed_fault : (event : Event) (empty : Bool) (state : MachineState) (stage : Stage) (error : yaml_error_t) (fault : Option yaml_error_t)
+    → state.stage ≡ stage
     → stage_refusal state.given.canonical stage event ≡ fault → is_other_fault fault ≡ true
     → (Some error ≢ Some Memory → Some error ≡ fault)
     → Processed event empty state state (Err error)
@@ -107,21 +110,23 @@ document_refused empty before first start error at is =
 pub document_start_cut : (empty : Bool) (before : MachineState) (first : Bool) (start : DocumentStart) (page : Page) (error : yaml_error_t)
     → before.stage ≡ at_document first
     → option_or (option_and_then version_fault start.version) (directives_fault start.directives) ≡ None
-    → Wrote (piece_at (document_start_piece before.settings first start) before.mark) before.page page (Err error)
+    → Wrote (piece_at (document_start_piece before.settings first start) before.open_ended) before.page page (Err error)
     → Processed (document_start start) empty before (record before { page = page }) (Err error)
 document_start_cut empty before first start page error at sound wrote =
     processed_cut_at (document_start start) empty before (record before { page = page }) (at_document first) error at refl refl
     (start_refusal before.given.canonical first start ∙ sound) wrote
 
-pub document_begun : (empty : Bool) (before : MachineState) (first : Bool) (start : DocumentStart) (page : Page) (directives : List TagDirective) (frames : List Frame)
+pub document_begun : (empty : Bool) (before : MachineState) (first : Bool) (start : DocumentStart) (page : Page) (directives : List TagDirective)
+    (frames : List Frame)
     → before.stage ≡ at_document first
     → option_or (option_and_then version_fault start.version) (directives_fault start.directives) ≡ None
-    → Wrote (piece_at (document_start_piece before.settings first start) before.mark) before.page page (Ok tt)
+    → Wrote (piece_at (document_start_piece before.settings first start) before.open_ended) before.page page (Ok tt)
     → directives ≡ directives_in_force start.directives → frames ≡ []
-    → Processed (document_start start) empty before (record before { stage = at_node directives frames; mark = 0; page = page }) (Ok tt)
+    → Processed (document_start start) empty before (record before { stage = at_node directives frames; open_ended = 0; page = page }) (Ok tt)
 document_begun empty before first start page directives frames at sound wrote in_force none_open =
     let stage : at_node directives frames ≡ at_node (directives_in_force start.directives) [] = cc in
-    processed_written_at (document_start start) empty before (record before { stage = at_node directives frames; mark = 0; page = page }) (at_document first)
+    processed_written_at (document_start start) empty before (record before { stage = at_node directives frames; open_ended = 0; page = page })
+    (at_document first)
     at tt refl (start_refusal before.given.canonical first start ∙ sound) refl stage refl wrote (λ hands. cc)
 
 pub none_behind : (a b : Option yaml_error_t) → option_or a b ≡ None → b ≡ None
@@ -160,8 +165,8 @@ names_other canonical mapping_end = refl
 -- what is looked at behind names and tags
 abbrev later : Bool → Stage → Event → Option yaml_error_t
 later canonical stage event =
-    option_or (fault_if (not (stage_allows stage event)) (stage_expected stage))
-    (option_or (content_fault canonical event) (fault_if (begins_collection event && not (nat_lt (open_frames stage) most_open)) TooDeep))
+    option_or (some_if (not (stage_allows stage event)) (stage_expected stage))
+    (option_or (content_fault canonical event) (some_if (begins_collection event && not (nat_lt (open_frames stage) most_open)) TooDeep))
 
 -- a faulty name or tag is told before anything else
 pub names_refused : (event : Event) (empty : Bool) (state : MachineState) (error : yaml_error_t)

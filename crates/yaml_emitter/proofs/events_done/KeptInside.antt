@@ -7,12 +7,12 @@ use Rattle.yaml_pen.specs.Page.{Page, IsReady, IsUntouched, encoded}
 use Rattle.yaml_pen.specs.Wrote.{Flushed}
 use Rattle.yaml_emitter.specs.State.{MachineState, FitsPage, is_at_stream}
 use Rattle.yaml_base.specs.Event.{TagDirective}
-use Rattle.yaml_emitter.specs.Signs.{some_handle_breaks}
+use Rattle.yaml_emitter.specs.Atoms.{some_handle_breaks}
 use Rattle.yaml_emitter.specs.Stages.{seen_stage}
 use Rattle.yaml_emitter.specs.MachineInside.{IsMachine, machine_state}
 use Rattle.yaml_emitter.specs.declared.stage.Stage as stage
 use Rattle.yaml_emitter.specs.declared.stage.Stage.TheVariants.{Stream, Document, Node, DocumentEnd, Nothing}
-use Rattle.yaml_emitter.specs.declared.writing.marks.OpenMark.{OpenMark}
+use Rattle.yaml_emitter.specs.declared.writing.open_ended.OpenEnded.{OpenEnded}
 use Rattle.yaml_emitter.specs.declared.machine.Machine.TheInside.{Inside}
 
 -- a page that is ready fits every stage behind the stream's start
@@ -23,20 +23,21 @@ fits_ready (at_node directives frames) page behind ready = ready
 fits_ready at_document_end page behind ready = ready
 fits_ready at_nothing page behind ready = ready
 
-pub kept_writing : {A : Type 0} (e : Inside A) (pen : Page) (after : stage.Stage) (frames : List Frame) (mark : OpenMark) → IsMachine e
-    → FitsPage (seen_stage after e.directives frames) pen → IsMachine (record e { pen = pen; stage = after; frames = frames; mark = mark })
-kept_writing e pen after frames mark kept fits =
+pub kept_writing : {A : Type 0} (e : Inside A) (pen : Page) (after : stage.Stage) (frames : List Frame) (open_ended : OpenEnded) → IsMachine e
+    → FitsPage (seen_stage after e.directives frames) pen → IsMachine (record e { pen = pen; stage = after; frames = frames; open_ended = open_ended })
+kept_writing e pen after frames open_ended kept fits =
     record {
       handles = kept.handles;
       canonical = kept.canonical;
       page = fits;
     }
 
-pub kept_beginning : {A : Type 0} (e : Inside A) (pen : Page) (after : stage.Stage) (directives : List TagDirective) (frames : List Frame) (mark : OpenMark)
+pub kept_beginning : {A : Type 0} (e : Inside A) (pen : Page) (after : stage.Stage) (directives : List TagDirective) (frames : List Frame)
+    (open_ended : OpenEnded)
     → IsMachine e
     → some_handle_breaks directives ≡ false → FitsPage (seen_stage after directives frames) pen
-    → IsMachine (record e { pen = pen; stage = after; directives = directives; frames = frames; mark = mark })
-kept_beginning e pen after directives frames mark kept handles fits =
+    → IsMachine (record e { pen = pen; stage = after; directives = directives; frames = frames; open_ended = open_ended })
+kept_beginning e pen after directives frames open_ended kept handles fits =
     record {
       handles = handles;
       canonical = kept.canonical;
@@ -83,14 +84,14 @@ pub behind_start : {st at : Stage} → st ≡ at → is_at_stream at ≡ false �
 behind_start is behind = ap is_at_stream is ∙ behind
 
 -- a flush keeps a page that fits: of an untouched one it changes nothing
-unwritten : (page : Page) → IsUntouched page → page.mark_due ≡ false → page.output ≡ [] → page.output ≡ encoded page
+unwritten : (page : Page) → IsUntouched page → page.bom_due ≡ false → page.output ≡ [] → page.output ≡ encoded page
 unwritten page untouched due output = output ∙ sym untouched.no_bytes ∙ ap (λ b. if b then [] else encoded page) due
 
 ready_flushed : (before after : Page) (answer : Result (Unit {0}) yaml_error_t) → IsReady before → Flushed before after answer → IsReady after
 ready_flushed before after answer ready flushed =
     record {
       begun = subst (λ o. IsSome o) (sym (ap (λ (p : Page). p.encoding) flushed.kept)) ready.begun;
-      marked = ap (λ (p : Page). p.mark_due) flushed.kept ∙ ready.marked;
+      bom_written = ap (λ (p : Page). p.bom_due) flushed.kept ∙ ready.bom_written;
     }
 
 pub fits_flushed : (st : Stage) (before after : Page) (answer : Result (Unit {0}) yaml_error_t) → FitsPage st before → Flushed before after answer
@@ -106,15 +107,15 @@ pub kept_flushing : {A : Type 0} (e : Inside A) (pen : Page) (answer : Result (U
     → Flushed e.pen pen answer
     → (e.pen.error ≡ None → e.pen.output ≡ encoded e.pen → pen ≡ e.pen) → IsMachine (record e { pen = pen })
 kept_flushing e pen answer kept flushed empty =
-    kept_writing e pen e.stage e.frames e.mark kept (fits_flushed (seen_stage e.stage e.directives e.frames) e.pen pen answer kept.page flushed empty)
+    kept_writing e pen e.stage e.frames e.open_ended kept (fits_flushed (seen_stage e.stage e.directives e.frames) e.pen pen answer kept.page flushed empty)
 
 -- a page fits whatever its limit is
 fits_limited : (st : Stage) (page : Page) (limit : ℕ) → FitsPage st page → FitsPage st (record page { limit = limit })
 fits_limited at_stream page limit fits = (record { no_bytes = fits.0.no_bytes; no_error = fits.0.no_error }, fits.1, fits.2)
-fits_limited (at_document first) page limit fits = record { begun = fits.begun; marked = fits.marked }
-fits_limited (at_node directives frames) page limit fits = record { begun = fits.begun; marked = fits.marked }
-fits_limited at_document_end page limit fits = record { begun = fits.begun; marked = fits.marked }
-fits_limited at_nothing page limit fits = record { begun = fits.begun; marked = fits.marked }
+fits_limited (at_document first) page limit fits = record { begun = fits.begun; bom_written = fits.bom_written }
+fits_limited (at_node directives frames) page limit fits = record { begun = fits.begun; bom_written = fits.bom_written }
+fits_limited at_document_end page limit fits = record { begun = fits.begun; bom_written = fits.bom_written }
+fits_limited at_nothing page limit fits = record { begun = fits.begun; bom_written = fits.bom_written }
 
 pub kept_limited : {A : Type 0} (e after : Inside A) (limit : ℕ) → IsMachine e
     → after ≡ record e { given = record e.given { limit = limit }; pen = record e.pen { limit = limit } } → IsMachine after

@@ -6,7 +6,7 @@ use Rattle.std.specs.Prelude.{is_some, option_and_then}
 use Rattle.yaml_base.specs.Settings.{Effective}
 use Rattle.yaml_base.specs.Event.{Event, TagDirective, Scalar, Collection, alias, scalar}
 use Rattle.yaml_base.specs.Layout.{Place, is_key, is_simple_alias, is_simple_scalar, alias_piece, scalar_piece}
-use Rattle.yaml_base.specs.Refusal.{name_or_tag_fault, fault_if}
+use Rattle.yaml_base.specs.Refusal.{name_or_tag_fault, some_if}
 use Rattle.yaml_base.specs.Event.{scalar_tag, collection_tag}
 use Rattle.yaml_base.specs.scalars.Style.{lacks_tag_and_flags}
 use Rattle.yaml_base.specs.Tags.{alias_fault, anchor_fault, tag_fault}
@@ -18,13 +18,13 @@ use Rattle.yaml_emitter.specs.State.{MachineState, FitsPage, is_at_stream}
 use Rattle.yaml_emitter.specs.Stages.{seen_stage}
 use Rattle.yaml_emitter.specs.MachineInside.{IsMachine, machine_state}
 use Rattle.yaml_emitter.specs.NodeEvents.{is_at_node, start_event}
-use Rattle.yaml_emitter.specs.Signs.{name_breaks}
+use Rattle.yaml_emitter.specs.Atoms.{name_breaks}
 use Rattle.yaml_emitter.specs.WrittenPieces.{piece_at}
 use Rattle.yaml_emitter.specs.Processing.{Processed}
 use Rattle.yaml_emitter.specs.declared.stage.Stage as stage
 use Rattle.yaml_emitter.specs.declared.stage.Stage.TheVariants.{Stream, Document, Node, DocumentEnd, Nothing}
 use Rattle.yaml_base.specs.declared.errors.yaml_error_t.TheVariants.{NoTagNorImplicit}
-use Rattle.yaml_emitter.specs.declared.writing.marks.OpenMark.{OpenMark}
+use Rattle.yaml_emitter.specs.declared.writing.open_ended.OpenEnded.{OpenEnded}
 use Rattle.yaml_emitter.specs.declared.machine.Machine.TheInside.{Inside}
 use Rattle.yaml_emitter.proofs.events_done.KeptInside.{kept_writing, fits_ready}
 use Rattle.yaml_emitter.proofs.events_done.ProcessedBy.{processed_cut_at, processed_refused_at, processed_written_at}
@@ -48,7 +48,8 @@ seen_at_node e at = ap (λ (st : stage.Stage). seen_stage st e.directives e.fram
 pub ready_inside : {A : Type 0} (e : Inside A) → IsMachine e → e.stage ≡ Node → IsReady e.pen
 ready_inside e kept at = subst (λ (st : stage.Stage). FitsPage (seen_stage st e.directives e.frames) e.pen) at kept.page
 
-pub names_inside : {A : Type 0} (e : Inside A) {seen : MachineState} → machine_state e ≡ seen → (event : Event) → name_or_tag_fault seen.given.canonical event ≡ None
+pub names_inside : {A : Type 0} (e : Inside A) {seen : MachineState} → machine_state e ≡ seen → (event : Event)
+    → name_or_tag_fault seen.given.canonical event ≡ None
     → name_or_tag_fault (machine_state e).given.canonical event ≡ None
 names_inside e is event none = ap (λ (s : MachineState). name_or_tag_fault s.given.canonical event) is ∙ none
 
@@ -58,10 +59,10 @@ pushed_at_node e frames frame at pushed =
     ap (λ (st : stage.Stage). seen_stage st e.directives frames) at ∙ ap (at_node e.directives) pushed
 
 -- what is kept while the stage stays
-pub kept_at_node : {A : Type 0} (e : Inside A) (pen : Page) (frames : List Frame) (mark : OpenMark) → IsMachine e
-    → e.stage ≡ Node → IsReady pen → IsMachine (record e { pen = pen; frames = frames; mark = mark })
-kept_at_node e pen frames mark kept at ready =
-    kept_writing e pen e.stage frames mark kept
+pub kept_at_node : {A : Type 0} (e : Inside A) (pen : Page) (frames : List Frame) (open_ended : OpenEnded) → IsMachine e
+    → e.stage ≡ Node → IsReady pen → IsMachine (record e { pen = pen; frames = frames; open_ended = open_ended })
+kept_at_node e pen frames open_ended kept at ready =
+    kept_writing e pen e.stage frames open_ended kept
     (subst (λ (st : stage.Stage). FitsPage (seen_stage st e.directives frames) pen) (sym at) ready)
 
 after_is_behind : (directives : List TagDirective) (frames : List Frame) (simple : Bool) → is_at_stream (stage_after directives frames simple) ≡ false
@@ -69,11 +70,12 @@ after_is_behind directives [] simple = refl
 after_is_behind directives (frame ∷ outer) simple = refl
 
 -- what is kept after a node
-pub kept_advancing : {A : Type 0} (e : Inside A) (pen : Page) (after : stage.Stage) (frames around : List Frame) (simple : Bool) (mark : OpenMark) → IsMachine e
+pub kept_advancing : {A : Type 0} (e : Inside A) (pen : Page) (after : stage.Stage) (frames around : List Frame) (simple : Bool) (open_ended : OpenEnded)
+    → IsMachine e
     → seen_stage after e.directives frames ≡ stage_after e.directives around simple → IsReady pen
-    → IsMachine (record e { pen = pen; stage = after; frames = frames; mark = mark })
-kept_advancing e pen after frames around simple mark kept is ready =
-    kept_writing e pen after frames mark kept
+    → IsMachine (record e { pen = pen; stage = after; frames = frames; open_ended = open_ended })
+kept_advancing e pen after frames around simple open_ended kept is ready =
+    kept_writing e pen after frames open_ended kept
     (fits_ready (seen_stage after e.directives frames) pen (ap is_at_stream is ∙ after_is_behind e.directives around simple) ready)
 
 -- Aliases
@@ -82,34 +84,37 @@ alias_accepted : (canonical : Bool) (directives : List TagDirective) (frames : L
     → stage_refusal canonical (at_node directives frames) (alias name) ≡ None
 alias_accepted canonical directives frames name none = ap (λ (o : Option yaml_error_t). option_or o None) none
 
-alias_wrote : (before : MachineState) (frames : List Frame) (name : Text) (simple : Bool) (place : Place) (page : Page) (answer : Result (Unit {0}) yaml_error_t)
+alias_wrote : (before : MachineState) (frames : List Frame) (name : Text) (simple : Bool) (place : Place) (page : Page)
+    (answer : Result (Unit {0}) yaml_error_t)
     → place ≡ next_place frames → simple ≡ (is_key place.role && (not before.settings.canonical && is_simple_alias name))
-    → Wrote (piece_at (alias_piece before.settings place simple name) before.mark) before.page page answer
+    → Wrote (piece_at (alias_piece before.settings place simple name) before.open_ended) before.page page answer
     → Wrote (piece_at (alias_piece before.settings (next_place frames)
-    (is_key (next_place frames).role && (not before.settings.canonical && is_simple_alias name)) name) before.mark) before.page page answer
+    (is_key (next_place frames).role && (not before.settings.canonical && is_simple_alias name)) name) before.open_ended) before.page page answer
 alias_wrote before frames name simple place page answer place_is simple_is wrote =
-    let at_place = subst (λ (b : Bool). Wrote (piece_at (alias_piece before.settings place b name) before.mark) before.page page answer) simple_is wrote in
+    let at_place = subst (λ (b : Bool). Wrote
+    (piece_at (alias_piece before.settings place b name) before.open_ended) before.page page answer) simple_is wrote in
     subst (λ (p : Place). Wrote (piece_at
-    (alias_piece before.settings p (is_key p.role && (not before.settings.canonical && is_simple_alias name)) name) before.mark) before.page page answer)
+    (alias_piece before.settings p (is_key p.role && (not before.settings.canonical && is_simple_alias name)) name) before.open_ended) before.page page answer)
     place_is at_place
 
 pub alias_cut : (before : MachineState) (directives : List TagDirective) (frames : List Frame) (name : Text) (empty simple : Bool) (place : Place) (page : Page)
     (error : yaml_error_t)
     → before.stage ≡ at_node directives frames → alias_fault name ≡ None
     → place ≡ next_place frames → simple ≡ (is_key place.role && (not before.settings.canonical && is_simple_alias name))
-    → Wrote (piece_at (alias_piece before.settings place simple name) before.mark) before.page page (Err error)
+    → Wrote (piece_at (alias_piece before.settings place simple name) before.open_ended) before.page page (Err error)
     → Processed (alias name) empty before (record before { page = page }) (Err error)
 alias_cut before directives frames name empty simple place page error at none place_is simple_is wrote =
     processed_cut_at (alias name) empty before (record before { page = page }) (at_node directives frames) error at refl refl
     (alias_accepted before.given.canonical directives frames name none)
     (alias_wrote before frames name simple place page (Err error) place_is simple_is wrote)
 
-pub alias_written : (before : MachineState) (directives : List TagDirective) (frames : List Frame) (name : Text) (empty simple : Bool) (place : Place) (after : Stage)
+pub alias_written : (before : MachineState) (directives : List TagDirective) (frames : List Frame) (name : Text) (empty simple : Bool) (place : Place)
+    (after : Stage)
     (page : Page)
     → before.stage ≡ at_node directives frames → alias_fault name ≡ None
     → place ≡ next_place frames → simple ≡ (is_key place.role && (not before.settings.canonical && is_simple_alias name))
     → after ≡ stage_after directives frames simple
-    → Wrote (piece_at (alias_piece before.settings place simple name) before.mark) before.page page (Ok tt)
+    → Wrote (piece_at (alias_piece before.settings place simple name) before.open_ended) before.page page (Ok tt)
     → Processed (alias name) empty before (record before { stage = after; page = page }) (Ok tt)
 alias_written before directives frames name empty simple place after page at none place_is simple_is after_is wrote =
     let here = simple_is ∙ ap (λ (p : Place). is_key p.role && (not before.settings.canonical && is_simple_alias name)) place_is in
@@ -133,12 +138,12 @@ lacks_given content lacks canonical given answer same answered is =
 scalar_refusal : (canonical : Bool) (directives : List TagDirective) (frames : List Frame) (content : Scalar) (lacks : Bool)
     → name_or_tag_fault canonical (scalar content) ≡ None
     → lacks_tag_and_flags (is_some (scalar_tag canonical content)) content.plain_implicit content.quoted_implicit ≡ lacks
-    → stage_refusal canonical (at_node directives frames) (scalar content) ≡ option_or (fault_if lacks NoTagNorImplicit) None
+    → stage_refusal canonical (at_node directives frames) (scalar content) ≡ option_or (some_if lacks NoTagNorImplicit) None
 scalar_refusal canonical directives frames content lacks none is =
     ap (λ (o : Option yaml_error_t). option_or o
-    (option_or (fault_if (lacks_tag_and_flags (is_some (scalar_tag canonical content)) content.plain_implicit content.quoted_implicit) NoTagNorImplicit)
+    (option_or (some_if (lacks_tag_and_flags (is_some (scalar_tag canonical content)) content.plain_implicit content.quoted_implicit) NoTagNorImplicit)
     None)) none
-    ∙ ap (λ (b : Bool). option_or (fault_if b NoTagNorImplicit) None) is
+    ∙ ap (λ (b : Bool). option_or (some_if b NoTagNorImplicit) None) is
 
 pub scalar_refused : (before : MachineState) (directives : List TagDirective) (frames : List Frame) (content : Scalar) (empty : Bool)
     → before.stage ≡ at_node directives frames
@@ -152,21 +157,23 @@ scalar_refused before directives frames content empty at none lacks =
 scalar_wrote : (before : MachineState) (directives : List TagDirective) (frames : List Frame) (content : Scalar) (simple : Bool) (place : Place) (page : Page)
     (answer : Result (Unit {0}) yaml_error_t)
     → place ≡ next_place frames → simple ≡ scalar_simple before.settings directives content place
-    → Wrote (piece_at (scalar_piece before.settings directives place simple content) before.mark) before.page page answer
+    → Wrote (piece_at (scalar_piece before.settings directives place simple content) before.open_ended) before.page page answer
     → Wrote (piece_at (scalar_piece before.settings directives (next_place frames)
-    (scalar_simple before.settings directives content (next_place frames)) content) before.mark) before.page page answer
+    (scalar_simple before.settings directives content (next_place frames)) content) before.open_ended) before.page page answer
 scalar_wrote before directives frames content simple place page answer place_is simple_is wrote =
-    let at_place = subst (λ (b : Bool). Wrote (piece_at (scalar_piece before.settings directives place b content) before.mark) before.page page answer)
+    let at_place = subst (λ (b : Bool). Wrote (piece_at (scalar_piece before.settings directives place b content) before.open_ended) before.page page answer)
     simple_is wrote in
-    subst (λ (p : Place). Wrote (piece_at (scalar_piece before.settings directives p (scalar_simple before.settings directives content p) content) before.mark)
+    subst (λ (p : Place). Wrote (piece_at (scalar_piece before.settings directives p
+    (scalar_simple before.settings directives content p) content) before.open_ended)
     before.page page answer) place_is at_place
 
-pub scalar_cut : (before : MachineState) (directives : List TagDirective) (frames : List Frame) (content : Scalar) (empty simple : Bool) (place : Place) (page : Page)
+pub scalar_cut : (before : MachineState) (directives : List TagDirective) (frames : List Frame) (content : Scalar) (empty simple : Bool) (place : Place)
+    (page : Page)
     (error : yaml_error_t)
     → before.stage ≡ at_node directives frames → name_or_tag_fault before.given.canonical (scalar content) ≡ None
     → lacks_tag_and_flags (is_some (scalar_tag before.given.canonical content)) content.plain_implicit content.quoted_implicit ≡ false
     → place ≡ next_place frames → simple ≡ scalar_simple before.settings directives content place
-    → Wrote (piece_at (scalar_piece before.settings directives place simple content) before.mark) before.page page (Err error)
+    → Wrote (piece_at (scalar_piece before.settings directives place simple content) before.open_ended) before.page page (Err error)
     → Processed (scalar content) empty before (record before { page = page }) (Err error)
 scalar_cut before directives frames content empty simple place page error at none lacks place_is simple_is wrote =
     processed_cut_at (scalar content) empty before (record before { page = page }) (at_node directives frames) error at refl refl
@@ -174,22 +181,25 @@ scalar_cut before directives frames content empty simple place page error at non
     (scalar_wrote before directives frames content simple place page (Err error) place_is simple_is wrote)
 
 pub scalar_written : (before : MachineState) (directives : List TagDirective) (frames : List Frame) (content : Scalar) (empty simple : Bool) (place : Place)
-    (after : Stage) (mark : ℕ) (page : Page)
+    (after : Stage) (open_ended : ℕ) (page : Page)
     → before.stage ≡ at_node directives frames → name_or_tag_fault before.given.canonical (scalar content) ≡ None
     → lacks_tag_and_flags (is_some (scalar_tag before.given.canonical content)) content.plain_implicit content.quoted_implicit ≡ false
     → place ≡ next_place frames → simple ≡ scalar_simple before.settings directives content place
     → after ≡ stage_after directives frames simple
-    → mark ≡ (scalar_piece before.settings directives place simple content (record { cursor = before.page.cursor; mark = before.mark })).standing.mark
-    → Wrote (piece_at (scalar_piece before.settings directives place simple content) before.mark) before.page page (Ok tt)
-    → Processed (scalar content) empty before (record before { stage = after; mark = mark; page = page }) (Ok tt)
-scalar_written before directives frames content empty simple place after mark page at none lacks place_is simple_is after_is mark_is wrote =
-    let marked = λ (p : Place) (b : Bool).
-    (scalar_piece before.settings directives p b content (record { cursor = before.page.cursor; mark = before.mark })).standing.mark in
+    → open_ended ≡ (scalar_piece before.settings directives place simple content
+    (record { cursor = before.page.cursor; open_ended = before.open_ended })).standing.open_ended
+    → Wrote (piece_at (scalar_piece before.settings directives place simple content) before.open_ended) before.page page (Ok tt)
+    → Processed (scalar content) empty before (record before { stage = after; open_ended = open_ended; page = page }) (Ok tt)
+scalar_written before directives frames content empty simple place after open_ended page at none lacks place_is simple_is after_is open_ended_is wrote =
+    let bom_written = λ (p : Place) (b : Bool).
+    (scalar_piece before.settings directives p b content (record { cursor = before.page.cursor; open_ended = before.open_ended })).standing.open_ended in
     let here = simple_is ∙ ap (scalar_simple before.settings directives content) place_is in
-    processed_written_at (scalar content) empty before (record before { stage = after; mark = mark; page = page }) (at_node directives frames) at tt refl
+    processed_written_at (scalar content) empty before (record before { stage = after; open_ended = open_ended; page = page })
+    (at_node directives frames) at tt refl
     (scalar_refusal before.given.canonical directives frames content false none lacks) refl
     (after_is ∙ ap (λ (b : Bool). stage_after directives frames b) here)
-    (mark_is ∙ ap (λ (b : Bool). marked place b) simple_is ∙ ap (λ (p : Place). marked p (scalar_simple before.settings directives content p)) place_is)
+    (open_ended_is ∙ ap (λ (b : Bool). bom_written place b) simple_is
+    ∙ ap (λ (p : Place). bom_written p (scalar_simple before.settings directives content p)) place_is)
     (scalar_wrote before directives frames content simple place page (Ok tt) place_is simple_is wrote) (λ hands. cc)
 
 first_none : (a b : Option yaml_error_t) → option_or a b ≡ None → a ≡ None

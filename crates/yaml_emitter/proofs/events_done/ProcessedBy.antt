@@ -3,15 +3,15 @@ use Rattle.std.proofs.Common.{◌≡◌, Bool, true, Option, None, Some, Result,
 use Rattle.std.specs.Prelude.{◌⊎◌, IsErr, IsErrAnd}
 use Rattle.std.proofs.lemmas.Result.{err_from_is_err_and}
 use Rattle.yaml_base.specs.Event.{Event, stream_start}
-use Rattle.yaml_base.specs.Output.{hands_out}
+use Rattle.yaml_base.specs.Output.{flushes}
 use Rattle.yaml_base.specs.Steps.{Stage, stage_refusal, step}
 use Rattle.yaml_base.specs.declared.errors.yaml_error_t.{yaml_error_t}
 use Rattle.yaml_base.specs.declared.errors.yaml_error_t.TheVariants.{WriteError, Memory}
-use Rattle.yaml_pen.specs.Page.{told, encoded}
+use Rattle.yaml_pen.specs.Page.{result_of_error, encoded}
 use Rattle.yaml_pen.specs.Wrote.{Wrote}
 use Rattle.yaml_emitter.specs.State.{MachineState, standing_of}
 use Rattle.yaml_emitter.specs.Promises.{IsRefusal}
-use Rattle.yaml_emitter.specs.Processing.{Processed, CutShort, unwritten, partly_written, Keeps, WritesPage, refusal_now, event_laid, event_stepped}
+use Rattle.yaml_emitter.specs.Processing.{Processed, CutShort, unwritten, partly_written, Keeps, WritesPage, refusal_now, render_event, event_stepped}
 use Rattle.yaml_emitter.specs.WrittenPieces.{piece_at}
 
 -- a refused event changes nothing
@@ -27,7 +27,7 @@ IsInStream (stream_start encoding) = ⊥
 IsInStream _ = Unit {0}
 
 writes_page : (event : Event) (empty : Bool) (before after : MachineState) → IsInStream event → after.settings ≡ before.settings
-    → Wrote (event_laid before event empty) before.page after.page (Ok tt) → WritesPage event empty before after
+    → Wrote (render_event before event empty) before.page after.page (Ok tt) → WritesPage event empty before after
 writes_page (stream_start encoding) empty before after is settings wrote = absurd is
 writes_page event empty before after is settings wrote = (settings, wrote)
 
@@ -35,18 +35,18 @@ writes_page event empty before after is settings wrote = (settings, wrote)
 pub processed_written : (event : Event) (empty : Bool) (before after : MachineState) → IsInStream event → Keeps before after
     → refusal_now before event ≡ None → after.settings ≡ before.settings
     → after.stage ≡ (event_stepped before event empty).stage
-    → after.mark ≡ (event_stepped before event empty).laid.standing.mark
-    → Wrote (event_laid before event empty) before.page after.page (Ok tt)
-    → (hands_out event ≡ true → after.page.output ≡ encoded after.page)
+    → after.open_ended ≡ (event_stepped before event empty).rendered.standing.open_ended
+    → Wrote (render_event before event empty) before.page after.page (Ok tt)
+    → (flushes event ≡ true → after.page.output ≡ encoded after.page)
     → Processed event empty before after (Ok tt)
-processed_written event empty before after is kept accepted settings stage mark wrote handed_out =
+processed_written event empty before after is kept accepted settings stage open_ended wrote flushed_whole =
     record {
       kept = kept;
       accepted = accepted;
       stage = stage;
-      mark = mark;
+      open_ended = open_ended;
       page = writes_page event empty before after is settings wrote;
-      handed_out = handed_out;
+      flushed_whole = flushed_whole;
     }
 
 some_same : {e f : yaml_error_t} → Some e ≡ Some f → e ≡ f
@@ -54,7 +54,7 @@ some_same same = cc
 
 -- an event whose piece is cut short
 cut : (error : yaml_error_t) (event : Event) (empty : Bool) (before after : MachineState) → Keeps before after → after.settings ≡ before.settings
-    → refusal_now before event ≡ None → Wrote (event_laid before event empty) before.page after.page (Err error)
+    → refusal_now before event ≡ None → Wrote (render_event before event empty) before.page after.page (Err error)
     → after.page.error ≡ Some error → CutShort error event empty before after
 cut error event empty before after kept settings accepted wrote failed =
     record {
@@ -71,7 +71,7 @@ cut error event empty before after kept settings accepted wrote failed =
           });
     }
 
-told_failed : (given : Option yaml_error_t) (error : yaml_error_t) → Err error ≡ told given → given ≡ Some error
+told_failed : (given : Option yaml_error_t) (error : yaml_error_t) → Err error ≡ result_of_error given → given ≡ Some error
 told_failed None error is = cc
 told_failed (Some other) error is = cc
 
@@ -85,17 +85,17 @@ failed_as event empty before after error named same processed =
     subst (λ (e : yaml_error_t). let r : Result (Unit {0}) yaml_error_t = Err e in Processed event empty before after r) (sym same) processed
 
 wrote_as_error : (event : Event) (empty : Bool) (before after : MachineState) (error named : yaml_error_t) → error ≡ named
-    → Wrote (event_laid before event empty) before.page after.page (Err error) → Wrote (event_laid before event empty) before.page after.page (Err named)
+    → Wrote (render_event before event empty) before.page after.page (Err error) → Wrote (render_event before event empty) before.page after.page (Err named)
 wrote_as_error event empty before after error named same wrote =
-    subst (λ (e : yaml_error_t). let r : Result (Unit {0}) yaml_error_t = Err e in Wrote (event_laid before event empty) before.page after.page r) same wrote
+    subst (λ (e : yaml_error_t). let r : Result (Unit {0}) yaml_error_t = Err e in Wrote (render_event before event empty) before.page after.page r) same wrote
 
 pub processed_cut : (event : Event) (empty : Bool) (before after : MachineState) (error : yaml_error_t) → Keeps before after → after.settings ≡ before.settings
-    → refusal_now before event ≡ None → Wrote (event_laid before event empty) before.page after.page (Err error)
+    → refusal_now before event ≡ None → Wrote (render_event before event empty) before.page after.page (Err error)
     → Processed event empty before after (Err error)
 processed_cut event empty before after error kept settings accepted wrote =
     let failed = told_failed after.page.error error wrote.answered in
     let named : (Some error ≡ None) ⊎ (Some error ≡ Some WriteError) ⊎ (Some error ≡ Some Memory) =
-    subst (λ (o : Option yaml_error_t). (o ≡ None) ⊎ (o ≡ Some WriteError) ⊎ (o ≡ Some Memory)) failed wrote.handed.named in
+    subst (λ (o : Option yaml_error_t). (o ≡ None) ⊎ (o ≡ Some WriteError) ⊎ (o ≡ Some Memory)) failed wrote.sound_output.named in
     elim (pen_error error named) [
       | inl full ↦
           failed_as event empty before after error WriteError full
@@ -114,38 +114,41 @@ processed_unwritten event empty before after kept settings page =
     record { kept = kept; settings = settings; page = unwritten refl page }
 
 -- What was written is the event's, where the stage is known by an equation.
-laid_at : (before after : MachineState) (event : Event) (empty : Bool) (stage : Stage) (answer : Result (Unit {0}) yaml_error_t) → before.stage ≡ stage
-    → Wrote (piece_at (λ standing. (step before.settings stage event empty standing).laid) before.mark) before.page after.page answer
-    → Wrote (event_laid before event empty) before.page after.page answer
-laid_at before after event empty stage answer is wrote =
-    subst (λ st. Wrote (piece_at (λ standing. (step before.settings st event empty standing).laid) before.mark) before.page after.page answer) (sym is) wrote
+rendered_at : (before after : MachineState) (event : Event) (empty : Bool) (stage : Stage) (answer : Result (Unit {0}) yaml_error_t) → before.stage ≡ stage
+    → Wrote (piece_at (λ standing. (step before.settings stage event empty standing).rendered) before.open_ended) before.page after.page answer
+    → Wrote (render_event before event empty) before.page after.page answer
+rendered_at before after event empty stage answer is wrote =
+    subst (λ st. Wrote (piece_at (λ standing. (step before.settings st event empty standing).rendered) before.open_ended) before.page after.page answer)
+    (sym is) wrote
 
 pub processed_refused_at : (event : Event) (empty : Bool) (state : MachineState) (stage : Stage) (error : yaml_error_t) → state.stage ≡ stage → IsRefusal error
     → stage_refusal state.given.canonical stage event ≡ Some error → Processed event empty state state (Err error)
 processed_refused_at event empty state stage error at is refusal =
     processed_refused event empty state error is (ap (λ st. stage_refusal state.given.canonical st event) at ∙ refusal)
 
-pub processed_written_at : (event : Event) (empty : Bool) (before after : MachineState) (stage : Stage) → before.stage ≡ stage → IsInStream event → Keeps before after
+pub processed_written_at : (event : Event) (empty : Bool) (before after : MachineState) (stage : Stage) → before.stage ≡ stage → IsInStream event
+    → Keeps before after
     → stage_refusal before.given.canonical stage event ≡ None → after.settings ≡ before.settings
     → after.stage ≡ (step before.settings stage event empty (standing_of before)).stage
-    → after.mark ≡ (step before.settings stage event empty (standing_of before)).laid.standing.mark
-    → Wrote (piece_at (λ standing. (step before.settings stage event empty standing).laid) before.mark) before.page after.page (Ok tt)
-    → (hands_out event ≡ true → after.page.output ≡ encoded after.page)
+    → after.open_ended ≡ (step before.settings stage event empty (standing_of before)).rendered.standing.open_ended
+    → Wrote (piece_at (λ standing. (step before.settings stage event empty standing).rendered) before.open_ended) before.page after.page (Ok tt)
+    → (flushes event ≡ true → after.page.output ≡ encoded after.page)
     → Processed event empty before after (Ok tt)
-processed_written_at event empty before after stage at is kept accepted settings stage_is mark_is wrote handed_out =
+processed_written_at event empty before after stage at is kept accepted settings stage_is open_ended_is wrote flushed_whole =
     let stepped = λ (st : Stage). step before.settings st event empty (standing_of before) in
     processed_written event empty before after is kept
     (ap (λ st. stage_refusal before.given.canonical st event) at ∙ accepted) settings
-    (stage_is ∙ sym (ap (λ st. (stepped st).stage) at)) (mark_is ∙ sym (ap (λ st. (stepped st).laid.standing.mark) at))
-    (laid_at before after event empty stage (Ok tt) at wrote) handed_out
+    (stage_is ∙ sym (ap (λ st. (stepped st).stage) at)) (open_ended_is ∙ sym (ap (λ st. (stepped st).rendered.standing.open_ended) at))
+    (rendered_at before after event empty stage (Ok tt) at wrote) flushed_whole
 
-pub processed_cut_at : (event : Event) (empty : Bool) (before after : MachineState) (stage : Stage) (error : yaml_error_t) → before.stage ≡ stage → Keeps before after
+pub processed_cut_at : (event : Event) (empty : Bool) (before after : MachineState) (stage : Stage) (error : yaml_error_t) → before.stage ≡ stage
+    → Keeps before after
     → after.settings ≡ before.settings → stage_refusal before.given.canonical stage event ≡ None
-    → Wrote (piece_at (λ standing. (step before.settings stage event empty standing).laid) before.mark) before.page after.page (Err error)
+    → Wrote (piece_at (λ standing. (step before.settings stage event empty standing).rendered) before.open_ended) before.page after.page (Err error)
     → Processed event empty before after (Err error)
 processed_cut_at event empty before after stage error at kept settings accepted wrote =
     processed_cut event empty before after error kept settings
-    (ap (λ st. stage_refusal before.given.canonical st event) at ∙ accepted) (laid_at before after event empty stage (Err error) at wrote)
+    (ap (λ st. stage_refusal before.given.canonical st event) at ∙ accepted) (rendered_at before after event empty stage (Err error) at wrote)
 
 -- at an exit by `?` the answer is the call's error
 pub processed_exit : (event : Event) (empty : Bool) (before after : MachineState) (error : yaml_error_t) (answer : Result (Unit {0}) yaml_error_t)
@@ -158,7 +161,7 @@ processed_exit event empty before after error answer is processed =
 -- want of memory after the piece was written
 pub processed_after_writing : (event : Event) (empty : Bool) (before after : MachineState) (stage : Stage) → before.stage ≡ stage → Keeps before after
     → after.settings ≡ before.settings → stage_refusal before.given.canonical stage event ≡ None → after.page.error ≡ None
-    → Wrote (piece_at (λ standing. (step before.settings stage event empty standing).laid) before.mark) before.page after.page (Ok tt)
+    → Wrote (piece_at (λ standing. (step before.settings stage event empty standing).rendered) before.open_ended) before.page after.page (Ok tt)
     → Processed event empty before after (Err Memory)
 processed_after_writing event empty before after stage at kept settings accepted well wrote =
     record {
@@ -171,7 +174,7 @@ processed_after_writing event empty before after stage at kept settings accepted
             passed = λ is. cc;
             failed = λ is. cc;
             answer = Ok tt;
-            wrote = laid_at before after event empty stage (Ok tt) at wrote;
+            wrote = rendered_at before after event empty stage (Ok tt) at wrote;
           });
     }
 

@@ -1,4 +1,4 @@
--- Output in every encoding, without its mark, has the characters of output in UTF-8.
+-- Output in every encoding, without its byte order mark, has the characters of output in UTF-8.
 use Rattle.std.proofs.Common.{◌≡◌, refl, sym, ap, ◌∙◌}
 use Rattle.std.proofs.lemmas.List.{take_all}
 use Rattle.std.specs.Prelude.{ℕ, Some, List, ◌++◌}
@@ -11,21 +11,21 @@ use Rattle.yaml_base.specs.Pieces.{list_layout}
 use Rattle.yaml_base.specs.Output.{settings_for, text_written, bytes_written, output_of}
 use Rattle.yaml_emitter.specs.Uncut.{IsUncut}
 use Rattle.yaml_emitter.specs.EncodedAlike as spec
-use Rattle.yaml_emitter.specs.EncodedAlike.{mark_bytes}
+use Rattle.yaml_emitter.specs.EncodedAlike.{bom_bytes}
 use Rattle.yaml_emitter.proofs.layouts.RawTexts.{streams_agree}
 
--- bytes begin with their mark
-marked : (encoding : Encoding) (text : Text) → mark_bytes encoding ++ text_bytes encoding text ≡ encode (Some encoding) text
-marked utf8 text = refl
-marked utf16_little text = refl
-marked utf16_big text = refl
+-- bytes begin with their byte order mark
+with_bom : (encoding : Encoding) (text : Text) → bom_bytes encoding ++ text_bytes encoding text ≡ encode (Some encoding) text
+with_bom utf8 text = refl
+with_bom utf16_little text = refl
+with_bom utf16_big text = refl
 
--- to decode is to read what follows the mark
-unmarked : (encoding : Encoding) (text : Text) → text_of_bytes encoding (text_bytes encoding text) ≡ decode (Some encoding) (encode (Some encoding) text)
+-- to decode is to read what follows the byte order mark
+without_bom : (encoding : Encoding) (text : Text) → text_of_bytes encoding (text_bytes encoding text) ≡ decode (Some encoding) (encode (Some encoding) text)
 unfolding decode
-unmarked utf8 text = refl
-unmarked utf16_little text = refl
-unmarked utf16_big text = refl
+without_bom utf8 text = refl
+without_bom utf16_little text = refl
+without_bom utf16_big text = refl
 
 of_utf8 : (bytes : List ℕ) → decode (Some utf8) bytes ≡ text_of_bytes utf8 bytes
 unfolding decode
@@ -41,10 +41,10 @@ encoded_alike given encoding events accepted uncut uncut_utf8 =
     let narrow : Settings = record given { encoding = Some utf8 } in
     let text = text_written (settings_for own events) (list_layout (settings_for own events) events) in
     record {
-      unmarked = text_bytes encoding text;
-      begins = marked encoding text ∙ sym (uncut_output own events uncut);
+      without_bom = text_bytes encoding text;
+      begins = with_bom encoding text ∙ sym (uncut_output own events uncut);
       decodes =
-          unmarked encoding text ∙ streams_agree given encoding events accepted ∙ sym (streams_agree given utf8 events accepted)
+          without_bom encoding text ∙ streams_agree given encoding events accepted ∙ sym (streams_agree given utf8 events accepted)
           ∙ of_utf8 (bytes_written (settings_for narrow events) (list_layout (settings_for narrow events) events))
           ∙ ap (text_of_bytes utf8) (sym (uncut_output narrow events uncut_utf8));
     }

@@ -13,7 +13,7 @@ use Rattle.yaml_base.specs.Event.{mapping_end}
 use Rattle.yaml_base.specs.Grammar.{Stream, stream_events}
 use Rattle.yaml_base.specs.Layout.{layout, first_standing}
 use Rattle.yaml_base.specs.Meaning.{BodyMeans, has_scalar_values, MeaningIsKept}
-use Rattle.yaml_base.specs.NodeLayout.{Body, Piece, bodies_of, Standing, choice_of, scalar_lead, scalar_piece, body_at, body_laid}
+use Rattle.yaml_base.specs.NodeLayout.{Body, Piece, bodies_of, Standing, choice_of, scalar_lead, scalar_piece, body_at, render_body}
 use Rattle.yaml_base.specs.Pieces.{list_layout}
 use Rattle.yaml_base.specs.Places.{Place, deeper}
 use Rattle.yaml_base.specs.Refusal.{IsAccepted}
@@ -28,7 +28,7 @@ use Rattle.yaml_emitter.proofs.layouts.MeaningBodies.{IsIndent, charset_of, body
 module _ (s : Effective) (Holds : Body → Type 0) (is_good : Event → Bool)
     (each : (place : Place) (style : ScalarStyle) (limit : Option ℕ) (content : Scalar) (cursor : Cursor) → is_good (scalar content) ≡ true
     → Allows (allowances (charset_of s) content.value) place.in_flow style
-    → Holds (body_at place style content.value (body_laid style s limit (deeper s.indent place.column) content.value cursor))) where
+    → Holds (body_at place style content.value (render_body style s limit (deeper s.indent place.column) content.value cursor))) where
   -- what holds of a piece's body, where it has one
   abbrev HoldsOf : Option Body → Type 0
   HoldsOf None = Unit {0}
@@ -46,7 +46,7 @@ module _ (s : Effective) (Holds : Body → Type 0) (is_good : Event → Bool)
 
   -- that of an event within a document
   node_step_holds : (directives : List TagDirective) (frames : List Frame) (event : Event) (empty : Bool) (standing : Standing)
-      → is_good event ≡ true → HoldsOf (node_step s directives frames event empty standing).laid.piece.body
+      → is_good event ≡ true → HoldsOf (node_step s directives frames event empty standing).rendered.piece.body
   node_step_holds directives frames (scalar content) empty standing good = scalar_holds directives _ _ content standing good
   node_step_holds directives [] sequence_end empty standing good = tt
   node_step_holds directives (frame ∷ outer) sequence_end empty standing good = tt
@@ -57,7 +57,7 @@ module _ (s : Effective) (Holds : Body → Type 0) (is_good : Event → Bool)
 
   -- that of an event at any stage
   step_holds : (stage : Stage) (event : Event) (empty : Bool) (standing : Standing)
-      → is_good event ≡ true → HoldsOf (step s stage event empty standing).laid.piece.body
+      → is_good event ≡ true → HoldsOf (step s stage event empty standing).rendered.piece.body
   step_holds (at_node directives frames) event empty standing good = node_step_holds directives frames event empty standing good
   step_holds at_stream (stream_start encoding) empty standing good = tt
   step_holds (at_document first) (document_start start) empty standing good = tt
@@ -81,9 +81,9 @@ module _ (s : Effective) (Holds : Body → Type 0) (is_good : Event → Bool)
   steps_hold (event ∷ rest) follows stage standing good =
       let stepped = step s stage event (ends_next rest follows) standing in
       let parts : (is_good event ≡ true) × (list_all is_good rest ≡ true) = and_parts _ _ good in
-      first_piece stepped.laid.piece (steps s follows rest stepped.stage stepped.laid.standing).pieces
+      first_piece stepped.rendered.piece (steps s follows rest stepped.stage stepped.rendered.standing).pieces
       (step_holds stage event (ends_next rest follows) standing parts.0)
-      (steps_hold rest follows stepped.stage stepped.laid.standing parts.1)
+      (steps_hold rest follows stepped.stage stepped.rendered.standing parts.1)
 
   -- those of a stream's layout
   layout_holds : (stream : Stream) → list_all is_good (stream_events stream) ≡ true → All Holds (bodies_of (layout s stream))
@@ -119,7 +119,7 @@ is_indent (Some (pos n)) =
 -- A body that a value allows reads as the value.
 scalar_means : (s : Effective) → IsIndent s.indent → (place : Place) (style : ScalarStyle) (limit : Option ℕ) (content : Scalar) (cursor : Cursor)
     → has_scalar_values (scalar content) ≡ true → Allows (allowances (charset_of s) content.value) place.in_flow style
-    → BodyMeans s (body_at place style content.value (body_laid style s limit (deeper s.indent place.column) content.value cursor))
+    → BodyMeans s (body_at place style content.value (render_body style s limit (deeper s.indent place.column) content.value cursor))
 scalar_means s is place style limit content cursor scalars allowed = body_means s place style limit content.value cursor is scalars allowed
 
 -- Every body of an accepted list reads as its value.

@@ -9,7 +9,7 @@ use Rattle.yaml_base.specs.Cursor.{Cursor}
 use Rattle.yaml_base.specs.Event.{ScalarStyle, any_style, plain, single_quoted, double_quoted, literal, folded}
 use Rattle.yaml_base.specs.Meaning.{BodyMeans}
 use Rattle.yaml_base.specs.Places.{Place, deeper}
-use Rattle.yaml_base.specs.NodeLayout.{body_at, body_laid}
+use Rattle.yaml_base.specs.NodeLayout.{body_at, render_body}
 use Rattle.yaml_base.specs.Settings.{Effective}
 use Rattle.yaml_scalar.proofs.PlainReads.{plain-reads, plain-indented}
 use Rattle.yaml_scalar.proofs.SingleReads.{single-reads, single-indented}
@@ -37,7 +37,7 @@ plain_context charset false value h = h
 
 pub body_means : (s : Effective) (place : Place) (style : ScalarStyle) (limit : Option ℕ) (value : Text) (cursor : Cursor)
     → IsIndent s.indent → all_scalars value ≡ true → Allows (allowances (charset_of s) value) place.in_flow style
-    → BodyMeans s (body_at place style value (body_laid style s limit (deeper s.indent place.column) value cursor))
+    → BodyMeans s (body_at place style value (render_body style s limit (deeper s.indent place.column) value cursor))
 body_means s place any_style limit value cursor is scalars h = absurd h
 body_means s place plain limit value cursor is scalars h =
     let low : 2 ≤ deeper s.indent place.column = omega (arith, is.low) in

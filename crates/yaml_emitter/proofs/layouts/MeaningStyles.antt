@@ -4,7 +4,7 @@ use Rattle.std.proofs.lemmas.Bool.{and_parts}
 use Rattle.std.specs.Prelude.{Bool, true, false, ◌||◌, ◌&&◌, not, if◌then◌else◌}
 use Rattle.yaml_base.specs.scalars.Analysis.{Allowances}
 use Rattle.yaml_base.specs.Event.{ScalarStyle, any_style, plain, single_quoted, double_quoted, literal, folded}
-use Rattle.yaml_base.specs.scalars.Style.{chosen, fits_plain, style_asked, style_fitting, style_quoted}
+use Rattle.yaml_base.specs.scalars.Style.{chosen, fits_plain, requested_style, fitting_style, quoted_style}
 
 -- what a style needs of a value
 abbrev pub Allows : Allowances → (flow : Bool) → ScalarStyle → Type 0
@@ -15,7 +15,7 @@ Allows allowed flow double_quoted = Unit {0}
 Allows allowed flow literal = allowed.block ≡ true
 Allows allowed flow folded = allowed.block ≡ true
 
-quoted_allowed : (allowed : Allowances) (flow : Bool) → Allows allowed flow (style_quoted allowed)
+quoted_allowed : (allowed : Allowances) (flow : Bool) → Allows allowed flow (quoted_style allowed)
 quoted_allowed allowed flow = go allowed.single_quoted refl
   where
     go : (b : Bool) → allowed.single_quoted ≡ b → Allows allowed flow (if b then single_quoted else double_quoted)
@@ -28,13 +28,13 @@ block_allowed allowed flow true style h = h refl
 block_allowed allowed flow false style h = tt
 
 plain_allowed : (allowed : Allowances) (flow fits : Bool) → (fits ≡ true → Allows allowed flow plain)
-    → Allows allowed flow (if fits then plain else style_quoted allowed)
+    → Allows allowed flow (if fits then plain else quoted_style allowed)
 plain_allowed allowed flow true h = h refl
 plain_allowed allowed flow false h = quoted_allowed allowed flow
 
 fitting_allowed : (allowed : Allowances) (flow plain_fits block_fits : Bool) (style : ScalarStyle)
     → (plain_fits ≡ true → Allows allowed flow plain) → (block_fits ≡ true → allowed.block ≡ true)
-    → Allows allowed flow (style_fitting allowed plain_fits block_fits style)
+    → Allows allowed flow (fitting_style allowed plain_fits block_fits style)
 fitting_allowed allowed flow plain_fits block_fits any_style p b = tt
 fitting_allowed allowed flow plain_fits block_fits plain p b = plain_allowed allowed flow plain_fits p
 fitting_allowed allowed flow plain_fits block_fits single_quoted p b = quoted_allowed allowed flow
@@ -49,6 +49,6 @@ chosen_allowed allowed asked empty tag_written plain_implicit quoted_implicit fl
     fitting_allowed allowed flow
     (fits_plain allowed empty tag_written plain_implicit flow simple)
     (allowed.block && not flow && not simple)
-    (style_asked (canonical || (simple && allowed.multiline)) asked)
+    (requested_style (canonical || (simple && allowed.multiline)) asked)
     (λ e. (and_parts _ _ (and_parts _ _ e).0).0)
     (λ e. (and_parts _ _ (and_parts _ _ e).0).0)

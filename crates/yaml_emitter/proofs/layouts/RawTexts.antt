@@ -11,7 +11,7 @@ use Rattle.yaml_base.specs.Characters.{Text, carriage_return, is_ascii, is_print
 use Rattle.yaml_base.specs.Cursor.{Cursor}
 use Rattle.yaml_base.specs.scalars.DoubleQuoted.{backslash, needs_escape, quote}
 use Rattle.yaml_base.specs.Event.{Event, ScalarStyle, any_style, plain, single_quoted, double_quoted, literal, folded}
-use Rattle.yaml_base.specs.Layout.{Place, deeper, body_laid, first_standing, text_of, Piece}
+use Rattle.yaml_base.specs.Layout.{Place, deeper, render_body, first_standing, text_of, Piece}
 use Rattle.yaml_base.specs.LineBreaks.{with_breaks_written, break_text}
 use Rattle.yaml_base.specs.Output.{encoding_asked}
 use Rattle.yaml_base.specs.Pieces.{list_layout}
@@ -84,7 +84,7 @@ special_raw breaks12 unicode c h =
 -- No body holds a special character.
 special_bodies : (s : Effective) → IsIndent s.indent → (place : Place) (style : ScalarStyle) (limit : Option ℕ) (value : Text) (cursor : Cursor)
     → Allows (allowances (charset_of s) value) place.in_flow style
-    → list_any (is_special (charset_of s)) (body_laid style s limit (deeper s.indent place.column) value cursor).text ≡ false
+    → list_any (is_special (charset_of s)) (render_body style s limit (deeper s.indent place.column) value cursor).text ≡ false
 special_bodies s is place any_style limit value cursor h = absurd h
 special_bodies s is place plain limit value cursor h =
     lacks_plain (is_special (charset_of s)) (special_spares (charset_of s)) limit (deeper s.indent place.column) value cursor

@@ -1,21 +1,23 @@
 -- What stands before a node, and on lines outside nodes, holds no character that meets a test which spares printable ASCII and
--- LF: signs, spaces, breaks, names, and tags in percent forms.
+-- LF: indicators, spaces, breaks, names, and tags in percent forms.
 use Rattle.std.proofs.Common.{◌≡◌, refl, ap, ◌∙◌, ℕ, [], ◌∷◌, ◌++◌, Bool, true, false, arith}
 use Rattle.std.proofs.lemmas.Bool.{and_from, and_parts}
 use Rattle.std.proofs.lemmas.Bool.Decides.{nat_tests}
 use Rattle.std.specs.Prelude.{Option, None, Some, List, ◌==◌, ◌&&◌, ◌||◌, not, codes, if◌then◌else◌}
 use Rattle.std.specs.List.{list_all, list_any}
 use Rattle.yaml_base.specs.Characters.{Text, is_alpha, space}
-use Rattle.yaml_base.specs.Cursor.{Cursor, Laid, nothing_laid, then_laid, new_line, space_if, indicator, name_laid, is_past_width}
+use Rattle.yaml_base.specs.Cursor.{Cursor, Rendered, render_nothing, render_then, new_line, space_if, indicator, render_name, is_past_width}
 use Rattle.yaml_base.specs.Event.{ScalarStyle, any_style, plain, single_quoted, double_quoted, literal, folded, Version, TagDirective, DocumentStart}
 use Rattle.yaml_base.specs.Percent.{percent_escaped, suffix_escaped, prefix_escaped}
 use Rattle.yaml_base.specs.Settings.{Effective}
-use Rattle.yaml_base.specs.Tags.{Spelling, spelling, tag_mark}
-use Rattle.yaml_base.specs.Indicators.{indicator_laid, spaced, document_start, document_end, yaml_directive, version_1_1, version_1_2, tag_directive}
-use Rattle.yaml_base.specs.Layout.{line_column, Role, as_root, as_item, as_key, as_value, Place, flow_break, opening_or_comma, key_sign, flow_place_laid}
-use Rattle.yaml_base.specs.Layout.{block_place_laid, place_laid, anchor_laid, handle_laid, spelling_laid, tag_laid, properties_laid, alias_laid}
-use Rattle.yaml_base.specs.Layout.{separation_laid, Brackets, empty_or_comma, end_laid, Standing, line_ended, laid_if, closing_mark_laid, version_word}
-use Rattle.yaml_base.specs.Layout.{version_laid, tag_directive_laid, tag_directives_laid, has_directives, is_explicit, document_mark_laid, document_start_laid}
+use Rattle.yaml_base.specs.Tags.{Spelling, spelling, exclamation_mark}
+use Rattle.yaml_base.specs.Indicators.{render_indicator, spaced, document_start, document_end, yaml_directive, version_1_1, version_1_2, tag_directive}
+use Rattle.yaml_base.specs.Layout.{line_column, Role, as_root, as_item, as_key, as_value, Place, flow_break, opening_or_comma, key_indicator, render_flow_place}
+use Rattle.yaml_base.specs.Layout.{render_block_place, render_place, render_anchor, render_handle, render_spelling, render_tag, render_properties, render_alias}
+use Rattle.yaml_base.specs.Layout.{render_separation, Brackets, empty_or_comma, render_end, Standing, then_line_end, render_if, render_closing_marker}
+use Rattle.yaml_base.specs.Layout.{version_word}
+use Rattle.yaml_base.specs.Layout.{render_version, render_tag_directive, render_tag_directives, has_directives, is_explicit, render_document_marker}
+use Rattle.yaml_base.specs.Layout.{render_document_start}
 use Rattle.yaml_base.proofs.TagForms.{IsHandle, handle_form, AreFound, spelling_is}
 use Rattle.yaml_scalar.proofs.LineTexts.{any_both, any_cond, any_one}
 use Rattle.yaml_scalar.proofs.Sparing.{Spares, is_graph, lacks_graph, lacks_line}
@@ -34,24 +36,24 @@ graph_written (c ∷ rest) h =
     and_from _ _ (written_graph c p.0) (graph_written rest p.1)
 
 -- so is a text from its `!` on
-graph_mark : (text rest : Text) → text ≡ tag_mark ∷ rest → all_written rest ≡ true → list_all is_graph text ≡ true
-graph_mark text rest e h = ap (list_all is_graph) e ∙ graph_written rest h
+graph_exclamation : (text rest : Text) → text ≡ exclamation_mark ∷ rest → all_written rest ≡ true → list_all is_graph text ≡ true
+graph_exclamation text rest e h = ap (list_all is_graph) e ∙ graph_written rest h
 
 -- and a handle
 graph_handle : (handle : Text) → IsHandle handle → list_all is_graph handle ≡ true
-graph_handle handle is = let form = handle_text handle is in graph_mark handle form.rest form.is form.written
+graph_handle handle is = let form = handle_text handle is in graph_exclamation handle form.rest form.is form.written
 
 module _ (test : ℕ → Bool) (spares : Spares test) where
   -- a layout holds no character that meets the test
-  abbrev pub Lacks : Laid → Type 0
-  Lacks laid = list_any test laid.text ≡ false
+  abbrev pub Lacks : Rendered → Type 0
+  Lacks rendered = list_any test rendered.text ≡ false
 
   -- one layout and then another
-  pub lacks_then : (first : Laid) (next : Cursor → Laid) → Lacks first → ((cursor : Cursor) → Lacks (next cursor)) → Lacks (then_laid first next)
+  pub lacks_then : (first : Rendered) (next : Cursor → Rendered) → Lacks first → ((cursor : Cursor) → Lacks (next cursor)) → Lacks (render_then first next)
   lacks_then first next h k = any_both test first.text (next first.cursor).text h (k first.cursor)
 
   -- one of two
-  pub lacks_either : (b : Bool) (x y : Laid) → Lacks x → Lacks y → Lacks (if b then x else y)
+  pub lacks_either : (b : Bool) (x y : Rendered) → Lacks x → Lacks y → Lacks (if b then x else y)
   lacks_either true x y h k = h
   lacks_either false x y h k = k
 
@@ -59,59 +61,61 @@ module _ (test : ℕ → Bool) (spares : Spares test) where
   pub lacks_space : (need : Bool) (cursor : Cursor) → list_any test (space_if need cursor) ≡ false
   lacks_space need cursor = any_cond test (need && not cursor.whitespace) (space ∷ []) [] (any_one test space [] spares.blank refl) refl
 
-  -- an indicator of printed signs
-  pub lacks_sign : (sign : Text) (need whitespace indention : Bool) (cursor : Cursor) → list_all is_graph sign ≡ true
-      → Lacks (indicator sign need whitespace indention cursor)
-  lacks_sign sign need whitespace indention cursor h = any_both test (space_if need cursor) sign (lacks_space need cursor) (lacks_graph test spares sign h)
+  -- an indicator of printed indicators
+  pub lacks_indicator : (symbol : Text) (need whitespace indention : Bool) (cursor : Cursor) → list_all is_graph symbol ≡ true
+      → Lacks (indicator symbol need whitespace indention cursor)
+  lacks_indicator symbol need whitespace indention cursor h =
+      any_both test (space_if need cursor) symbol (lacks_space need cursor) (lacks_graph test spares symbol h)
 
   -- Places
 
   -- a new line in flow
   lacks_flow_break : (s : Effective) (column : Option ℕ) (cursor : Cursor) → Lacks (flow_break s column cursor)
-  lacks_flow_break s column cursor = lacks_either (s.canonical || is_past_width s.width cursor) (new_line (line_column column) cursor) (nothing_laid cursor)
+  lacks_flow_break s column cursor = lacks_either (s.canonical || is_past_width s.width cursor) (new_line (line_column column) cursor) (render_nothing cursor)
       (lacks_line test spares (line_column column) cursor) refl
 
   -- an opening bracket or a comma
   lacks_opening : (bracket : Text) (first : Bool) (cursor : Cursor) → list_all is_graph bracket ≡ true → Lacks (opening_or_comma bracket first cursor)
-  lacks_opening bracket true cursor h = lacks_sign bracket true true false cursor h
-  lacks_opening bracket false cursor h = lacks_sign (codes ",") false false false cursor refl
+  lacks_opening bracket true cursor h = lacks_indicator bracket true true false cursor h
+  lacks_opening bracket false cursor h = lacks_indicator (codes ",") false false false cursor refl
 
-  -- the sign of a key
-  lacks_key_sign : (simple ind : Bool) (cursor : Cursor) → Lacks (key_sign simple ind cursor)
-  lacks_key_sign true ind cursor = refl
-  lacks_key_sign false ind cursor = lacks_sign (codes "?") true false ind cursor refl
+  -- the indicator of a key
+  lacks_key_indicator : (simple ind : Bool) (cursor : Cursor) → Lacks (key_indicator simple ind cursor)
+  lacks_key_indicator true ind cursor = refl
+  lacks_key_indicator false ind cursor = lacks_indicator (codes "?") true false ind cursor refl
 
   -- a place in flow
-  lacks_flow_place : (s : Effective) (role : Role) (simple : Bool) (column : Option ℕ) (cursor : Cursor) → Lacks (flow_place_laid s role simple column cursor)
+  lacks_flow_place : (s : Effective) (role : Role) (simple : Bool) (column : Option ℕ) (cursor : Cursor) → Lacks (render_flow_place s role simple column cursor)
   lacks_flow_place s as_root simple column cursor = refl
   lacks_flow_place s (as_item first) simple column cursor =
       lacks_then (opening_or_comma (codes "[") first cursor) (flow_break s column) (lacks_opening (codes "[") first cursor refl) (lacks_flow_break s column)
   lacks_flow_place s (as_key first) simple column cursor =
-      lacks_then (then_laid (opening_or_comma (codes "{") first cursor) (flow_break s column)) (key_sign simple false)
+      lacks_then (render_then (opening_or_comma (codes "{") first cursor) (flow_break s column)) (key_indicator simple false)
       (lacks_then (opening_or_comma (codes "{") first cursor) (flow_break s column) (lacks_opening (codes "{") first cursor refl) (lacks_flow_break s column))
-      (lacks_key_sign simple false)
-  lacks_flow_place s (as_value true) simple column cursor = lacks_sign (codes ":") false false false cursor refl
+      (lacks_key_indicator simple false)
+  lacks_flow_place s (as_value true) simple column cursor = lacks_indicator (codes ":") false false false cursor refl
   lacks_flow_place s (as_value false) simple column cursor =
       lacks_then (flow_break s column cursor) (indicator (codes ":") true false false) (lacks_flow_break s column cursor)
-      (λ after. lacks_sign (codes ":") true false false after refl)
+      (λ after. lacks_indicator (codes ":") true false false after refl)
 
   -- a place in a block
-  lacks_block_place : (role : Role) (simple : Bool) (column : Option ℕ) (cursor : Cursor) → Lacks (block_place_laid role simple column cursor)
+  lacks_block_place : (role : Role) (simple : Bool) (column : Option ℕ) (cursor : Cursor) → Lacks (render_block_place role simple column cursor)
   lacks_block_place as_root simple column cursor = refl
   lacks_block_place (as_item first) simple column cursor =
       lacks_then (new_line (line_column column) cursor) (indicator (codes "-") true false true) (lacks_line test spares (line_column column) cursor)
-      (λ after. lacks_sign (codes "-") true false true after refl)
+      (λ after. lacks_indicator (codes "-") true false true after refl)
   lacks_block_place (as_key first) simple column cursor =
-      lacks_then (new_line (line_column column) cursor) (key_sign simple true) (lacks_line test spares (line_column column) cursor) (lacks_key_sign simple true)
-  lacks_block_place (as_value true) simple column cursor = lacks_sign (codes ":") false false false cursor refl
+      lacks_then (new_line (line_column column) cursor) (key_indicator simple true) (lacks_line test spares (line_column column) cursor)
+      (lacks_key_indicator simple true)
+  lacks_block_place (as_value true) simple column cursor = lacks_indicator (codes ":") false false false cursor refl
   lacks_block_place (as_value false) simple column cursor =
       lacks_then (new_line (line_column column) cursor) (indicator (codes ":") true false true) (lacks_line test spares (line_column column) cursor)
-      (λ after. lacks_sign (codes ":") true false true after refl)
+      (λ after. lacks_indicator (codes ":") true false true after refl)
 
   -- what a place puts before its node
-  pub lacks_place : (s : Effective) (place : Place) (simple : Bool) (cursor : Cursor) → Lacks (place_laid s place simple cursor)
+  pub lacks_place : (s : Effective) (place : Place) (simple : Bool) (cursor : Cursor) → Lacks (render_place s place simple cursor)
   lacks_place s place simple cursor =
-      lacks_either place.in_flow (flow_place_laid s place.role simple place.column cursor) (block_place_laid place.role simple place.column cursor)
+      lacks_either place.in_flow (render_flow_place s place.role simple place.column cursor) (render_block_place place.role simple place.column cursor)
       (lacks_flow_place s place.role simple place.column cursor) (lacks_block_place place.role simple place.column cursor)
 
   -- Names and tags
@@ -135,34 +139,35 @@ module _ (test : ℕ → Bool) (spares : Spares test) where
       lacks_graph test spares (prefix_escaped portable text) (graph_written (prefix_escaped portable text) (prefix-written portable text))
 
   -- an anchor
-  lacks_anchor : (anchor : Option Text) (cursor : Cursor) → AnchorOk anchor → Lacks (anchor_laid anchor cursor)
+  lacks_anchor : (anchor : Option Text) (cursor : Cursor) → AnchorOk anchor → Lacks (render_anchor anchor cursor)
   lacks_anchor None cursor ok = refl
   lacks_anchor (Some name) cursor ok =
-      lacks_then (indicator (codes "&") true false false cursor) (name_laid name) (lacks_sign (codes "&") true false false cursor refl)
+      lacks_then (indicator (codes "&") true false false cursor) (render_name name) (lacks_indicator (codes "&") true false false cursor refl)
       (λ after. lacks_name name ok.alphas)
 
   -- a handle
-  lacks_handle : (handle : Text) (cursor : Cursor) → list_all is_graph handle ≡ true → Lacks (handle_laid handle cursor)
+  lacks_handle : (handle : Text) (cursor : Cursor) → list_all is_graph handle ≡ true → Lacks (render_handle handle cursor)
   lacks_handle handle cursor h = any_both test (space_if true cursor) handle (lacks_space true cursor) (lacks_graph test spares handle h)
 
   -- a tag's text by the directives in force
   lacks_spelling : (portable : Bool) (own directives : List TagDirective) (tag : Text) (cursor : Cursor) → AreFound own directives
-      → Lacks (spelling_laid portable (spelling directives tag) cursor)
+      → Lacks (render_spelling portable (spelling directives tag) cursor)
   lacks_spelling portable own directives tag cursor found =
-      let P : Spelling → Type 0 = λ spelled. Lacks (spelling_laid portable spelled cursor) in
+      let P : Spelling → Type 0 = λ spelled. Lacks (render_spelling portable spelled cursor) in
       spelling_is P own directives tag found
-      (lacks_then (then_laid (indicator (codes "!<") true false false cursor) (name_laid (percent_escaped tag))) (indicator (codes ">") false false false)
-      (lacks_then (indicator (codes "!<") true false false cursor) (name_laid (percent_escaped tag)) (lacks_sign (codes "!<") true false false cursor refl)
+      (lacks_then (render_then (indicator (codes "!<") true false false cursor) (render_name (percent_escaped tag))) (indicator (codes ">") false false false)
+      (lacks_then (indicator (codes "!<") true false false cursor) (render_name (percent_escaped tag))
+      (lacks_indicator (codes "!<") true false false cursor refl)
       (λ after. lacks_percent tag))
-      (λ after. lacks_sign (codes ">") false false false after refl))
+      (λ after. lacks_indicator (codes ">") false false false after refl))
       (λ handle prefix c suffix f g whole.
-      lacks_then (handle_laid handle cursor) (name_laid (suffix_escaped portable (c ∷ suffix)))
+      lacks_then (render_handle handle cursor) (render_name (suffix_escaped portable (c ∷ suffix)))
       (lacks_handle handle cursor (graph_handle handle (handle_form handle f)))
       (λ after. lacks_suffix portable (c ∷ suffix)))
 
   -- a tag that is written, or the bare tag
   lacks_tag : (portable : Bool) (own directives : List TagDirective) (tag : Option Text) (bare : Bool) (cursor : Cursor) → AreFound own directives
-      → Lacks (tag_laid portable directives tag bare cursor)
+      → Lacks (render_tag portable directives tag bare cursor)
   lacks_tag portable own directives (Some tag) bare cursor found = lacks_spelling portable own directives tag cursor found
   lacks_tag portable own directives None true cursor found = lacks_handle (codes "!") cursor refl
   lacks_tag portable own directives None false cursor found = refl
@@ -171,20 +176,20 @@ module _ (test : ℕ → Bool) (spares : Spares test) where
   pub lacks_properties : (portable : Bool) (own directives : List TagDirective) (anchor tag : Option Text) (bare : Bool) (cursor : Cursor)
       → AreFound own directives
       → AnchorOk anchor
-      → Lacks (properties_laid portable directives anchor tag bare cursor)
+      → Lacks (render_properties portable directives anchor tag bare cursor)
   lacks_properties portable own directives anchor tag bare cursor found ok =
-      lacks_then (anchor_laid anchor cursor) (tag_laid portable directives tag bare) (lacks_anchor anchor cursor ok)
+      lacks_then (render_anchor anchor cursor) (render_tag portable directives tag bare) (lacks_anchor anchor cursor ok)
       (λ after. lacks_tag portable own directives tag bare after found)
 
   -- an alias
-  pub lacks_alias : (name : Text) (simple : Bool) (cursor : Cursor) → list_all is_alpha name ≡ true → Lacks (alias_laid name simple cursor)
+  pub lacks_alias : (name : Text) (simple : Bool) (cursor : Cursor) → list_all is_alpha name ≡ true → Lacks (render_alias name simple cursor)
   lacks_alias name simple cursor h =
       any_both test ((indicator (codes "*") true false false cursor).text ++ name) _
-      (any_both test (indicator (codes "*") true false false cursor).text name (lacks_sign (codes "*") true false false cursor refl) (lacks_name name h))
+      (any_both test (indicator (codes "*") true false false cursor).text name (lacks_indicator (codes "*") true false false cursor refl) (lacks_name name h))
       (any_cond test simple (codes " ") [] (any_one test space [] spares.blank refl) refl)
 
   -- the space before a body
-  pub lacks_separation : (style : ScalarStyle) (in_flow : Bool) (value : Text) (cursor : Cursor) → Lacks (separation_laid style in_flow value cursor)
+  pub lacks_separation : (style : ScalarStyle) (in_flow : Bool) (value : Text) (cursor : Cursor) → Lacks (render_separation style in_flow value cursor)
   lacks_separation plain in_flow value cursor = lacks_space _ cursor
   lacks_separation any_style in_flow value cursor = lacks_space true cursor
   lacks_separation single_quoted in_flow value cursor = lacks_space true cursor
@@ -197,93 +202,93 @@ module _ (test : ℕ → Bool) (spares : Spares test) where
   -- a bracket or a comma before a closing bracket
   lacks_comma : (s : Effective) (opening : Text) (empty : Bool) (column : Option ℕ) (cursor : Cursor) → list_all is_graph opening ≡ true
       → Lacks (empty_or_comma s opening empty column cursor)
-  lacks_comma s opening true column cursor h = lacks_sign opening true true false cursor h
+  lacks_comma s opening true column cursor h = lacks_indicator opening true true false cursor h
   lacks_comma s opening false column cursor h =
-      lacks_either s.canonical (then_laid (indicator (codes ",") false false false cursor) (new_line (line_column column))) (nothing_laid cursor)
-      (lacks_then (indicator (codes ",") false false false cursor) (new_line (line_column column)) (lacks_sign (codes ",") false false false cursor refl)
+      lacks_either s.canonical (render_then (indicator (codes ",") false false false cursor) (new_line (line_column column))) (render_nothing cursor)
+      (lacks_then (indicator (codes ",") false false false cursor) (new_line (line_column column)) (lacks_indicator (codes ",") false false false cursor refl)
       (lacks_line test spares (line_column column))) refl
 
-  -- brackets of printed signs
+  -- brackets of printed indicators
   pub lacks_end : (s : Effective) (brackets : Brackets) (in_flow empty : Bool) (column : Option ℕ) (cursor : Cursor)
-      → list_all is_graph brackets.opening ≡ true → list_all is_graph brackets.closing ≡ true → Lacks (end_laid s brackets in_flow empty column cursor)
+      → list_all is_graph brackets.opening ≡ true → list_all is_graph brackets.closing ≡ true → Lacks (render_end s brackets in_flow empty column cursor)
   lacks_end s brackets false empty column cursor h k = refl
   lacks_end s brackets true empty column cursor h k =
       lacks_then (empty_or_comma s brackets.opening empty column cursor) (indicator brackets.closing false false false)
-      (lacks_comma s brackets.opening empty column cursor h) (λ after. lacks_sign brackets.closing false false false after k)
+      (lacks_comma s brackets.opening empty column cursor h) (λ after. lacks_indicator brackets.closing false false false after k)
 
   -- Documents
 
   -- a word of a line of its own
-  lacks_word : (sign : Text) (cursor : Cursor) → list_all is_graph sign ≡ true → Lacks (indicator_laid (spaced sign) cursor)
-  lacks_word sign cursor h = lacks_sign sign true false false cursor h
+  lacks_word : (symbol : Text) (cursor : Cursor) → list_all is_graph symbol ≡ true → Lacks (render_indicator (spaced symbol) cursor)
+  lacks_word symbol cursor h = lacks_indicator symbol true false false cursor h
 
   -- a line and its break
-  lacks_ended : (laid : Laid) → Lacks laid → Lacks (line_ended laid)
-  lacks_ended laid h = lacks_then laid (new_line 0) h (lacks_line test spares 0)
+  lacks_ended : (rendered : Rendered) → Lacks rendered → Lacks (then_line_end rendered)
+  lacks_ended rendered h = lacks_then rendered (new_line 0) h (lacks_line test spares 0)
 
-  -- a text that is laid only where a test holds
-  pub lacks_if : (b : Bool) (next : Cursor → Laid) (cursor : Cursor) → Lacks (next cursor) → Lacks (laid_if b next cursor)
+  -- a text that is rendered only where a test holds
+  pub lacks_if : (b : Bool) (next : Cursor → Rendered) (cursor : Cursor) → Lacks (next cursor) → Lacks (render_if b next cursor)
   lacks_if true next cursor h = h
   lacks_if false next cursor h = refl
 
   -- `...` on a line of its own
-  pub lacks_closing : (cursor : Cursor) → Lacks (closing_mark_laid cursor)
-  lacks_closing cursor = lacks_ended (indicator_laid document_end cursor) (lacks_word (codes "...") cursor refl)
+  pub lacks_closing : (cursor : Cursor) → Lacks (render_closing_marker cursor)
+  lacks_closing cursor = lacks_ended (render_indicator document_end cursor) (lacks_word (codes "...") cursor refl)
 
   -- the number of a version
-  lacks_number : (b : Bool) (cursor : Cursor) → Lacks (indicator_laid (if b then version_1_2 else version_1_1) cursor)
+  lacks_number : (b : Bool) (cursor : Cursor) → Lacks (render_indicator (if b then version_1_2 else version_1_1) cursor)
   lacks_number true cursor = lacks_word (codes "1.2") cursor refl
   lacks_number false cursor = lacks_word (codes "1.1") cursor refl
 
   -- a `%YAML` line
-  lacks_version : (version : Option Version) (cursor : Cursor) → Lacks (version_laid version cursor)
+  lacks_version : (version : Option Version) (cursor : Cursor) → Lacks (render_version version cursor)
   lacks_version None cursor = refl
   lacks_version (Some version) cursor =
-      lacks_ended (then_laid (indicator_laid yaml_directive cursor) (indicator_laid (version_word version)))
-      (lacks_then (indicator_laid yaml_directive cursor) (indicator_laid (version_word version)) (lacks_word (codes "%YAML") cursor refl)
+      lacks_ended (render_then (render_indicator yaml_directive cursor) (render_indicator (version_word version)))
+      (lacks_then (render_indicator yaml_directive cursor) (render_indicator (version_word version)) (lacks_word (codes "%YAML") cursor refl)
       (λ after. lacks_number _ after))
 
   -- a `%TAG` line
   lacks_directive : (portable : Bool) (directive : TagDirective) (cursor : Cursor) → IsHandle directive.handle
-      → Lacks (tag_directive_laid portable directive cursor)
+      → Lacks (render_tag_directive portable directive cursor)
   lacks_directive portable directive cursor h =
-      let sign = indicator_laid tag_directive cursor in
-      let handle = then_laid sign (handle_laid directive.handle) in
-      lacks_ended (then_laid handle (handle_laid (prefix_escaped portable directive.prefix)))
-      (lacks_then handle (handle_laid (prefix_escaped portable directive.prefix))
-      (lacks_then sign (handle_laid directive.handle) (lacks_word (codes "%TAG") cursor refl)
+      let symbol = render_indicator tag_directive cursor in
+      let handle = render_then symbol (render_handle directive.handle) in
+      lacks_ended (render_then handle (render_handle (prefix_escaped portable directive.prefix)))
+      (lacks_then handle (render_handle (prefix_escaped portable directive.prefix))
+      (lacks_then symbol (render_handle directive.handle) (lacks_word (codes "%TAG") cursor refl)
       (λ after. lacks_handle directive.handle after (graph_handle directive.handle h)))
       (λ after. any_both test (space_if true after) (prefix_escaped portable directive.prefix) (lacks_space true after)
       (lacks_prefix portable directive.prefix)))
 
   -- all of them
   lacks_directives : (portable : Bool) (own directives : List TagDirective) (cursor : Cursor) → AreFound own directives
-      → Lacks (tag_directives_laid portable directives cursor)
+      → Lacks (render_tag_directives portable directives cursor)
   lacks_directives portable own [] cursor found = refl
   lacks_directives portable own (directive ∷ rest) cursor found =
-      lacks_then (tag_directive_laid portable directive cursor) (tag_directives_laid portable rest)
+      lacks_then (render_tag_directive portable directive cursor) (render_tag_directives portable rest)
       (lacks_directive portable directive cursor (handle_form directive.handle found.0))
       (λ after. lacks_directives portable own rest after found.2)
 
   -- `---`
-  lacks_mark : (canonical : Bool) (cursor : Cursor) → Lacks (document_mark_laid canonical cursor)
-  lacks_mark canonical cursor =
+  lacks_marker : (canonical : Bool) (cursor : Cursor) → Lacks (render_document_marker canonical cursor)
+  lacks_marker canonical cursor =
       let line = new_line 0 cursor in
-      lacks_then (then_laid line (indicator_laid document_start)) (laid_if canonical (new_line 0))
-      (lacks_then line (indicator_laid document_start) (lacks_line test spares 0 cursor) (λ after. lacks_word (codes "---") after refl))
+      lacks_then (render_then line (render_indicator document_start)) (render_if canonical (new_line 0))
+      (lacks_then line (render_indicator document_start) (lacks_line test spares 0 cursor) (λ after. lacks_word (codes "---") after refl))
       (λ after. lacks_if canonical (new_line 0) after (lacks_line test spares 0 after))
 
   -- a document's start
   pub lacks_document : (s : Effective) (first : Bool) (own : List TagDirective) (start : DocumentStart) (standing : Standing) → AreFound own start.directives
-      → Lacks (document_start_laid s first start standing)
+      → Lacks (render_document_start s first start standing)
   lacks_document s first own start standing found =
-      let was_open = has_directives start && not (standing.mark == 0) in
-      let closed = laid_if was_open closing_mark_laid standing.cursor in
-      let versioned = then_laid closed (version_laid start.version) in
-      let directed = then_laid versioned (tag_directives_laid s.portable start.directives) in
-      lacks_then directed (laid_if (is_explicit (s.canonical || s.portable) first start) (document_mark_laid s.canonical))
-      (lacks_then versioned (tag_directives_laid s.portable start.directives)
-      (lacks_then closed (version_laid start.version) (lacks_if was_open closing_mark_laid standing.cursor (lacks_closing standing.cursor))
+      let was_open = has_directives start && not (standing.open_ended == 0) in
+      let closed = render_if was_open render_closing_marker standing.cursor in
+      let versioned = render_then closed (render_version start.version) in
+      let directed = render_then versioned (render_tag_directives s.portable start.directives) in
+      lacks_then directed (render_if (is_explicit (s.canonical || s.portable) first start) (render_document_marker s.canonical))
+      (lacks_then versioned (render_tag_directives s.portable start.directives)
+      (lacks_then closed (render_version start.version) (lacks_if was_open render_closing_marker standing.cursor (lacks_closing standing.cursor))
       (lacks_version start.version))
       (λ after. lacks_directives s.portable own start.directives after found))
-      (λ after. lacks_if (is_explicit (s.canonical || s.portable) first start) (document_mark_laid s.canonical) after (lacks_mark s.canonical after))
+      (λ after. lacks_if (is_explicit (s.canonical || s.portable) first start) (render_document_marker s.canonical) after (lacks_marker s.canonical after))

@@ -6,12 +6,12 @@ use Rattle.std.specs.Prelude.{Option, None, List, ◌==◌, ◌&&◌, not, is_so
 use Rattle.std.specs.List.{list_all, list_any}
 use Rattle.yaml_base.specs.scalars.Analysis.{allowances, is_empty}
 use Rattle.yaml_base.specs.Characters.{Text, is_alpha}
-use Rattle.yaml_base.specs.Cursor.{Cursor, Laid, then_laid, new_line}
+use Rattle.yaml_base.specs.Cursor.{Cursor, Rendered, render_then, new_line}
 use Rattle.yaml_base.specs.Event.{ScalarStyle, TagDirective, Scalar, Collection, Event, stream_start, stream_end, document_start, document_end, alias, scalar}
 use Rattle.yaml_base.specs.Event.{sequence_start, sequence_end, mapping_start, mapping_end}
-use Rattle.yaml_base.specs.Layout.{Place, Piece, piece_text, text_of, Standing, deeper, body_laid, choice_of, scalar_lead, scalar_piece, place_laid}
-use Rattle.yaml_base.specs.Layout.{properties_laid, separation_laid, alias_laid, start_piece, Brackets, square, curly, end_laid, end_piece, laid_if}
-use Rattle.yaml_base.specs.Layout.{closing_mark_laid, is_key, is_simple_alias, document_start_laid, document_end_piece}
+use Rattle.yaml_base.specs.Layout.{Place, Piece, piece_text, text_of, Standing, deeper, render_body, choice_of, scalar_lead, scalar_piece, render_place}
+use Rattle.yaml_base.specs.Layout.{render_properties, render_separation, render_alias, start_piece, Brackets, square, curly, render_end, end_piece, render_if}
+use Rattle.yaml_base.specs.Layout.{render_closing_marker, is_key, is_simple_alias, render_document_start, document_end_piece}
 use Rattle.yaml_base.specs.Refusal.{is_sound, name_or_tag_fault, content_fault}
 use Rattle.yaml_base.specs.Event.{scalar_tag, collection_tag}
 use Rattle.yaml_base.specs.Settings.{Effective}
@@ -86,20 +86,20 @@ step_found s at_document_end (document_end implicit) empty standing found ok = t
 step_found s _ event empty standing found ok = tt
 
 -- a document's own directives are among those in force
-front_found : (own front rest : List TagDirective) → AreFound own (front ++ rest) → AreFound own front
-front_found own [] rest found = tt
-front_found own (directive ∷ front) rest found = (found.0, found.1, front_found own front rest found.2)
+prefix_found : (own prefix rest : List TagDirective) → AreFound own (prefix ++ rest) → AreFound own prefix
+prefix_found own [] rest found = tt
+prefix_found own (directive ∷ prefix) rest found = (found.0, found.1, prefix_found own prefix rest found.2)
 
 -- directives that none is refused of are found
 own_found : (own : List TagDirective) → directives_fault own ≡ None → AreFound own own
-own_found own h = front_found own own _ (in_force_found own h)
+own_found own h = prefix_found own own _ (in_force_found own h)
 
 -- what a test has to meet: it spares printable ASCII and LF, and no body that a value allows holds a character of it
 pub record Spared (s : Effective) (test : ℕ → Bool) : Type 0 where
   pub spares : Spares test
   pub bodies : (place : Place) (style : ScalarStyle) (limit : Option ℕ) (value : Text) (cursor : Cursor)
       → Allows (allowances (charset_of s) value) place.in_flow style
-      → list_any test (body_laid style s limit (deeper s.indent place.column) value cursor).text ≡ false
+      → list_any test (render_body style s limit (deeper s.indent place.column) value cursor).text ≡ false
 
 module _ (s : Effective) (test : ℕ → Bool) (spared : Spared s test) where
   -- a piece's text holds no character that meets the test
@@ -107,8 +107,8 @@ module _ (s : Effective) (test : ℕ → Bool) (spared : Spared s test) where
   LacksPiece piece = list_any test (piece_text piece) ≡ false
 
   -- a piece without a body
-  lacks_alone : (laid : Laid) → Lacks test spared.spares laid → list_any test (laid.text ++ []) ≡ false
-  lacks_alone laid h = any_both test laid.text [] h refl
+  lacks_alone : (rendered : Rendered) → Lacks test spared.spares rendered → list_any test (rendered.text ++ []) ≡ false
+  lacks_alone rendered h = any_both test rendered.text [] h refl
 
   -- a scalar's piece
   lacks_scalar : (directives : List TagDirective) (place : Place) (simple : Bool) (content : Scalar) (standing : Standing)
@@ -117,12 +117,12 @@ module _ (s : Effective) (test : ℕ → Bool) (spared : Spared s test) where
   lacks_scalar directives place simple content standing found ok =
       let choice = choice_of s place simple content in
       let tag = scalar_tag s.canonical content in
-      let placed = place_laid s place simple standing.cursor in
-      let named = then_laid placed (properties_laid s.portable directives content.anchor tag choice.bare) in
+      let placed = render_place s place simple standing.cursor in
+      let named = render_then placed (render_properties s.portable directives content.anchor tag choice.bare) in
       let lead = scalar_lead s directives place simple choice content standing.cursor in
       any_both test lead.text _
-      (lacks_then test spared.spares named (separation_laid choice.style place.in_flow content.value)
-      (lacks_then test spared.spares placed (properties_laid s.portable directives content.anchor tag choice.bare)
+      (lacks_then test spared.spares named (render_separation choice.style place.in_flow content.value)
+      (lacks_then test spared.spares placed (render_properties s.portable directives content.anchor tag choice.bare)
       (lacks_place test spared.spares s place simple standing.cursor)
       (λ after. lacks_properties test spared.spares s.portable found.0 directives content.anchor tag choice.bare after found.1 ok))
       (λ after. lacks_separation test spared.spares choice.style place.in_flow content.value after))
@@ -134,27 +134,27 @@ module _ (s : Effective) (test : ℕ → Bool) (spared : Spared s test) where
   lacks_start : (directives : List TagDirective) (place : Place) (simple : Bool) (start : Collection) (standing : Standing)
       → (own : List TagDirective) × AreFound own directives → AnchorOk start.anchor → LacksPiece (start_piece s directives place simple start standing).piece
   lacks_start directives place simple start standing found ok =
-      let placed = place_laid s place simple standing.cursor in
+      let placed = render_place s place simple standing.cursor in
       let tag = collection_tag s.canonical start in
-      lacks_alone (then_laid placed (properties_laid s.portable directives start.anchor tag false))
-      (lacks_then test spared.spares placed (properties_laid s.portable directives start.anchor tag false)
+      lacks_alone (render_then placed (render_properties s.portable directives start.anchor tag false))
+      (lacks_then test spared.spares placed (render_properties s.portable directives start.anchor tag false)
       (lacks_place test spared.spares s place simple standing.cursor)
       (λ after. lacks_properties test spared.spares s.portable found.0 directives start.anchor tag false after found.1 ok))
 
   -- a collection's end
   lacks_closed : (brackets : Brackets) (in_flow empty : Bool) (column : Option ℕ) (standing : Standing)
-      → Lacks test spared.spares (end_laid s brackets in_flow empty column standing.cursor)
+      → Lacks test spared.spares (render_end s brackets in_flow empty column standing.cursor)
       → LacksPiece (end_piece s brackets in_flow empty column standing).piece
-  lacks_closed brackets in_flow empty column standing h = lacks_alone (end_laid s brackets in_flow empty column standing.cursor) h
+  lacks_closed brackets in_flow empty column standing h = lacks_alone (render_end s brackets in_flow empty column standing.cursor) h
 
   -- an event within a document
   lacks_node_step : (directives : List TagDirective) (frames : List Frame) (event : Event) (empty : Bool) (standing : Standing)
-      → (own : List TagDirective) × AreFound own directives → NamesOk event → LacksPiece (node_step s directives frames event empty standing).laid.piece
+      → (own : List TagDirective) × AreFound own directives → NamesOk event → LacksPiece (node_step s directives frames event empty standing).rendered.piece
   lacks_node_step directives frames (alias name) empty standing found ok =
       let place = next_place frames in
       let simple = is_key place.role && (not s.canonical && is_simple_alias name) in
-      lacks_alone (then_laid (place_laid s place simple standing.cursor) (alias_laid name simple))
-      (lacks_then test spared.spares (place_laid s place simple standing.cursor) (alias_laid name simple)
+      lacks_alone (render_then (render_place s place simple standing.cursor) (render_alias name simple))
+      (lacks_then test spared.spares (render_place s place simple standing.cursor) (render_alias name simple)
       (lacks_place test spared.spares s place simple standing.cursor)
       (λ after. lacks_alias test spared.spares name simple after ok))
   lacks_node_step directives frames (scalar content) empty standing found ok = lacks_scalar directives (next_place frames) _ content standing found ok
@@ -174,21 +174,21 @@ module _ (s : Effective) (test : ℕ → Bool) (spared : Spared s test) where
   lacks_document_end : (implicit : Bool) (standing : Standing) → LacksPiece (document_end_piece implicit standing).piece
   lacks_document_end true standing = lacks_alone (new_line 0 standing.cursor) (lacks_line test spared.spares 0 standing.cursor)
   lacks_document_end false standing =
-      lacks_alone (then_laid (new_line 0 standing.cursor) closing_mark_laid)
-      (lacks_then test spared.spares (new_line 0 standing.cursor) closing_mark_laid (lacks_line test spared.spares 0 standing.cursor)
+      lacks_alone (render_then (new_line 0 standing.cursor) render_closing_marker)
+      (lacks_then test spared.spares (new_line 0 standing.cursor) render_closing_marker (lacks_line test spared.spares 0 standing.cursor)
       (lacks_closing test spared.spares))
 
   -- an event at any stage
   lacks_step : (stage : Stage) (event : Event) (empty : Bool) (standing : Standing) → StageFound stage → NamesOk event
-      → LacksPiece (step s stage event empty standing).laid.piece
+      → LacksPiece (step s stage event empty standing).rendered.piece
   lacks_step (at_node directives frames) event empty standing found ok = lacks_node_step directives frames event empty standing found ok
   lacks_step at_stream (stream_start encoding) empty standing found ok = refl
   lacks_step (at_document first) (document_start start) empty standing found ok =
-      lacks_alone (document_start_laid s first start standing)
+      lacks_alone (render_document_start s first start standing)
       (lacks_document test spared.spares s first start.directives start standing (own_found start.directives ok))
   lacks_step (at_document first) stream_end empty standing found ok =
-      lacks_alone (laid_if (standing.mark == 2) closing_mark_laid standing.cursor)
-      (lacks_if test spared.spares (standing.mark == 2) closing_mark_laid standing.cursor (lacks_closing test spared.spares standing.cursor))
+      lacks_alone (render_if (standing.open_ended == 2) render_closing_marker standing.cursor)
+      (lacks_if test spared.spares (standing.open_ended == 2) render_closing_marker standing.cursor (lacks_closing test spared.spares standing.cursor))
   lacks_step at_document_end (document_end implicit) empty standing found ok = lacks_document_end implicit standing
   lacks_step _ event empty standing found ok = refl
 
@@ -200,7 +200,7 @@ module _ (s : Effective) (test : ℕ → Bool) (spared : Spared s test) where
       let parts : (is_sound canonical event ≡ true) × (list_all (is_sound canonical) rest ≡ true) = and_parts _ _ sound in
       let ok = names_ok canonical event parts.0 in
       let stepped = step s stage event (ends_next rest follows) standing in
-      any_both test (piece_text stepped.laid.piece) _
+      any_both test (piece_text stepped.rendered.piece) _
       (lacks_step stage event (ends_next rest follows) standing found ok)
-      (lacks_steps canonical rest follows stepped.stage stepped.laid.standing
+      (lacks_steps canonical rest follows stepped.stage stepped.rendered.standing
       (step_found s stage event (ends_next rest follows) standing found ok) parts.1)

@@ -11,7 +11,7 @@ use Rattle.yaml_base.specs.Meaning.{has_scalar_texts}
 use Rattle.yaml_base.specs.Pieces.{list_layout}
 use Rattle.yaml_base.specs.Output.{bytes_written, text_written}
 use Rattle.yaml_base.specs.Refusal.{IsAccepted}
-use Rattle.yaml_base.specs.StreamLaw.{StreamReadsBack, is_portable}
+use Rattle.yaml_base.specs.StreamLaw.{StreamReadsBack, reads_alike}
 use Rattle.yaml_base.specs.streams.StreamReader.{stream_trees}
 use Rattle.yaml_base.proofs.stream_documents.StreamAllStand.{LayoutsArePrintable, LayoutsAreRead, StreamsStand, streams_read_back, streams_stand}
 use Rattle.yaml_base.proofs.stream_documents.StreamLawStands.{stream_read_back}
@@ -48,7 +48,7 @@ stream_reads_back = streams_read_back stand
 
 -- what is read are its documents' trees
 pub stream_found : (given : Settings) (encoding : Option Encoding) (events : List Event) (accepted : IsAccepted given.canonical events)
-    → list_all has_scalar_texts events ≡ true → is_portable given.portable given.canonical events ≡ true
+    → list_all has_scalar_texts events ≡ true → reads_alike given.portable given.canonical events ≡ true
     → stream_trees given.breaks12 (bytes_written (effective given encoding) (list_layout (effective given encoding) events))
     ≡ Some (document_trees (effective given encoding) accepted.stream.documents)
 stream_found given encoding events accepted texts portable =

@@ -7,7 +7,7 @@ use Rattle.yaml_base.specs.scalars.Analysis.{allowances, is_special}
 use Rattle.yaml_base.specs.Characters.{Text, is_printable}
 use Rattle.yaml_base.specs.Cursor.{Cursor}
 use Rattle.yaml_base.specs.Event.{ScalarStyle, any_style, plain, single_quoted, double_quoted, literal, folded, Event}
-use Rattle.yaml_base.specs.NodeLayout.{body_at, body_laid}
+use Rattle.yaml_base.specs.NodeLayout.{body_at, render_body}
 use Rattle.yaml_base.specs.Places.{Place, deeper}
 use Rattle.yaml_base.specs.Settings.{Effective, effective}
 use Rattle.yaml_base.specs.TidyBodies.{IsTidy}
@@ -32,9 +32,9 @@ module _ (s : Effective) (is : IsIndent s.indent) (place : Place) where
 
   -- a body's characters are printable
   printable : (style : ScalarStyle) (limit : Option ℕ) (value : Text) (cursor : Cursor) → Allows (allowances (charset_of s) value) place.in_flow style
-      → list_all is_printable (body_laid style s limit (deeper s.indent place.column) value cursor).text ≡ true
+      → list_all is_printable (render_body style s limit (deeper s.indent place.column) value cursor).text ≡ true
   printable style limit value cursor allowed =
-      let text = (body_laid style s limit (deeper s.indent place.column) value cursor).text in
+      let text = (render_body style s limit (deeper s.indent place.column) value cursor).text in
       all_meet is_printable text
       (lacks_fewer (is_special (charset_of s)) (λ c. not (is_printable c)) (λ c e. ap not (special_printable (charset_of s) c e)) text
       ((special_spared s is).bodies place style limit value cursor allowed))
@@ -46,7 +46,7 @@ module _ (s : Effective) (is : IsIndent s.indent) (place : Place) where
 
   -- so does a body that a value allows
   keeps_to : (style : ScalarStyle) (limit : Option ℕ) (value : Text) (cursor : Cursor) → Allows (allowances (charset_of s) value) place.in_flow style
-      → KeepsTo style (body_laid style s limit (deeper s.indent place.column) value cursor).text
+      → KeepsTo style (render_body style s limit (deeper s.indent place.column) value cursor).text
   keeps_to any_style limit value cursor allowed = absurd allowed
   keeps_to plain limit value cursor allowed =
       let context = plain_context (charset_of s) place.in_flow value allowed in
@@ -70,7 +70,7 @@ module _ (s : Effective) (is : IsIndent s.indent) (place : Place) where
 
   -- a body that a value allows is tidy
   pub body_tidy : (style : ScalarStyle) (limit : Option ℕ) (value : Text) (cursor : Cursor) → Allows (allowances (charset_of s) value) place.in_flow style
-      → IsTidy s (body_at place style value (body_laid style s limit (deeper s.indent place.column) value cursor))
+      → IsTidy s (body_at place style value (render_body style s limit (deeper s.indent place.column) value cursor))
   body_tidy style limit value cursor allowed =
       let keeps = keeps_to style limit value cursor allowed in
       and_from _ _ (and_from _ _ (printable style limit value cursor allowed) keeps.deep) keeps.tidy

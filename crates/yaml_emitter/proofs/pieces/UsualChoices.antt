@@ -5,24 +5,24 @@ use Rattle.std.proofs.lemmas.Bool.{and_parts, not-true}
 use Rattle.std.specs.Prelude.{[], ◌∷◌, is_some, option_map}
 use Rattle.yaml_base.specs.scalars.Analysis.{Allowances, Charset, allows_plain, is_empty}
 use Rattle.yaml_base.specs.Characters.{Text}
-use Rattle.yaml_base.specs.Cursor.{Cursor, Laid, then_laid}
+use Rattle.yaml_base.specs.Cursor.{Cursor, Rendered, render_then}
 use Rattle.yaml_base.specs.Event.{ScalarStyle, TagDirective, any_style, plain, single_quoted, double_quoted, literal, folded}
-use Rattle.yaml_base.specs.Layout.{Place, anchor_laid, byte_count, choice_of, deeper, is_short, is_simple_scalar, name_count, place_laid, scalar_piece}
+use Rattle.yaml_base.specs.Layout.{Place, render_anchor, byte_count, choice_of, deeper, is_short, is_simple_scalar, name_count, render_place, scalar_piece}
 use Rattle.yaml_base.specs.Layout.{tag_count}
 use Rattle.yaml_base.specs.Event.{scalar_tag}
 use Rattle.yaml_base.specs.Seen.{seen_scalar_style}
 use Rattle.yaml_base.specs.Settings.{Effective}
-use Rattle.yaml_base.specs.scalars.Style.{Choice, chosen, fits_plain, is_plain, lacks_tag_and_flags, style_asked, style_fitting, style_quoted}
+use Rattle.yaml_base.specs.scalars.Style.{Choice, chosen, fits_plain, is_plain, lacks_tag_and_flags, requested_style, fitting_style, quoted_style}
 use Rattle.yaml_base.specs.Tags.{Spelling, spelling}
 use Rattle.yaml_base.specs.declared.errors.yaml_error_t.{yaml_error_t}
 use Rattle.yaml_pen.specs.Page.{Page}
 use Rattle.yaml_pen.specs.Wrote.{Wrote}
 use Rattle.yaml_scalar.specs.UsualTexts.{IsUsual, all_allowed}
 use Rattle.yaml_emitter.specs.BorrowedTexts.{seen_name, seen_scalar}
-use Rattle.yaml_emitter.specs.ScalarTexts.{scalar_text_laid}
+use Rattle.yaml_emitter.specs.ScalarTexts.{render_scalar_text}
 use Rattle.yaml_emitter.specs.UsualScalars.{StandsPlain, asks_plain, is_asked_plain}
 use Rattle.yaml_emitter.specs.WrittenPieces.{piece_at}
-use Rattle.yaml_emitter.specs.WrittenSigns.{spelled_tag_laid}
+use Rattle.yaml_emitter.specs.WrittenAtoms.{render_spelled_tag}
 use Rattle.yaml_emitter.specs.declared.writing.contents.ScalarContent.{ScalarContent}
 use Rattle.yaml_emitter.proofs.pieces.WritingScalars.{wrote_scalar}
 
@@ -31,7 +31,7 @@ no_name : (name : Option Text) → not (is_some name) ≡ true → name ≡ None
 no_name None h = refl
 no_name (Some text) h = cc
 
-plain_asked : (style : ScalarStyle) → asks_plain style ≡ true → style_asked false style ≡ plain
+plain_asked : (style : ScalarStyle) → asks_plain style ≡ true → requested_style false style ≡ plain
 plain_asked plain h = refl
 plain_asked any_style h = refl
 plain_asked single_quoted h = cc
@@ -61,7 +61,7 @@ no_tag {canonical} {content} is =
     ∙ ap (λ (b : Bool). if not b && not seen.quoted_implicit then seen.tag else None) is.implicit
 
 -- where every style may hold a value and plain is asked for, plain is chosen
-asked_still : (simple : Bool) (asked : ScalarStyle) → style_asked false asked ≡ plain → style_asked (false || (simple && false)) asked ≡ plain
+asked_still : (simple : Bool) (asked : ScalarStyle) → requested_style false asked ≡ plain → requested_style (false || (simple && false)) asked ≡ plain
 asked_still true asked h = h
 asked_still false asked h = h
 
@@ -73,14 +73,14 @@ not_bare : (quoted_implicit : Bool) → (not false && not quoted_implicit && not
 not_bare true = refl
 not_bare false = refl
 
-chosen_plain : (asked : ScalarStyle) (quoted_implicit flow simple : Bool) → style_asked false asked ≡ plain
+chosen_plain : (asked : ScalarStyle) (quoted_implicit flow simple : Bool) → requested_style false asked ≡ plain
     → chosen all_allowed asked false false true quoted_implicit flow simple false ≡ record { style = plain; bare = false }
 chosen_plain asked quoted_implicit flow simple h =
     let whole : ScalarStyle → Choice = λ style. record { style = style; bare = not false && not quoted_implicit && not (is_plain style) } in
     let style : ScalarStyle → ScalarStyle =
-    style_fitting all_allowed (fits_plain all_allowed false false true flow simple) (true && not flow && not simple) in
+    fitting_style all_allowed (fits_plain all_allowed false false true flow simple) (true && not flow && not simple) in
     ap (λ (s : ScalarStyle). whole (style s)) (asked_still simple asked h)
-    ∙ ap (λ (b : Bool). whole (if b then plain else style_quoted all_allowed)) (fits flow simple)
+    ∙ ap (λ (b : Bool). whole (if b then plain else quoted_style all_allowed)) (fits flow simple)
     ∙ ap (λ (b : Bool). let c : Choice = record { style = plain; bare = b } in c) (not_bare quoted_implicit)
 
 filled : (text : Text) (charset : Charset) → allows_plain charset true text ≡ true → is_empty text ≡ false
@@ -104,25 +104,25 @@ usual_choice s place simple {content} is =
     ∙ chosen_plain seen.style seen.quoted_implicit place.in_flow simple is.asked
 
 -- what is written of a value that stands plain, at its place behind an anchor, where there is one
-abbrev pub plain_laid_at : Effective → Place → (simple : Bool) → (anchor : Option Text) → (value : List ℕ) → Cursor → Laid
-plain_laid_at s place simple anchor value cursor =
-    then_laid
-    (then_laid (place_laid s place simple cursor) (λ between. then_laid (anchor_laid anchor between) (spelled_tag_laid s.portable None false)))
-    (scalar_text_laid plain s place.in_flow simple (deeper s.indent place.column) (chars value))
+abbrev pub render_plain_at : Effective → Place → (simple : Bool) → (anchor : Option Text) → (value : List ℕ) → Cursor → Rendered
+render_plain_at s place simple anchor value cursor =
+    render_then
+    (render_then (render_place s place simple cursor) (λ between. render_then (render_anchor anchor between) (render_spelled_tag s.portable None false)))
+    (render_scalar_text plain s place.in_flow simple (deeper s.indent place.column) (chars value))
 
 -- so its place and its text are the scalar's piece
-pub wrote_usual : (s : Effective) (directives : List TagDirective) (place : Place) (simple : Bool) {content : ScalarContent} {value : List ℕ} (mark : ℕ)
+pub wrote_usual : (s : Effective) (directives : List TagDirective) (place : Place) (simple : Bool) {content : ScalarContent} {value : List ℕ} (open_ended : ℕ)
     {before after : Page} {answer : Result (Unit {0}) yaml_error_t} → StandsPlain s.canonical content → content.value.now ≡ value
-    → Wrote (plain_laid_at s place simple None value) before after answer
-    → Wrote (piece_at (scalar_piece s directives place simple (seen_scalar content)) mark) before after answer
-wrote_usual s directives place simple {content} {value} mark {before} {after} {answer} is same wrote =
+    → Wrote (render_plain_at s place simple None value) before after answer
+    → Wrote (piece_at (scalar_piece s directives place simple (seen_scalar content)) open_ended) before after answer
+wrote_usual s directives place simple {content} {value} open_ended {before} {after} {answer} is same wrote =
     let choice : Choice = record { style = plain; bare = false } in
     let none : Option Spelling = None in
-    let own : Wrote (plain_laid_at s place simple None content.value.now) before after answer =
-    subst (λ (v : List ℕ). Wrote (plain_laid_at s place simple None v) before after answer) (sym same) wrote in
-    wrote_scalar s directives place simple (seen_scalar content) mark {choice = choice} {tag = none} (sym (usual_choice s place simple is))
+    let own : Wrote (render_plain_at s place simple None content.value.now) before after answer =
+    subst (λ (v : List ℕ). Wrote (render_plain_at s place simple None v) before after answer) (sym same) wrote in
+    wrote_scalar s directives place simple (seen_scalar content) open_ended {choice = choice} {tag = none} (sym (usual_choice s place simple is))
     (sym (ap (option_map (spelling directives)) (no_tag is)))
-    (subst (λ (a : Option Text). Wrote (plain_laid_at s place simple a content.value.now) before after answer) (sym is.anchor) own)
+    (subst (λ (a : Option Text). Wrote (render_plain_at s place simple a content.value.now) before after answer) (sym is.anchor) own)
 
 -- it has a flag
 flagged : (tag quoted : Bool) → lacks_tag_and_flags tag true quoted ≡ false

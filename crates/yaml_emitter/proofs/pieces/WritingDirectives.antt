@@ -6,41 +6,42 @@ use Rattle.std.proofs.lemmas.Bool.{false_from_ne_true, false≢true}
 use Rattle.std.proofs.lemmas.List.{take_more, map-append, take-append-drop, get_or-map, length-map}
 use Rattle.std.proofs.lemmas.List.Folds.{list_any_at}
 use Rattle.yaml_base.specs.Characters.{Text, is_break}
-use Rattle.yaml_base.specs.Cursor.{Cursor, Laid, then_laid}
+use Rattle.yaml_base.specs.Cursor.{Cursor, Rendered, render_then}
 use Rattle.yaml_base.specs.Event.{TagDirective}
-use Rattle.yaml_base.specs.Layout.{tag_directive_laid, tag_directives_laid}
+use Rattle.yaml_base.specs.Layout.{render_tag_directive, render_tag_directives}
 use Rattle.yaml_base.specs.declared.errors.yaml_error_t.{yaml_error_t}
 use Rattle.yaml_pen.specs.Page.{Page}
 use Rattle.yaml_pen.specs.Wrote.{Wrote}
 use Rattle.yaml_pen.proofs.Composing.{wrote_as, wrote_then, wrote_failed}
-use Rattle.yaml_emitter.specs.Signs.{some_handle_breaks}
+use Rattle.yaml_emitter.specs.Atoms.{some_handle_breaks}
 
 tag_directives-append : (portable : Bool) (xs ys : List TagDirective) (cursor : Cursor)
-    → then_laid (tag_directives_laid portable xs cursor) (tag_directives_laid portable ys) ≡ tag_directives_laid portable (xs ++ ys) cursor
+    → render_then (render_tag_directives portable xs cursor) (render_tag_directives portable ys) ≡ render_tag_directives portable (xs ++ ys) cursor
 tag_directives-append portable [] ys cursor = refl
 tag_directives-append portable (x ∷ xs) ys cursor =
-    let one = tag_directive_laid portable x cursor in
-    let rest = tag_directives_laid portable xs one.cursor in
-    let last = tag_directives_laid portable ys rest.cursor in
-    ap (λ (text : Text). let l : Laid = record { text = text; cursor = last.cursor } in l) (append_assoc one.text rest.text last.text)
-    ∙ ap (then_laid one) (ap (λ (l : Laid). λ (c : Cursor). l) (tag_directives-append portable xs ys one.cursor))
+    let one = render_tag_directive portable x cursor in
+    let rest = render_tag_directives portable xs one.cursor in
+    let last = render_tag_directives portable ys rest.cursor in
+    ap (λ (text : Text). let l : Rendered = record { text = text; cursor = last.cursor } in l) (append_assoc one.text rest.text last.text)
+    ∙ ap (render_then one) (ap (λ (l : Rendered). λ (c : Cursor). l) (tag_directives-append portable xs ys one.cursor))
 
 -- the lines of some, and then those of others
 wrote_directives_then : (portable : Bool) (xs ys : List TagDirective) {before between after : Page} {answer : Result (Unit {0}) yaml_error_t}
-    → Wrote (tag_directives_laid portable xs) before between (Ok tt) → Wrote (tag_directives_laid portable ys) between after answer
-    → Wrote (tag_directives_laid portable (xs ++ ys)) before after answer
-wrote_directives_then portable xs ys {before} one two = wrote_as (tag_directives_laid portable (xs ++ ys)) (tag_directives-append portable xs ys before.cursor)
+    → Wrote (render_tag_directives portable xs) before between (Ok tt) → Wrote (render_tag_directives portable ys) between after answer
+    → Wrote (render_tag_directives portable (xs ++ ys)) before after answer
+wrote_directives_then portable xs ys {before} one two = wrote_as (render_tag_directives portable (xs ++ ys))
+    (tag_directives-append portable xs ys before.cursor)
     (wrote_then one two)
 
-last_alone : (portable : Bool) (d : TagDirective) (cursor : Cursor) → tag_directive_laid portable d cursor ≡ tag_directives_laid portable (d ∷ []) cursor
+last_alone : (portable : Bool) (d : TagDirective) (cursor : Cursor) → render_tag_directive portable d cursor ≡ render_tag_directives portable (d ∷ []) cursor
 last_alone portable d cursor =
-    let one = tag_directive_laid portable d cursor in
-    ap (λ (text : Text). let l : Laid = record { text = text; cursor = one.cursor } in l) (sym (append-nil one.text))
+    let one = render_tag_directive portable d cursor in
+    ap (λ (text : Text). let l : Rendered = record { text = text; cursor = one.cursor } in l) (sym (append-nil one.text))
 
 module _ {E : Type 0} (portable : Bool) (seen : E → TagDirective) (items : List E) (i : ℕ) (item : E) (within : i < length items)
     (at : item ≡ get_or items i item) where
-  front_more : map seen (take i items) ++ seen item ∷ [] ≡ map seen (take (i + 1) items)
-  front_more =
+  prefix_more : map seen (take i items) ++ seen item ∷ [] ≡ map seen (take (i + 1) items)
+  prefix_more =
       ap (λ x. map seen (take i items) ++ seen x ∷ []) at
       ∙ sym (map-append seen (take i items) (get_or items i item ∷ []))
       ∙ ap (map seen) (sym (take_more items i item within))
@@ -55,23 +56,23 @@ module _ {E : Type 0} (portable : Bool) (seen : E → TagDirective) (items : Lis
 
   -- one more line
   pub wrote_next_directive : {before between after : Page}
-      → Wrote (tag_directives_laid portable (map seen (take i items))) before between (Ok tt)
-      → Wrote (tag_directive_laid portable (seen item)) between after (Ok tt)
-      → Wrote (tag_directives_laid portable (map seen (take (i + 1) items))) before after (Ok tt)
+      → Wrote (render_tag_directives portable (map seen (take i items))) before between (Ok tt)
+      → Wrote (render_tag_directive portable (seen item)) between after (Ok tt)
+      → Wrote (render_tag_directives portable (map seen (take (i + 1) items))) before after (Ok tt)
   wrote_next_directive {before} {between} {after} one two =
-      let alone = wrote_as (tag_directives_laid portable (seen item ∷ [])) (last_alone portable (seen item) between.cursor) two in
-      subst (λ (ds : List TagDirective). Wrote (tag_directives_laid portable ds) before after (Ok tt)) front_more
+      let alone = wrote_as (render_tag_directives portable (seen item ∷ [])) (last_alone portable (seen item) between.cursor) two in
+      subst (λ (ds : List TagDirective). Wrote (render_tag_directives portable ds) before after (Ok tt)) prefix_more
       (wrote_directives_then portable (map seen (take i items)) (seen item ∷ []) one alone)
 
   -- a line that failed
   pub failed_next_directive : {before between after : Page} {error : yaml_error_t}
-      → Wrote (tag_directives_laid portable (map seen (take i items))) before between (Ok tt)
-      → Wrote (tag_directive_laid portable (seen item)) between after (Err error)
-      → Wrote (tag_directives_laid portable (map seen items)) before after (Err error)
+      → Wrote (render_tag_directives portable (map seen (take i items))) before between (Ok tt)
+      → Wrote (render_tag_directive portable (seen item)) between after (Err error)
+      → Wrote (render_tag_directives portable (map seen items)) before after (Err error)
   failed_next_directive {before} {between} {after} {error} one two =
-      subst (λ (ds : List TagDirective). Wrote (tag_directives_laid portable ds) before after (Err error)) whole
+      subst (λ (ds : List TagDirective). Wrote (render_tag_directives portable ds) before after (Err error)) whole
       (wrote_directives_then portable (map seen (take i items)) (seen item ∷ map seen (drop (i + 1) items)) one
-      (wrote_failed (tag_directives_laid portable (map seen (drop (i + 1) items))) two))
+      (wrote_failed (render_tag_directives portable (map seen (drop (i + 1) items))) two))
 
   pub next_handle : some_handle_breaks (map seen items) ≡ false → list_any is_break (seen item).handle ≡ false
   next_handle none =

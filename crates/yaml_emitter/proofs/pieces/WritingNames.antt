@@ -9,9 +9,10 @@ use Rattle.std.specs.Prelude.{option_and_then}
 use Rattle.yaml_base.specs.Characters.{Text, is_alpha, is_break}
 use Rattle.yaml_base.specs.Event.{TagDirective}
 use Rattle.yaml_base.specs.Tags.{name_fault, anchor_fault, alias_fault, handle_fault, directive_fault, next_directive_fault, directives_fault}
-use Rattle.yaml_base.specs.Tags.{directives_fault_after, gives_handle, default_directives, directives_in_force, tag_mark, last_from, without_last, prefix_fault}
-use Rattle.yaml_base.proofs.TagForms.{front_and_last}
-use Rattle.yaml_emitter.specs.Signs.{name_breaks, some_handle_breaks}
+use Rattle.yaml_base.specs.Tags.{directives_fault_after, gives_handle, default_directives, directives_in_force, exclamation_mark, last_from}
+use Rattle.yaml_base.specs.Tags.{without_last, prefix_fault}
+use Rattle.yaml_base.proofs.TagForms.{prefix_and_last}
+use Rattle.yaml_emitter.specs.Atoms.{name_breaks, some_handle_breaks}
 use Rattle.yaml_base.specs.declared.errors.yaml_error_t.TheVariants.{TagHandleStart, TagHandleEnd, TagHandleAlphabet, AnchorEmpty, AnchorAlphabet, AliasEmpty}
 use Rattle.yaml_base.specs.declared.errors.yaml_error_t.TheVariants.{AliasAlphabet}
 use Rattle.yaml_base.specs.declared.errors.yaml_error_t.{yaml_error_t}
@@ -62,22 +63,22 @@ is_true : (b : Bool) → not b ≡ false → b ≡ true
 is_true true is = refl
 is_true false is = cc
 
-mark_is_no_break : (c : ℕ) → (c == tag_mark) ≡ true → is_break c ≡ false
-mark_is_no_break c is = ap is_break (eqb-true c tag_mark is)
+exclamation_is_no_break : (c : ℕ) → (c == exclamation_mark) ≡ true → is_break c ≡ false
+exclamation_is_no_break c is = ap is_break (eqb-true c exclamation_mark is)
 
 -- a handle that isn't refused holds no break
 pub sound_handle : (handle : Text) → handle_fault handle ≡ None → list_any is_break handle ≡ false
 sound_handle [] none = refl
 sound_handle (c ∷ []) none =
-    let tests = three_tests TagHandleStart TagHandleEnd TagHandleAlphabet (not (c == tag_mark)) (not (c == tag_mark)) true none in
-    either_false (is_break c) false (mark_is_no_break c (is_true (c == tag_mark) tests.0)) refl
+    let tests = three_tests TagHandleStart TagHandleEnd TagHandleAlphabet (not (c == exclamation_mark)) (not (c == exclamation_mark)) true none in
+    either_false (is_break c) false (exclamation_is_no_break c (is_true (c == exclamation_mark) tests.0)) refl
 sound_handle (c ∷ d ∷ rest) none =
     let last = last_from c (d ∷ rest) in
-    let tests = three_tests TagHandleStart TagHandleEnd TagHandleAlphabet (not (c == tag_mark)) (not (last == tag_mark))
+    let tests = three_tests TagHandleStart TagHandleEnd TagHandleAlphabet (not (c == exclamation_mark)) (not (last == exclamation_mark))
     (list_all is_alpha (without_last (d ∷ rest))) none in
-    let ends = either_false (is_break last) false (mark_is_no_break last (is_true (last == tag_mark) tests.1)) refl in
-    either_false (is_break c) (list_any is_break (d ∷ rest)) (mark_is_no_break c (is_true (c == tag_mark) tests.0))
-    (ap (list_any is_break) (front_and_last c d rest)
+    let ends = either_false (is_break last) false (exclamation_is_no_break last (is_true (last == exclamation_mark) tests.1)) refl in
+    either_false (is_break c) (list_any is_break (d ∷ rest)) (exclamation_is_no_break c (is_true (c == exclamation_mark) tests.0))
+    (ap (list_any is_break) (prefix_and_last c d rest)
     ∙ any-append is_break (without_last (d ∷ rest)) (last ∷ []) (letters_no_break (without_last (d ∷ rest)) tests.2) ends)
 
 first_none : (a b : Option yaml_error_t) → option_or a b ≡ None → (a ≡ None) × (b ≡ None)

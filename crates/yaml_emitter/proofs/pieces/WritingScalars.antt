@@ -10,16 +10,16 @@ use Rattle.std.proofs.lemmas.Bool.{and_parts, cases_Bool}
 use Rattle.std.proofs.lemmas.Result.{err_from_is_err_and}
 use Rattle.yaml_base.specs.scalars.Analysis.{Allowances, is_empty, allows_block, somewhere, bars_block, allowances, Charset}
 use Rattle.yaml_base.specs.Characters.{Text}
-use Rattle.yaml_base.specs.Cursor.{Cursor, Laid, then_laid}
-use Rattle.yaml_base.specs.scalars.DoubleQuoted.{double_quoted_laid}
+use Rattle.yaml_base.specs.Cursor.{Cursor, Rendered, render_then}
+use Rattle.yaml_base.specs.scalars.DoubleQuoted.{render_double_quoted}
 use Rattle.yaml_base.specs.Event.{ScalarStyle, any_style, plain, single_quoted, double_quoted, literal, folded, Scalar, TagDirective}
-use Rattle.yaml_base.specs.scalars.Folded.{folded_laid}
-use Rattle.yaml_base.specs.Layout.{Place, anchor_laid, place_laid, properties_laid, choice_of, deeper, scalar_piece, separation_laid, body_laid}
-use Rattle.yaml_base.specs.scalars.Plain.{plain_laid}
+use Rattle.yaml_base.specs.scalars.Folded.{render_folded}
+use Rattle.yaml_base.specs.Layout.{Place, render_anchor, render_place, render_properties, choice_of, deeper, scalar_piece, render_separation, render_body}
+use Rattle.yaml_base.specs.scalars.Plain.{render_plain}
 use Rattle.yaml_base.specs.Event.{scalar_tag}
 use Rattle.yaml_base.specs.Settings.{Effective}
-use Rattle.yaml_base.specs.scalars.SingleQuoted.{single_quoted_laid}
-use Rattle.yaml_base.specs.scalars.Style.{Choice, chosen, fits_plain, is_plain, style_asked, style_fitting, style_quoted}
+use Rattle.yaml_base.specs.scalars.SingleQuoted.{render_single_quoted}
+use Rattle.yaml_base.specs.scalars.Style.{Choice, chosen, fits_plain, is_plain, requested_style, fitting_style, quoted_style}
 use Rattle.yaml_base.specs.Tags.{Spelling, spelling}
 use Rattle.yaml_base.specs.declared.errors.yaml_error_t.{yaml_error_t}
 use Rattle.yaml_pen.specs.Page.{Page, natural}
@@ -29,17 +29,17 @@ use Rattle.yaml_mark.proofs.HandleLemmas.{no_characters, characters_begin}
 use Rattle.yaml_scalar.specs.Width.{limit_of, limit_where}
 use Rattle.yaml_emitter.specs.declared.effective.EffectiveSettings.{EffectiveSettings}
 use Rattle.yaml_emitter.specs.Given.{seen_effective, seen_width}
-use Rattle.yaml_emitter.specs.ScalarTexts.{scalar_text_laid, style_fits, without_answer}
+use Rattle.yaml_emitter.specs.ScalarTexts.{render_scalar_text, style_fits, without_answer}
 use Rattle.yaml_emitter.specs.WrittenPieces.{piece_at}
-use Rattle.yaml_emitter.specs.WrittenSigns.{spelled_tag_laid}
-use Rattle.yaml_emitter.proofs.pieces.SignsWritten.{lead-spelled}
+use Rattle.yaml_emitter.specs.WrittenAtoms.{render_spelled_tag}
+use Rattle.yaml_emitter.proofs.pieces.AtomsWritten.{lead-spelled}
 
 -- the exit of a `?` tells the error of the call that failed
-pub wrote_exit_from : {T : Type 0} {lay : Cursor → Laid} {before after : Page} {error : yaml_error_t} (answer : Result T yaml_error_t)
-    → IsErr answer × IsErrAnd answer (λ told. told ≡ error) → Wrote lay before after (Err error) → Wrote lay before after (without_answer answer)
-wrote_exit_from {T} {lay} {before} {after} {error} answer is wrote =
+pub wrote_exit_from : {T : Type 0} {render : Cursor → Rendered} {before after : Page} {error : yaml_error_t} (answer : Result T yaml_error_t)
+    → IsErr answer × IsErrAnd answer (λ told. told ≡ error) → Wrote render before after (Err error) → Wrote render before after (without_answer answer)
+wrote_exit_from {T} {render} {before} {after} {error} answer is wrote =
     let p = err_from_is_err_and answer is.1 in
-    subst (λ (r : Result T yaml_error_t). Wrote lay before after (without_answer r))
+    subst (λ (r : Result T yaml_error_t). Wrote render before after (without_answer r))
     (sym (p.1 ∙ ap (λ (e : yaml_error_t). let r : Result T yaml_error_t = Err e in r) p.2)) wrote
 
 -- a width that isn't negative limits lines as the settings say
@@ -56,48 +56,48 @@ module _ (settings : EffectiveSettings) (in_flow simple : Bool) (value : Text) {
   limit_is : limit_where (not simple) width ≡ (if simple then None else seen_width settings.width)
   limit_is = ap (limit_where (not simple)) width_is ∙ line_limit simple settings.width low
 
-  abbrev text : ScalarStyle → Cursor → Laid
-  text style = scalar_text_laid style (seen_effective settings) in_flow simple column value
+  abbrev text : ScalarStyle → Cursor → Rendered
+  text style = render_scalar_text style (seen_effective settings) in_flow simple column value
 
   pub wrote_plain : {before after : Page} {answer : Result (Unit {0}) yaml_error_t}
-      → Wrote (plain_laid in_flow (limit_where (not simple) width) (natural indent) value) before after answer
-      → Wrote (scalar_text_laid plain (seen_effective settings) in_flow simple column value) before after answer
+      → Wrote (render_plain in_flow (limit_where (not simple) width) (natural indent) value) before after answer
+      → Wrote (render_scalar_text plain (seen_effective settings) in_flow simple column value) before after answer
   wrote_plain {before} wrote =
       wrote_as (text plain)
-      (ap (λ (l : Option ℕ). plain_laid in_flow l (natural indent) value before.cursor) limit_is
-      ∙ ap (λ (i : ℤ). plain_laid in_flow (if simple then None else seen_width settings.width) (natural i) value before.cursor) is)
+      (ap (λ (l : Option ℕ). render_plain in_flow l (natural indent) value before.cursor) limit_is
+      ∙ ap (λ (i : ℤ). render_plain in_flow (if simple then None else seen_width settings.width) (natural i) value before.cursor) is)
       wrote
 
   pub wrote_single : {before after : Page} {answer : Result (Unit {0}) yaml_error_t}
-      → Wrote (single_quoted_laid (limit_where (not simple) width) (natural indent) value) before after answer
-      → Wrote (scalar_text_laid single_quoted (seen_effective settings) in_flow simple column value) before after answer
+      → Wrote (render_single_quoted (limit_where (not simple) width) (natural indent) value) before after answer
+      → Wrote (render_scalar_text single_quoted (seen_effective settings) in_flow simple column value) before after answer
   wrote_single {before} wrote =
       wrote_as (text single_quoted)
-      (ap (λ (l : Option ℕ). single_quoted_laid l (natural indent) value before.cursor) limit_is
-      ∙ ap (λ (i : ℤ). single_quoted_laid (if simple then None else seen_width settings.width) (natural i) value before.cursor) is)
+      (ap (λ (l : Option ℕ). render_single_quoted l (natural indent) value before.cursor) limit_is
+      ∙ ap (λ (i : ℤ). render_single_quoted (if simple then None else seen_width settings.width) (natural i) value before.cursor) is)
       wrote
 
   pub wrote_double : {before after : Page} {answer : Result (Unit {0}) yaml_error_t}
-      → Wrote (double_quoted_laid settings.unicode (limit_where (not simple) width) (natural indent) value) before after answer
-      → Wrote (scalar_text_laid double_quoted (seen_effective settings) in_flow simple column value) before after answer
+      → Wrote (render_double_quoted settings.unicode (limit_where (not simple) width) (natural indent) value) before after answer
+      → Wrote (render_scalar_text double_quoted (seen_effective settings) in_flow simple column value) before after answer
   wrote_double {before} wrote =
       wrote_as (text double_quoted)
-      (ap (λ (l : Option ℕ). double_quoted_laid settings.unicode l (natural indent) value before.cursor) limit_is
-      ∙ ap (λ (i : ℤ). double_quoted_laid settings.unicode (if simple then None else seen_width settings.width) (natural i) value before.cursor) is)
+      (ap (λ (l : Option ℕ). render_double_quoted settings.unicode l (natural indent) value before.cursor) limit_is
+      ∙ ap (λ (i : ℤ). render_double_quoted settings.unicode (if simple then None else seen_width settings.width) (natural i) value before.cursor) is)
       wrote
 
   pub wrote_folded : {best : ℤ} → best ≡ pos settings.indent → simple ≡ false → {before after : Page} {answer : Result (Unit {0}) yaml_error_t}
-      → Wrote (folded_laid (limit_of width) (natural indent) (natural best) value) before after answer
-      → Wrote (scalar_text_laid folded (seen_effective settings) in_flow simple column value) before after answer
+      → Wrote (render_folded (limit_of width) (natural indent) (natural best) value) before after answer
+      → Wrote (render_scalar_text folded (seen_effective settings) in_flow simple column value) before after answer
   wrote_folded {best} best_is long {before} wrote =
       wrote_as (text folded)
-      (ap (λ (l : Option ℕ). folded_laid l (natural indent) (natural best) value before.cursor) (ap limit_of width_is ∙ width_limit settings.width low)
-      ∙ ap (λ (i : ℤ). folded_laid (seen_width settings.width) (natural i) (natural best) value before.cursor) is
-      ∙ ap (λ (i : ℤ). folded_laid (seen_width settings.width) column (natural i) value before.cursor) best_is
-      ∙ ap (λ (b : Bool). folded_laid (if b then None else seen_width settings.width) column settings.indent value before.cursor) (sym long))
+      (ap (λ (l : Option ℕ). render_folded l (natural indent) (natural best) value before.cursor) (ap limit_of width_is ∙ width_limit settings.width low)
+      ∙ ap (λ (i : ℤ). render_folded (seen_width settings.width) (natural i) (natural best) value before.cursor) is
+      ∙ ap (λ (i : ℤ). render_folded (seen_width settings.width) column (natural i) value before.cursor) best_is
+      ∙ ap (λ (b : Bool). render_folded (if b then None else seen_width settings.width) column settings.indent value before.cursor) (sym long))
       wrote
 
-quoted_fits : (allowed : Allowances) (value : Text) (simple : Bool) → style_fits (style_quoted allowed) value simple ≡ true
+quoted_fits : (allowed : Allowances) (value : Text) (simple : Bool) → style_fits (quoted_style allowed) value simple ≡ true
 quoted_fits allowed value simple =
     elim allowed.single_quoted as (λ (b : Bool). style_fits (if b then single_quoted else double_quoted) value simple ≡ true) [ true ↦ refl | false ↦ refl ]
 
@@ -110,7 +110,7 @@ block_or_double style false value simple is holds = refl
 
 fitting_fits : (allowed : Allowances) (plain_fits block_fits : Bool) (asked : ScalarStyle) (value : Text) (simple : Bool)
     → (block_fits ≡ true → (not (is_empty value) && not simple) ≡ true)
-    → style_fits (style_fitting allowed plain_fits block_fits asked) value simple ≡ true
+    → style_fits (fitting_style allowed plain_fits block_fits asked) value simple ≡ true
 fitting_fits allowed true block_fits plain value simple holds = refl
 fitting_fits allowed false block_fits plain value simple holds = quoted_fits allowed value simple
 fitting_fits allowed plain_fits block_fits single_quoted value simple holds = quoted_fits allowed value simple
@@ -138,8 +138,8 @@ chosen_fits s place simple content =
     (not_either (is_empty content.value) (somewhere (bars_block charset) content.value)))
 
 -- where double quotes are asked for in any case, they are chosen, whatever the value allows
-surely_asked : (canonical other : Bool) (asked : ScalarStyle) → style_asked canonical asked ≡ double_quoted
-    → style_asked (canonical || other) asked ≡ double_quoted
+surely_asked : (canonical other : Bool) (asked : ScalarStyle) → requested_style canonical asked ≡ double_quoted
+    → requested_style (canonical || other) asked ≡ double_quoted
 surely_asked true other asked h = h
 surely_asked false true asked h = refl
 surely_asked false false asked h = h
@@ -152,45 +152,47 @@ bare_in_quotes false true = refl
 bare_in_quotes false false = refl
 
 pub chosen_surely : (allowed : Allowances) (asked : ScalarStyle) (empty tag_written plain_implicit quoted_implicit flow simple canonical : Bool)
-    → style_asked canonical asked ≡ double_quoted
+    → requested_style canonical asked ≡ double_quoted
     → chosen allowed asked empty tag_written plain_implicit quoted_implicit flow simple canonical
     ≡ record { style = double_quoted; bare = not tag_written && not quoted_implicit }
 chosen_surely allowed asked empty tag_written plain_implicit quoted_implicit flow simple canonical h =
     let whole : ScalarStyle → Choice = λ style. record { style = style; bare = not tag_written && not quoted_implicit && not (is_plain style) } in
     let quotes : Bool → Choice = λ bare. record { style = double_quoted; bare = bare } in
     ap whole
-    (ap (style_fitting allowed (fits_plain allowed empty tag_written plain_implicit flow simple) (allowed.block && not flow && not simple))
+    (ap (fitting_style allowed (fits_plain allowed empty tag_written plain_implicit flow simple) (allowed.block && not flow && not simple))
     (surely_asked canonical (simple && allowed.multiline) asked h))
     ∙ ap quotes (bare_in_quotes tag_written quoted_implicit)
 
 module _ (s : Effective) (directives : List TagDirective) (place : Place) (simple : Bool) (content : Scalar) where
   -- what stands before a scalar's text, its tag as it is spelled, and the text
-  abbrev pub scalar_laid : Choice → Option Spelling → Cursor → Laid
-  scalar_laid choice tag cursor =
-      then_laid
-      (then_laid (place_laid s place simple cursor) (λ between. then_laid (anchor_laid content.anchor between) (spelled_tag_laid s.portable tag choice.bare)))
-      (scalar_text_laid choice.style s place.in_flow simple (deeper s.indent place.column) content.value)
+  abbrev pub render_scalar : Choice → Option Spelling → Cursor → Rendered
+  render_scalar choice tag cursor =
+      render_then
+      (render_then (render_place s place simple cursor)
+      (λ between. render_then (render_anchor content.anchor between) (render_spelled_tag s.portable tag choice.bare)))
+      (render_scalar_text choice.style s place.in_flow simple (deeper s.indent place.column) content.value)
 
-  whole_laid : (mark : ℕ) (tag : Option Spelling) (cursor : Cursor) → tag ≡ option_map (spelling directives) (scalar_tag s.canonical content)
-      → scalar_laid (choice_of s place simple content) tag cursor ≡ piece_at (scalar_piece s directives place simple content) mark cursor
-  whole_laid mark tag cursor is =
+  whole_rendered : (open_ended : ℕ) (tag : Option Spelling) (cursor : Cursor) → tag ≡ option_map (spelling directives) (scalar_tag s.canonical content)
+      → render_scalar (choice_of s place simple content) tag cursor ≡ piece_at (scalar_piece s directives place simple content) open_ended cursor
+  whole_rendered open_ended tag cursor is =
       let choice = choice_of s place simple content in
-      let text = scalar_text_laid choice.style s place.in_flow simple (deeper s.indent place.column) content.value in
-      let whole = piece_at (scalar_piece s directives place simple content) mark cursor in
-      let lead = then_laid (place_laid s place simple cursor)
-      (properties_laid s.portable directives content.anchor (scalar_tag s.canonical content) choice.bare) in
-      let separation = separation_laid choice.style place.in_flow content.value lead.cursor in
-      let body = body_laid choice.style s (if simple then None else s.width) (deeper s.indent place.column) content.value separation.cursor in
-      ap (λ (l : Laid). then_laid l text) (lead-spelled s directives place simple content.anchor (scalar_tag s.canonical content) tag choice.bare cursor is)
-      ∙ ap (λ (text : Text). let l : Laid = record { text = text; cursor = whole.cursor } in l) (sym (append_assoc lead.text separation.text body.text))
+      let text = render_scalar_text choice.style s place.in_flow simple (deeper s.indent place.column) content.value in
+      let whole = piece_at (scalar_piece s directives place simple content) open_ended cursor in
+      let lead = render_then (render_place s place simple cursor)
+      (render_properties s.portable directives content.anchor (scalar_tag s.canonical content) choice.bare) in
+      let separation = render_separation choice.style place.in_flow content.value lead.cursor in
+      let body = render_body choice.style s (if simple then None else s.width) (deeper s.indent place.column) content.value separation.cursor in
+      ap (λ (l : Rendered). render_then l text)
+      (lead-spelled s directives place simple content.anchor (scalar_tag s.canonical content) tag choice.bare cursor is)
+      ∙ ap (λ (text : Text). let l : Rendered = record { text = text; cursor = whole.cursor } in l) (sym (append_assoc lead.text separation.text body.text))
 
-  pub wrote_scalar : (mark : ℕ) {choice : Choice} {tag : Option Spelling} {before after : Page} {answer : Result (Unit {0}) yaml_error_t}
+  pub wrote_scalar : (open_ended : ℕ) {choice : Choice} {tag : Option Spelling} {before after : Page} {answer : Result (Unit {0}) yaml_error_t}
       → choice ≡ choice_of s place simple content → tag ≡ option_map (spelling directives) (scalar_tag s.canonical content)
-      → Wrote (scalar_laid choice tag) before after answer
-      → Wrote (piece_at (scalar_piece s directives place simple content) mark) before after answer
-  wrote_scalar mark {choice} {tag} {before} is tag_is wrote =
-      wrote_as (piece_at (scalar_piece s directives place simple content) mark)
-      (ap (λ (c : Choice). scalar_laid c tag before.cursor) is ∙ whole_laid mark tag before.cursor tag_is)
+      → Wrote (render_scalar choice tag) before after answer
+      → Wrote (piece_at (scalar_piece s directives place simple content) open_ended) before after answer
+  wrote_scalar open_ended {choice} {tag} {before} is tag_is wrote =
+      wrote_as (piece_at (scalar_piece s directives place simple content) open_ended)
+      (ap (λ (c : Choice). render_scalar c tag before.cursor) is ∙ whole_rendered open_ended tag before.cursor tag_is)
       wrote
 
 -- what holds of an answer by its kind holds where it is Ok

@@ -6,8 +6,8 @@ use Rattle.yaml_base.specs.Characters.{Text, is_break}
 use Rattle.yaml_base.specs.Event.{TagDirective}
 use Rattle.yaml_base.specs.Layout.{is_short}
 use Rattle.yaml_base.specs.Tags.{Spelling, verbatim, spelling, spelling_by, behind, tag_fault}
-use Rattle.yaml_emitter.specs.Signs.{some_handle_breaks}
-use Rattle.yaml_emitter.specs.WrittenSigns.{spelling_breaks}
+use Rattle.yaml_emitter.specs.Atoms.{some_handle_breaks}
+use Rattle.yaml_emitter.specs.WrittenAtoms.{spelling_breaks}
 use Rattle.std.specs.Prelude.{option_map}
 use Rattle.yaml_base.specs.declared.errors.yaml_error_t.{yaml_error_t}
 

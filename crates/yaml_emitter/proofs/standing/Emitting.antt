@@ -1,5 +1,6 @@
 -- The events that wait are written one after another.
-use Rattle.std.proofs.Common.{ℕ, arith, ◌≡◌, ◌≤◌, true, None, Some, Result, Ok, Err, List, [], ◌∷◌, ◌++◌, length, take, sym, ap, subst, false, ◌+◌, suc, Bool, refl}
+use Rattle.std.proofs.Common.{ℕ, arith, ◌≡◌, ◌≤◌, true, None, Some, Result, Ok, Err, List, [], ◌∷◌, ◌++◌, length, take, sym, ap, subst, false, ◌+◌}
+use Rattle.std.proofs.Common.{suc, Bool, refl}
 use Rattle.std.proofs.Common.{◌∙◌, ◌-◌, drop, map}
 use Rattle.std.proofs.lemmas.List.{drop-drop, drop-map, length-drop, length-map, take_rest}
 use Rattle.yaml_base.specs.Settings.{Settings}
@@ -12,7 +13,8 @@ use Rattle.yaml_base.specs.declared.errors.yaml_error_t.{yaml_error_t}
 use Rattle.yaml_base.specs.declared.errors.yaml_error_t.TheVariants.{WriteError, Memory}
 use Rattle.yaml_emitter.specs.State.{MachineState, State, machine_of}
 use Rattle.yaml_emitter.specs.Queue.{is_head_ready}
-use Rattle.yaml_emitter.specs.StandsAfter.{FailedFront, Reached, ReachedOn, StandsBy, StandsSo, StandsWell, ProcessedFirst, WroteFront, failed_by}
+use Rattle.yaml_emitter.specs.StandsAfter.{FailedReady, Reached, ReachedOn, MachineStands, StateStands, StandsWithoutError, ProcessedFirst}
+use Rattle.yaml_emitter.specs.StandsAfter.{WroteReady, failed_by}
 use Rattle.yaml_emitter.specs.Processing.{Processed, closes_at_once}
 use Rattle.yaml_emitter.proofs.standing.Standing.{reached_first}
 use Rattle.yaml_emitter.proofs.standing.StandingSteps.{reached_end, reached_next}
@@ -38,23 +40,23 @@ took_error waiting before after answer h = processed_error h.event (closes_at_on
 
 pub took_next : (waiting : List Event) (before after : MachineState) → ProcessedFirst waiting before after (Ok tt) → is_head_ready waiting ≡ true
     → ReachedOn waiting before (drop 1 waiting) after
-took_next waiting before after h ready given all front reached =
-    let at : Reached given all front (h.event ∷ h.rest) before = subst (λ r. Reached given all front r before) h.waits reached in
-    let on : Reached given all (front ++ h.event ∷ []) h.rest after =
-    reached_next given all front h.rest h.event before after at (took_ready waiting before after (Ok tt) h ready) h.done in
-    (front ++ h.event ∷ [], subst (λ r. Reached given all (front ++ h.event ∷ []) r after) (sym (ap (drop 1) h.waits)) on)
+took_next waiting before after h ready given all prefix reached =
+    let at : Reached given all prefix (h.event ∷ h.rest) before = subst (λ r. Reached given all prefix r before) h.waits reached in
+    let on : Reached given all (prefix ++ h.event ∷ []) h.rest after =
+    reached_next given all prefix h.rest h.event before after at (took_ready waiting before after (Ok tt) h ready) h.done in
+    (prefix ++ h.event ∷ [], subst (λ r. Reached given all (prefix ++ h.event ∷ []) r after) (sym (ap (drop 1) h.waits)) on)
 
 pub took_failed : (waiting : List Event) (before after : MachineState) (error : yaml_error_t) → ProcessedFirst waiting before after (Err error)
-    → is_head_ready waiting ≡ true → FailedFront waiting error before after
-took_failed waiting before after error h ready given all front reached =
-    let at : Reached given all front (h.event ∷ h.rest) before = subst (λ r. Reached given all front r before) h.waits reached in
-    reached_failed given all front h.rest h.event before after error at (took_ready waiting before after (Err error) h ready) h.done
+    → is_head_ready waiting ≡ true → FailedReady waiting error before after
+took_failed waiting before after error h ready given all prefix reached =
+    let at : Reached given all prefix (h.event ∷ h.rest) before = subst (λ r. Reached given all prefix r before) h.waits reached in
+    reached_failed given all prefix h.rest h.event before after error at (took_ready waiting before after (Err error) h ready) h.done
 
 -- Where a machine has come in two parts, it has come.
 pub reached_on : (first second third : List Event) (before between after : MachineState) → ReachedOn first before second between
     → ReachedOn second between third after → ReachedOn first before third after
-reached_on first second third before between after h h' given all front reached =
-    let at = h given all front reached in
+reached_on first second third before between after h h' given all prefix reached =
+    let at = h given all prefix reached in
     h' given all at.0 at.1
 
 -- The events behind the first ones.
@@ -77,7 +79,7 @@ took_within seen xs n before after answer took =
     omega (arith, long, length-drop n (map seen xs), length-map xs seen)
 
 -- An event that was taken stands behind those that wait.
-pub reached_taken : (given : Settings) (all : List Event) (event : Event) (state : State) → StandsSo given all state → state.error ≡ None
+pub reached_taken : (given : Settings) (all : List Event) (event : Event) (state : State) → StateStands given all state → state.error ≡ None
     → Reached given (all ++ event ∷ []) (take (written all) all) (state.held ++ event ∷ []) (machine_of state)
 reached_taken given all event state h none = reached_first given all event state.held (machine_of state) (stands_well given all state h none)
 
@@ -90,10 +92,10 @@ head_unready [] h = refl
 head_unready (first ∷ rest) h = unready (is_ready first rest) (written rest) h
 
 -- Where no event became ready, the first that waits isn't ready.
-pub none_became_ready : (given : Settings) (all : List Event) (event : Event) (before : State) → StandsSo given all before → before.error ≡ None
+pub none_became_ready : (given : Settings) (all : List Event) (event : Event) (before : State) → StateStands given all before → before.error ≡ None
     → written (all ++ event ∷ []) ≡ written all → is_head_ready (before.held ++ event ∷ []) ≡ false
 none_became_ready given all event before h none same =
-    let well : StandsWell given all before.held (machine_of before) = stands_well given all before h none in
+    let well : StandsWithoutError given all before.held (machine_of before) = stands_well given all before h none in
     let count : written (all ++ event ∷ []) ≡ written all + written (held_back all ++ event ∷ []) = written-append all (event ∷ []) in
     subst (λ held. is_head_ready (held ++ event ∷ []) ≡ false) (sym well.held)
     (head_unready (held_back all ++ event ∷ []) (omega (arith, count, same)))
@@ -123,35 +125,37 @@ took_alone event before after answer done =
     }
 
 -- Where no more is ready, the machine stands.
-pub stands_on_end : (given : Settings) (all front rest : List Event) (machine : MachineState) → Reached given all front rest machine → machine.error ≡ None
-    → is_head_ready rest ≡ false → StandsBy given all machine.error rest machine
-stands_on_end given all front rest machine at none unready =
-    subst (λ e. StandsBy given all e rest machine) (sym none) (reached_end given all front rest machine at unready)
+pub stands_on_end : (given : Settings) (all prefix rest : List Event) (machine : MachineState) → Reached given all prefix rest machine → machine.error ≡ None
+    → is_head_ready rest ≡ false → MachineStands given all machine.error rest machine
+stands_on_end given all prefix rest machine at none unready =
+    subst (λ e. MachineStands given all e rest machine) (sym none) (reached_end given all prefix rest machine at unready)
 
 -- An event that was given behind those that wait: the first of them are written, or one of them failed.
-waits_behind : (given : Settings) (all : List Event) (event : Event) (state : State) (waiting : List Event) → StandsSo given all state → state.error ≡ None
+waits_behind : (given : Settings) (all : List Event) (event : Event) (state : State) (waiting : List Event) → StateStands given all state → state.error ≡ None
     → waiting ≡ state.held ++ event ∷ [] → Reached given (all ++ event ∷ []) (take (written all) all) waiting (machine_of state)
 waits_behind given all event state waiting h none is =
     subst (λ w. Reached given (all ++ event ∷ []) (take (written all) all) w (machine_of state)) (sym is) (reached_taken given all event state h none)
 
 pub stands_written : (given : Settings) (all : List Event) (event : Event) (state : State) (waiting held : List Event) (count : ℕ) (machine : MachineState)
-    → StandsSo given all state → state.error ≡ None → waiting ≡ state.held ++ event ∷ [] → WroteFront waiting count (machine_of state) machine
-    → machine.error ≡ None → held ≡ drop count waiting → StandsBy given (all ++ event ∷ []) machine.error held machine
+    → StateStands given all state → state.error ≡ None → waiting ≡ state.held ++ event ∷ [] → WroteReady waiting count (machine_of state) machine
+    → machine.error ≡ None → held ≡ drop count waiting → MachineStands given (all ++ event ∷ []) machine.error held machine
 stands_written given all event state waiting held count machine h none is wrote unfailed left =
     let at = wrote.reached given (all ++ event ∷ []) (take (written all) all) (waits_behind given all event state waiting h none is) in
-    subst (λ (l : List Event). StandsBy given (all ++ event ∷ []) machine.error l machine) (sym left)
+    subst (λ (l : List Event). MachineStands given (all ++ event ∷ []) machine.error l machine) (sym left)
     (stands_on_end given (all ++ event ∷ []) at.0 (drop count waiting) machine at.1 unfailed wrote.ended)
 
-pub stands_failing : (given : Settings) (all : List Event) (event : Event) (state : State) (waiting : List Event) (error : yaml_error_t) (machine : MachineState)
-    → StandsSo given all state → state.error ≡ None → waiting ≡ state.held ++ event ∷ [] → FailedFront waiting error (machine_of state) machine
-    → StandsBy given (all ++ event ∷ []) (Some error) [] (failed_by error machine)
+pub stands_failing : (given : Settings) (all : List Event) (event : Event) (state : State) (waiting : List Event) (error : yaml_error_t)
+    (machine : MachineState)
+    → StateStands given all state → state.error ≡ None → waiting ≡ state.held ++ event ∷ [] → FailedReady waiting error (machine_of state) machine
+    → MachineStands given (all ++ event ∷ []) (Some error) [] (failed_by error machine)
 stands_failing given all event state waiting error machine h none is failed =
     (refl, failed given (all ++ event ∷ []) (take (written all) all) (waits_behind given all event state waiting h none is))
 
-pub stands_alone : (given : Settings) (all : List Event) (event : Event) (state : State) (machine : MachineState) → StandsSo given all state
+pub stands_alone : (given : Settings) (all : List Event) (event : Event) (state : State) (machine : MachineState) → StateStands given all state
     → state.error ≡ None → state.held ≡ []
-    → ((given : Settings) (all front : List Event) → Reached given all front (event ∷ []) (machine_of state) → StandsBy given all machine.error [] machine)
-    → StandsBy given (all ++ event ∷ []) machine.error [] machine
+    → ((given : Settings) (all prefix : List Event) → Reached given all prefix (event ∷ []) (machine_of state)
+    → MachineStands given all machine.error [] machine)
+    → MachineStands given (all ++ event ∷ []) machine.error [] machine
 stands_alone given all event state machine h none alone stands =
     stands given (all ++ event ∷ []) (take (written all) all)
     (waits_behind given all event state (event ∷ []) h none (ap (λ (l : List Event). l ++ event ∷ []) (sym alone)))

@@ -7,7 +7,7 @@ use Rattle.yaml_base.specs.Event.{Event, stream_start}
 use Rattle.yaml_base.specs.Pieces.{completion, list_layout, pieces}
 use Rattle.yaml_base.specs.Prefix.{IsPrefix}
 use Rattle.yaml_base.specs.Settings.{Effective, Encoding, Settings}
-use Rattle.yaml_base.specs.Output.{bytes_written, hands_out, hands_out_last, settings_for}
+use Rattle.yaml_base.specs.Output.{bytes_written, flushes, last_flushes, settings_for}
 use Rattle.yaml_emitter.specs.StaysFlushed.{StaysFlushed}
 
 -- Of no events nothing was flushed.
@@ -40,13 +40,13 @@ flushed_grown given all more count output within settings h n less hands =
     let events : take n all ≡ take n (all ++ more) = sym (take-append-le n all more (omega (arith, within, less))) in
     subst (λ (bytes : List ℕ). IsPrefix bytes output)
     (same_bytes (settings_for given all) (settings_for given (all ++ more)) all (all ++ more) n (sym settings) events)
-    (h n less (ap hands_out_last events ∙ hands))
+    (h n less (ap last_flushes events ∙ hands))
 
 -- As one event more is written.
-pub hands_out_last-append : (front : List Event) (event : Event) → hands_out_last (front ++ event ∷ []) ≡ hands_out event
-hands_out_last-append [] event = refl
-hands_out_last-append (x ∷ []) event = refl
-hands_out_last-append (x ∷ y ∷ more) event = hands_out_last-append (y ∷ more) event
+pub last_flushes-append : (prefix : List Event) (event : Event) → last_flushes (prefix ++ event ∷ []) ≡ flushes event
+last_flushes-append [] event = refl
+last_flushes-append (x ∷ []) event = refl
+last_flushes-append (x ∷ y ∷ more) event = last_flushes-append (y ∷ more) event
 
 last_or_before : (n m : ℕ) → n ≤ suc m → (n ≤ m) ⊎ (n ≡ suc m)
 last_or_before zero m h = inl (omega arith)
@@ -55,30 +55,30 @@ last_or_before (suc (suc n)) zero h = absurd (omega (arith, h))
 last_or_before (suc n) (suc m) h =
     elim (last_or_before n m (omega (arith, h))) [ inl less ↦ inl (omega (arith, less)) | inr same ↦ inr (ap (λ n. suc n) same) ]
 
-pub flushed_more : (given : Settings) (all front : List Event) (event : Event) (rest : List Event) (before after : List ℕ) → front ++ event ∷ rest ≡ all
-    → StaysFlushed given all (length front) before → IsPrefix before after
-    → (hands_out event ≡ true
-    → bytes_written (settings_for given all) (pieces (settings_for given all) all (length (front ++ event ∷ []))) ≡ after)
-    → StaysFlushed given all (length (front ++ event ∷ [])) after
-flushed_more given all front event rest before after parts h grows now n within hands =
-    by (last_or_before n (length front) (omega (arith, within, count)))
+pub flushed_more : (given : Settings) (all prefix : List Event) (event : Event) (rest : List Event) (before after : List ℕ) → prefix ++ event ∷ rest ≡ all
+    → StaysFlushed given all (length prefix) before → IsPrefix before after
+    → (flushes event ≡ true
+    → bytes_written (settings_for given all) (pieces (settings_for given all) all (length (prefix ++ event ∷ []))) ≡ after)
+    → StaysFlushed given all (length (prefix ++ event ∷ [])) after
+flushed_more given all prefix event rest before after parts h grows now n within hands =
+    by (last_or_before n (length prefix) (omega (arith, within, count)))
   where
     longer : List Event
-    longer = front ++ event ∷ []
+    longer = prefix ++ event ∷ []
 
-    count : length longer ≡ suc (length front)
-    count = length-append front (event ∷ []) ∙ omega arith
+    count : length longer ≡ suc (length prefix)
+    count = length-append prefix (event ∷ []) ∙ omega arith
 
     s : Effective
     s = settings_for given all
 
-    by : (n ≤ length front) ⊎ (n ≡ suc (length front)) → IsPrefix (bytes_written s (pieces s all n)) after
+    by : (n ≤ length prefix) ⊎ (n ≡ suc (length prefix)) → IsPrefix (bytes_written s (pieces s all n)) after
     by (inl less) = prefix_then (h n less hands) grows
     by (inr is) =
         let whole : n ≡ length longer = is ∙ sym count in
         let events : take n all ≡ longer =
-        ap (λ n. take n all) whole ∙ ap (take (length longer)) (sym (append_assoc front (event ∷ []) rest ∙ parts))
+        ap (λ n. take n all) whole ∙ ap (take (length longer)) (sym (append_assoc prefix (event ∷ []) rest ∙ parts))
         ∙ take_at longer rest (length longer) refl in
         prefix_same (bytes_written s (pieces s all n)) after
         (ap (λ n. bytes_written s (pieces s all n)) whole
-        ∙ now (sym (hands_out_last-append front event) ∙ ap hands_out_last (sym events) ∙ hands))
+        ∙ now (sym (last_flushes-append prefix event) ∙ ap last_flushes (sym events) ∙ hands))

@@ -31,7 +31,8 @@ pub cut_grows : (error : yaml_error_t) (event : Event) (empty : Bool) (before af
 cut_grows error event empty before after (unwritten memory same) = grows_page before.page after.page same
 cut_grows error event empty before after (partly_written part) = wrote_grows part.wrote
 
-pub processed_grows : (event : Event) (empty : Bool) (before after : MachineState) (answer : Result (Unit {0}) yaml_error_t) → Processed event empty before after answer
+pub processed_grows : (event : Event) (empty : Bool) (before after : MachineState) (answer : Result (Unit {0}) yaml_error_t)
+    → Processed event empty before after answer
     → Grows before.page after.page
 processed_grows event empty before after (Ok _) done = written_grows event empty before after done.page
 processed_grows event empty before after (Err WriteError) done = cut_grows WriteError event empty before after done.page

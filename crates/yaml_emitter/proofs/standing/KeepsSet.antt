@@ -51,7 +51,7 @@ pub emitting_keeps : (before : State) (held : List Event) (machine : MachineStat
       given = machine.given;
       settings = machine.settings;
       stage = machine.stage;
-      mark = machine.mark;
+      open_ended = machine.open_ended;
       page = machine.page;
       error = machine.error;
     })

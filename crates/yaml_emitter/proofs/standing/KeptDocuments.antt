@@ -6,7 +6,7 @@ use Rattle.yaml_base.proofs.Prefixes.{prefix_then}
 use Rattle.yaml_base.proofs.QueueLaws.{documents_whole}
 use Rattle.yaml_base.specs.Event.{Event, document_end, document_start, stream_start}
 use Rattle.yaml_base.specs.Grammar.{Document, Documents, documents_and, documents_events, node_events}
-use Rattle.yaml_base.specs.Output.{hands_out_last}
+use Rattle.yaml_base.specs.Output.{last_flushes}
 use Rattle.yaml_base.specs.Prefix.{IsPrefix}
 use Rattle.yaml_base.specs.Ready.{written}
 use Rattle.yaml_base.specs.Settings.{Encoding, Settings}
@@ -14,7 +14,7 @@ use Rattle.yaml_base.specs.declared.errors.yaml_error_t.{yaml_error_t}
 use Rattle.yaml_emitter.specs.Promises.{BeginsOutput, OutputBegins, Promised}
 use Rattle.yaml_emitter.specs.State.{State}
 use Rattle.yaml_emitter.specs.StaysFlushed.{KeepsDocuments, whole_documents}
-use Rattle.yaml_emitter.proofs.standing.Flushing.{hands_out_last-append}
+use Rattle.yaml_emitter.proofs.standing.Flushing.{last_flushes-append}
 
 -- whole documents are written, whatever follows
 documents_written : (encoding : Option Encoding) (documents : Documents) (last : Document) (later : List Event)
@@ -22,19 +22,19 @@ documents_written : (encoding : Option Encoding) (documents : Documents) (last :
 documents_written encoding documents last later =
     let inside = documents_whole (documents_and documents last) later in omega (arith, inside.count)
 
--- and their end hands out what was written
-documents_hand_out : (encoding : Option Encoding) (documents : Documents) (last : Document) → hands_out_last (whole_documents encoding documents last) ≡ true
+-- and their end flushes what was written
+documents_hand_out : (encoding : Option Encoding) (documents : Documents) (last : Document) → last_flushes (whole_documents encoding documents last) ≡ true
 documents_hand_out encoding documents last =
     let before = stream_start encoding ∷ documents_events documents in
     let inside = document_start last.start ∷ node_events last.root in
     let end = document_end last.end_implicit in
-    ap hands_out_last (sym (append_assoc before inside (end ∷ []))) ∙ hands_out_last-append (before ++ inside) end
+    ap last_flushes (sym (append_assoc before inside (end ∷ []))) ∙ last_flushes-append (before ++ inside) end
 
 -- without an error the documents that are complete are in the output
 pub documents_kept : (given : Settings) (all : List Event) (state : State) → Promised given all state → state.error ≡ None
     → KeepsDocuments given all state.page.output
 documents_kept given all state promised none encoding documents last later parts =
-    begun.flushed (length whole) within (ap hands_out_last first ∙ documents_hand_out encoding documents last)
+    begun.flushed (length whole) within (ap last_flushes first ∙ documents_hand_out encoding documents last)
   where
     whole : List Event
     whole = whole_documents encoding documents last

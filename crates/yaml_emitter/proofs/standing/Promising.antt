@@ -12,7 +12,7 @@ use Rattle.yaml_base.specs.Ready.{written}
 use Rattle.yaml_base.specs.Layout.{Piece}
 use Rattle.yaml_base.specs.Pieces.{list_layout, pieces}
 use Rattle.yaml_base.specs.Steps.{progress}
-use Rattle.yaml_base.specs.Output.{encoding_asked, settings_for, text_written, hands_out_last}
+use Rattle.yaml_base.specs.Output.{encoding_asked, settings_for, text_written, last_flushes}
 use Rattle.yaml_base.specs.reading.CanonicalReader.{canonical_content}
 use Rattle.yaml_base.specs.Meaning.{has_scalar_texts}
 use Rattle.yaml_base.specs.streams.StreamContent.{agrees}
@@ -22,11 +22,11 @@ use Rattle.yaml_base.specs.declared.events.yaml_event_t.{yaml_event_t}
 use Rattle.std.specs.List.{list_all}
 use Rattle.yaml_base.specs.declared.errors.yaml_error_t.{yaml_error_t}
 use Rattle.yaml_base.proofs.QueueLaws.{written_within}
-use Rattle.yaml_pen.specs.Page.{Page, encoded, told}
-use Rattle.yaml_pen.proofs.Writing.{none_from_told}
+use Rattle.yaml_pen.specs.Page.{Page, encoded, result_of_error}
+use Rattle.yaml_pen.proofs.Writing.{none_from_result}
 use Rattle.yaml_emitter.specs.State.{State, machine_of}
 use Rattle.yaml_emitter.specs.Uncut.{IsUncut}
-use Rattle.yaml_emitter.specs.StandsAfter.{HoldsPieces, StandsWell, StandsBy, StandsSo, StandsAfter}
+use Rattle.yaml_emitter.specs.StandsAfter.{HoldsPieces, StandsWithoutError, MachineStands, StateStands, StandsAfter}
 use Rattle.yaml_base.specs.WrittenTexts.{HoldsRaw}
 use Rattle.yaml_emitter.proofs.layouts.RawTexts.{texts_hold_raw}
 use Rattle.yaml_emitter.proofs.layouts.TidyStreams.{bodies_are_tidy}
@@ -40,22 +40,23 @@ use Rattle.yaml_emitter.proofs.canonical.CanonicalOutput.{output_reads}
 use Rattle.yaml_emitter.proofs.layouts.StreamOutput.{output_reads_back}
 use Rattle.yaml_emitter.proofs.events_done.SeenTexts.{seen_scalars, texts_more, values_of_texts}
 
--- All that is handed out is the bytes of the pieces.
-page_bytes : (front : List Event) (n : ℕ) (s : Effective) (laid : List Piece) (text : Text) (page : Page) → length front ≡ n → HoldsPieces s front laid page
+-- All that is flushed is the bytes of the pieces.
+page_bytes : (prefix : List Event) (n : ℕ) (s : Effective) (rendered : List Piece) (text : Text) (page : Page) → length prefix ≡ n
+    → HoldsPieces s prefix rendered page
     → page.text ≡ text → page.output ≡ encoded page → page.output ≡ bytes_of_some n (encode (Some s.encoding) text)
-page_bytes [] zero s laid text page count h is all = ap (λ (p : Page). p.output) h
-page_bytes [] (suc n) s laid text page count h is all = cc
-page_bytes (event ∷ front) zero s laid text page count h is all = cc
-page_bytes (event ∷ front) (suc n) s laid text page count h is all =
+page_bytes [] zero s rendered text page count h is all = ap (λ (p : Page). p.output) h
+page_bytes [] (suc n) s rendered text page count h is all = cc
+page_bytes (event ∷ prefix) zero s rendered text page count h is all = cc
+page_bytes (event ∷ prefix) (suc n) s rendered text page count h is all =
     all ∙ ap (λ e. encode e page.text) h.0.encoding ∙ ap (encode (Some s.encoding)) is
 
-pub promises_bytes : (given : Settings) (all : List Event) (state : State) → StandsSo given all state → state.error ≡ None
+pub promises_bytes : (given : Settings) (all : List Event) (state : State) → StateStands given all state → state.error ≡ None
     → state.page.output ≡ encoded state.page → HasAllBytes given all state
-promises_bytes given all state h none handed =
+promises_bytes given all state h none sound_output =
     let s = settings_for given all in
-    let well : StandsWell given all state.held (machine_of state) = stands_well given all state h none in
+    let well : StandsWithoutError given all state.held (machine_of state) = stands_well given all state h none in
     page_bytes (take (written all) all) (written all) s (progress s all).pieces (text_written s (pieces s all (written all))) state.page
-    (length-take-le (written all) all (written_within all)) well.taken.page (promises_text given all state h none) handed
+    (length-take-le (written all) all (written_within all)) well.progress.page (promises_text given all state h none) sound_output
 
 -- A list that ends the stream is one more event, its end.
 record EndsStream (all : List Event) : Type 0 where
@@ -74,41 +75,41 @@ end_of (event ∷ next ∷ rest) h =
     later stream_end h = h
     later event h = h
 
-promises_ends : (given : Settings) (all : List Event) (state : State) → StandsSo given all state → ends_stream all ≡ true → EndsExactly given all state
+promises_ends : (given : Settings) (all : List Event) (state : State) → StateStands given all state → ends_stream all ≡ true → EndsExactly given all state
 promises_ends given all state h ends =
     let end = end_of all ends in
     subst (λ events. EndsExactly given events state) end.parts
-    (promises_end given end.before state (subst (λ events. StandsSo given events state) (sym end.parts) h))
+    (promises_end given end.before state (subst (λ events. StateStands given events state) (sym end.parts) h))
 
--- The end of an accepted list hands out.
-last_hands : (front : List Event) → hands_out_last (front ++ stream_end ∷ []) ≡ true
+-- The end of an accepted list flushes.
+last_hands : (prefix : List Event) → last_flushes (prefix ++ stream_end ∷ []) ≡ true
 last_hands [] = refl
 last_hands (event ∷ []) = refl
 last_hands (event ∷ next ∷ rest) = last_hands (next ∷ rest)
 
-accepted_hands : (canonical : Bool) (all : List Event) → IsAccepted canonical all → hands_out_last all ≡ true
-accepted_hands canonical all accepted = ap hands_out_last (sym accepted.is_stream)
+accepted_hands : (canonical : Bool) (all : List Event) → IsAccepted canonical all → last_flushes all ≡ true
+accepted_hands canonical all accepted = ap last_flushes (sym accepted.is_stream)
     ∙ last_hands (stream_start accepted.stream.encoding ∷ documents_events accepted.stream.documents)
 
 -- All bytes are the encoded text, where an event was written.
-all_bytes : (front rest : List Event) (event : Event) (s : Effective) (laid : List Piece) (text : Text) (page : Page) → front ≡ event ∷ rest
-    → HoldsPieces s front laid page → page.text ≡ text → page.output ≡ encoded page → page.output ≡ encode (Some s.encoding) text
-all_bytes [] rest event s laid text page is h same all = cc
-all_bytes (first ∷ front) rest event s laid text page is h same all =
+all_bytes : (prefix rest : List Event) (event : Event) (s : Effective) (rendered : List Piece) (text : Text) (page : Page) → prefix ≡ event ∷ rest
+    → HoldsPieces s prefix rendered page → page.text ≡ text → page.output ≡ encoded page → page.output ≡ encode (Some s.encoding) text
+all_bytes [] rest event s rendered text page is h same all = cc
+all_bytes (first ∷ prefix) rest event s rendered text page is h same all =
     all ∙ ap (λ e. encode e page.text) h.0.encoding ∙ ap (encode (Some s.encoding)) same
 
 promises_whole : (given : Settings) (all : List Event) (state : State) → StandsAfter given all state → state.error ≡ None → IsAccepted given.canonical all
     → IsWritten given all state
 promises_whole given all state h none accepted =
     let whole = whole_text given all state h.so accepted none in
-    let well : StandsWell given all state.held (machine_of state) = stands_well given all state h.so none in
+    let well : StandsWithoutError given all state.held (machine_of state) = stands_well given all state h.so none in
     let begins : take (written all) all ≡ all = ap (λ n. take n all) (all_written given.canonical all accepted) ∙ take-length all in
     let s = settings_for given all in
-    let handed = well.taken.handed_out (ap hands_out_last begins ∙ accepted_hands given.canonical all accepted) in
-    let output = whole.output handed in
+    let sound_output = well.progress.flushed_whole (ap last_flushes begins ∙ accepted_hands given.canonical all accepted) in
+    let output = whole.output sound_output in
     let bytes =
     all_bytes (take (written all) all) (documents_events accepted.stream.documents ++ stream_end ∷ []) (stream_start accepted.stream.encoding) s
-    (progress s all).pieces (text_written s (list_layout s all)) state.page (begins ∙ sym accepted.is_stream) well.taken.page whole.text handed
+    (progress s all).pieces (text_written s (list_layout s all)) state.page (begins ∙ sym accepted.is_stream) well.progress.page whole.text sound_output
     in
     let uncut : IsUncut given all = subst (λ (bytes : List ℕ). length bytes ≤ given.limit) bytes (promises_within given all state h.so) in
     record {
@@ -125,7 +126,8 @@ promises_whole given all state h none accepted =
           ∙ output_reads_back given all (record { accepted = accepted; scalars = h.texts; portable = portable; uncut = uncut });
     }
 
-dropped_by : (error : Option yaml_error_t) (given : Settings) (all : List Event) (state : State) → StandsBy given all error state.held (machine_of state) → IsSome error
+dropped_by : (error : Option yaml_error_t) (given : Settings) (all : List Event) (state : State)
+    → MachineStands given all error state.held (machine_of state) → IsSome error
     → state.held ≡ []
 dropped_by None given all state h some = cc
 dropped_by (Some error) given all state h some = h.0
@@ -141,52 +143,54 @@ promised given all state h =
       within = promises_within given all state h.so;
       full = promises_full given all state h.so;
       fits = promises_fits given all state h.so;
-      handed_out = λ none hands. promises_bytes given all state h.so none ((stands_well given all state h.so none).taken.handed_out hands);
+      flushed_whole = λ none hands. promises_bytes given all state h.so none ((stands_well given all state h.so none).progress.flushed_whole hands);
       ends = promises_ends given all state h.so;
       whole = promises_whole given all state h;
     }
 
 -- A call that adds no event.
-pub stands_on : (given : Settings) (all : List Event) (before after : State) → (StandsSo given all before → StandsSo given all after)
+pub stands_on : (given : Settings) (all : List Event) (before after : State) → (StateStands given all before → StateStands given all after)
     → StandsAfter given all before → StandsAfter given all after
 stands_on given all before after on h = record { texts = h.texts; so = on h.so }
 
 -- A call that adds an event.
 pub stands_with : {A : Type 0} (given : Settings) (all : List Event) (event : yaml_event_t A) (after : State)
-    → StandsSo given (all ++ seen_event event ∷ []) after → list_all has_scalar_texts all ≡ true
+    → StateStands given (all ++ seen_event event ∷ []) after → list_all has_scalar_texts all ≡ true
     → StandsAfter given (all ++ seen_event event ∷ []) after
 stands_with given all event after so texts = record { texts = texts_more all (seen_event event) texts (seen_scalars event); so = so }
 
--- A flush without an error hands out all.
-pub flushed_all : (answer : Result (Unit {0}) yaml_error_t) (before after : State) → answer ≡ told after.error
+-- A flush without an error flushes all.
+pub flushed_all : (answer : Result (Unit {0}) yaml_error_t) (before after : State) → answer ≡ result_of_error after.error
     → OnOk answer (after.page.output ≡ encoded after.page)
-    → ((given : Settings) (all : List Event) → StandsSo given all before → StandsSo given all after)
+    → ((given : Settings) (all : List Event) → StateStands given all before → StateStands given all after)
     → OnOk answer ((given : Settings) (all : List Event) → StandsAfter given all before → HasAllBytes given all after)
-flushed_all (Ok _) before after is handed stands = λ given all h. promises_bytes given all after (stands given all h.so) (none_from_told after.error is) handed
-flushed_all (Err error) before after is handed stands = tt
+flushed_all (Ok _) before after is sound_output stands =
+    λ given all h. promises_bytes given all after (stands given all h.so) (none_from_result after.error is) sound_output
+flushed_all (Err error) before after is sound_output stands = tt
 
--- Where all bytes of the pieces are handed out, so are all of the text, and the page has no error.
-page_encoded : (front : List Event) (n : ℕ) (s : Effective) (laid : List Piece) (text : Text) (page : Page) → length front ≡ n → HoldsPieces s front laid page
+-- Where all bytes of the pieces are flushed, so are all of the text, and the page has no error.
+page_encoded : (prefix : List Event) (n : ℕ) (s : Effective) (rendered : List Piece) (text : Text) (page : Page) → length prefix ≡ n
+    → HoldsPieces s prefix rendered page
     → page.text ≡ text → page.output ≡ bytes_of_some n (encode (Some s.encoding) text) → page.output ≡ encoded page
-page_encoded [] zero s laid text page count h is all = all ∙ sym (ap (λ (p : Page). encoded p) h)
-page_encoded [] (suc n) s laid text page count h is all = cc
-page_encoded (event ∷ front) zero s laid text page count h is all = cc
-page_encoded (event ∷ front) (suc n) s laid text page count h is all =
+page_encoded [] zero s rendered text page count h is all = all ∙ sym (ap (λ (p : Page). encoded p) h)
+page_encoded [] (suc n) s rendered text page count h is all = cc
+page_encoded (event ∷ prefix) zero s rendered text page count h is all = cc
+page_encoded (event ∷ prefix) (suc n) s rendered text page count h is all =
     all ∙ sym (ap (λ e. encode e page.text) h.0.encoding ∙ ap (encode (Some s.encoding)) is)
 
-page_unfailed : (front : List Event) (s : Effective) (laid : List Piece) (page : Page) → HoldsPieces s front laid page → page.error ≡ None
-page_unfailed [] s laid page h = ap (λ (p : Page). p.error) h
-page_unfailed (event ∷ front) s laid page h = h.2
+page_unfailed : (prefix : List Event) (s : Effective) (rendered : List Piece) (page : Page) → HoldsPieces s prefix rendered page → page.error ≡ None
+page_unfailed [] s rendered page h = ap (λ (p : Page). p.error) h
+page_unfailed (event ∷ prefix) s rendered page h = h.2
 
-pub stands_unfailed : (given : Settings) (all : List Event) (state : State) → StandsSo given all state → state.error ≡ None → state.page.error ≡ None
+pub stands_unfailed : (given : Settings) (all : List Event) (state : State) → StateStands given all state → state.error ≡ None → state.page.error ≡ None
 stands_unfailed given all state h none =
-    let well : StandsWell given all state.held (machine_of state) = stands_well given all state h none in
-    page_unfailed (take (written all) all) (settings_for given all) (progress (settings_for given all) all).pieces state.page well.taken.page
+    let well : StandsWithoutError given all state.held (machine_of state) = stands_well given all state h none in
+    page_unfailed (take (written all) all) (settings_for given all) (progress (settings_for given all) all).pieces state.page well.progress.page
 
-pub stands_encoded : (given : Settings) (all : List Event) (state : State) → StandsSo given all state → state.error ≡ None → HasAllBytes given all state
+pub stands_encoded : (given : Settings) (all : List Event) (state : State) → StateStands given all state → state.error ≡ None → HasAllBytes given all state
     → state.page.output ≡ encoded state.page
 stands_encoded given all state h none bytes =
     let s = settings_for given all in
-    let well : StandsWell given all state.held (machine_of state) = stands_well given all state h none in
+    let well : StandsWithoutError given all state.held (machine_of state) = stands_well given all state h none in
     page_encoded (take (written all) all) (written all) s (progress s all).pieces (text_written s (pieces s all (written all))) state.page
-    (length-take-le (written all) all (written_within all)) well.taken.page (promises_text given all state h none) bytes
+    (length-take-le (written all) all (written_within all)) well.progress.page (promises_text given all state h none) bytes

@@ -15,13 +15,13 @@ use Rattle.yaml_base.specs.Pieces.{list_layout}
 use Rattle.yaml_base.specs.Output.{settings_for, text_written, bytes_written, output_of}
 use Rattle.yaml_base.specs.declared.errors.yaml_error_t.{yaml_error_t}
 use Rattle.yaml_base.proofs.Accepted.{stands_from_begins}
-use Rattle.yaml_base.proofs.Completions.{front_begins, pushed-append}
+use Rattle.yaml_base.proofs.Completions.{prefix_is_partial, pushed-append}
 use Rattle.yaml_base.proofs.Trees.{stream_pushed}
 use Rattle.yaml_base.proofs.PieceLaws.{list_layout_steps}
 use Rattle.yaml_base.proofs.QueueLaws.{stream_written}
 use Rattle.yaml_pen.specs.Page.{Page, encoded}
 use Rattle.yaml_emitter.specs.State.{State, machine_of}
-use Rattle.yaml_emitter.specs.StandsAfter.{HoldsPiecesWith, StandsWell, StandsSo}
+use Rattle.yaml_emitter.specs.StandsAfter.{HoldsPiecesWith, StandsWithoutError, StateStands}
 use Rattle.yaml_emitter.specs.Promises.{RefusedAt, HasRoom, EndsExactly}
 use Rattle.yaml_emitter.proofs.standing.StandingTexts.{holds_text}
 use Rattle.yaml_emitter.proofs.standing.StandingPromises.{stands_well, promises_refusal}
@@ -47,7 +47,7 @@ pub whole_accepted : (canonical : Bool) (all : List Event) → BeginsAccepted ca
 whole_accepted canonical all begins =
     let events = all ++ stream_end ∷ [] in
     let stands = stands_from_begins canonical events begins in
-    let before = front_begins all (stream_end ∷ []) stands.partial stands.is_partial in
+    let before = prefix_is_partial all (stream_end ∷ []) stands.partial stands.is_partial in
     let done = finishes before.0 stands.partial
     (ap (λ o. option_and_then (λ r. pushed r (stream_end ∷ [])) o) (sym before.1) ∙ sym (pushed-append all (stream_end ∷ []) before_stream)
     ∙ stands.is_partial) in
@@ -59,7 +59,8 @@ whole_accepted canonical all begins =
     ∙ sym (pushed-append events begins.rest before_stream) ∙ whole) in
     subst (IsAccepted canonical) (ap (λ rest. events ++ rest) none ∙ append-nil events) begins.accepted
 
-pub all_taken : (given : Settings) (all : List Event) (state : State) → StandsWell given all state.held (machine_of state) → state.held ≡ [] → take (written all) all ≡ all
+pub all_taken : (given : Settings) (all : List Event) (state : State) → StandsWithoutError given all state.held (machine_of state) → state.held ≡ []
+    → take (written all) all ≡ all
 all_taken given all state h none =
     sym (append-nil (take (written all) all))
     ∙ ap (λ rest. take (written all) all ++ rest) (sym none ∙ h.held)
@@ -71,15 +72,16 @@ all_written canonical all accepted = ap written (sym accepted.is_stream) ∙ str
 none_refused : (given : Settings) (all : List Event) (error : yaml_error_t) (state : State) → IsAccepted given.canonical all → RefusedAt given all error state
     → ⊥
 none_refused given all error state accepted h =
-    h.ends (record { rest = h.later; accepted = subst (IsAccepted given.canonical) (sym (append_assoc h.front (h.event ∷ []) h.later ∙ h.parts)) accepted })
+    h.ends (record { rest = h.later; accepted = subst (IsAccepted given.canonical) (sym (append_assoc h.prefix (h.event ∷ []) h.later ∙ h.parts)) accepted })
 
-no_error : (error : Option yaml_error_t) (given : Settings) (all : List Event) (state : State) → StandsSo given all state → state.error ≡ error → HasRoom error
+no_error : (error : Option yaml_error_t) (given : Settings) (all : List Event) (state : State) → StateStands given all state → state.error ≡ error
+    → HasRoom error
     → IsAccepted given.canonical all → error ≡ None
 no_error None given all state h is room accepted = refl
 no_error (Some error) given all state h is room accepted = absurd
     (none_refused given all error state accepted (promises_refusal given all state error h is room))
 
-pub promises_end : (given : Settings) (all : List Event) (state : State) → StandsSo given (all ++ stream_end ∷ []) state
+pub promises_end : (given : Settings) (all : List Event) (state : State) → StateStands given (all ++ stream_end ∷ []) state
     → EndsExactly given (all ++ stream_end ∷ []) state
 promises_end given all state h room =
     let events = all ++ stream_end ∷ [] in (
@@ -89,7 +91,7 @@ promises_end given all state h room =
           (none, well.held ∙ ap (λ n. drop n events) (all_written given.canonical events accepted) ∙ drop-all events)),
       (λ whole.
           let well = stands_well given events state h whole.0 in
-          whole_accepted given.canonical all (subst (BeginsAccepted given.canonical) (all_taken given events state well whole.1) well.taken.stands)),
+          whole_accepted given.canonical all (subst (BeginsAccepted given.canonical) (all_taken given events state well whole.1) well.progress.stands)),
     )
 
 -- An accepted list is written whole.
@@ -99,22 +101,22 @@ take-whole (suc n) [] h = refl
 take-whole zero (x ∷ bytes) h = absurd (omega (arith, h))
 take-whole (suc n) (x ∷ bytes) h = ap (λ l. x ∷ l) (take-whole n bytes (omega (arith, h)))
 
-whole_output : (front : List Event) (s : Effective) (follows : Bool) (page : Page) → (front ≡ [] → ⊥)
-    → HoldsPiecesWith None s front (steps s follows front at_stream first_standing).pieces page → page.output ≡ encoded page
-    → page.output ≡ cut s.limit (bytes_written s (steps s follows front at_stream first_standing).pieces)
+whole_output : (prefix : List Event) (s : Effective) (follows : Bool) (page : Page) → (prefix ≡ [] → ⊥)
+    → HoldsPiecesWith None s prefix (steps s follows prefix at_stream first_standing).pieces page → page.output ≡ encoded page
+    → page.output ≡ cut s.limit (bytes_written s (steps s follows prefix at_stream first_standing).pieces)
 whole_output [] s follows page some h all = absurd (some refl)
-whole_output (x ∷ front) s follows page some h all =
-    let bytes = bytes_written s (steps s follows (x ∷ front) at_stream first_standing).pieces in
+whole_output (x ∷ prefix) s follows page some h all =
+    let bytes = bytes_written s (steps s follows (x ∷ prefix) at_stream first_standing).pieces in
     let is : page.output ≡ bytes = all ∙ ap (λ e. encode e page.text) h.0.encoding ∙ ap (encode (Some s.encoding)) h.1 in
-    let within : length bytes ≤ s.limit = omega (arith, h.0.handed.within, h.0.limit, ap length is) in
+    let within : length bytes ≤ s.limit = omega (arith, h.0.sound_output.within, h.0.limit, ap length is) in
     is ∙ sym (take-whole s.limit bytes within)
 
--- a list that is written whole: its text, and its output where all is handed out
+-- a list that is written whole: its text, and its output where all is flushed
 pub record WrittenText (given : Settings) (all : List Event) (state : State) : Type 0 where
   pub text : state.page.text ≡ text_written (settings_for given all) (list_layout (settings_for given all) all)
   pub output : state.page.output ≡ encoded state.page → state.page.output ≡ output_of given all
 
-pub whole_text : (given : Settings) (all : List Event) (state : State) → StandsSo given all state → IsAccepted given.canonical all → state.error ≡ None
+pub whole_text : (given : Settings) (all : List Event) (state : State) → StateStands given all state → IsAccepted given.canonical all → state.error ≡ None
     → WrittenText given all state
 whole_text given all state h accepted none =
     let s = settings_for given all in
@@ -123,10 +125,10 @@ whole_text given all state h accepted none =
     let layout : list_layout s all ≡ (steps s false all at_stream first_standing).pieces =
     list_layout_steps all accepted.stream s (ap partial_of (sym accepted.is_stream) ∙ stream_pushed accepted.stream) in
     let page : HoldsPiecesWith None s all (steps s false all at_stream first_standing).pieces state.page =
-    subst (λ front. HoldsPiecesWith None s front (steps s false front at_stream first_standing).pieces state.page) begins well.taken.page in
+    subst (λ prefix. HoldsPiecesWith None s prefix (steps s false prefix at_stream first_standing).pieces state.page) begins well.progress.page in
     record {
       text = holds_text all s false None state.page page ∙ ap (text_written s) (sym layout);
-      output = (λ handed.
-          whole_output all s false state.page (λ empty. let wrong : stream_events accepted.stream ≡ [] = accepted.is_stream ∙ empty in cc) page handed
+      output = (λ sound_output.
+          whole_output all s false state.page (λ empty. let wrong : stream_events accepted.stream ≡ [] = accepted.is_stream ∙ empty in cc) page sound_output
           ∙ ap (λ pieces. cut s.limit (bytes_written s pieces)) (sym layout));
     }

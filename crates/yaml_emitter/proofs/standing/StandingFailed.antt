@@ -17,23 +17,24 @@ use Rattle.yaml_base.proofs.Accepted.{stands_from_begins}
 use Rattle.yaml_pen.specs.Page.{Page}
 use Rattle.yaml_pen.specs.Wrote.{Wrote}
 use Rattle.yaml_emitter.specs.State.{MachineState}
-use Rattle.yaml_emitter.specs.Processing.{closes_at_once, event_stepped, event_laid, CutShort, unwritten, partly_written, Refused, Processed}
-use Rattle.yaml_emitter.specs.StandsAfter.{IsPage, HoldsPieces, HasTaken, FailedAt, closes_last, StandsRefused, holds_before, holds_part, StandsCut, StandsFailed}
+use Rattle.yaml_emitter.specs.Processing.{closes_at_once, event_stepped, render_event, CutShort, unwritten, partly_written, Refused, Processed}
+use Rattle.yaml_emitter.specs.StandsAfter.{IsPage, HoldsPieces, HasProgress, FailedAt, closes_last, StandsRefused, holds_before, holds_part}
+use Rattle.yaml_emitter.specs.StandsAfter.{StandsCut, StandsFailed}
 use Rattle.yaml_emitter.specs.StandsAfter.{Reached, failed_by, at_event}
 use Rattle.yaml_emitter.proofs.standing.Flushing.{flushed_output}
 use Rattle.yaml_emitter.proofs.standing.Growing.{cut_grows}
 use Rattle.yaml_emitter.proofs.standing.Standing.{taken_same, refusal_same, accepted_next, named_more, is_page_wrote}
 use Rattle.yaml_emitter.proofs.standing.StandingSteps.{stepped_steps}
 
-failed_at : (given : Settings) (all front rest : List Event) (event : Event) (before : MachineState) → Reached given all front (event ∷ rest) before
-    → is_ready event rest ≡ true → FailedAt all front event rest
-failed_at given all front rest event before h is =
+failed_at : (given : Settings) (all prefix rest : List Event) (event : Event) (before : MachineState) → Reached given all prefix (event ∷ rest) before
+    → is_ready event rest ≡ true → FailedAt all prefix event rest
+failed_at given all prefix rest event before h is =
     let count : written (event ∷ rest) ≡ suc (written rest) = ap (λ b. if b then suc (written rest) else 0) is in
     record { parts = h.parts; became_ready = omega (arith, h.ready, count) }
 
 -- A collection's own end isn't refused behind its start.
 abbrev pub OwnAccepted : List Event → Event → List Event → Type 0
-OwnAccepted front next rest = (canonical : Bool) (p q : Partial) → pushed p front ≡ Some q → closes_last front (next ∷ rest) ≡ true
+OwnAccepted prefix next rest = (canonical : Bool) (p q : Partial) → pushed p prefix ≡ Some q → closes_last prefix (next ∷ rest) ≡ true
     → refusal_at canonical q next ≡ None
 
 own_one : (event next : Event) (rest : List Event) (canonical : Bool) (p q : Partial) → pushed p (event ∷ []) ≡ Some q
@@ -46,117 +47,121 @@ own_one (sequence_start c) sequence_end rest canonical p q h closes = cc
 own_one (mapping_start c) mapping_end rest canonical p q h closes = cc
 own_one event next rest canonical p q h closes = cc
 
-own_later : (front : List Event) (next : Event) (rest : List Event) → OwnAccepted front next rest → (canonical : Bool) (made : Option Partial) (q : Partial)
-    → option_and_then (λ r. pushed r front) made ≡ Some q → closes_last front (next ∷ rest) ≡ true → refusal_at canonical q next ≡ None
-own_later front next rest others canonical None q h closes = cc
-own_later front next rest others canonical (Some r) q h closes = others canonical r q h closes
+own_later : (prefix : List Event) (next : Event) (rest : List Event) → OwnAccepted prefix next rest → (canonical : Bool) (made : Option Partial) (q : Partial)
+    → option_and_then (λ r. pushed r prefix) made ≡ Some q → closes_last prefix (next ∷ rest) ≡ true → refusal_at canonical q next ≡ None
+own_later prefix next rest others canonical None q h closes = cc
+own_later prefix next rest others canonical (Some r) q h closes = others canonical r q h closes
 
-pub own_accepted : (front : List Event) (next : Event) (rest : List Event) → OwnAccepted front next rest
+pub own_accepted : (prefix : List Event) (next : Event) (rest : List Event) → OwnAccepted prefix next rest
 own_accepted [] next rest canonical p q h closes = cc
 own_accepted (event ∷ []) next rest canonical p q h closes = own_one event next rest canonical p q h closes
 own_accepted (event ∷ other ∷ more) next rest canonical p q h closes = own_later (other ∷ more) next rest (own_accepted (other ∷ more) next rest) canonical
     (push p event) q h closes
 
-refused_opens : (canonical : Bool) (front rest : List Event) (event : Event) (fault : yaml_error_t) (closes : Bool) → BeginsAccepted canonical front
-    → refusal canonical front event ≡ Some fault → closes_last front (event ∷ rest) ≡ closes → closes ≡ false
-refused_opens canonical front rest event fault false begun refused is = refl
-refused_opens canonical front rest event fault true begun refused is =
-    let stands = stands_from_begins canonical front begun in
-    let none : refusal canonical front event ≡ None =
+refused_opens : (canonical : Bool) (prefix rest : List Event) (event : Event) (fault : yaml_error_t) (closes : Bool) → BeginsAccepted canonical prefix
+    → refusal canonical prefix event ≡ Some fault → closes_last prefix (event ∷ rest) ≡ closes → closes ≡ false
+refused_opens canonical prefix rest event fault false begun refused is = refl
+refused_opens canonical prefix rest event fault true begun refused is =
+    let stands = stands_from_begins canonical prefix begun in
+    let none : refusal canonical prefix event ≡ None =
     ap (λ o. option_and_then (λ q. refusal_at canonical q event) o) stands.is_partial
-    ∙ own_accepted front event rest canonical before_stream stands.partial stands.is_partial is in
+    ∙ own_accepted prefix event rest canonical before_stream stands.partial stands.is_partial is in
     cc
 
 -- A refused event adds no text.
-refused_stands : (given : Settings) (all front rest : List Event) (event : Event) (error : yaml_error_t) (before after : MachineState)
-    → Reached given all front (event ∷ rest) before → is_ready event rest ≡ true
+refused_stands : (given : Settings) (all prefix rest : List Event) (event : Event) (error : yaml_error_t) (before after : MachineState)
+    → Reached given all prefix (event ∷ rest) before → is_ready event rest ≡ true
     → Refused error event before after → StandsRefused given all error (failed_by error after)
-refused_stands given all front rest event error before after h is done =
+refused_stands given all prefix rest event error before after h is done =
     let s = settings_for given all in
-    let follows = closes_last front (event ∷ rest) in
-    let refused : refusal given.canonical front event ≡ Some error =
-    sym (refusal_same given all front event follows s before h.taken) ∙ done.refusal in
-    let opens : follows ≡ false = refused_opens given.canonical front rest event error follows h.taken.stands refused refl in
+    let follows = closes_last prefix (event ∷ rest) in
+    let refused : refusal given.canonical prefix event ≡ Some error =
+    sym (refusal_same given all prefix event follows s before h.progress) ∙ done.refusal in
+    let opens : follows ≡ false = refused_opens given.canonical prefix rest event error follows h.progress.stands refused refl in
     let kept = done.kept in
     record {
-      front = front;
+      prefix = prefix;
       event = event;
       later = rest;
-      failed = failed_at given all front rest event before h is;
-      taken =
-          subst (λ follows. HasTaken given all front (steps s follows front at_stream first_standing) (failed_by error after)) opens
-          (taken_same given all front (steps s follows front at_stream first_standing) before (failed_by error after)
-          (ap (λ (s : MachineState). s.given) kept) (ap (λ (s : MachineState). s.settings) kept) (ap (λ (s : MachineState). s.stage) kept) (ap (λ (s : MachineState). s.mark) kept)
-          (ap (λ (s : MachineState). s.page) kept) h.taken);
+      failed = failed_at given all prefix rest event before h is;
+      progress =
+          subst (λ follows. HasProgress given all prefix (steps s follows prefix at_stream first_standing) (failed_by error after)) opens
+          (taken_same given all prefix (steps s follows prefix at_stream first_standing) before (failed_by error after)
+          (ap (λ (s : MachineState). s.given) kept) (ap (λ (s : MachineState). s.settings) kept) (ap (λ (s : MachineState). s.stage) kept)
+          (ap (λ (s : MachineState). s.open_ended) kept)
+          (ap (λ (s : MachineState). s.page) kept) h.progress);
       refusal = refused;
     }
 
 -- An event that is cut short adds a prefix of its piece.
-cut_page : (front rest : List Event) (given : Settings) (all : List Event) (event : Event) (before after : MachineState) (answer : Result (Unit {0}) yaml_error_t)
-    → HasTaken given all front (steps (settings_for given all) (closes_last front (event ∷ rest)) front at_stream first_standing) before
-    → BeginsAccepted given.canonical (front ++ event ∷ [])
-    → Wrote (event_laid before event (closes_at_once event rest)) before.page after.page answer
+cut_page : (prefix rest : List Event) (given : Settings) (all : List Event) (event : Event) (before after : MachineState)
+    (answer : Result (Unit {0}) yaml_error_t)
+    → HasProgress given all prefix (steps (settings_for given all) (closes_last prefix (event ∷ rest)) prefix at_stream first_standing) before
+    → BeginsAccepted given.canonical (prefix ++ event ∷ [])
+    → Wrote (render_event before event (closes_at_once event rest)) before.page after.page answer
     → IsPage (settings_for given all) after.page
-    × IsPrefix (text_written (settings_for given all) (steps (settings_for given all) (closes_last front (event ∷ rest)) front at_stream first_standing).pieces)
+    × IsPrefix (text_written (settings_for given all)
+    (steps (settings_for given all) (closes_last prefix (event ∷ rest)) prefix at_stream first_standing).pieces)
     after.page.text
     × IsPrefix after.page.text (text_written (settings_for given all)
-    (steps (settings_for given all) (closes_at_once event rest) (front ++ event ∷ []) at_stream first_standing).pieces)
+    (steps (settings_for given all) (closes_at_once event rest) (prefix ++ event ∷ []) at_stream first_standing).pieces)
 cut_page [] rest given all event before after answer h begun wrote =
     let none : after.page.encoding ≡ None = wrote.settings.encoding ∙ ap (λ (p : Page). p.encoding) h.page in
     absurd (false≢true (subst (λ o. IsSome o) none wrote.ready.begun))
-cut_page (x ∷ front) rest given all event before after answer h begun wrote =
+cut_page (x ∷ prefix) rest given all event before after answer h begun wrote =
     let s = settings_for given all in
     let empty = closes_at_once event rest in
-    let lay = event_laid before event empty in
-    let taken = steps s (closes_last (x ∷ front) (event ∷ rest)) (x ∷ front) at_stream first_standing in
+    let render = render_event before event empty in
+    let progress = steps s (closes_last (x ∷ prefix) (event ∷ rest)) (x ∷ prefix) at_stream first_standing in
     let stepped = event_stepped before event empty in
-    let stands = stands_from_begins given.canonical ((x ∷ front) ++ event ∷ []) begun in
+    let stands = stands_from_begins given.canonical ((x ∷ prefix) ++ event ∷ []) begun in
     let grew = wrote.grew in (
       is_page_wrote h.page.0 wrote,
-      record { rest = grew.front; parts = ap (λ text. text ++ grew.front) (sym h.page.1) ∙ sym grew.grown },
+      record { rest = grew.prefix; parts = ap (λ text. text ++ grew.prefix) (sym h.page.1) ∙ sym grew.grown },
       record {
         rest = grew.rest;
         parts =
             ap (λ text. text ++ grew.rest) grew.grown
-            ∙ append_assoc before.page.text grew.front grew.rest
+            ∙ append_assoc before.page.text grew.prefix grew.rest
             ∙ ap (λ text. before.page.text ++ text) (sym grew.parts)
-            ∙ named_more s x front taken.pieces stepped.laid.piece lay before.page h.page refl
-            ∙ sym (ap (λ (all : Steps). text_written s all.pieces) (stepped_steps given all x front rest event stands.partial before h stands.is_partial));
+            ∙ named_more s x prefix progress.pieces stepped.rendered.piece render before.page h.page refl
+            ∙ sym (ap (λ (all : Steps). text_written s all.pieces) (stepped_steps given all x prefix rest event stands.partial before h stands.is_partial));
       },
     )
 
-cut_stands : (given : Settings) (all front rest : List Event) (event : Event) (error : yaml_error_t) (before after : MachineState)
-    → Reached given all front (event ∷ rest) before → is_ready event rest ≡ true
+cut_stands : (given : Settings) (all prefix rest : List Event) (event : Event) (error : yaml_error_t) (before after : MachineState)
+    → Reached given all prefix (event ∷ rest) before → is_ready event rest ≡ true
     → CutShort error event (closes_at_once event rest) before after → StandsCut given all error (failed_by error after)
-cut_stands given all front rest event error before after h is done =
+cut_stands given all prefix rest event error before after h is done =
     let s = settings_for given all in
-    let follows = closes_last front (event ∷ rest) in
-    let taken = h.taken in
+    let follows = closes_last prefix (event ∷ rest) in
+    let progress = h.progress in
     record {
-      front = front;
+      prefix = prefix;
       event = event;
       later = rest;
-      failed = failed_at given all front rest event before h is;
-      given_kept = ap (λ (s : MachineState). s.given) done.kept ∙ h.taken.given_kept;
-      stands = h.taken.stands;
+      failed = failed_at given all prefix rest event before h is;
+      given_kept = ap (λ (s : MachineState). s.given) done.kept ∙ h.progress.given_kept;
+      stands = h.progress.stands;
       page = elim done.page [
         | unwritten memory same ↦
-            holds_before memory (subst (λ page. HoldsPieces s front (steps s follows front at_stream first_standing).pieces page) (sym same) taken.page)
+            holds_before memory (subst (λ page. HoldsPieces s prefix (steps s follows prefix at_stream first_standing).pieces page) (sym same) progress.page)
         | partly_written part ↦
-            let accepted = accepted_next given all front event follows s before taken part.accepted in
-            let cut = cut_page front rest given all event before after part.answer taken accepted part.wrote in
+            let accepted = accepted_next given all prefix event follows s before progress part.accepted in
+            let cut = cut_page prefix rest given all event before after part.answer progress accepted part.wrote in
             holds_part accepted cut.0 part.failed cut.1 cut.2
       ];
       flushed =
-          flushed_output given all (length front) before.page.output after.page.output taken.flushed
+          flushed_output given all (length prefix) before.page.output after.page.output progress.flushed
           (cut_grows error event (closes_at_once event rest) before after done.page).output;
     }
 
 -- A ready event fails.
-pub reached_failed : (given : Settings) (all front rest : List Event) (event : Event) (before after : MachineState) (error : yaml_error_t)
-    → Reached given all front (event ∷ rest) before → is_ready event rest ≡ true
+pub reached_failed : (given : Settings) (all prefix rest : List Event) (event : Event) (before after : MachineState) (error : yaml_error_t)
+    → Reached given all prefix (event ∷ rest) before → is_ready event rest ≡ true
     → Processed event (closes_at_once event rest) before after (Err error)
     → StandsFailed given all error (failed_by error after)
-reached_failed given all front rest event before after WriteError h is done = at_event (cut_stands given all front rest event WriteError before after h is done)
-reached_failed given all front rest event before after Memory h is done = at_event (cut_stands given all front rest event Memory before after h is done)
-reached_failed given all front rest event before after error h is done = refused_stands given all front rest event error before after h is done
+reached_failed given all prefix rest event before after WriteError h is done =
+    at_event (cut_stands given all prefix rest event WriteError before after h is done)
+reached_failed given all prefix rest event before after Memory h is done = at_event (cut_stands given all prefix rest event Memory before after h is done)
+reached_failed given all prefix rest event before after error h is done = refused_stands given all prefix rest event error before after h is done

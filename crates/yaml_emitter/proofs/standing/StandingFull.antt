@@ -11,26 +11,26 @@ use Rattle.yaml_base.specs.Refusal.{begins_collection, IsAccepted}
 use Rattle.yaml_base.specs.Ready.{is_ready, written}
 use Rattle.yaml_base.specs.Layout.{Piece, first_standing}
 use Rattle.yaml_base.specs.Steps.{Steps, at_stream, ends_next, steps}
-use Rattle.yaml_base.specs.Pieces.{list_layout, pieces, begins_last, ends_first}
+use Rattle.yaml_base.specs.Pieces.{list_layout, pieces, last_begins_collection, first_ends_collection}
 use Rattle.yaml_base.specs.Pieces as closes
 use Rattle.yaml_base.specs.Output.{settings_for, text_written, bytes_written}
 use Rattle.yaml_base.specs.declared.errors.yaml_error_t.TheVariants.{WriteError, Memory}
-use Rattle.yaml_base.proofs.Completions.{front_begins}
+use Rattle.yaml_base.proofs.Completions.{prefix_is_partial}
 use Rattle.yaml_base.proofs.Prefixes.{prefix_same}
 use Rattle.yaml_base.proofs.Trees.{stream_pushed}
-use Rattle.yaml_base.proofs.PieceLaws.{steps_same, front_layout, list_layout_steps}
+use Rattle.yaml_base.proofs.PieceLaws.{steps_same, prefix_layout, list_layout_steps}
 use Rattle.yaml_base.proofs.QueueLaws.{open_at_written}
-use Rattle.yaml_pen.specs.Page.{Page, encoded, IsHandedOut}
+use Rattle.yaml_pen.specs.Page.{Page, encoded, IsFlushedOutput}
 use Rattle.yaml_emitter.specs.State.{State, machine_of}
 use Rattle.yaml_emitter.specs.Processing.{closes_at_once}
-use Rattle.yaml_emitter.specs.StandsAfter.{IsPage, HoldsPiecesWith, holds_before, holds_part, StandsCut, StandsUnflushed, StandsSo, at_event, between_events}
+use Rattle.yaml_emitter.specs.StandsAfter.{IsPage, HoldsPiecesWith, holds_before, holds_part, StandsCut, StandsUnflushed, StateStands, at_event, between_events}
 use Rattle.yaml_emitter.specs.Promises.{FillsLimit}
 use Rattle.yaml_emitter.specs.Uncut.{IsUncut}
 use Rattle.yaml_emitter.proofs.standing.Room.{more_bytes}
 use Rattle.yaml_emitter.proofs.standing.Standing.{own_end, settings_grown}
 use Rattle.yaml_emitter.proofs.standing.StandingSteps.{closes_last-append}
 use Rattle.yaml_emitter.proofs.standing.StandingMore.{ready_at, settings_failed}
-use Rattle.yaml_emitter.proofs.standing.StandingTexts.{begin_taken, front_longer, output_fills}
+use Rattle.yaml_emitter.proofs.standing.StandingTexts.{begin_taken, prefix_longer, output_fills}
 use Rattle.yaml_emitter.proofs.standing.StandingPromises.{stands_failed, steps_begin}
 
 -- The output's limit.
@@ -50,46 +50,47 @@ no_start_alone (sequence_start c) ready = cc
 no_start_alone (mapping_start c) ready = cc
 no_start_alone event ready = refl
 
-begins_last-append : (front : List Event) (event : Event) → begins_last (front ++ event ∷ []) ≡ begins_collection event
-begins_last-append [] event = refl
-begins_last-append (x ∷ []) event = refl
-begins_last-append (x ∷ y ∷ more) event = begins_last-append (y ∷ more) event
+last_begins_collection-append : (prefix : List Event) (event : Event) → last_begins_collection (prefix ++ event ∷ []) ≡ begins_collection event
+last_begins_collection-append [] event = refl
+last_begins_collection-append (x ∷ []) event = refl
+last_begins_collection-append (x ∷ y ∷ more) event = last_begins_collection-append (y ∷ more) event
 
-follows_ready : (front rest more : List Event) (event : Event) (s : Effective) (last : Bool) → begins_collection event ≡ last → is_ready event rest ≡ true
-    → (q : Partial) → partial_of (((front ++ event ∷ []) ++ rest) ++ more) ≡ Some q
-    → (steps s (ends_next (rest ++ more) false) (front ++ event ∷ []) at_stream first_standing).pieces
-    ≡ (steps s (closes_at_once event rest) (front ++ event ∷ []) at_stream first_standing).pieces
-follows_ready front rest more event s false is ready q h =
+follows_ready : (prefix rest more : List Event) (event : Event) (s : Effective) (last : Bool) → begins_collection event ≡ last → is_ready event rest ≡ true
+    → (q : Partial) → partial_of (((prefix ++ event ∷ []) ++ rest) ++ more) ≡ Some q
+    → (steps s (ends_next (rest ++ more) false) (prefix ++ event ∷ []) at_stream first_standing).pieces
+    ≡ (steps s (closes_at_once event rest) (prefix ++ event ∷ []) at_stream first_standing).pieces
+follows_ready prefix rest more event s false is ready q h =
     ap (λ (made : Steps). made.pieces)
-    (steps_same (front ++ event ∷ []) s (ends_next (rest ++ more) false) (closes_at_once event rest) at_stream first_standing
-    (begins_last-append front event ∙ is))
-follows_ready front [] more event s true is ready q h = let no : begins_collection event ≡ false = no_start_alone event ready in cc
-follows_ready front (next ∷ rest) more event s true is ready q h =
-    let longer = front ++ event ∷ [] in
-    let begun = front_begins (longer ++ next ∷ []) (rest ++ more) q
+    (steps_same (prefix ++ event ∷ []) s (ends_next (rest ++ more) false) (closes_at_once event rest) at_stream first_standing
+    (last_begins_collection-append prefix event ∙ is))
+follows_ready prefix [] more event s true is ready q h = let no : begins_collection event ≡ false = no_start_alone event ready in cc
+follows_ready prefix (next ∷ rest) more event s true is ready q h =
+    let longer = prefix ++ event ∷ [] in
+    let begun = prefix_is_partial (longer ++ next ∷ []) (rest ++ more) q
     (ap partial_of (append_assoc longer (next ∷ []) (rest ++ more) ∙ sym (append_assoc longer (next ∷ rest) more)) ∙ h) in
     ap (λ follows. (steps s follows longer at_stream first_standing).pieces)
-    (sym (own_end longer next rest before_stream begun.0 begun.1 (begins_last-append front event ∙ is)) ∙ closes_last-append front (next ∷ rest) event)
+    (sym (own_end longer next rest before_stream begun.0 begun.1 (last_begins_collection-append prefix event ∙ is))
+    ∙ closes_last-append prefix (next ∷ rest) event)
 
-layout_begins : (canonical : Bool) (s : Effective) (front rest : List Event) → IsAccepted canonical (front ++ rest)
-    → IsPrefix (steps s (ends_next rest false) front at_stream first_standing).pieces (list_layout s (front ++ rest))
-layout_begins canonical s front rest accepted =
-    subst (IsPrefix (steps s (ends_next rest false) front at_stream first_standing).pieces)
-    (sym (list_layout_steps (front ++ rest) accepted.stream s (ap partial_of (sym accepted.is_stream) ∙ stream_pushed accepted.stream)))
-    (steps_begin front rest s false)
+layout_begins : (canonical : Bool) (s : Effective) (prefix rest : List Event) → IsAccepted canonical (prefix ++ rest)
+    → IsPrefix (steps s (ends_next rest false) prefix at_stream first_standing).pieces (list_layout s (prefix ++ rest))
+layout_begins canonical s prefix rest accepted =
+    subst (IsPrefix (steps s (ends_next rest false) prefix at_stream first_standing).pieces)
+    (sym (list_layout_steps (prefix ++ rest) accepted.stream s (ap partial_of (sym accepted.is_stream) ∙ stream_pushed accepted.stream)))
+    (steps_begin prefix rest s false)
 
 -- the pieces up to an event that was ready begin every layout that goes on
-begun_layout : (canonical : Bool) (s : Effective) (front later more all : List Event) (event : Event) → (front ++ event ∷ []) ++ later ≡ all
+begun_layout : (canonical : Bool) (s : Effective) (prefix later more all : List Event) (event : Event) → (prefix ++ event ∷ []) ++ later ≡ all
     → is_ready event later ≡ true → IsAccepted canonical (all ++ more)
-    → IsPrefix (steps s (closes_at_once event later) (front ++ event ∷ []) at_stream first_standing).pieces (list_layout s (all ++ more))
-begun_layout canonical s front later more all event parts ready accepted =
-    let longer = front ++ event ∷ [] in
+    → IsPrefix (steps s (closes_at_once event later) (prefix ++ event ∷ []) at_stream first_standing).pieces (list_layout s (all ++ more))
+begun_layout canonical s prefix later more all event parts ready accepted =
+    let longer = prefix ++ event ∷ [] in
     let begun = (steps s (closes_at_once event later) longer at_stream first_standing).pieces in
     let whole : longer ++ (later ++ more) ≡ all ++ more = sym (append_assoc longer later more) ∙ ap (λ events. events ++ more) parts in
     let pushes : partial_of ((longer ++ later) ++ more) ≡ Some (after_stream accepted.stream) =
     ap (λ events. partial_of (events ++ more)) parts ∙ ap partial_of (sym accepted.is_stream) ∙ stream_pushed accepted.stream in
     let same : (steps s (ends_next (later ++ more) false) longer at_stream first_standing).pieces ≡ begun =
-    follows_ready front later more event s (begins_collection event) refl ready (after_stream accepted.stream) pushes in
+    follows_ready prefix later more event s (begins_collection event) refl ready (after_stream accepted.stream) pushes in
     subst (λ pieces. IsPrefix pieces (list_layout s (all ++ more))) same
     (subst (λ events. IsPrefix (steps s (ends_next (later ++ more) false) longer at_stream first_standing).pieces (list_layout s events)) whole
     (layout_begins canonical s longer (later ++ more) (subst (IsAccepted canonical) (sym whole) accepted)))
@@ -118,10 +119,10 @@ fills_by given all state begun page failed most same begins =
     s = settings_for given all
 
     passed : given.limit < length (encoded state.page)
-    passed = passes given.limit state.page page.limit (page.handed.full failed).0
+    passed = passes given.limit state.page page.limit (page.sound_output.full failed).0
 
     text : (more : List Event) → IsAccepted given.canonical (all ++ more) → IsPrefix state.page.text (text_written s (list_layout s (all ++ more)))
-    text more accepted = front_longer s state.page.text begun (list_layout s (all ++ more)) most (begins more accepted)
+    text more accepted = prefix_longer s state.page.text begun (list_layout s (all ++ more)) most (begins more accepted)
 
     unfit : (more : List Event) → IsAccepted given.canonical (all ++ more) → IsUncut given (all ++ more) → ⊥
     unfit more accepted uncut =
@@ -132,50 +133,50 @@ fills_by given all state begun page failed most same begins =
 cut_fills : (given : Settings) (all : List Event) (state : State) → StandsCut given all WriteError (machine_of state) → FillsLimit given all state
 cut_fills given all state h =
     let s = settings_for given all in
-    let longer = h.front ++ h.event ∷ [] in
-    let parts : longer ++ h.later ≡ all = append_assoc h.front (h.event ∷ []) h.later ∙ h.failed.parts in
-    let ready = ready_at h.front h.event h.later (subst (λ events. length h.front < written events) (sym h.failed.parts) h.failed.became_ready) in
+    let longer = h.prefix ++ h.event ∷ [] in
+    let parts : longer ++ h.later ≡ all = append_assoc h.prefix (h.event ∷ []) h.later ∙ h.failed.parts in
+    let ready = ready_at h.prefix h.event h.later (subst (λ events. length h.prefix < written events) (sym h.failed.parts) h.failed.became_ready) in
     elim h.page [
       | holds_before memory page ↦ absurd (not_memory memory)
       | holds_part begun page told least most ↦
           fills_by given all state (steps s (closes_at_once h.event h.later) longer at_stream first_standing).pieces page (told refl) most
-          (λ more. settings_failed h.front given all h.event h.later more h.failed.parts)
-          (λ more accepted. begun_layout given.canonical s h.front h.later more all h.event parts ready accepted)
+          (λ more. settings_failed h.prefix given all h.event h.later more h.failed.parts)
+          (λ more accepted. begun_layout given.canonical s h.prefix h.later more all h.event parts ready accepted)
     ]
 
-between_fills : (front rest : List Event) (given : Settings) (all : List Event) (state : State) → front ++ rest ≡ all
-    → HoldsPiecesWith (Some WriteError) (settings_for given all) front (steps (settings_for given all) false front at_stream first_standing).pieces state.page
-    → IsHandedOut (encoded state.page) state.page.output state.page.limit state.page.error
-    → ((more : List Event) → closes.closes_at_once front (rest ++ more) ≡ false)
+between_fills : (prefix rest : List Event) (given : Settings) (all : List Event) (state : State) → prefix ++ rest ≡ all
+    → HoldsPiecesWith (Some WriteError) (settings_for given all) prefix (steps (settings_for given all) false prefix at_stream first_standing).pieces state.page
+    → IsFlushedOutput (encoded state.page) state.page.output state.page.limit state.page.error
+    → ((more : List Event) → closes.closes_at_once prefix (rest ++ more) ≡ false)
     → FillsLimit given all state
-between_fills [] rest given all state parts h handed opens =
-    let full = handed.full (ap (λ (p : Page). p.error) h) in
+between_fills [] rest given all state parts h sound_output opens =
+    let full = sound_output.full (ap (λ (p : Page). p.error) h) in
     let none : length (encoded state.page) ≡ 0 = ap (λ (p : Page). length (encoded p)) h in
     absurd (omega (arith, full.0, none))
-between_fills (x ∷ front) rest given all state parts h handed opens =
+between_fills (x ∷ prefix) rest given all state parts h sound_output opens =
     let s = settings_for given all in
-    let begun_pieces = (steps s false (x ∷ front) at_stream first_standing).pieces in
+    let begun_pieces = (steps s false (x ∷ prefix) at_stream first_standing).pieces in
     fills_by given all state begun_pieces h.0 h.2 (prefix_same state.page.text (text_written s begun_pieces) h.1)
-    (λ more. settings_grown given x front rest all more parts)
+    (λ more. settings_grown given x prefix rest all more parts)
     (λ more accepted.
-    let whole : (x ∷ front) ++ (rest ++ more) ≡ all ++ more = sym (append_assoc (x ∷ front) rest more) ∙ ap (λ events. events ++ more) parts in
-    let pushes : partial_of ((x ∷ front) ++ (rest ++ more)) ≡ Some (after_stream accepted.stream) =
+    let whole : (x ∷ prefix) ++ (rest ++ more) ≡ all ++ more = sym (append_assoc (x ∷ prefix) rest more) ∙ ap (λ events. events ++ more) parts in
+    let pushes : partial_of ((x ∷ prefix) ++ (rest ++ more)) ≡ Some (after_stream accepted.stream) =
     ap partial_of whole ∙ ap partial_of (sym accepted.is_stream) ∙ stream_pushed accepted.stream in
     subst (λ events. IsPrefix begun_pieces (list_layout s events)) whole
-    (begin_taken (length (x ∷ front)) begun_pieces (list_layout s ((x ∷ front) ++ (rest ++ more)))
-    (front_layout (x ∷ front) (rest ++ more) accepted.stream s pushes (opens more))))
+    (begin_taken (length (x ∷ prefix)) begun_pieces (list_layout s ((x ∷ prefix) ++ (rest ++ more)))
+    (prefix_layout (x ∷ prefix) (rest ++ more) accepted.stream s pushes (opens more))))
 
 unflushed_fills : (given : Settings) (all : List Event) (state : State) → StandsUnflushed given all WriteError (machine_of state) → FillsLimit given all state
 unflushed_fills given all state h =
-    let front = take (written h.before) h.before in
+    let prefix = take (written h.before) h.before in
     let rest = drop (written h.before) h.before in
-    between_fills front (rest ++ h.later) given all state
-    (sym (append_assoc front rest h.later) ∙ ap (λ events. events ++ h.later) (take-append-drop (written h.before) h.before) ∙ h.parts)
-    h.page h.handed
-    (λ more. ap (λ events. closes.closes_at_once front events) (append_assoc rest h.later more) ∙ open_at_written h.before (h.later ++ more))
+    between_fills prefix (rest ++ h.later) given all state
+    (sym (append_assoc prefix rest h.later) ∙ ap (λ events. events ++ h.later) (take-append-drop (written h.before) h.before) ∙ h.parts)
+    h.page h.sound_output
+    (λ more. ap (λ events. closes.closes_at_once prefix events) (append_assoc rest h.later more) ∙ open_at_written h.before (h.later ++ more))
 
 -- After the output's limit was passed the output is full.
-pub promises_full : (given : Settings) (all : List Event) (state : State) → StandsSo given all state → state.error ≡ Some WriteError
+pub promises_full : (given : Settings) (all : List Event) (state : State) → StateStands given all state → state.error ≡ Some WriteError
     → FillsLimit given all state
 promises_full given all state h failed =
     elim (stands_failed given all state WriteError h failed) [

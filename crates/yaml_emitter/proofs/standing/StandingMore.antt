@@ -15,33 +15,34 @@ use Rattle.yaml_base.specs.declared.errors.yaml_error_t.{yaml_error_t}
 use Rattle.yaml_base.specs.declared.errors.yaml_error_t.TheVariants.{WriteError, Memory}
 use Rattle.yaml_base.proofs.Accepted.{begins_from_stands}
 use Rattle.yaml_base.proofs.ReadyLaws.{written_grows}
-use Rattle.yaml_pen.specs.Page.{Page, new_page, told}
+use Rattle.yaml_pen.specs.Page.{Page, new_page, result_of_error}
 use Rattle.yaml_base.specs.Encoding.{encode}
 use Rattle.yaml_pen.specs.Wrote.{Flushed}
-use Rattle.yaml_pen.proofs.Writing.{none_from_told}
+use Rattle.yaml_pen.proofs.Writing.{none_from_result}
 use Rattle.yaml_emitter.specs.State.{MachineState, State, machine_of, new_machine}
 use Rattle.yaml_emitter.specs.Given.{nothing_given}
 use Rattle.yaml_emitter.specs.Processing.{closes_at_once}
-use Rattle.yaml_emitter.specs.StandsAfter.{HoldsPieces, HoldsPiecesWith, StandsWell, FailedAt, closes_last, StandsRefused, HoldsCut, StandsCut, StandsUnflushed}
-use Rattle.yaml_emitter.specs.StandsAfter.{StandsStopped, StandsFailed, StandsBy, StandsSo, at_event, between_events}
+use Rattle.yaml_emitter.specs.StandsAfter.{HoldsPieces, HoldsPiecesWith, StandsWithoutError, FailedAt, closes_last, StandsRefused, HoldsCut}
+use Rattle.yaml_emitter.specs.StandsAfter.{StandsCut, StandsUnflushed}
+use Rattle.yaml_emitter.specs.StandsAfter.{StandsStopped, StandsFailed, MachineStands, StateStands, at_event, between_events}
 use Rattle.yaml_base.proofs.QueueLaws.{written_within}
 use Rattle.yaml_emitter.specs.StaysFlushed.{StaysFlushed}
 use Rattle.yaml_emitter.proofs.standing.Flushing.{flushed_grown, flushed_none, flushed_output}
 use Rattle.yaml_emitter.proofs.standing.Standing.{settings_grown, settled_same, taken_grown}
 
 -- More events after a failure.
-failed_grown : (all front : List Event) (event : Event) (later more : List Event) → FailedAt all front event later
-    → FailedAt (all ++ more) front event (later ++ more)
-failed_grown all front event later more h =
+failed_grown : (all prefix : List Event) (event : Event) (later more : List Event) → FailedAt all prefix event later
+    → FailedAt (all ++ more) prefix event (later ++ more)
+failed_grown all prefix event later more h =
     record {
-      parts = sym (append_assoc front (event ∷ later) more) ∙ ap (λ events. events ++ more) h.parts;
+      parts = sym (append_assoc prefix (event ∷ later) more) ∙ ap (λ events. events ++ more) h.parts;
       became_ready = omega (arith, h.became_ready, written_grows all more);
     }
 
-pub settings_failed : (front : List Event) (given : Settings) (all : List Event) (event : Event) (later more : List Event) → front ++ event ∷ later ≡ all
+pub settings_failed : (prefix : List Event) (given : Settings) (all : List Event) (event : Event) (later more : List Event) → prefix ++ event ∷ later ≡ all
     → settings_for given (all ++ more) ≡ settings_for given all
 settings_failed [] given all event later more parts = settings_grown given event [] later all more parts
-settings_failed (x ∷ front) given all event later more parts = settings_grown given x front (event ∷ later) all more parts
+settings_failed (x ∷ prefix) given all event later more parts = settings_grown given x prefix (event ∷ later) all more parts
 
 -- An event that became ready was ready by what followed it.
 ready_if : (b : Bool) (n m : ℕ) → n < (if b then suc m else 0) → b ≡ true
@@ -52,10 +53,10 @@ ready_later : (b : Bool) (n m : ℕ) → suc n < (if b then suc m else 0) → n 
 ready_later true n m h = omega (arith, h)
 ready_later false n m h = absurd (omega (arith, h))
 
-pub ready_at : (front : List Event) (event : Event) (later : List Event) → length front < written (front ++ event ∷ later) → is_ready event later ≡ true
+pub ready_at : (prefix : List Event) (event : Event) (later : List Event) → length prefix < written (prefix ++ event ∷ later) → is_ready event later ≡ true
 ready_at [] event later h = ready_if (is_ready event later) 0 (written later) h
-ready_at (x ∷ front) event later h =
-    ready_at front event later (ready_later (is_ready x (front ++ event ∷ later)) (length front) (written (front ++ event ∷ later)) h)
+ready_at (x ∷ prefix) event later h =
+    ready_at prefix event later (ready_later (is_ready x (prefix ++ event ∷ later)) (length prefix) (written (prefix ++ event ∷ later)) h)
 
 closes_grown : (event : Event) (later more : List Event) → is_ready event later ≡ true → closes_at_once event (later ++ more) ≡ closes_at_once event later
 closes_grown (sequence_start c) [] more is = cc
@@ -69,8 +70,8 @@ closes_one (sequence_start c) sequence_end later more = refl
 closes_one (mapping_start c) mapping_end later more = refl
 closes_one event next later more = refl
 
-closes_last_grown : (front : List Event) (event : Event) (later more : List Event)
-    → closes_last front (event ∷ (later ++ more)) ≡ closes_last front (event ∷ later)
+closes_last_grown : (prefix : List Event) (event : Event) (later more : List Event)
+    → closes_last prefix (event ∷ (later ++ more)) ≡ closes_last prefix (event ∷ later)
 closes_last_grown [] event later more = refl
 closes_last_grown (x ∷ []) event later more = closes_one x event later more
 closes_last_grown (x ∷ y ∷ rest) event later more = closes_last_grown (y ∷ rest) event later more
@@ -79,72 +80,73 @@ refused_grown : (given : Settings) (all more : List Event) (error : yaml_error_t
     → StandsRefused given all error machine → StandsRefused given (all ++ more) error machine
 refused_grown given all more error machine h =
     record {
-      front = h.front;
+      prefix = h.prefix;
       event = h.event;
       later = h.later ++ more;
-      failed = failed_grown all h.front h.event h.later more h.failed;
-      taken = taken_grown h.front (h.event ∷ h.later) all more given false machine h.failed.parts h.taken;
+      failed = failed_grown all h.prefix h.event h.later more h.failed;
+      progress = taken_grown h.prefix (h.event ∷ h.later) all more given false machine h.failed.parts h.progress;
       refusal = h.refusal;
     }
 
 -- What was flushed before it stays.
-flushed_front : (front : List Event) (given : Settings) (all rest more : List Event) (count : ℕ) (output : List ℕ) → front ++ rest ≡ all
-    → length front ≡ count → StaysFlushed given all count output → StaysFlushed given (all ++ more) count output
-flushed_front [] given all rest more count output parts is h =
+flushed_prefix : (prefix : List Event) (given : Settings) (all rest more : List Event) (count : ℕ) (output : List ℕ) → prefix ++ rest ≡ all
+    → length prefix ≡ count → StaysFlushed given all count output → StaysFlushed given (all ++ more) count output
+flushed_prefix [] given all rest more count output parts is h =
     subst (λ count. StaysFlushed given (all ++ more) count output) is (flushed_none given (all ++ more) output)
-flushed_front (x ∷ front) given all rest more count output parts is h =
-    flushed_grown given all more count output (omega (arith, is, ap length parts, length-append (x ∷ front) rest))
-    (settings_grown given x front rest all more parts) h
+flushed_prefix (x ∷ prefix) given all rest more count output parts is h =
+    flushed_grown given all more count output (omega (arith, is, ap length parts, length-append (x ∷ prefix) rest))
+    (settings_grown given x prefix rest all more parts) h
 
 cut_grown : (given : Settings) (all more : List Event) (error : yaml_error_t) (machine : MachineState) → StandsCut given all error machine
     → StandsCut given (all ++ more) error machine
 cut_grown given all more error machine h =
-    let settings = sym (settings_failed h.front given all h.event h.later more h.failed.parts) in
-    let ready = ready_at h.front h.event h.later (subst (λ events. length h.front < written events) (sym h.failed.parts) h.failed.became_ready) in
-    let at_front = sym (closes_last_grown h.front h.event h.later more) in
+    let settings = sym (settings_failed h.prefix given all h.event h.later more h.failed.parts) in
+    let ready = ready_at h.prefix h.event h.later (subst (λ events. length h.prefix < written events) (sym h.failed.parts) h.failed.became_ready) in
+    let at_prefix = sym (closes_last_grown h.prefix h.event h.later more) in
     let at_event = sym (closes_grown h.event h.later more ready) in
-    let CutBy : Effective → Bool → Bool → Page → Type 0 = λ s at_front at_event page.
-    HoldsCut given s h.front h.event (steps s at_front h.front at_stream first_standing)
-    (steps s at_event (h.front ++ h.event ∷ []) at_stream first_standing) error page in
+    let CutBy : Effective → Bool → Bool → Page → Type 0 = λ s at_prefix at_event page.
+    HoldsCut given s h.prefix h.event (steps s at_prefix h.prefix at_stream first_standing)
+    (steps s at_event (h.prefix ++ h.event ∷ []) at_stream first_standing) error page in
     record {
-      front = h.front;
+      prefix = h.prefix;
       event = h.event;
       later = h.later ++ more;
-      failed = failed_grown all h.front h.event h.later more h.failed;
+      failed = failed_grown all h.prefix h.event h.later more h.failed;
       given_kept = h.given_kept;
       stands = h.stands;
       page =
-          subst (λ s. CutBy s (closes_last h.front (h.event ∷ (h.later ++ more))) (closes_at_once h.event (h.later ++ more)) machine.page) settings
-          (subst (λ b. CutBy (settings_for given all) b (closes_at_once h.event (h.later ++ more)) machine.page) at_front
-          (subst (λ b. CutBy (settings_for given all) (closes_last h.front (h.event ∷ h.later)) b machine.page) at_event h.page));
-      flushed = flushed_front h.front given all (h.event ∷ h.later) more (length h.front) machine.page.output h.failed.parts refl h.flushed;
+          subst (λ s. CutBy s (closes_last h.prefix (h.event ∷ (h.later ++ more))) (closes_at_once h.event (h.later ++ more)) machine.page) settings
+          (subst (λ b. CutBy (settings_for given all) b (closes_at_once h.event (h.later ++ more)) machine.page) at_prefix
+          (subst (λ b. CutBy (settings_for given all) (closes_last h.prefix (h.event ∷ h.later)) b machine.page) at_event h.page));
+      flushed = flushed_prefix h.prefix given all (h.event ∷ h.later) more (length h.prefix) machine.page.output h.failed.parts refl h.flushed;
     }
 
-holds_grown : (front : List Event) (given : Settings) (all rest more : List Event) (error : Option yaml_error_t) (page : Page) → front ++ rest ≡ all
-    → HoldsPiecesWith error (settings_for given all) front (steps (settings_for given all) false front at_stream first_standing).pieces page
-    → HoldsPiecesWith error (settings_for given (all ++ more)) front (steps (settings_for given (all ++ more)) false front at_stream first_standing).pieces page
+holds_grown : (prefix : List Event) (given : Settings) (all rest more : List Event) (error : Option yaml_error_t) (page : Page) → prefix ++ rest ≡ all
+    → HoldsPiecesWith error (settings_for given all) prefix (steps (settings_for given all) false prefix at_stream first_standing).pieces page
+    → HoldsPiecesWith error (settings_for given (all ++ more)) prefix
+    (steps (settings_for given (all ++ more)) false prefix at_stream first_standing).pieces page
 holds_grown [] given all rest more error page parts h = h
-holds_grown (x ∷ front) given all rest more error page parts h =
-    subst (λ s. HoldsPiecesWith error s (x ∷ front) (steps s false (x ∷ front) at_stream first_standing).pieces page)
-    (sym (settings_grown given x front rest all more parts)) h
+holds_grown (x ∷ prefix) given all rest more error page parts h =
+    subst (λ s. HoldsPiecesWith error s (x ∷ prefix) (steps s false (x ∷ prefix) at_stream first_standing).pieces page)
+    (sym (settings_grown given x prefix rest all more parts)) h
 
 unflushed_grown : (given : Settings) (all more : List Event) (error : yaml_error_t) (machine : MachineState)
     → StandsUnflushed given all error machine → StandsUnflushed given (all ++ more) error machine
 unflushed_grown given all more error machine h =
-    let front = take (written h.before) h.before in
+    let prefix = take (written h.before) h.before in
     let rest = drop (written h.before) h.before in
-    let whole : front ++ (rest ++ h.later) ≡ all =
-    sym (append_assoc front rest h.later) ∙ ap (λ events. events ++ h.later) (take-append-drop (written h.before) h.before) ∙ h.parts in
+    let whole : prefix ++ (rest ++ h.later) ≡ all =
+    sym (append_assoc prefix rest h.later) ∙ ap (λ events. events ++ h.later) (take-append-drop (written h.before) h.before) ∙ h.parts in
     record {
       before = h.before;
       later = h.later ++ more;
       parts = sym (append_assoc h.before h.later more) ∙ ap (λ events. events ++ more) h.parts;
       given_kept = h.given_kept;
       stands = h.stands;
-      page = holds_grown front given all (rest ++ h.later) more (Some error) machine.page whole h.page;
-      handed = h.handed;
+      page = holds_grown prefix given all (rest ++ h.later) more (Some error) machine.page whole h.page;
+      sound_output = h.sound_output;
       flushed =
-          flushed_front front given all (rest ++ h.later) more (written h.before) machine.page.output whole
+          flushed_prefix prefix given all (rest ++ h.later) more (written h.before) machine.page.output whole
           (length-take-le (written h.before) h.before (written_within h.before)) h.flushed;
     }
 
@@ -164,46 +166,46 @@ failed_grown_by Memory given all more machine h = stopped_grown given all more M
 failed_grown_by error given all more machine h = refused_grown given all more error machine h
 
 -- After a failure another event changes nothing.
-pub failed_more : (given : Settings) (all : List Event) (event : Event) (state : State) (error : yaml_error_t) → StandsSo given all state
+pub failed_more : (given : Settings) (all : List Event) (event : Event) (state : State) (error : yaml_error_t) → StateStands given all state
     → state.error ≡ Some error
-    → StandsSo given (all ++ event ∷ []) (record state { started = true })
+    → StateStands given (all ++ event ∷ []) (record state { started = true })
 failed_more given all event state error h is =
     let machine = machine_of state in
-    let was : StandsBy given all (Some error) state.held machine = subst (λ e. StandsBy given all e state.held machine) is h in
-    subst (λ e. StandsBy given (all ++ event ∷ []) e state.held machine) (sym is) (was.0, failed_grown_by error given all (event ∷ []) machine was.1)
+    let was : MachineStands given all (Some error) state.held machine = subst (λ e. MachineStands given all e state.held machine) is h in
+    subst (λ e. MachineStands given (all ++ event ∷ []) e state.held machine) (sym is) (was.0, failed_grown_by error given all (event ∷ []) machine was.1)
 
 -- Nothing was given yet.
-no_open : (front rest : List Event) → front ++ rest ≡ [] → open_count front ≤ most_open
+no_open : (prefix rest : List Event) → prefix ++ rest ≡ [] → open_count prefix ≤ most_open
 no_open [] rest h = omega arith
-no_open (x ∷ front) rest h = cc
+no_open (x ∷ prefix) rest h = cc
 
 pub nothing_begins : (canonical : Bool) → BeginsAccepted canonical []
 nothing_begins canonical = begins_from_stands canonical [] (record { partial = before_stream; is_partial = refl; sound = refl; shallow = no_open })
 
-pub new_stands : (given : Settings) (state : State) → state.given ≡ given → state.page ≡ new_page given.limit → state.stage ≡ at_stream → state.mark ≡ 0
+pub new_stands : (given : Settings) (state : State) → state.given ≡ given → state.page ≡ new_page given.limit → state.stage ≡ at_stream → state.open_ended ≡ 0
     → state.held ≡ [] → state.error ≡ None
-    → StandsSo given [] state
-new_stands given state is_given page stage mark held none =
-    let well : StandsWell given [] state.held (machine_of state) =
+    → StateStands given [] state
+new_stands given state is_handle_given page stage open_ended held none =
+    let well : StandsWithoutError given [] state.held (machine_of state) =
     record {
-      taken = record {
-        given_kept = is_given;
+      progress = record {
+        given_kept = is_handle_given;
         settled = tt;
         stands = nothing_begins given.canonical;
         stage = stage;
         standing =
-            ap (λ (page : Page). let made : Standing = record { cursor = page.cursor; mark = state.mark } in made) page
-            ∙ ap (λ mark. let made : Standing = record { cursor = first_standing.cursor; mark = mark } in made) mark;
+            ap (λ (page : Page). let made : Standing = record { cursor = page.cursor; open_ended = state.open_ended } in made) page
+            ∙ ap (λ open_ended. let made : Standing = record { cursor = first_standing.cursor; open_ended = open_ended } in made) open_ended;
         page = page;
-        handed_out = λ hands. cc;
+        flushed_whole = λ hands. cc;
         flushed = flushed_none given [] state.page.output;
       };
       held = held;
     } in
-    subst (λ e. StandsBy given [] e state.held (machine_of state)) (sym none) well
+    subst (λ e. MachineStands given [] e state.held (machine_of state)) (sym none) well
 
 pub new_emitter_stands : {m : MachineState} {held : List Event} → m ≡ new_machine → held ≡ []
-    → StandsSo nothing_given []
+    → StateStands nothing_given []
     (record {
       given = m.given;
       settings = m.settings;
@@ -213,7 +215,7 @@ pub new_emitter_stands : {m : MachineState} {held : List Event} → m ≡ new_ma
       closed = false;
       held = held;
       stage = m.stage;
-      mark = m.mark;
+      open_ended = m.open_ended;
       page = m.page;
       error = m.error;
     })
@@ -228,59 +230,59 @@ new_emitter_stands {m} {held} made none =
       closed = false;
       held = held;
       stage = m.stage;
-      mark = m.mark;
+      open_ended = m.open_ended;
       page = m.page;
       error = m.error;
     }) (ap (λ (m : MachineState). m.given) made) (ap (λ (m : MachineState). m.page) made)
-    (ap (λ (m : MachineState). m.stage) made) (ap (λ (m : MachineState). m.mark) made) none (ap (λ (m : MachineState). m.error) made)
+    (ap (λ (m : MachineState). m.stage) made) (ap (λ (m : MachineState). m.open_ended) made) none (ap (λ (m : MachineState). m.error) made)
 
--- A flush hands out what is written.
+-- A flush sends on what is written.
 take-nil : (n : ℕ) → take {A = ℕ} n [] ≡ []
 take-nil zero = refl
 take-nil (suc n) = refl
 
-flushed_page : (front : List Event) (s : Effective) (pieces : List Piece) (before after : Page) (answer : Result (Unit {0}) yaml_error_t)
-    → HoldsPieces s front pieces before → Flushed before after answer
-    → HoldsPiecesWith after.error s front pieces after
+flushed_page : (prefix : List Event) (s : Effective) (pieces : List Piece) (before after : Page) (answer : Result (Unit {0}) yaml_error_t)
+    → HoldsPieces s prefix pieces before → Flushed before after answer
+    → HoldsPiecesWith after.error s prefix pieces after
 flushed_page [] s pieces before after answer h flushed =
     let encoding : after.encoding ≡ None = ap (λ (p : Page). p.encoding) flushed.kept ∙ ap (λ (p : Page). p.encoding) h in
     let output : after.output ≡ [] =
-    flushed.handed.beginning ∙ ap (λ e. take (length after.output) (encode e after.text)) encoding ∙ take-nil (length after.output) in
+    flushed.sound_output.opening_event ∙ ap (λ e. take (length after.output) (encode e after.text)) encoding ∙ take-nil (length after.output) in
     flushed.kept
     ∙ ap (λ (p : Page). let made : Page = record p { output = after.output; error = after.error } in made) h
     ∙ ap (λ output. let made : Page = record (new_page s.limit) { output = output; error = after.error } in made) output
-flushed_page (x ∷ front) s pieces before after answer h flushed = (
+flushed_page (x ∷ prefix) s pieces before after answer h flushed = (
   record {
     encoding = ap (λ (p : Page). p.encoding) flushed.kept ∙ h.0.encoding;
-    marked = ap (λ (p : Page). p.mark_due) flushed.kept ∙ h.0.marked;
+    bom_written = ap (λ (p : Page). p.bom_due) flushed.kept ∙ h.0.bom_written;
     line_break = ap (λ (p : Page). p.line_break) flushed.kept ∙ h.0.line_break;
     limit = ap (λ (p : Page). p.limit) flushed.kept ∙ h.0.limit;
-    handed = flushed.handed;
+    sound_output = flushed.sound_output;
   },
   ap (λ (p : Page). p.text) flushed.kept ∙ h.1,
   refl,
 )
 
-flushed_stands : (given : Settings) (all held : List Event) (machine : MachineState) (page : Page) → StandsWell given all held machine
+flushed_stands : (given : Settings) (all held : List Event) (machine : MachineState) (page : Page) → StandsWithoutError given all held machine
     → Flushed machine.page page (Ok tt)
-    → StandsWell given all held (record machine { page = page; error = page.error })
+    → StandsWithoutError given all held (record machine { page = page; error = page.error })
 flushed_stands given all held machine page h flushed =
     let s = settings_for given all in
-    let front = take (written all) all in
+    let prefix = take (written all) all in
     let now = record machine { page = page; error = page.error } in
     record {
-      taken = record {
-        given_kept = h.taken.given_kept;
-        settled = settled_same s front machine now refl h.taken.settled;
-        stands = h.taken.stands;
-        stage = h.taken.stage;
+      progress = record {
+        given_kept = h.progress.given_kept;
+        settled = settled_same s prefix machine now refl h.progress.settled;
+        stands = h.progress.stands;
+        stage = h.progress.stage;
         standing =
-            ap (λ (p : Page). let made : Standing = record { cursor = p.cursor; mark = machine.mark } in made) flushed.kept ∙ h.taken.standing;
+            ap (λ (p : Page). let made : Standing = record { cursor = p.cursor; open_ended = machine.open_ended } in made) flushed.kept ∙ h.progress.standing;
         page =
-            subst (λ error. HoldsPiecesWith error s front (progress s all).pieces page) (none_from_told page.error flushed.answered)
-            (flushed_page front s (progress s all).pieces machine.page page (Ok tt) h.taken.page flushed);
-        handed_out = λ hands. (flushed.all (none_from_told page.error flushed.answered)).1;
-        flushed = flushed_output given all (length front) machine.page.output page.output h.taken.flushed flushed.output;
+            subst (λ error. HoldsPiecesWith error s prefix (progress s all).pieces page) (none_from_result page.error flushed.answered)
+            (flushed_page prefix s (progress s all).pieces machine.page page (Ok tt) h.progress.page flushed);
+        flushed_whole = λ hands. (flushed.all (none_from_result page.error flushed.answered)).1;
+        flushed = flushed_output given all (length prefix) machine.page.output page.output h.progress.flushed flushed.output;
       };
       held = h.held;
     }
@@ -289,37 +291,37 @@ flushed_stands given all held machine page h flushed =
 abbrev pub HasPage : (before after : MachineState) → Type 0
 HasPage before after = after ≡ record before { page = after.page; error = after.page.error }
 
-pub flush_stands : (given : Settings) (all held : List Event) (before after : MachineState) → StandsBy given all before.error held before
+pub flush_stands : (given : Settings) (all held : List Event) (before after : MachineState) → MachineStands given all before.error held before
     → before.error ≡ None → HasPage before after
-    → Flushed before.page after.page (Ok tt) → StandsBy given all after.error held after
+    → Flushed before.page after.page (Ok tt) → MachineStands given all after.error held after
 flush_stands given all held before after h none same flushed =
-    let well : StandsWell given all held before = subst (λ e. StandsBy given all e held before) none h in
-    subst (λ e. StandsBy given all e held after) (sym (ap (λ (m : MachineState). m.error) same ∙ none_from_told after.page.error flushed.answered))
-    (subst (λ (m : MachineState). StandsWell given all held m) (sym same) (flushed_stands given all held before after.page well flushed))
+    let well : StandsWithoutError given all held before = subst (λ e. MachineStands given all e held before) none h in
+    subst (λ e. MachineStands given all e held after) (sym (ap (λ (m : MachineState). m.error) same ∙ none_from_result after.page.error flushed.answered))
+    (subst (λ (m : MachineState). StandsWithoutError given all held m) (sym same) (flushed_stands given all held before after.page well flushed))
 
-pub some_from_told : (given : Option yaml_error_t) (error : yaml_error_t) → Err error ≡ told given → given ≡ Some error
-some_from_told None error is = cc
-some_from_told (Some other) error is = cc
+pub some_from_result : (given : Option yaml_error_t) (error : yaml_error_t) → Err error ≡ result_of_error given → given ≡ Some error
+some_from_result None error is = cc
+some_from_result (Some other) error is = cc
 
 unflushed_stands : (given : Settings) (all held : List Event) (machine : MachineState) (page : Page) (error : yaml_error_t)
-    → StandsWell given all held machine
+    → StandsWithoutError given all held machine
     → Flushed machine.page page (Err error) → StandsUnflushed given all error (record machine { page = page; error = page.error })
 unflushed_stands given all held machine page error h flushed =
     let s = settings_for given all in
-    let front = take (written all) all in
+    let prefix = take (written all) all in
     record {
       before = all;
       later = [];
       parts = append-nil all;
-      given_kept = h.taken.given_kept;
-      stands = h.taken.stands;
+      given_kept = h.progress.given_kept;
+      stands = h.progress.stands;
       page =
-          subst (λ error. HoldsPiecesWith error s front (progress s all).pieces page) (some_from_told page.error error flushed.answered)
-          (flushed_page front s (progress s all).pieces machine.page page (Err error) h.taken.page flushed);
-      handed = flushed.handed;
+          subst (λ error. HoldsPiecesWith error s prefix (progress s all).pieces page) (some_from_result page.error error flushed.answered)
+          (flushed_page prefix s (progress s all).pieces machine.page page (Err error) h.progress.page flushed);
+      sound_output = flushed.sound_output;
       flushed =
           subst (λ count. StaysFlushed given all count page.output) (length-take-le (written all) all (written_within all))
-          (flushed_output given all (length front) machine.page.output page.output h.taken.flushed flushed.output);
+          (flushed_output given all (length prefix) machine.page.output page.output h.progress.flushed flushed.output);
     }
 
 -- A flush that fails does so by the output's limit or by memory.
@@ -343,16 +345,17 @@ failed_if_stopped given all error machine why stopped =
       | inr memory ↦ subst (λ e. StandsFailed given all e machine) (sym memory) (subst (λ e. StandsStopped given all e machine) memory stopped)
     ]
 
-pub flush_failed : (given : Settings) (all held : List Event) (before after : MachineState) (error : yaml_error_t) → StandsBy given all before.error held before
+pub flush_failed : (given : Settings) (all held : List Event) (before after : MachineState) (error : yaml_error_t)
+    → MachineStands given all before.error held before
     → before.error ≡ None → HasPage before after
     → Flushed before.page after.page (Err error)
-    → StandsBy given all after.error [] after
+    → MachineStands given all after.error [] after
 flush_failed given all held before after error h none same flushed =
-    let well : StandsWell given all held before = subst (λ e. StandsBy given all e held before) none h in
-    let told = some_from_told after.page.error error flushed.answered in
+    let well : StandsWithoutError given all held before = subst (λ e. MachineStands given all e held before) none h in
+    let told = some_from_result after.page.error error flushed.answered in
     let now : MachineState = record before { page = after.page; error = after.page.error } in
     let failed : StandsFailed given all error now =
-    failed_if_stopped given all error now (limit_or_memory after.page.error error told flushed.handed.named)
+    failed_if_stopped given all error now (limit_or_memory after.page.error error told flushed.sound_output.named)
     (between_events (unflushed_stands given all held before after.page error well flushed)) in
-    subst (λ e. StandsBy given all e [] after) (sym (ap (λ (m : MachineState). m.error) same ∙ told))
+    subst (λ e. MachineStands given all e [] after) (sym (ap (λ (m : MachineState). m.error) same ∙ told))
     (refl, subst (λ (m : MachineState). StandsFailed given all error m) (sym same) failed)

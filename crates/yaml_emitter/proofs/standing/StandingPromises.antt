@@ -12,7 +12,7 @@ use Rattle.yaml_base.specs.Refusal.{ends_collection, IsAccepted, BeginsAccepted,
 use Rattle.yaml_base.specs.Ready.{is_ready, written, held_back}
 use Rattle.yaml_base.specs.Layout.{Piece, first_standing}
 use Rattle.yaml_base.specs.Steps.{Steps, at_stream, ends_next, steps}
-use Rattle.yaml_base.specs.Pieces.{list_layout, pieces, begins_last}
+use Rattle.yaml_base.specs.Pieces.{list_layout, pieces, last_begins_collection}
 use Rattle.yaml_base.specs.Output.{settings_for, text_written}
 use Rattle.yaml_base.specs.declared.errors.yaml_error_t.{yaml_error_t}
 use Rattle.yaml_base.specs.declared.errors.yaml_error_t.TheVariants.{WriteError, Memory}
@@ -26,32 +26,34 @@ use Rattle.yaml_emitter.specs.State.{State, machine_of}
 use Rattle.yaml_emitter.specs.StaysFlushed.{StaysFlushed}
 use Rattle.yaml_emitter.specs.Queue.{is_head_ready}
 use Rattle.yaml_emitter.specs.Processing.{closes_at_once}
-use Rattle.yaml_emitter.specs.StandsAfter.{HoldsPiecesWith, StandsWell, closes_last, StandsRefused, holds_before, holds_part, StandsCut, StandsUnflushed}
-use Rattle.yaml_emitter.specs.StandsAfter.{StandsStopped, StandsFailed, StandsBy, StandsSo, at_event, between_events}
-use Rattle.yaml_emitter.specs.Promises.{HasText, begins_with_start, most_held, HoldsWaiting, RefusedAt, BeginsOutput, StopsWriting, stops_before, stops_within}
+use Rattle.yaml_emitter.specs.StandsAfter.{HoldsPiecesWith, StandsWithoutError, closes_last, StandsRefused, holds_before, holds_part, StandsCut}
+use Rattle.yaml_emitter.specs.StandsAfter.{StandsUnflushed}
+use Rattle.yaml_emitter.specs.StandsAfter.{StandsStopped, StandsFailed, MachineStands, StateStands, at_event, between_events}
+use Rattle.yaml_emitter.specs.Promises.{HasText, begins_with_start, most_held, QueuesUnready, RefusedAt, BeginsOutput, StopsWriting, stops_before, stops_within}
 use Rattle.yaml_emitter.specs.Promises.{OutputBegins, IsRefusal}
 use Rattle.yaml_emitter.proofs.standing.Standing.{open_last, end_next}
 use Rattle.yaml_emitter.proofs.standing.StandingSteps.{awaits_few, closes_last-append}
 use Rattle.yaml_emitter.proofs.standing.StandingFailed.{own_accepted}
-use Rattle.yaml_emitter.proofs.standing.StandingTexts.{holds_text, pieces_front, begin_take, front_longer, GoesOn, goes_on, output_begins, holds_output}
+use Rattle.yaml_emitter.proofs.standing.StandingTexts.{holds_text, pieces_prefix, begin_take, prefix_longer, ContinuesScript, goes_on, output_begins}
+use Rattle.yaml_emitter.proofs.standing.StandingTexts.{holds_output}
 
-pub stands_well : (given : Settings) (all : List Event) (state : State) → StandsSo given all state → state.error ≡ None
-    → StandsWell given all state.held (machine_of state)
-stands_well given all state h none = subst (λ e. StandsBy given all e state.held (machine_of state)) none h
+pub stands_well : (given : Settings) (all : List Event) (state : State) → StateStands given all state → state.error ≡ None
+    → StandsWithoutError given all state.held (machine_of state)
+stands_well given all state h none = subst (λ e. MachineStands given all e state.held (machine_of state)) none h
 
-pub stands_failed : (given : Settings) (all : List Event) (state : State) (error : yaml_error_t) → StandsSo given all state → state.error ≡ Some error
+pub stands_failed : (given : Settings) (all : List Event) (state : State) (error : yaml_error_t) → StateStands given all state → state.error ≡ Some error
     → StandsFailed given all error (machine_of state)
-stands_failed given all state error h is = (subst (λ e. StandsBy given all e state.held (machine_of state)) is h).1
+stands_failed given all state error h is = (subst (λ e. MachineStands given all e state.held (machine_of state)) is h).1
 
 -- Without an error the text is that of the ready events' pieces.
-pub promises_text : (given : Settings) (all : List Event) (state : State) → StandsSo given all state → state.error ≡ None
+pub promises_text : (given : Settings) (all : List Event) (state : State) → StateStands given all state → state.error ≡ None
     → HasText given all (written all) state
 promises_text given all state h none =
     let s = settings_for given all in
-    let front = take (written all) all in
+    let prefix = take (written all) all in
     let well = stands_well given all state h none in
-    let stands = stands_from_begins given.canonical front well.taken.stands in
-    holds_text front s false None state.page well.taken.page
+    let stands = stands_from_begins given.canonical prefix well.progress.stands in
+    holds_text prefix s false None state.page well.progress.page
     ∙ ap (text_written s) (sym (progress_pieces all stands.partial s stands.is_partial))
 
 -- The events that wait.
@@ -74,7 +76,7 @@ pub most_few : (held : List Event) → most_held held ≤ 3
 most_few [] = omega arith
 most_few (event ∷ rest) = awaits_few event
 
-pub promises_held : (given : Settings) (all : List Event) (state : State) → StandsSo given all state → state.error ≡ None → HoldsWaiting all state
+pub promises_held : (given : Settings) (all : List Event) (state : State) → StateStands given all state → state.error ≡ None → QueuesUnready all state
 promises_held given all state h none =
     let well = stands_well given all state h none in
     let waits = waiting (held_back all) (held_waits all) in
@@ -89,20 +91,20 @@ refused_at : (given : Settings) (all : List Event) (state : State) (error : yaml
     → RefusedAt given all error state
 refused_at given all state error h =
     let s = settings_for given all in
-    let stands = stands_from_begins given.canonical h.front h.taken.stands in
+    let stands = stands_from_begins given.canonical h.prefix h.progress.stands in
     record {
-      front = h.front;
+      prefix = h.prefix;
       event = h.event;
       later = h.later;
       parts = h.failed.parts;
       became_ready = h.failed.became_ready;
       refusal = h.refusal;
-      begins = h.taken.stands;
-      ends = (λ more. let none : refusal given.canonical h.front h.event
-          ≡ None = (refused_exactly given.canonical h.front h.event h.taken.stands).1 more in cc);
+      begins = h.progress.stands;
+      ends = (λ more. let none : refusal given.canonical h.prefix h.event
+          ≡ None = (refused_exactly given.canonical h.prefix h.event h.progress.stands).1 more in cc);
       text =
-          holds_text h.front s false None state.page h.taken.page
-          ∙ ap (text_written s) (sym (pieces_front h.front (h.event ∷ h.later) all s stands.partial h.failed.parts stands.is_partial));
+          holds_text h.prefix s false None state.page h.progress.page
+          ∙ ap (text_written s) (sym (pieces_prefix h.prefix (h.event ∷ h.later) all s stands.partial h.failed.parts stands.is_partial));
     }
 
 refused_by : (error : yaml_error_t) (given : Settings) (all : List Event) (state : State) → IsRefusal error → StandsFailed given all error (machine_of state)
@@ -111,50 +113,51 @@ refused_by WriteError given all state is h = absurd is
 refused_by Memory given all state is h = absurd is
 refused_by error given all state is h = h
 
-pub promises_refusal : (given : Settings) (all : List Event) (state : State) (error : yaml_error_t) → StandsSo given all state → state.error ≡ Some error
+pub promises_refusal : (given : Settings) (all : List Event) (state : State) (error : yaml_error_t) → StateStands given all state → state.error ≡ Some error
     → IsRefusal error → RefusedAt given all error state
 promises_refusal given all state error h failed is =
     refused_at given all state error (refused_by error given all state is (stands_failed given all state error h failed))
 
 -- The output begins that of an accepted list.
-output_by_pieces : (given : Settings) (all front later : List Event) (follows : Bool) (error : Option yaml_error_t) (state : State) → front ++ later ≡ all
-    → HoldsPiecesWith error (settings_for given all) front (steps (settings_for given all) follows front at_stream first_standing).pieces state.page
-    → StaysFlushed given all (length front) state.page.output
-    → GoesOn given.canonical (settings_for given all) front (steps (settings_for given all) follows front at_stream first_standing).pieces
-    → BeginsOutput given all front (length front) state
-output_by_pieces given all front later follows error state parts h flushed on =
+output_by_pieces : (given : Settings) (all prefix later : List Event) (follows : Bool) (error : Option yaml_error_t) (state : State) → prefix ++ later ≡ all
+    → HoldsPiecesWith error (settings_for given all) prefix (steps (settings_for given all) follows prefix at_stream first_standing).pieces state.page
+    → StaysFlushed given all (length prefix) state.page.output
+    → ContinuesScript given.canonical (settings_for given all) prefix (steps (settings_for given all) follows prefix at_stream first_standing).pieces
+    → BeginsOutput given all prefix (length prefix) state
+output_by_pieces given all prefix later follows error state parts h flushed on =
     let s = settings_for given all in
-    let begun = (steps s follows front at_stream first_standing).pieces in
-    let whole = list_layout s (front ++ on.more) in
-    let first : take (length front) whole ≡ begun = begin_take (length front) begun whole on.begins (steps_count front s follows at_stream first_standing) in
-    let text : state.page.text ≡ text_written s (take (length front) whole) = holds_text front s follows error state.page h ∙ ap (text_written s) (sym first) in
+    let begun = (steps s follows prefix at_stream first_standing).pieces in
+    let whole = list_layout s (prefix ++ on.more) in
+    let first : take (length prefix) whole ≡ begun = begin_take (length prefix) begun whole on.begins (steps_count prefix s follows at_stream first_standing) in
+    let text : state.page.text ≡ text_written s (take (length prefix) whole) = holds_text prefix s follows error state.page h
+    ∙ ap (text_written s) (sym first) in
     record {
       later = later;
       parts = parts;
       more = on.more;
       accepted = on.accepted;
-      least = prefix_same (text_written s (take (length front) whole)) state.page.text (sym text);
-      most = prefix_same state.page.text (text_written s (take (length front) whole)) text;
-      output = holds_output front s follows error state.page whole h on.begins;
+      least = prefix_same (text_written s (take (length prefix) whole)) state.page.text (sym text);
+      most = prefix_same state.page.text (text_written s (take (length prefix) whole)) text;
+      output = holds_output prefix s follows error state.page whole h on.begins;
       flushed = flushed;
     }
 
-output_from : (given : Settings) (all front later : List Event) (error : Option yaml_error_t) (state : State) → front ++ later ≡ all
-    → BeginsAccepted given.canonical front
-    → HoldsPiecesWith error (settings_for given all) front (steps (settings_for given all) false front at_stream first_standing).pieces state.page
-    → StaysFlushed given all (length front) state.page.output
-    → BeginsOutput given all front (length front) state
-output_from given all front later error state parts begins h flushed =
-    output_by_pieces given all front later false error state parts h flushed (goes_on given.canonical (settings_for given all) front begins)
+output_from : (given : Settings) (all prefix later : List Event) (error : Option yaml_error_t) (state : State) → prefix ++ later ≡ all
+    → BeginsAccepted given.canonical prefix
+    → HoldsPiecesWith error (settings_for given all) prefix (steps (settings_for given all) false prefix at_stream first_standing).pieces state.page
+    → StaysFlushed given all (length prefix) state.page.output
+    → BeginsOutput given all prefix (length prefix) state
+output_from given all prefix later error state parts begins h flushed =
+    output_by_pieces given all prefix later false error state parts h flushed (goes_on given.canonical (settings_for given all) prefix begins)
 
--- The steps of a front begin those of the whole.
-pub steps_begin : (front rest : List Event) (s : Effective) (follows : Bool)
-    → IsPrefix (steps s (ends_next rest follows) front at_stream first_standing).pieces (steps s follows (front ++ rest) at_stream first_standing).pieces
-steps_begin front rest s follows =
-    let before = steps s (ends_next rest follows) front at_stream first_standing in
+-- The steps of a prefix begin those of the whole.
+pub steps_begin : (prefix rest : List Event) (s : Effective) (follows : Bool)
+    → IsPrefix (steps s (ends_next rest follows) prefix at_stream first_standing).pieces (steps s follows (prefix ++ rest) at_stream first_standing).pieces
+steps_begin prefix rest s follows =
+    let before = steps s (ends_next rest follows) prefix at_stream first_standing in
     record {
       rest = (steps s follows rest before.stage before.standing).pieces;
-      parts = sym (ap (λ (all : Steps). all.pieces) (steps-append front rest s follows at_stream first_standing));
+      parts = sym (ap (λ (all : Steps). all.pieces) (steps-append prefix rest s follows at_stream first_standing));
     }
 
 -- What closes a collection is its end.
@@ -163,7 +166,7 @@ ends_one (sequence_start c) sequence_end later h = refl
 ends_one (mapping_start c) mapping_end later h = refl
 ends_one event next later h = cc
 
-ends_if : (front : List Event) (next : Event) (later : List Event) → closes_last front (next ∷ later) ≡ true → ends_collection next ≡ true
+ends_if : (prefix : List Event) (next : Event) (later : List Event) → closes_last prefix (next ∷ later) ≡ true → ends_collection next ≡ true
 ends_if [] next later h = cc
 ends_if (event ∷ []) next later h = ends_one event next later h
 ends_if (event ∷ other ∷ more) next later h = ends_if (other ∷ more) next later h
@@ -172,69 +175,72 @@ and_right_false : (b : Bool) → b && false ≡ false
 and_right_false true = refl
 and_right_false false = refl
 
--- A front whose last event may be closed at once by the next: both ways a list goes on.
-closing_more : (canonical : Bool) (s : Effective) (front later : List Event) (closes : Bool) → closes_last front later ≡ closes → BeginsAccepted canonical front
-    → GoesOn canonical s front (steps s (closes_last front later) front at_stream first_standing).pieces
-closing_more canonical s front later false is begins =
-    subst (λ follows. GoesOn canonical s front (steps s follows front at_stream first_standing).pieces) (sym is) (goes_on canonical s front begins)
-closing_more canonical s front [] true is begins = absurd (false≢true (sym (open_last front [] (and_right_false (begins_last front))) ∙ is))
-closing_more canonical s front (next ∷ later) true is begins =
-    let stands = stands_from_begins canonical front begins in
-    let none : refusal canonical front next ≡ None =
+-- A prefix whose last event may be closed at once by the next: both ways a list goes on.
+closing_more : (canonical : Bool) (s : Effective) (prefix later : List Event) (closes : Bool) → closes_last prefix later ≡ closes
+    → BeginsAccepted canonical prefix
+    → ContinuesScript canonical s prefix (steps s (closes_last prefix later) prefix at_stream first_standing).pieces
+closing_more canonical s prefix later false is begins =
+    subst (λ follows. ContinuesScript canonical s prefix (steps s follows prefix at_stream first_standing).pieces) (sym is) (goes_on canonical s prefix begins)
+closing_more canonical s prefix [] true is begins = absurd (false≢true (sym (open_last prefix [] (and_right_false (last_begins_collection prefix))) ∙ is))
+closing_more canonical s prefix (next ∷ later) true is begins =
+    let stands = stands_from_begins canonical prefix begins in
+    let none : refusal canonical prefix next ≡ None =
     ap (λ o. option_and_then (λ q. refusal_at canonical q next) o) stands.is_partial
-    ∙ own_accepted front next later canonical before_stream stands.partial stands.is_partial is in
-    let longer = (refused_exactly canonical front next begins).0 none in
-    let on = goes_on canonical s (front ++ next ∷ []) longer in
-    let ends : ends_collection next ≡ closes_last front (next ∷ later) = ends_if front next later is ∙ sym is in
-    let first : IsPrefix (steps s (ends_collection next) front at_stream first_standing).pieces
-    (steps s false (front ++ next ∷ []) at_stream first_standing).pieces =
-    steps_begin front (next ∷ []) s false in
-    let same = append_assoc front (next ∷ []) on.more in
+    ∙ own_accepted prefix next later canonical before_stream stands.partial stands.is_partial is in
+    let longer = (refused_exactly canonical prefix next begins).0 none in
+    let on = goes_on canonical s (prefix ++ next ∷ []) longer in
+    let ends : ends_collection next ≡ closes_last prefix (next ∷ later) = ends_if prefix next later is ∙ sym is in
+    let first : IsPrefix (steps s (ends_collection next) prefix at_stream first_standing).pieces
+    (steps s false (prefix ++ next ∷ []) at_stream first_standing).pieces =
+    steps_begin prefix (next ∷ []) s false in
+    let same = append_assoc prefix (next ∷ []) on.more in
     record {
       more = next ∷ on.more;
       accepted = subst (IsAccepted canonical) same on.accepted;
       begins =
-          subst (λ follows. IsPrefix (steps s follows front at_stream first_standing).pieces (list_layout s (front ++ next ∷ on.more))) ends
-          (subst (λ events. IsPrefix (steps s (ends_collection next) front at_stream first_standing).pieces (list_layout s events)) same
+          subst (λ follows. IsPrefix (steps s follows prefix at_stream first_standing).pieces (list_layout s (prefix ++ next ∷ on.more))) ends
+          (subst (λ events. IsPrefix (steps s (ends_collection next) prefix at_stream first_standing).pieces (list_layout s events)) same
           (prefix_then first on.begins));
     }
 
 -- After an error.
-cut_output : (given : Settings) (all : List Event) (error : yaml_error_t) (state : State) → StandsCut given all error (machine_of state) → StopsWriting given all state
+cut_output : (given : Settings) (all : List Event) (error : yaml_error_t) (state : State) → StandsCut given all error (machine_of state)
+    → StopsWriting given all state
 cut_output given all error state h =
     let s = settings_for given all in
     elim h.page [
       | holds_before memory page ↦
-          let follows = closes_last h.front (h.event ∷ h.later) in
-          stops_before h.front
-          (output_by_pieces given all h.front (h.event ∷ h.later) follows None state h.failed.parts page h.flushed
-          (closing_more given.canonical s h.front (h.event ∷ h.later) follows refl h.stands))
+          let follows = closes_last h.prefix (h.event ∷ h.later) in
+          stops_before h.prefix
+          (output_by_pieces given all h.prefix (h.event ∷ h.later) follows None state h.failed.parts page h.flushed
+          (closing_more given.canonical s h.prefix (h.event ∷ h.later) follows refl h.stands))
       | holds_part begun page failed least most ↦
-          let longer = h.front ++ h.event ∷ [] in
+          let longer = h.prefix ++ h.event ∷ [] in
           let empty = closes_at_once h.event h.later in
           let pieces = (steps s empty longer at_stream first_standing).pieces in
-          let last = closes_last-append h.front h.later h.event in
-          let on : GoesOn given.canonical s longer pieces =
-          subst (λ follows. GoesOn given.canonical s longer (steps s follows longer at_stream first_standing).pieces) last
+          let last = closes_last-append h.prefix h.later h.event in
+          let on : ContinuesScript given.canonical s longer pieces =
+          subst (λ follows. ContinuesScript given.canonical s longer (steps s follows longer at_stream first_standing).pieces) last
           (closing_more given.canonical s longer h.later (closes_last longer h.later) refl begun) in
           let whole = list_layout s (longer ++ on.more) in
           let stands = stands_from_begins given.canonical longer begun in
-          let shorter = (steps s (ends_collection h.event) h.front at_stream first_standing).pieces in
-          let first : take (length h.front) whole ≡ shorter =
-          begin_take (length h.front) shorter whole (prefix_then (steps_begin h.front (h.event ∷ []) s empty) on.begins)
-          (steps_count h.front s (ends_collection h.event) at_stream first_standing) in
-          let same : take (length h.front) whole ≡ (steps s (closes_last h.front (h.event ∷ h.later)) h.front at_stream first_standing).pieces =
-          first ∙ ap (λ (made : Steps). made.pieces) (end_next h.front h.later h.event stands.partial s (begins_last h.front) refl stands.is_partial) in
-          stops_within h.front h.event
+          let shorter = (steps s (ends_collection h.event) h.prefix at_stream first_standing).pieces in
+          let first : take (length h.prefix) whole ≡ shorter =
+          begin_take (length h.prefix) shorter whole (prefix_then (steps_begin h.prefix (h.event ∷ []) s empty) on.begins)
+          (steps_count h.prefix s (ends_collection h.event) at_stream first_standing) in
+          let same : take (length h.prefix) whole ≡ (steps s (closes_last h.prefix (h.event ∷ h.later)) h.prefix at_stream first_standing).pieces =
+          first ∙ ap (λ (made : Steps). made.pieces)
+          (end_next h.prefix h.later h.event stands.partial s (last_begins_collection h.prefix) refl stands.is_partial) in
+          stops_within h.prefix h.event
           (record {
             later = h.later;
-            parts = append_assoc h.front (h.event ∷ []) h.later ∙ h.failed.parts;
+            parts = append_assoc h.prefix (h.event ∷ []) h.later ∙ h.failed.parts;
             more = on.more;
             accepted = on.accepted;
             least = subst (λ pieces. IsPrefix (text_written s pieces) state.page.text) (sym same) least;
             most = subst (λ pieces. IsPrefix state.page.text (text_written s pieces))
                 (sym (begin_take (length longer) pieces whole on.begins (steps_count longer s empty at_stream first_standing))) most;
-            output = output_begins s state.page whole page (front_longer s state.page.text pieces whole most on.begins);
+            output = output_begins s state.page whole page (prefix_longer s state.page.text pieces whole most on.begins);
             flushed = h.flushed;
           })
     ]
@@ -242,18 +248,18 @@ cut_output given all error state h =
 unflushed_output : (given : Settings) (all : List Event) (error : yaml_error_t) (state : State) → StandsUnflushed given all error (machine_of state)
     → StopsWriting given all state
 unflushed_output given all error state h =
-    let front = take (written h.before) h.before in
+    let prefix = take (written h.before) h.before in
     let rest = drop (written h.before) h.before in
-    let whole : front ++ (rest ++ h.later) ≡ all =
-    sym (append_assoc front rest h.later) ∙ ap (λ events. events ++ h.later) (take-append-drop (written h.before) h.before) ∙ h.parts in
-    stops_before front
-    (output_from given all front (rest ++ h.later) (Some error) state whole h.stands h.page
+    let whole : prefix ++ (rest ++ h.later) ≡ all =
+    sym (append_assoc prefix rest h.later) ∙ ap (λ events. events ++ h.later) (take-append-drop (written h.before) h.before) ∙ h.parts in
+    stops_before prefix
+    (output_from given all prefix (rest ++ h.later) (Some error) state whole h.stands h.page
     (subst (λ count. StaysFlushed given all count state.page.output) (sym (length-take-le (written h.before) h.before (written_within h.before))) h.flushed))
 
 refused_output : (given : Settings) (all : List Event) (error : yaml_error_t) (state : State) → StandsRefused given all error (machine_of state)
     → StopsWriting given all state
 refused_output given all error state h =
-    stops_before h.front (output_from given all h.front (h.event ∷ h.later) None state h.failed.parts h.taken.stands h.taken.page h.taken.flushed)
+    stops_before h.prefix (output_from given all h.prefix (h.event ∷ h.later) None state h.failed.parts h.progress.stands h.progress.page h.progress.flushed)
 
 stopped_output : (given : Settings) (all : List Event) (error : yaml_error_t) (state : State) → StandsStopped given all error (machine_of state)
     → StopsWriting given all state
@@ -262,34 +268,36 @@ stopped_output given all error state h = elim h [
   | between_events other ↦ unflushed_output given all error state other
 ]
 
-failed_output : (error : yaml_error_t) (given : Settings) (all : List Event) (state : State) → StandsFailed given all error (machine_of state) → StopsWriting given all state
+failed_output : (error : yaml_error_t) (given : Settings) (all : List Event) (state : State) → StandsFailed given all error (machine_of state)
+    → StopsWriting given all state
 failed_output WriteError given all state h = stopped_output given all WriteError state h
 failed_output Memory given all state h = stopped_output given all Memory state h
 failed_output error given all state h = refused_output given all error state h
 
-output_by : (error : Option yaml_error_t) (given : Settings) (all : List Event) (state : State) → StandsBy given all error state.held (machine_of state)
+output_by : (error : Option yaml_error_t) (given : Settings) (all : List Event) (state : State) → MachineStands given all error state.held (machine_of state)
     → OutputBegins given all error state
 output_by None given all state h =
     subst (λ count. BeginsOutput given all (take (written all) all) count state) (length-take-le (written all) all (written_within all))
-    (output_from given all (take (written all) all) (held_back all) None state (take-append-drop (written all) all) h.taken.stands h.taken.page h.taken.flushed)
+    (output_from given all (take (written all) all) (held_back all) None state
+    (take-append-drop (written all) all) h.progress.stands h.progress.page h.progress.flushed)
 output_by (Some error) given all state h = failed_output error given all state h.1
 
 -- After every call the output begins that of an accepted list, which begins with the events written so far.
-pub promises_output : (given : Settings) (all : List Event) (state : State) → StandsSo given all state → OutputBegins given all state.error state
+pub promises_output : (given : Settings) (all : List Event) (state : State) → StateStands given all state → OutputBegins given all state.error state
 promises_output given all state h = output_by state.error given all state h
 
 -- The output is within its limit.
-holds_within : (front : List Event) (s : Effective) (pieces : List Piece) (error : Option yaml_error_t) (page : Page)
-    → HoldsPiecesWith error s front pieces page → length page.output ≤ s.limit
+holds_within : (prefix : List Event) (s : Effective) (pieces : List Piece) (error : Option yaml_error_t) (page : Page)
+    → HoldsPiecesWith error s prefix pieces page → length page.output ≤ s.limit
 holds_within [] s pieces error page h = omega (arith, ap (λ (p : Page). length p.output) h)
-holds_within (x ∷ front) s pieces error page h = omega (arith, h.0.handed.within, h.0.limit)
+holds_within (x ∷ prefix) s pieces error page h = omega (arith, h.0.sound_output.within, h.0.limit)
 
 cut_within : (given : Settings) (all : List Event) (error : yaml_error_t) (state : State) → StandsCut given all error (machine_of state)
     → length state.page.output ≤ given.limit
 cut_within given all error state h =
     elim h.page [
-      | holds_before memory page ↦ holds_within h.front (settings_for given all) _ None state.page page
-      | holds_part begun page failed least most ↦ omega (arith, page.handed.within, page.limit)
+      | holds_before memory page ↦ holds_within h.prefix (settings_for given all) _ None state.page page
+      | holds_part begun page failed least most ↦ omega (arith, page.sound_output.within, page.limit)
     ]
 
 stopped_within : (given : Settings) (all : List Event) (error : yaml_error_t) (state : State) → StandsStopped given all error (machine_of state)
@@ -304,12 +312,12 @@ failed_within : (error : yaml_error_t) (given : Settings) (all : List Event) (st
     → length state.page.output ≤ given.limit
 failed_within WriteError given all state h = stopped_within given all WriteError state h
 failed_within Memory given all state h = stopped_within given all Memory state h
-failed_within error given all state h = holds_within h.front (settings_for given all) _ None state.page h.taken.page
+failed_within error given all state h = holds_within h.prefix (settings_for given all) _ None state.page h.progress.page
 
-within_by : (error : Option yaml_error_t) (given : Settings) (all : List Event) (state : State) → StandsBy given all error state.held (machine_of state)
+scan_within : (error : Option yaml_error_t) (given : Settings) (all : List Event) (state : State) → MachineStands given all error state.held (machine_of state)
     → length state.page.output ≤ given.limit
-within_by None given all state h = holds_within (take (written all) all) (settings_for given all) _ None state.page h.taken.page
-within_by (Some error) given all state h = failed_within error given all state h.1
+scan_within None given all state h = holds_within (take (written all) all) (settings_for given all) _ None state.page h.progress.page
+scan_within (Some error) given all state h = failed_within error given all state h.1
 
-pub promises_within : (given : Settings) (all : List Event) (state : State) → StandsSo given all state → length state.page.output ≤ given.limit
-promises_within given all state h = within_by state.error given all state h
+pub promises_within : (given : Settings) (all : List Event) (state : State) → StateStands given all state → length state.page.output ≤ given.limit
+promises_within given all state h = scan_within state.error given all state h

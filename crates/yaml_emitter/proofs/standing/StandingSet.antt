@@ -9,9 +9,10 @@ use Rattle.yaml_base.specs.Steps.{progress}
 use Rattle.yaml_base.specs.Output.{settings_for}
 use Rattle.yaml_base.specs.declared.errors.yaml_error_t.{yaml_error_t}
 use Rattle.yaml_base.specs.declared.errors.yaml_error_t.TheVariants.{WriteError, Memory}
-use Rattle.yaml_pen.specs.Page.{Page, new_page, encoded, IsHandedOut}
+use Rattle.yaml_pen.specs.Page.{Page, new_page, encoded, IsFlushedOutput}
 use Rattle.yaml_emitter.specs.State.{MachineState, State, machine_of}
-use Rattle.yaml_emitter.specs.StandsAfter.{HoldsPiecesWith, FailedAt, StandsWell, StandsUnflushed, StandsStopped, StandsFailed, StandsBy, StandsAfter}
+use Rattle.yaml_emitter.specs.StandsAfter.{HoldsPiecesWith, FailedAt, StandsWithoutError, StandsUnflushed, StandsStopped, StandsFailed, MachineStands}
+use Rattle.yaml_emitter.specs.StandsAfter.{StandsAfter}
 use Rattle.yaml_emitter.specs.StandsAfter.{at_event, between_events}
 use Rattle.yaml_emitter.proofs.standing.Flushing.{flushed_none}
 use Rattle.yaml_emitter.proofs.standing.StandingMore.{nothing_begins}
@@ -26,9 +27,9 @@ IsSet before after =
       page = record before.page { limit = after.given.limit };
     }
 
-nothing_failed : (front : List Event) (event : Event) (later : List Event) → FailedAt [] front event later → ⊥
+nothing_failed : (prefix : List Event) (event : Event) (later : List Event) → FailedAt [] prefix event later → ⊥
 nothing_failed [] event later h = let wrong : event ∷ later ≡ [] = h.parts in cc
-nothing_failed (x ∷ front) event later h = let wrong : x ∷ (front ++ event ∷ later) ≡ [] = h.parts in cc
+nothing_failed (x ∷ prefix) event later h = let wrong : x ∷ (prefix ++ event ∷ later) ≡ [] = h.parts in cc
 
 nothing_before : (before later : List Event) → before ++ later ≡ [] → before ≡ []
 nothing_before [] later h = refl
@@ -38,15 +39,15 @@ nothing_before (x ∷ before) later h = cc
 unset_unflushed : (error : yaml_error_t) (machine : MachineState) → StandsUnflushed machine.given [] error machine
     → machine.page ≡ record (new_page machine.given.limit) { error = Some error }
 unset_unflushed error machine h =
-    subst (λ front. HoldsPiecesWith (Some error) (settings_for machine.given []) (take (written front) front)
-    (progress (settings_for machine.given []) front).pieces machine.page)
+    subst (λ prefix. HoldsPiecesWith (Some error) (settings_for machine.given []) (take (written prefix) prefix)
+    (progress (settings_for machine.given []) prefix).pieces machine.page)
     (nothing_before h.before h.later h.parts) h.page
 
 unset_stopped : (error : yaml_error_t) (machine : MachineState) → StandsStopped machine.given [] error machine
     → machine.page ≡ record (new_page machine.given.limit) { error = Some error }
 unset_stopped error machine h =
     elim h [
-      | at_event cut ↦ absurd (nothing_failed cut.front cut.event cut.later cut.failed)
+      | at_event cut ↦ absurd (nothing_failed cut.prefix cut.event cut.later cut.failed)
       | between_events other ↦ unset_unflushed error machine other
     ]
 
@@ -54,11 +55,11 @@ unset_failed : (error : yaml_error_t) (machine : MachineState) → StandsFailed 
     → machine.page ≡ record (new_page machine.given.limit) { error = Some error }
 unset_failed WriteError machine h = unset_stopped WriteError machine h
 unset_failed Memory machine h = unset_stopped Memory machine h
-unset_failed error machine h = absurd (nothing_failed h.front h.event h.later h.failed)
+unset_failed error machine h = absurd (nothing_failed h.prefix h.event h.later h.failed)
 
-pub unset_page : (error : Option yaml_error_t) (held : List Event) (machine : MachineState) → StandsBy machine.given [] error held machine
+pub unset_page : (error : Option yaml_error_t) (held : List Event) (machine : MachineState) → MachineStands machine.given [] error held machine
     → machine.page ≡ record (new_page machine.given.limit) { error = error }
-unset_page None held machine h = h.taken.page
+unset_page None held machine h = h.progress.page
 unset_page (Some error) held machine h = unset_failed error machine h.1
 
 page_set : (before after : Page) (limit most : ℕ) (error : Option yaml_error_t) → before ≡ record (new_page limit) { error = error }
@@ -66,31 +67,34 @@ page_set : (before after : Page) (limit most : ℕ) (error : Option yaml_error_t
 page_set before after limit most error h is =
     is ∙ ap (λ (p : Page). let made : Page = record p { limit = most } in made) h
 
-well_set : (held : List Event) (before after : MachineState) → IsSet before after → StandsWell before.given [] held before → StandsWell after.given [] held after
+well_set : (held : List Event) (before after : MachineState) → IsSet before after → StandsWithoutError before.given [] held before
+    → StandsWithoutError after.given [] held after
 well_set held before after set h =
     let page : after.page ≡ new_page after.given.limit =
-    page_set before.page after.page before.given.limit after.given.limit None h.taken.page (ap (λ (s : MachineState). s.page) set) in
+    page_set before.page after.page before.given.limit after.given.limit None h.progress.page (ap (λ (s : MachineState). s.page) set) in
     record {
-      taken = record {
+      progress = record {
         given_kept = refl;
         settled = tt;
         stands = nothing_begins after.given.canonical;
-        stage = ap (λ (s : MachineState). s.stage) set ∙ h.taken.stage;
+        stage = ap (λ (s : MachineState). s.stage) set ∙ h.progress.stage;
         standing =
-            ap (λ (page : Page). let made : Standing = record { cursor = page.cursor; mark = after.mark } in made) (ap (λ (s : MachineState). s.page) set)
-            ∙ ap (λ mark. let made : Standing = record { cursor = before.page.cursor; mark = mark } in made) (ap (λ (s : MachineState). s.mark) set)
-            ∙ h.taken.standing;
+            ap (λ (page : Page). let made : Standing = record { cursor = page.cursor; open_ended = after.open_ended } in made)
+            (ap (λ (s : MachineState). s.page) set)
+            ∙ ap (λ open_ended. let made : Standing = record { cursor = before.page.cursor; open_ended = open_ended } in made)
+            (ap (λ (s : MachineState). s.open_ended) set)
+            ∙ h.progress.standing;
         page = page;
-        handed_out = λ hands. cc;
+        flushed_whole = λ hands. cc;
         flushed = flushed_none after.given [] after.page.output;
       };
       held = h.held;
     }
 
-handed_set : (limit most : ℕ) (error : yaml_error_t) → IsHandedOut [] [] limit (Some error) → IsHandedOut [] [] most (Some error)
+handed_set : (limit most : ℕ) (error : yaml_error_t) → IsFlushedOutput [] [] limit (Some error) → IsFlushedOutput [] [] most (Some error)
 handed_set limit most error h =
     record {
-      beginning = refl;
+      opening_event = refl;
       within = omega arith;
       full = λ full. absurd (omega (arith, (h.full full).0));
       named = h.named;
@@ -102,8 +106,8 @@ unflushed_set before after error set h =
     let was : before.page ≡ record (new_page before.given.limit) { error = Some error } = unset_unflushed error before h in
     let page : after.page ≡ record (new_page after.given.limit) { error = Some error } =
     page_set before.page after.page before.given.limit after.given.limit (Some error) was (ap (λ (s : MachineState). s.page) set) in
-    let handed : IsHandedOut [] [] before.given.limit (Some error) =
-    subst (λ (page : Page). IsHandedOut (encoded page) page.output page.limit page.error) was h.handed in
+    let sound_output : IsFlushedOutput [] [] before.given.limit (Some error) =
+    subst (λ (page : Page). IsFlushedOutput (encoded page) page.output page.limit page.error) was h.sound_output in
     record {
       before = [];
       later = [];
@@ -111,9 +115,9 @@ unflushed_set before after error set h =
       given_kept = refl;
       stands = nothing_begins after.given.canonical;
       page = page;
-      handed =
-          subst (λ (page : Page). IsHandedOut (encoded page) page.output page.limit page.error) (sym page)
-          (handed_set before.given.limit after.given.limit error handed);
+      sound_output =
+          subst (λ (page : Page). IsFlushedOutput (encoded page) page.output page.limit page.error) (sym page)
+          (handed_set before.given.limit after.given.limit error sound_output);
       flushed = flushed_none after.given [] after.page.output;
     }
 
@@ -121,7 +125,7 @@ stopped_set : (before after : MachineState) (error : yaml_error_t) → IsSet bef
     → StandsStopped after.given [] error after
 stopped_set before after error set h =
     elim h [
-      | at_event cut ↦ absurd (nothing_failed cut.front cut.event cut.later cut.failed)
+      | at_event cut ↦ absurd (nothing_failed cut.prefix cut.event cut.later cut.failed)
       | between_events other ↦ between_events (unflushed_set before after error set other)
     ]
 
@@ -129,10 +133,10 @@ failed_set : (error : yaml_error_t) (before after : MachineState) → IsSet befo
     → StandsFailed after.given [] error after
 failed_set WriteError before after set h = stopped_set before after WriteError set h
 failed_set Memory before after set h = stopped_set before after Memory set h
-failed_set error before after set h = absurd (nothing_failed h.front h.event h.later h.failed)
+failed_set error before after set h = absurd (nothing_failed h.prefix h.event h.later h.failed)
 
-set_by : (error : Option yaml_error_t) (held : List Event) (before after : MachineState) → IsSet before after → StandsBy before.given [] error held before
-    → StandsBy after.given [] error held after
+set_by : (error : Option yaml_error_t) (held : List Event) (before after : MachineState) → IsSet before after → MachineStands before.given [] error held before
+    → MachineStands after.given [] error held after
 set_by None held before after set h = well_set held before after set h
 set_by (Some error) held before after set h = (h.0, failed_set error before after set h.1)
 
@@ -143,8 +147,8 @@ stands_set before after set held h =
     record {
       texts = refl;
       so =
-          subst (λ e. StandsBy after.given [] e after.held (machine_of after)) (sym (ap (λ (m : MachineState). m.error) set))
-          (subst (λ (l : List Event). StandsBy after.given [] before.error l (machine_of after)) (sym held)
+          subst (λ e. MachineStands after.given [] e after.held (machine_of after)) (sym (ap (λ (m : MachineState). m.error) set))
+          (subst (λ (l : List Event). MachineStands after.given [] before.error l (machine_of after)) (sym held)
           (set_by before.error before.held (machine_of before) (machine_of after) set h.so));
     }
 

@@ -10,8 +10,8 @@ use Rattle.yaml_base.specs.Refusal.{BeginsAccepted}
 use Rattle.yaml_base.specs.Ready.{is_ready, written, awaited, held_back}
 use Rattle.yaml_base.specs.Layout.{Piece, Standing, first_standing}
 use Rattle.yaml_base.specs.Steps.{Steps, at_stream, step, steps}
-use Rattle.yaml_base.specs.Pieces.{begins_last, ends_first}
-use Rattle.yaml_base.specs.Output.{settings_for, bytes_written, hands_out}
+use Rattle.yaml_base.specs.Pieces.{last_begins_collection, first_ends_collection}
+use Rattle.yaml_base.specs.Output.{settings_for, bytes_written, flushes}
 use Rattle.yaml_base.proofs.Accepted.{stands_from_begins}
 use Rattle.yaml_base.proofs.Completions.{pushed-append}
 use Rattle.yaml_base.proofs.QueueLaws.{no_end_held}
@@ -19,123 +19,126 @@ use Rattle.yaml_pen.specs.Page.{Page, encoded}
 use Rattle.yaml_pen.proofs.Composing.{wrote_all}
 use Rattle.yaml_emitter.specs.State.{MachineState, standing_of}
 use Rattle.yaml_emitter.specs.Queue.{is_head_ready}
-use Rattle.yaml_emitter.specs.Processing.{closes_at_once, event_stepped, event_laid, WritesEvent, Processed}
-use Rattle.yaml_emitter.specs.StandsAfter.{HasTaken, HoldsPieces, StandsWell, closes_last, Reached}
-use Rattle.yaml_emitter.proofs.standing.Flushing.{flushed_more, hands_out_last-append}
-use Rattle.yaml_emitter.proofs.standing.StandingTexts.{pieces_front}
+use Rattle.yaml_emitter.specs.Processing.{closes_at_once, event_stepped, render_event, WritesEvent, Processed}
+use Rattle.yaml_emitter.specs.StandsAfter.{HasProgress, HoldsPieces, StandsWithoutError, closes_last, Reached}
+use Rattle.yaml_emitter.proofs.standing.Flushing.{flushed_more, last_flushes-append}
+use Rattle.yaml_emitter.proofs.standing.StandingTexts.{pieces_prefix}
 use Rattle.yaml_emitter.proofs.standing.Standing.{open_last, taken_same, IsLater, starts_only, not_begun, pushes_later, one_more, next_steps, accepted_next}
 use Rattle.yaml_emitter.proofs.standing.Standing.{page_more, writes_later, taken_first}
 
 -- Any later event: its piece is the next.
-pub stepped_steps : (given : Settings) (all : List Event) (x : Event) (front rest : List Event) (event : Event) (q : Partial) (before : MachineState)
-    → HasTaken given all (x ∷ front) (steps (settings_for given all) (closes_last (x ∷ front) (event ∷ rest)) (x ∷ front) at_stream first_standing) before
-    → partial_of ((x ∷ front) ++ event ∷ []) ≡ Some q
-    → steps (settings_for given all) (closes_at_once event rest) ((x ∷ front) ++ event ∷ []) at_stream first_standing
-    ≡ one_more (steps (settings_for given all) (closes_last (x ∷ front) (event ∷ rest)) (x ∷ front) at_stream first_standing)
+pub stepped_steps : (given : Settings) (all : List Event) (x : Event) (prefix rest : List Event) (event : Event) (q : Partial) (before : MachineState)
+    → HasProgress given all (x ∷ prefix) (steps (settings_for given all) (closes_last (x ∷ prefix) (event ∷ rest)) (x ∷ prefix) at_stream first_standing) before
+    → partial_of ((x ∷ prefix) ++ event ∷ []) ≡ Some q
+    → steps (settings_for given all) (closes_at_once event rest) ((x ∷ prefix) ++ event ∷ []) at_stream first_standing
+    ≡ one_more (steps (settings_for given all) (closes_last (x ∷ prefix) (event ∷ rest)) (x ∷ prefix) at_stream first_standing)
     (event_stepped before event (closes_at_once event rest))
-stepped_steps given all x front rest event q before h pushes =
+stepped_steps given all x prefix rest event q before h pushes =
     let s = settings_for given all in
     let empty = closes_at_once event rest in
-    let taken = steps s (closes_last (x ∷ front) (event ∷ rest)) (x ∷ front) at_stream first_standing in
-    let same : event_stepped before event empty ≡ step s taken.stage event empty taken.standing =
+    let progress = steps s (closes_last (x ∷ prefix) (event ∷ rest)) (x ∷ prefix) at_stream first_standing in
+    let same : event_stepped before event empty ≡ step s progress.stage event empty progress.standing =
     ap (λ settings. step settings before.stage event empty (standing_of before)) h.settled
     ∙ ap (λ stage. step s stage event empty (standing_of before)) h.stage
-    ∙ ap (λ standing. step s taken.stage event empty standing) h.standing in
-    next_steps (x ∷ front) rest event q s empty pushes ∙ ap (one_more taken) (sym same)
+    ∙ ap (λ standing. step s progress.stage event empty standing) h.standing in
+    next_steps (x ∷ prefix) rest event q s empty pushes ∙ ap (one_more progress) (sym same)
 
 -- What is flushed isn't closed at once.
-hands_open : (event : Event) (rest : List Event) → hands_out event ≡ true → closes_at_once event rest ≡ false
+hands_open : (event : Event) (rest : List Event) → flushes event ≡ true → closes_at_once event rest ≡ false
 hands_open (document_end implicit) rest hands = refl
 hands_open stream_end rest hands = refl
 hands_open event rest hands = cc
 
 -- All bytes of a page that was flushed are those of its pieces.
-flushed_bytes : (s : Effective) (x : Event) (front : List Event) (laid : List Piece) (page : Page) → HoldsPieces s (x ∷ front) laid page
-    → page.output ≡ encoded page → bytes_written s laid ≡ page.output
-flushed_bytes s x front laid page h all = sym (all ∙ ap (λ e. encode e page.text) h.0.encoding ∙ ap (encode (Some s.encoding)) h.1)
+flushed_bytes : (s : Effective) (x : Event) (prefix : List Event) (rendered : List Piece) (page : Page) → HoldsPieces s (x ∷ prefix) rendered page
+    → page.output ≡ encoded page → bytes_written s rendered ≡ page.output
+flushed_bytes s x prefix rendered page h all = sym (all ∙ ap (λ e. encode e page.text) h.0.encoding ∙ ap (encode (Some s.encoding)) h.1)
 
-taken_later : (given : Settings) (all : List Event) (x : Event) (front rest : List Event) (event : Event) (q : Partial) (before after : MachineState)
-    → IsLater event → (x ∷ front) ++ event ∷ rest ≡ all
-    → HasTaken given all (x ∷ front) (steps (settings_for given all) (closes_last (x ∷ front) (event ∷ rest)) (x ∷ front) at_stream first_standing) before
-    → partial_of ((x ∷ front) ++ event ∷ []) ≡ Some q
-    → BeginsAccepted given.canonical ((x ∷ front) ++ event ∷ [])
+taken_later : (given : Settings) (all : List Event) (x : Event) (prefix rest : List Event) (event : Event) (q : Partial) (before after : MachineState)
+    → IsLater event → (x ∷ prefix) ++ event ∷ rest ≡ all
+    → HasProgress given all (x ∷ prefix) (steps (settings_for given all) (closes_last (x ∷ prefix) (event ∷ rest)) (x ∷ prefix) at_stream first_standing) before
+    → partial_of ((x ∷ prefix) ++ event ∷ []) ≡ Some q
+    → BeginsAccepted given.canonical ((x ∷ prefix) ++ event ∷ [])
     → WritesEvent event (closes_at_once event rest) before after
-    → HasTaken given all ((x ∷ front) ++ event ∷ [])
-    (steps (settings_for given all) (closes_at_once event rest) ((x ∷ front) ++ event ∷ []) at_stream first_standing) after
-taken_later given all x front rest event q before after later parts h pushes begun done =
+    → HasProgress given all ((x ∷ prefix) ++ event ∷ [])
+    (steps (settings_for given all) (closes_at_once event rest) ((x ∷ prefix) ++ event ∷ []) at_stream first_standing) after
+taken_later given all x prefix rest event q before after later parts h pushes begun done =
     let s = settings_for given all in
     let empty = closes_at_once event rest in
-    let taken = steps s (closes_last (x ∷ front) (event ∷ rest)) (x ∷ front) at_stream first_standing in
+    let progress = steps s (closes_last (x ∷ prefix) (event ∷ rest)) (x ∷ prefix) at_stream first_standing in
     let stepped = event_stepped before event empty in
     let wrote = writes_later event empty before after later done.page in
-    let whole : steps s empty ((x ∷ front) ++ event ∷ []) at_stream first_standing ≡ one_more taken stepped =
-    stepped_steps given all x front rest event q before h pushes in
-    let holds = page_more s x front taken.pieces stepped.laid.piece (event_laid before event empty) before.page after.page h.page wrote.1 refl in
-    subst (λ steps. HasTaken given all ((x ∷ front) ++ event ∷ []) steps after) (sym whole)
+    let whole : steps s empty ((x ∷ prefix) ++ event ∷ []) at_stream first_standing ≡ one_more progress stepped =
+    stepped_steps given all x prefix rest event q before h pushes in
+    let holds = page_more s x prefix progress.pieces stepped.rendered.piece (render_event before event empty) before.page after.page h.page wrote.1 refl in
+    subst (λ steps. HasProgress given all ((x ∷ prefix) ++ event ∷ []) steps after) (sym whole)
     (record {
       given_kept = ap (λ (s : MachineState). s.given) done.kept ∙ h.given_kept;
       settled = wrote.0 ∙ h.settled;
       stands = begun;
       stage = done.stage;
       standing =
-          ap (λ cursor. let made : Standing = record { cursor = cursor; mark = after.mark } in made) (wrote_all wrote.1).cursor
-          ∙ ap (λ mark. let made : Standing = record { cursor = stepped.laid.standing.cursor; mark = mark } in made) done.mark;
+          ap (λ cursor. let made : Standing = record { cursor = cursor; open_ended = after.open_ended } in made) (wrote_all wrote.1).cursor
+          ∙ ap (λ open_ended. let made : Standing = record { cursor = stepped.rendered.standing.cursor; open_ended = open_ended } in made) done.open_ended;
       page = holds;
-      handed_out = λ hands. done.handed_out (sym (hands_out_last-append (x ∷ front) event) ∙ hands);
+      flushed_whole = λ hands. done.flushed_whole (sym (last_flushes-append (x ∷ prefix) event) ∙ hands);
       flushed =
-          flushed_more given all (x ∷ front) event rest before.page.output after.page.output parts h.flushed wrote.1.output
+          flushed_more given all (x ∷ prefix) event rest before.page.output after.page.output parts h.flushed wrote.1.output
           (λ hands.
           ap (bytes_written s)
-          (pieces_front ((x ∷ front) ++ event ∷ []) rest all s q (append_assoc (x ∷ front) (event ∷ []) rest ∙ parts) pushes
-          ∙ ap (λ follows. (steps s follows ((x ∷ front) ++ event ∷ []) at_stream first_standing).pieces) (sym (hands_open event rest hands))
+          (pieces_prefix ((x ∷ prefix) ++ event ∷ []) rest all s q (append_assoc (x ∷ prefix) (event ∷ []) rest ∙ parts) pushes
+          ∙ ap (λ follows. (steps s follows ((x ∷ prefix) ++ event ∷ []) at_stream first_standing).pieces) (sym (hands_open event rest hands))
           ∙ ap (λ (made : Steps). made.pieces) whole)
-          ∙ flushed_bytes s x front (taken.pieces ++ stepped.laid.piece ∷ []) after.page holds (done.handed_out hands));
+          ∙ flushed_bytes s x prefix (progress.pieces ++ stepped.rendered.piece ∷ []) after.page holds (done.flushed_whole hands));
     })
 
-taken_next : (front rest : List Event) (given : Settings) (all : List Event) (event : Event) (q : Partial) (before after : MachineState) → front ++ event ∷ rest ≡ all
-    → HasTaken given all front (steps (settings_for given all) (closes_last front (event ∷ rest)) front at_stream first_standing) before
-    → partial_of (front ++ event ∷ []) ≡ Some q
-    → BeginsAccepted given.canonical (front ++ event ∷ [])
+taken_next : (prefix rest : List Event) (given : Settings) (all : List Event) (event : Event) (q : Partial) (before after : MachineState)
+    → prefix ++ event ∷ rest ≡ all
+    → HasProgress given all prefix (steps (settings_for given all) (closes_last prefix (event ∷ rest)) prefix at_stream first_standing) before
+    → partial_of (prefix ++ event ∷ []) ≡ Some q
+    → BeginsAccepted given.canonical (prefix ++ event ∷ [])
     → WritesEvent event (closes_at_once event rest) before after
-    → HasTaken given all (front ++ event ∷ []) (steps (settings_for given all) (closes_at_once event rest) (front ++ event ∷ []) at_stream first_standing) after
+    → HasProgress given all (prefix ++ event ∷ [])
+    (steps (settings_for given all) (closes_at_once event rest) (prefix ++ event ∷ []) at_stream first_standing) after
 taken_next [] rest given all event q before after parts h pushes begun done =
     let empty = closes_at_once event rest in
-    subst (λ all. HasTaken given all (event ∷ []) (steps (settings_for given all) empty (event ∷ []) at_stream first_standing) after) parts
+    subst (λ all. HasProgress given all (event ∷ []) (steps (settings_for given all) empty (event ∷ []) at_stream first_standing) after) parts
     (taken_first event rest given empty before after (starts_only event q pushes)
-    (subst (λ all. HasTaken given all [] (steps (settings_for given all) false [] at_stream first_standing) before) (sym parts) h)
+    (subst (λ all. HasProgress given all [] (steps (settings_for given all) false [] at_stream first_standing) before) (sym parts) h)
     begun done)
-taken_next (x ∷ front) rest given all event q before after parts h pushes begun done =
-    let stands = stands_from_begins given.canonical (x ∷ front) h.stands in
+taken_next (x ∷ prefix) rest given all event q before after parts h pushes begun done =
+    let stands = stands_from_begins given.canonical (x ∷ prefix) h.stands in
     let one : pushed stands.partial (event ∷ []) ≡ Some q =
     ap (λ o. option_and_then (λ r. pushed r (event ∷ [])) o) (sym stands.is_partial)
-    ∙ sym (pushed-append (x ∷ front) (event ∷ []) before_stream)
+    ∙ sym (pushed-append (x ∷ prefix) (event ∷ []) before_stream)
     ∙ pushes in
-    let begins : stands.partial ≡ before_stream → ⊥ = (λ same. not_begun x front (stands.is_partial ∙ ap (λ p. Some p) same)) in
-    taken_later given all x front rest event q before after (pushes_later event stands.partial q begins one) parts h pushes begun done
+    let begins : stands.partial ≡ before_stream → ⊥ = (λ same. not_begun x prefix (stands.is_partial ∙ ap (λ p. Some p) same)) in
+    taken_later given all x prefix rest event q before after (pushes_later event stands.partial q begins one) parts h pushes begun done
 
-pub closes_last-append : (front rest : List Event) (event : Event) → closes_last (front ++ event ∷ []) rest ≡ closes_at_once event rest
+pub closes_last-append : (prefix rest : List Event) (event : Event) → closes_last (prefix ++ event ∷ []) rest ≡ closes_at_once event rest
 closes_last-append [] rest event = refl
 closes_last-append (x ∷ []) rest event = refl
 closes_last-append (x ∷ y ∷ more) rest event = closes_last-append (y ∷ more) rest event
 
 -- A ready event is written.
-pub reached_next : (given : Settings) (all front rest : List Event) (event : Event) (before after : MachineState) → Reached given all front (event ∷ rest) before
+pub reached_next : (given : Settings) (all prefix rest : List Event) (event : Event) (before after : MachineState)
+    → Reached given all prefix (event ∷ rest) before
     → is_ready event rest ≡ true
     → Processed event (closes_at_once event rest) before after (Ok tt)
-    → Reached given all (front ++ event ∷ []) rest after
-reached_next given all front rest event before after h is done =
+    → Reached given all (prefix ++ event ∷ []) rest after
+reached_next given all prefix rest event before after h is done =
     let s = settings_for given all in
-    let follows = closes_last front (event ∷ rest) in
-    let begun = accepted_next given all front event follows s before h.taken done.accepted in
-    let stands = stands_from_begins given.canonical (front ++ event ∷ []) begun in
+    let follows = closes_last prefix (event ∷ rest) in
+    let begun = accepted_next given all prefix event follows s before h.progress done.accepted in
+    let stands = stands_from_begins given.canonical (prefix ++ event ∷ []) begun in
     let count : written (event ∷ rest) ≡ suc (written rest) = ap (λ b. if b then suc (written rest) else 0) is in
     record {
-      parts = append_assoc front (event ∷ []) rest ∙ h.parts;
-      ready = omega (arith, h.ready, count, length-append front (event ∷ []));
-      taken =
-          subst (λ follows. HasTaken given all (front ++ event ∷ []) (steps s follows (front ++ event ∷ []) at_stream first_standing) after)
-          (sym (closes_last-append front rest event))
-          (taken_next front rest given all event stands.partial before after h.parts h.taken stands.is_partial begun done);
+      parts = append_assoc prefix (event ∷ []) rest ∙ h.parts;
+      ready = omega (arith, h.ready, count, length-append prefix (event ∷ []));
+      progress =
+          subst (λ follows. HasProgress given all (prefix ++ event ∷ []) (steps s follows (prefix ++ event ∷ []) at_stream first_standing) after)
+          (sym (closes_last-append prefix rest event))
+          (taken_next prefix rest given all event stands.partial before after h.parts h.progress stands.is_partial begun done);
     }
 
 -- No more is ready.
@@ -143,7 +146,7 @@ pub none_ready : (rest : List Event) → is_head_ready rest ≡ false → writte
 none_ready [] h = refl
 none_ready (event ∷ rest) h = ap (λ b. if b then suc (written rest) else 0) h
 
-none_ends : (rest : List Event) → is_head_ready rest ≡ false → ends_first rest ≡ false
+none_ends : (rest : List Event) → is_head_ready rest ≡ false → first_ends_collection rest ≡ false
 none_ends [] h = refl
 none_ends (event ∷ rest) h = no_end_held event rest h
 
@@ -157,19 +160,20 @@ and_left_false : (a b : Bool) → b ≡ false → a && b ≡ false
 and_left_false true b h = h
 and_left_false false b h = refl
 
-pub reached_end : (given : Settings) (all front rest : List Event) (state : MachineState) → Reached given all front rest state → is_head_ready rest ≡ false
-    → StandsWell given all rest state
-reached_end given all front rest state h none =
+pub reached_end : (given : Settings) (all prefix rest : List Event) (state : MachineState) → Reached given all prefix rest state → is_head_ready rest ≡ false
+    → StandsWithoutError given all rest state
+reached_end given all prefix rest state h none =
     let s = settings_for given all in
-    let count : written all ≡ length front = h.ready ∙ ap (λ n. length front + n) (none_ready rest none) ∙ omega arith in
-    let begins : take (written all) all ≡ front =
-    ap (λ n. take n all) count ∙ ap (take (length front)) (sym h.parts) ∙ take_at front rest (length front) refl in
+    let count : written all ≡ length prefix = h.ready ∙ ap (λ n. length prefix + n) (none_ready rest none) ∙ omega arith in
+    let begins : take (written all) all ≡ prefix =
+    ap (λ n. take n all) count ∙ ap (take (length prefix)) (sym h.parts) ∙ take_at prefix rest (length prefix) refl in
     let holds : held_back all ≡ rest =
-    ap (λ n. drop n all) count ∙ ap (drop (length front)) (sym h.parts) ∙ drop_at front rest (length front) refl in
-    let opens : closes_last front rest ≡ false = open_last front rest (and_left_false (begins_last front) (ends_first rest) (none_ends rest none)) in
+    ap (λ n. drop n all) count ∙ ap (drop (length prefix)) (sym h.parts) ∙ drop_at prefix rest (length prefix) refl in
+    let opens : closes_last prefix rest ≡ false = open_last prefix rest
+    (and_left_false (last_begins_collection prefix) (first_ends_collection rest) (none_ends rest none)) in
     record {
-      taken =
-          subst (λ front. HasTaken given all front (steps s false front at_stream first_standing) state) (sym begins)
-          (subst (λ follows. HasTaken given all front (steps s follows front at_stream first_standing) state) opens h.taken);
+      progress =
+          subst (λ prefix. HasProgress given all prefix (steps s false prefix at_stream first_standing) state) (sym begins)
+          (subst (λ follows. HasProgress given all prefix (steps s follows prefix at_stream first_standing) state) opens h.progress);
       held = sym holds;
     }

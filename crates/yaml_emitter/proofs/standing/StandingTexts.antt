@@ -11,72 +11,73 @@ use Rattle.yaml_base.specs.Grammar.{no_nodes, no_pairs, at_item, at_key, Partial
 use Rattle.yaml_base.specs.Refusal.{refusal_at, refusal, IsAccepted, BeginsAccepted}
 use Rattle.yaml_base.specs.Layout.{Piece, first_standing}
 use Rattle.yaml_base.specs.Steps.{at_stream, steps}
-use Rattle.yaml_base.specs.Pieces.{empty_scalar, list_layout, completion, begins_last, ends_first, closes_at_once, pieces}
+use Rattle.yaml_base.specs.Pieces.{empty_scalar, list_layout, completion, last_begins_collection, first_ends_collection, closes_at_once, pieces}
 use Rattle.yaml_base.specs.Output.{text_written, bytes_written}
 use Rattle.yaml_base.specs.declared.errors.yaml_error_t.{yaml_error_t}
 use Rattle.yaml_base.specs.declared.errors.yaml_error_t.TheVariants.{WriteError}
 use Rattle.yaml_base.proofs.Accepted.{stands_from_begins, refused_exactly}
 use Rattle.yaml_base.proofs.Prefixes.{prefix_same}
 use Rattle.yaml_base.proofs.Trees.{stream_pushed}
-use Rattle.yaml_base.proofs.PieceLaws.{begun_pieces, front_layout}
+use Rattle.yaml_base.proofs.PieceLaws.{begun_pieces, prefix_layout}
 use Rattle.yaml_pen.specs.Page.{Page, encoded}
 use Rattle.yaml_pen.proofs.Adding.{encode-append}
 use Rattle.yaml_emitter.specs.StandsAfter.{IsPage, HoldsPiecesWith}
 use Rattle.yaml_emitter.proofs.standing.Standing.{text_written-append}
 
 -- A page's text is that of its pieces.
-pub holds_text : (front : List Event) (s : Effective) (follows : Bool) (error : Option yaml_error_t) (page : Page)
-    → HoldsPiecesWith error s front (steps s follows front at_stream first_standing).pieces page
-    → page.text ≡ text_written s (steps s follows front at_stream first_standing).pieces
+pub holds_text : (prefix : List Event) (s : Effective) (follows : Bool) (error : Option yaml_error_t) (page : Page)
+    → HoldsPiecesWith error s prefix (steps s follows prefix at_stream first_standing).pieces page
+    → page.text ≡ text_written s (steps s follows prefix at_stream first_standing).pieces
 holds_text [] s follows error page h = ap (λ (p : Page). p.text) h
-holds_text (x ∷ front) s follows error page h = h.1
+holds_text (x ∷ prefix) s follows error page h = h.1
 
 -- The pieces of the first events of a list.
-pub pieces_front : (front rest all : List Event) (s : Effective) (p : Partial) → front ++ rest ≡ all → partial_of front ≡ Some p
-    → pieces s all (length front) ≡ (steps s false front at_stream first_standing).pieces
-pieces_front front rest all s p parts is =
-    let first : take (length front) all ≡ front = ap (take (length front)) (sym parts) ∙ take_at front rest (length front) refl in
-    ap (λ events. take (length front) (list_layout s (completion events))) first ∙ begun_pieces front p s is
+pub pieces_prefix : (prefix rest all : List Event) (s : Effective) (p : Partial) → prefix ++ rest ≡ all → partial_of prefix ≡ Some p
+    → pieces s all (length prefix) ≡ (steps s false prefix at_stream first_standing).pieces
+pieces_prefix prefix rest all s p parts is =
+    let first : take (length prefix) all ≡ prefix = ap (take (length prefix)) (sym parts) ∙ take_at prefix rest (length prefix) refl in
+    ap (λ events. take (length prefix) (list_layout s (completion events))) first ∙ begun_pieces prefix p s is
 
-pub begin_taken : (n : ℕ) (front whole : List Piece) → take n whole ≡ front → IsPrefix front whole
-begin_taken n front whole is = record { rest = drop n whole; parts = ap (λ pieces. pieces ++ drop n whole) (sym is) ∙ take-append-drop n whole }
+pub begin_taken : (n : ℕ) (prefix whole : List Piece) → take n whole ≡ prefix → IsPrefix prefix whole
+begin_taken n prefix whole is = record { rest = drop n whole; parts = ap (λ pieces. pieces ++ drop n whole) (sym is) ∙ take-append-drop n whole }
 
-pub begin_take : (n : ℕ) (front whole : List Piece) → IsPrefix front whole → length front ≡ n → take n whole ≡ front
-begin_take n front whole h is = ap (take n) (sym h.parts) ∙ take_at front h.rest n is
+pub begin_take : (n : ℕ) (prefix whole : List Piece) → IsPrefix prefix whole → length prefix ≡ n → take n whole ≡ prefix
+begin_take n prefix whole h is = ap (take n) (sym h.parts) ∙ take_at prefix h.rest n is
 
-pub front_longer : (s : Effective) (text : Text) (front whole : List Piece) → IsPrefix text (text_written s front) → IsPrefix front whole
+pub prefix_longer : (s : Effective) (text : Text) (prefix whole : List Piece) → IsPrefix text (text_written s prefix) → IsPrefix prefix whole
     → IsPrefix text (text_written s whole)
-front_longer s text front whole h begins =
+prefix_longer s text prefix whole h begins =
     record {
       rest = h.rest ++ text_written s begins.rest;
       parts =
           sym (append_assoc text h.rest (text_written s begins.rest))
           ∙ ap (λ t. t ++ text_written s begins.rest) h.parts
-          ∙ sym (text_written-append s front begins.rest)
+          ∙ sym (text_written-append s prefix begins.rest)
           ∙ ap (text_written s) begins.parts;
     }
 
 -- An accepted list that goes on from events as they stand, with their pieces.
-pub record GoesOn (canonical : Bool) (s : Effective) (front : List Event) (begun : List Piece) : Type 0 where
+pub record ContinuesScript (canonical : Bool) (s : Effective) (prefix : List Event) (begun : List Piece) : Type 0 where
   pub more : List Event
-  pub accepted : IsAccepted canonical (front ++ more)
-  pub begins : IsPrefix begun (list_layout s (front ++ more))
+  pub accepted : IsAccepted canonical (prefix ++ more)
+  pub begins : IsPrefix begun (list_layout s (prefix ++ more))
 
-goes_on_with : (canonical : Bool) (s : Effective) (front more : List Event) → IsAccepted canonical (front ++ more) → closes_at_once front more ≡ false
-    → GoesOn canonical s front (steps s false front at_stream first_standing).pieces
-goes_on_with canonical s front more accepted opens =
-    let whole : partial_of (front ++ more) ≡ Some (after_stream accepted.stream) = ap partial_of (sym accepted.is_stream) ∙ stream_pushed accepted.stream in
+goes_on_with : (canonical : Bool) (s : Effective) (prefix more : List Event) → IsAccepted canonical (prefix ++ more) → closes_at_once prefix more ≡ false
+    → ContinuesScript canonical s prefix (steps s false prefix at_stream first_standing).pieces
+goes_on_with canonical s prefix more accepted opens =
+    let whole : partial_of (prefix ++ more) ≡ Some (after_stream accepted.stream) = ap partial_of (sym accepted.is_stream) ∙ stream_pushed accepted.stream in
     record {
       more = more;
       accepted = accepted;
       begins =
-          begin_taken (length front) (steps s false front at_stream first_standing).pieces (list_layout s (front ++ more))
-          (front_layout front more accepted.stream s whole opens);
+          begin_taken (length prefix) (steps s false prefix at_stream first_standing).pieces (list_layout s (prefix ++ more))
+          (prefix_layout prefix more accepted.stream s whole opens);
     }
 
 -- A collection's start may be followed by a scalar.
 abbrev ScalarFollows : List Event → Type 0
-ScalarFollows front = (canonical : Bool) (p q : Partial) → pushed p front ≡ Some q → begins_last front ≡ true → refusal_at canonical q empty_scalar ≡ None
+ScalarFollows prefix =
+    (canonical : Bool) (p q : Partial) → pushed p prefix ≡ Some q → last_begins_collection prefix ≡ true → refusal_at canonical q empty_scalar ≡ None
 
 scalar_one : (event : Event) → ScalarFollows (event ∷ [])
 scalar_one (sequence_start c) true (within_document e d s levels) q h begins =
@@ -91,12 +92,12 @@ scalar_one (sequence_start c) canonical p q h begins = cc
 scalar_one (mapping_start c) canonical p q h begins = cc
 scalar_one event canonical p q h begins = cc
 
-scalar_later : (front : List Event) → ScalarFollows front → (canonical : Bool) (made : Option Partial) (q : Partial)
-    → option_and_then (λ r. pushed r front) made ≡ Some q → begins_last front ≡ true → refusal_at canonical q empty_scalar ≡ None
-scalar_later front others canonical None q h begins = cc
-scalar_later front others canonical (Some r) q h begins = others canonical r q h begins
+scalar_later : (prefix : List Event) → ScalarFollows prefix → (canonical : Bool) (made : Option Partial) (q : Partial)
+    → option_and_then (λ r. pushed r prefix) made ≡ Some q → last_begins_collection prefix ≡ true → refusal_at canonical q empty_scalar ≡ None
+scalar_later prefix others canonical None q h begins = cc
+scalar_later prefix others canonical (Some r) q h begins = others canonical r q h begins
 
-scalar_follows : (front : List Event) → ScalarFollows front
+scalar_follows : (prefix : List Event) → ScalarFollows prefix
 scalar_follows [] canonical p q h begins = cc
 scalar_follows (event ∷ []) canonical p q h begins = scalar_one event canonical p q h begins
 scalar_follows (event ∷ other ∷ more) canonical p q h begins = scalar_later (other ∷ more) (scalar_follows (other ∷ more)) canonical (push p event) q h begins
@@ -105,21 +106,21 @@ and_false : (b : Bool) → b && false ≡ false
 and_false true = refl
 and_false false = refl
 
-pub goes_on : (canonical : Bool) (s : Effective) (front : List Event) → BeginsAccepted canonical front
-    → GoesOn canonical s front (steps s false front at_stream first_standing).pieces
-goes_on canonical s front begins = going (begins_last front) refl
+pub goes_on : (canonical : Bool) (s : Effective) (prefix : List Event) → BeginsAccepted canonical prefix
+    → ContinuesScript canonical s prefix (steps s false prefix at_stream first_standing).pieces
+goes_on canonical s prefix begins = going (last_begins_collection prefix) refl
   where
-    going : (last : Bool) → begins_last front ≡ last → GoesOn canonical s front (steps s false front at_stream first_standing).pieces
-    going false is = goes_on_with canonical s front begins.rest begins.accepted (ap (λ b. b && ends_first begins.rest) is)
+    going : (last : Bool) → last_begins_collection prefix ≡ last → ContinuesScript canonical s prefix (steps s false prefix at_stream first_standing).pieces
+    going false is = goes_on_with canonical s prefix begins.rest begins.accepted (ap (λ b. b && first_ends_collection begins.rest) is)
     going true is =
-        let stands = stands_from_begins canonical front begins in
-        let none : refusal canonical front empty_scalar ≡ None =
+        let stands = stands_from_begins canonical prefix begins in
+        let none : refusal canonical prefix empty_scalar ≡ None =
         ap (λ o. option_and_then (λ q. refusal_at canonical q empty_scalar) o) stands.is_partial
-        ∙ scalar_follows front canonical before_stream stands.partial stands.is_partial is in
-        let next = (refused_exactly canonical front empty_scalar begins).0 none in
-        goes_on_with canonical s front (empty_scalar ∷ next.rest)
-        (subst (IsAccepted canonical) (append_assoc front (empty_scalar ∷ []) next.rest) next.accepted)
-        (and_false (begins_last front))
+        ∙ scalar_follows prefix canonical before_stream stands.partial stands.is_partial is in
+        let next = (refused_exactly canonical prefix empty_scalar begins).0 none in
+        goes_on_with canonical s prefix (empty_scalar ∷ next.rest)
+        (subst (IsAccepted canonical) (append_assoc prefix (empty_scalar ∷ []) next.rest) next.accepted)
+        (and_false (last_begins_collection prefix))
 
 -- Bytes that others begin with.
 take_longer : (n : ℕ) (a b : List ℕ) → n ≤ length a → take n (a ++ b) ≡ take n a
@@ -132,41 +133,41 @@ taken_within zero a h = omega arith
 taken_within (suc n) [] h = absurd (omega (arith, h))
 taken_within (suc n) (x ∷ a) h = let less = taken_within n a (omega (arith, h)) in omega (arith, less)
 
-page_bytes : (s : Effective) (page : Page) (whole : List Piece) → IsPage s page → (front : IsPrefix page.text (text_written s whole))
-    → bytes_written s whole ≡ encoded page ++ text_bytes s.encoding front.rest
-page_bytes s page whole h front =
-    ap (encode (Some s.encoding)) (sym front.parts)
-    ∙ encode-append s.encoding page.text front.rest
-    ∙ ap (λ e. encode e page.text ++ text_bytes s.encoding front.rest) (sym h.encoding)
+page_bytes : (s : Effective) (page : Page) (whole : List Piece) → IsPage s page → (prefix : IsPrefix page.text (text_written s whole))
+    → bytes_written s whole ≡ encoded page ++ text_bytes s.encoding prefix.rest
+page_bytes s page whole h prefix =
+    ap (encode (Some s.encoding)) (sym prefix.parts)
+    ∙ encode-append s.encoding page.text prefix.rest
+    ∙ ap (λ e. encode e page.text ++ text_bytes s.encoding prefix.rest) (sym h.encoding)
 
 pub output_begins : (s : Effective) (page : Page) (whole : List Piece) → IsPage s page → IsPrefix page.text (text_written s whole)
     → page.output ≡ cut (length page.output) (bytes_written s whole)
-output_begins s page whole h front =
+output_begins s page whole h prefix =
     let n = length page.output in
-    let within : n ≤ length (encoded page) = taken_within n (encoded page) (sym (ap length h.handed.beginning)) in
-    h.handed.beginning
-    ∙ sym (take_longer n (encoded page) (text_bytes s.encoding front.rest) within)
-    ∙ ap (take n) (sym (page_bytes s page whole h front))
+    let within : n ≤ length (encoded page) = taken_within n (encoded page) (sym (ap length h.sound_output.opening_event)) in
+    h.sound_output.opening_event
+    ∙ sym (take_longer n (encoded page) (text_bytes s.encoding prefix.rest) within)
+    ∙ ap (take n) (sym (page_bytes s page whole h prefix))
 
 pub output_fills : (s : Effective) (page : Page) (whole : List Piece) → IsPage s page → IsPrefix page.text (text_written s whole) → page.error ≡ Some WriteError
     → (length page.output ≡ s.limit) × (page.output ≡ cut s.limit (bytes_written s whole))
-output_fills s page whole h front failed =
-    let full = h.handed.full failed in
+output_fills s page whole h prefix failed =
+    let full = h.sound_output.full failed in
     let within : s.limit ≤ length (encoded page) = omega (arith, full.0, h.limit) in
     let is : page.output ≡ take s.limit (encoded page) = full.1 ∙ ap (λ n. take n (encoded page)) h.limit in (
       ap length is ∙ length-take-le s.limit (encoded page) within,
-      is ∙ sym (take_longer s.limit (encoded page) (text_bytes s.encoding front.rest) within) ∙ ap (take s.limit) (sym (page_bytes s page whole h front)),
+      is ∙ sym (take_longer s.limit (encoded page) (text_bytes s.encoding prefix.rest) within) ∙ ap (take s.limit) (sym (page_bytes s page whole h prefix)),
     )
 
 -- A page's output is a beginning of the bytes of each list with its pieces.
-pub holds_output : (front : List Event) (s : Effective) (follows : Bool) (error : Option yaml_error_t) (page : Page) (whole : List Piece)
-    → HoldsPiecesWith error s front (steps s follows front at_stream first_standing).pieces page
-    → IsPrefix (steps s follows front at_stream first_standing).pieces whole
+pub holds_output : (prefix : List Event) (s : Effective) (follows : Bool) (error : Option yaml_error_t) (page : Page) (whole : List Piece)
+    → HoldsPiecesWith error s prefix (steps s follows prefix at_stream first_standing).pieces page
+    → IsPrefix (steps s follows prefix at_stream first_standing).pieces whole
     → page.output ≡ cut (length page.output) (bytes_written s whole)
 holds_output [] s follows error page whole h begins =
     let none : page.output ≡ [] = ap (λ (p : Page). p.output) h in
     none ∙ sym (ap (λ (output : List ℕ). cut (length output) (bytes_written s whole)) none)
-holds_output (x ∷ front) s follows error page whole h begins =
+holds_output (x ∷ prefix) s follows error page whole h begins =
     output_begins s page whole h.0
-    (front_longer s page.text (steps s follows (x ∷ front) at_stream first_standing).pieces whole
-    (prefix_same page.text (text_written s (steps s follows (x ∷ front) at_stream first_standing).pieces) h.1) begins)
+    (prefix_longer s page.text (steps s follows (x ∷ prefix) at_stream first_standing).pieces whole
+    (prefix_same page.text (text_written s (steps s follows (x ∷ prefix) at_stream first_standing).pieces) h.1) begins)

@@ -13,13 +13,14 @@ use Rattle.yaml_emitter.specs.MachineInside.{IsMachine}
 use Rattle.yaml_emitter.specs.State.{FitsPage, MachineState, State, machine_of, with_all_taken}
 use Rattle.yaml_emitter.specs.Processing.{closes_at_once}
 use Rattle.yaml_emitter.specs.Stages.{seen_stage}
-use Rattle.yaml_emitter.specs.StandsAfter.{HasTaken, HoldsCut, HoldsPiecesWith, IsPage, StandsAfter, StandsBy, StandsFailed, StandsRefused, StandsStopped}
+use Rattle.yaml_emitter.specs.StandsAfter.{HasProgress, HoldsCut, HoldsPiecesWith, IsPage, StandsAfter, MachineStands, StandsFailed, StandsRefused}
+use Rattle.yaml_emitter.specs.StandsAfter.{StandsStopped}
 use Rattle.yaml_emitter.specs.StandsAfter.{closes_last, holds_before, holds_part, at_event, between_events}
 use Rattle.yaml_emitter.specs.declared.machine.Machine.TheInside.{Inside}
 use Rattle.yaml_emitter.proofs.standing.Standing.{settled_same}
 
 page_taken : (s : Effective) (page : Page) → IsPage s page → IsPage s (all_taken page)
-page_taken s page h = record { encoding = h.encoding; marked = h.marked; line_break = h.line_break; limit = h.limit; handed = h.handed }
+page_taken s page h = record { encoding = h.encoding; bom_written = h.bom_written; line_break = h.line_break; limit = h.limit; sound_output = h.sound_output }
 
 holds_taken : (error : Option yaml_error_t) (s : Effective) (events : List Event) (pieces : List Piece) (page : Page)
     → HoldsPiecesWith error s events pieces page → HoldsPiecesWith error s events pieces (all_taken page)
@@ -30,25 +31,25 @@ holds_taken error s (event ∷ events) pieces page h = (page_taken s page h.0, h
 abbrev taken_from : MachineState → MachineState
 taken_from machine = record machine { page = all_taken machine.page }
 
-state_taken : (given : Settings) (all front : List Event) (reached : Steps) (machine : MachineState) → HasTaken given all front reached machine
-    → HasTaken given all front reached (taken_from machine)
-state_taken given all front reached machine h =
+state_taken : (given : Settings) (all prefix : List Event) (reached : Steps) (machine : MachineState) → HasProgress given all prefix reached machine
+    → HasProgress given all prefix reached (taken_from machine)
+state_taken given all prefix reached machine h =
     record {
       given_kept = h.given_kept;
-      settled = settled_same (settings_for given all) front machine (taken_from machine) refl h.settled;
+      settled = settled_same (settings_for given all) prefix machine (taken_from machine) refl h.settled;
       stands = h.stands;
       stage = h.stage;
       standing = h.standing;
-      page = holds_taken None (settings_for given all) front reached.pieces machine.page h.page;
-      handed_out = h.handed_out;
+      page = holds_taken None (settings_for given all) prefix reached.pieces machine.page h.page;
+      flushed_whole = h.flushed_whole;
       flushed = h.flushed;
     }
 
-cut_taken : (given : Settings) (s : Effective) (front : List Event) (event : Event) (before with_event : Steps) (error : yaml_error_t) (page : Page)
-    → HoldsCut given s front event before with_event error page → HoldsCut given s front event before with_event error (all_taken page)
-cut_taken given s front event before with_event error page (holds_before memory holds) =
-    holds_before memory (holds_taken None s front before.pieces page holds)
-cut_taken given s front event before with_event error page (holds_part begins is full grown part) =
+cut_taken : (given : Settings) (s : Effective) (prefix : List Event) (event : Event) (before with_event : Steps) (error : yaml_error_t) (page : Page)
+    → HoldsCut given s prefix event before with_event error page → HoldsCut given s prefix event before with_event error (all_taken page)
+cut_taken given s prefix event before with_event error page (holds_before memory holds) =
+    holds_before memory (holds_taken None s prefix before.pieces page holds)
+cut_taken given s prefix event before with_event error page (holds_part begins is full grown part) =
     holds_part begins (page_taken s page is) full grown part
 
 stopped_taken : (given : Settings) (all : List Event) (error : yaml_error_t) (machine : MachineState) → StandsStopped given all error machine
@@ -59,14 +60,14 @@ stopped_taken given all error machine h =
       | at_event at ↦
           at_event
           (record {
-            front = at.front;
+            prefix = at.prefix;
             event = at.event;
             later = at.later;
             failed = at.failed;
             given_kept = at.given_kept;
             stands = at.stands;
-            page = cut_taken given s at.front at.event (steps s (closes_last at.front (at.event ∷ at.later)) at.front at_stream first_standing)
-                (steps s (closes_at_once at.event at.later) (at.front ++ at.event ∷ []) at_stream first_standing) error machine.page at.page;
+            page = cut_taken given s at.prefix at.event (steps s (closes_last at.prefix (at.event ∷ at.later)) at.prefix at_stream first_standing)
+                (steps s (closes_at_once at.event at.later) (at.prefix ++ at.event ∷ []) at_stream first_standing) error machine.page at.page;
             flushed = at.flushed;
           })
       | between_events at ↦
@@ -78,7 +79,7 @@ stopped_taken given all error machine h =
             given_kept = at.given_kept;
             stands = at.stands;
             page = holds_taken (Some error) s (take (written at.before) at.before) (progress s at.before).pieces machine.page at.page;
-            handed = at.handed;
+            sound_output = at.sound_output;
             flushed = at.flushed;
           })
     ]
@@ -87,11 +88,11 @@ refused_taken : (given : Settings) (all : List Event) (error : yaml_error_t) (ma
     → StandsRefused given all error (taken_from machine)
 refused_taken given all error machine h =
     record {
-      front = h.front;
+      prefix = h.prefix;
       event = h.event;
       later = h.later;
       failed = h.failed;
-      taken = state_taken given all h.front (steps (settings_for given all) false h.front at_stream first_standing) machine h.taken;
+      progress = state_taken given all h.prefix (steps (settings_for given all) false h.prefix at_stream first_standing) machine h.progress;
       refusal = h.refusal;
     }
 
@@ -101,10 +102,10 @@ failed_taken WriteError given all machine h = stopped_taken given all WriteError
 failed_taken Memory given all machine h = stopped_taken given all Memory machine h
 failed_taken error given all machine h = refused_taken given all error machine h
 
-stands_by : (error : Option yaml_error_t) (given : Settings) (all held : List Event) (machine : MachineState) → StandsBy given all error held machine
-    → StandsBy given all error held (taken_from machine)
+stands_by : (error : Option yaml_error_t) (given : Settings) (all held : List Event) (machine : MachineState) → MachineStands given all error held machine
+    → MachineStands given all error held (taken_from machine)
 stands_by None given all held machine h =
-    record { taken = state_taken given all (take (written all) all) (progress (settings_for given all) all) machine h.taken; held = h.held }
+    record { progress = state_taken given all (take (written all) all) (progress (settings_for given all) all) machine h.progress; held = h.held }
 stands_by (Some error) given all held machine h = (h.0, failed_taken error given all machine h.1)
 
 pub stands_taken : (given : Settings) (all : List Event) (state : State) → StandsAfter given all state → StandsAfter given all (with_all_taken state)
@@ -115,7 +116,7 @@ pub untouched_taken : (page : Page) → IsUntouched page → IsUntouched (all_ta
 untouched_taken page is = record { no_bytes = is.no_bytes; no_error = is.no_error }
 
 ready_taken : (page : Page) → IsReady page → IsReady (all_taken page)
-ready_taken page is = record { begun = is.begun; marked = is.marked }
+ready_taken page is = record { begun = is.begun; bom_written = is.bom_written }
 
 fits_taken : (stage : Stage) (page : Page) → FitsPage stage page → FitsPage stage (all_taken page)
 fits_taken at_stream page fits = (untouched_taken page fits.0, fits.1, fits.2)

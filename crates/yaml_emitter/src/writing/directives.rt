@@ -3,24 +3,24 @@
 ghost use Rattle.std.specs.Prelude.{◌≡◌, ◌==◌, ◌||◌, ◌&&◌, option_map, is_some, map, length, chars, not, false};
 ghost use Rattle.std.specs.List.{list_any};
 ghost use Rattle.yaml_base.specs.Characters.{is_break};
-ghost use Rattle.yaml_base.specs.Layout.{document_start_piece, root_place, tag_directive_laid, tag_directives_laid};
+ghost use Rattle.yaml_base.specs.Layout.{document_start_piece, root_place, render_tag_directive, render_tag_directives};
 ghost use Rattle.yaml_base.specs.Cursor.{Cursor};
 ghost use Rattle.yaml_base.specs.Settings.{Effective};
 ghost use Rattle.yaml_base.specs.Seen.{seen_directive, seen_version, seen_text};
 ghost use Rattle.yaml_pen.specs.Page.{IsReady};
 ghost use Rattle.yaml_pen.specs.Wrote.{Wrote};
 ghost use Rattle.yaml_emitter.specs.Given.{seen_effective};
-ghost use Rattle.yaml_emitter.specs.Signs.{some_handle_breaks};
-ghost use Rattle.yaml_emitter.specs.WrittenPieces.{document_head_laid, piece_at, seen_mark, tag_words_laid};
-ghost use Rattle.yaml_emitter.specs.WrittenSigns.{signs_laid, some_sign_breaks};
+ghost use Rattle.yaml_emitter.specs.Atoms.{some_handle_breaks};
+ghost use Rattle.yaml_emitter.specs.WrittenPieces.{render_document_head, piece_at, seen_open_ended, render_tag_words};
+ghost use Rattle.yaml_emitter.specs.WrittenAtoms.{render_atoms, some_atom_breaks};
 
 use crate::effective::EffectiveSettings;
+use crate::writing::atoms::{Atom, Atoms};
 use crate::writing::documents::{
-    LINE, write_closing_mark, write_document_mark, write_outside, write_version,
+    LINE, write_closing_marker, write_document_atoms, write_document_marker, write_version,
 };
 use crate::writing::indicators::Indicator;
-use crate::writing::marks::OpenMark;
-use crate::writing::signs::{Sign, Signs};
+use crate::writing::open_ended::OpenEnded;
 use std::alloc::Allocator;
 use yaml_base::{yaml_error_t, yaml_tag_directive_t, yaml_version_directive_t};
 use yaml_pen::Pen;
@@ -39,7 +39,7 @@ pub(crate) fn write_document_start<A: Allocator>(
     settings: &EffectiveSettings,
     first: bool,
     start: &StartContent<A>,
-    mark: OpenMark,
+    open_ended: OpenEnded,
 ) -> Result<(), yaml_error_t>
     requires ready { IsReady pen.old }
     requires handles { some_handle_breaks (map seen_directive start.now.directives.now) ≡ false }
@@ -51,12 +51,12 @@ pub(crate) fn write_document_start<A: Allocator>(
           directives = map seen_directive start.now.directives.now;
           implicit = start.now.implicit;
         })
-        (seen_mark mark))
+        (seen_open_ended open_ended))
         pen.old pen.new result }
 {
     let directed = has_directives(start);
     let explicit = is_explicit(settings, first, start.implicit, directed);
-    let closes = closes_before(directed, mark);
+    let closes = closes_before(directed, open_ended);
     write_document_head(pen, settings, closes, start, explicit)
 }
 
@@ -75,10 +75,10 @@ fn is_explicit(settings: &EffectiveSettings, first: bool, implicit: bool, direct
 }
 
 /// Whether `...` comes first. It keeps directives apart from a document that is still open.
-fn closes_before(directed: bool, mark: OpenMark) -> bool
-    ensures { result ≡ (directed && not (seen_mark mark == 0)) }
+fn closes_before(directed: bool, open_ended: OpenEnded) -> bool
+    ensures { result ≡ (directed && not (seen_open_ended open_ended == 0)) }
 {
-    directed && mark.is_open()
+    directed && open_ended.is_open()
 }
 
 fn write_document_head<A: Allocator>(
@@ -91,14 +91,14 @@ fn write_document_head<A: Allocator>(
     requires ready { IsReady pen.old }
     requires handles { some_handle_breaks (map seen_directive start.now.directives.now) ≡ false }
     ensures { Wrote
-        (document_head_laid (seen_effective settings.now) closes (option_map seen_version start.now.version)
+        (render_document_head (seen_effective settings.now) closes (option_map seen_version start.now.version)
         (map seen_directive start.now.directives.now) explicit)
         pen.old pen.new result }
 {
-    write_closing_mark(pen, settings, closes)?;
+    write_closing_marker(pen, settings, closes)?;
     write_version(pen, settings, start.version)?;
     write_tag_directives(pen, settings, start.directives)?;
-    write_document_mark(pen, settings, explicit)
+    write_document_marker(pen, settings, explicit)
 }
 
 /// `%TAG` lines, one for each directive.
@@ -109,7 +109,7 @@ fn write_tag_directives<A: Allocator>(
 ) -> Result<(), yaml_error_t>
     requires ready { IsReady pen.old }
     requires handles { some_handle_breaks (map seen_directive directives.now) ≡ false }
-    ensures { Wrote (tag_directives_laid settings.now.portable (map seen_directive directives.now)) pen.old pen.new result }
+    ensures { Wrote (render_tag_directives settings.now.portable (map seen_directive directives.now)) pen.old pen.new result }
 {
     pen.write_nothing()?;
     for directive in directives {
@@ -125,7 +125,7 @@ fn write_tag_directive<A: Allocator>(
 ) -> Result<(), yaml_error_t>
     requires ready { IsReady pen.old }
     requires no_break { list_any is_break (seen_text directive.now.handle) ≡ false }
-    ensures { Wrote (tag_directive_laid settings.now.portable (seen_directive directive.now)) pen.old pen.new result }
+    ensures { Wrote (render_tag_directive settings.now.portable (seen_directive directive.now)) pen.old pen.new result }
 {
     write_tag_line(
         pen,
@@ -144,22 +144,22 @@ fn write_tag_line<'a, A: Allocator>(
     requires ready { IsReady pen.old }
     requires no_break { list_any is_break (chars handle.now) ≡ false }
     ensures { Wrote
-        (tag_directive_laid settings.now.portable (record { handle = chars handle.now; prefix = chars prefix.now }))
+        (render_tag_directive settings.now.portable (record { handle = chars handle.now; prefix = chars prefix.now }))
         pen.old pen.new result }
 {
-    write_outside(pen, settings, tag_directive_signs(handle, prefix))?;
-    write_outside(pen, settings, LINE)
+    write_document_atoms(pen, settings, tag_directive_atoms(handle, prefix))?;
+    write_document_atoms(pen, settings, LINE)
 }
 
-fn tag_directive_signs<'a>(handle: &'a str, prefix: &'a str) -> Signs<'a>
+fn tag_directive_atoms<'a>(handle: &'a str, prefix: &'a str) -> Atoms<'a>
     requires { list_any is_break (chars handle.now) ≡ false }
-    ensures whole { some_sign_breaks result ≡ false }
-    ensures laid { (s : Effective) (cursor : Cursor)
-        → signs_laid s root_place result cursor ≡ tag_words_laid s.portable (record { handle = chars handle.now; prefix = chars prefix.now }) cursor }
+    ensures whole { some_atom_breaks result ≡ false }
+    ensures rendered { (s : Effective) (cursor : Cursor)
+        → render_atoms s root_place result cursor ≡ render_tag_words s.portable (record { handle = chars handle.now; prefix = chars prefix.now }) cursor }
 {
-    use Sign::*;
+    use Atom::*;
     (
-        Mark(Indicator::TagDirective),
+        Fixed(Indicator::TagDirective),
         Handle(handle),
         Prefix(prefix),
     )

@@ -1,42 +1,43 @@
-//! Lines outside nodes: the marks of documents and the words of directives (YAML 1.1, sections 7.1 to 7.4).
+//! Lines outside nodes: the markers of documents and the words of directives (YAML 1.1, sections 7.1 to 7.4).
 
 ghost use Rattle.std.specs.Prelude.{◌≡◌, ◌==◌, ℕ, Option, Some, option_map, false};
 ghost use Rattle.yaml_base.specs.Cursor.{Cursor};
-ghost use Rattle.yaml_base.specs.Layout.{closing_mark_laid, laid_if, document_mark_laid, document_end_piece, stream_end_piece, root_place, version_laid};
+ghost use Rattle.yaml_base.specs.Layout.{render_closing_marker, render_if, render_document_marker, document_end_piece, stream_end_piece, root_place};
+ghost use Rattle.yaml_base.specs.Layout.{render_version};
 ghost use Rattle.yaml_base.specs.Seen.{seen_version};
 ghost use Rattle.yaml_base.specs.Settings.{Effective};
 ghost use Rattle.yaml_pen.specs.Page.{IsReady};
 ghost use Rattle.yaml_pen.specs.Wrote.{Wrote};
 ghost use Rattle.yaml_emitter.specs.Given.{seen_effective};
-ghost use Rattle.yaml_emitter.specs.WrittenPieces.{document_end_laid, piece_at, seen_mark};
-ghost use Rattle.yaml_emitter.specs.WrittenSigns.{signs_laid, some_sign_breaks};
+ghost use Rattle.yaml_emitter.specs.WrittenPieces.{render_document_end, piece_at, seen_open_ended};
+ghost use Rattle.yaml_emitter.specs.WrittenAtoms.{render_atoms, some_atom_breaks};
 
 use crate::effective::EffectiveSettings;
+use crate::writing::atoms::{Atom, Atoms, write_atoms};
 use crate::writing::indicators::Indicator;
-use crate::writing::marks::OpenMark;
-use crate::writing::signs::{Sign, Signs, write_signs};
+use crate::writing::open_ended::OpenEnded;
 use crate::writing::site::Site;
 use std::alloc::Allocator;
 use yaml_base::{yaml_error_t, yaml_version_directive_t};
 use yaml_pen::Pen;
 
-const NOTHING: Signs<'static> = (Sign::Nothing, Sign::Nothing, Sign::Nothing);
+const NOTHING: Atoms<'static> = (Atom::Nothing, Atom::Nothing, Atom::Nothing);
 
 /// The end of a line.
-pub(crate) const LINE: Signs<'static> = (Sign::Nothing, Sign::Nothing, Sign::Line);
+pub(crate) const LINE: Atoms<'static> = (Atom::Nothing, Atom::Nothing, Atom::Line);
 
-/// Writes signs outside all nodes.
-pub(crate) fn write_outside<A: Allocator>(
+/// Writes atoms outside all nodes.
+pub(crate) fn write_document_atoms<A: Allocator>(
     pen: &mut Pen<A>,
     settings: &EffectiveSettings,
-    signs: Signs,
+    atoms: Atoms,
 ) -> Result<(), yaml_error_t>
     requires ready { IsReady pen.old }
-    requires no_break { some_sign_breaks signs ≡ false }
-    ensures { Wrote (signs_laid (seen_effective settings.now) root_place signs.entry) pen.old pen.new result }
+    requires no_break { some_atom_breaks atoms ≡ false }
+    ensures { Wrote (render_atoms (seen_effective settings.now) root_place atoms.entry) pen.old pen.new result }
 {
     let outside = Site::outside(settings);
-    write_signs(pen, &outside, signs)
+    write_atoms(pen, &outside, atoms)
 }
 
 /// Writes the end of a document.
@@ -46,19 +47,19 @@ pub(crate) fn write_document_end<A: Allocator>(
     implicit: bool,
 ) -> Result<(), yaml_error_t>
     requires { IsReady pen.old }
-    ensures { (mark : ℕ) → Wrote (piece_at (document_end_piece implicit) mark) pen.old pen.new result }
+    ensures { (open_ended : ℕ) → Wrote (piece_at (document_end_piece implicit) open_ended) pen.old pen.new result }
 {
-    write_outside(pen, settings, document_end_signs(implicit))
+    write_document_atoms(pen, settings, document_end_atoms(implicit))
 }
 
-fn document_end_signs(implicit: bool) -> Signs<'static>
-    ensures whole { some_sign_breaks result ≡ false }
-    ensures laid { (s : Effective) (cursor : Cursor) → signs_laid s root_place result cursor ≡ document_end_laid implicit cursor }
+fn document_end_atoms(implicit: bool) -> Atoms<'static>
+    ensures whole { some_atom_breaks result ≡ false }
+    ensures rendered { (s : Effective) (cursor : Cursor) → render_atoms s root_place result cursor ≡ render_document_end implicit cursor }
 {
     if implicit {
         LINE
     } else {
-        (Sign::Line, Sign::Mark(Indicator::DocumentEnd), Sign::Line)
+        (Atom::Line, Atom::Fixed(Indicator::DocumentEnd), Atom::Line)
     }
 }
 
@@ -66,35 +67,35 @@ fn document_end_signs(implicit: bool) -> Signs<'static>
 pub(crate) fn write_stream_end<A: Allocator>(
     pen: &mut Pen<A>,
     settings: &EffectiveSettings,
-    mark: OpenMark,
+    open_ended: OpenEnded,
 ) -> Result<(), yaml_error_t>
     requires { IsReady pen.old }
-    ensures { Wrote (piece_at stream_end_piece (seen_mark mark)) pen.old pen.new result }
+    ensures { Wrote (piece_at stream_end_piece (seen_open_ended open_ended)) pen.old pen.new result }
 {
-    write_closing_mark(pen, settings, mark.keeps_breaks())
+    write_closing_marker(pen, settings, open_ended.keeps_breaks())
 }
 
 /// `...` on a line of its own, where it is asked for.
-pub(crate) fn write_closing_mark<A: Allocator>(
+pub(crate) fn write_closing_marker<A: Allocator>(
     pen: &mut Pen<A>,
     settings: &EffectiveSettings,
     asked: bool,
 ) -> Result<(), yaml_error_t>
     requires { IsReady pen.old }
-    ensures { Wrote (laid_if asked closing_mark_laid) pen.old pen.new result }
+    ensures { Wrote (render_if asked render_closing_marker) pen.old pen.new result }
 {
-    write_outside(pen, settings, closing_signs(asked))
+    write_document_atoms(pen, settings, closing_atoms(asked))
 }
 
-fn closing_signs(asked: bool) -> Signs<'static>
-    ensures whole { some_sign_breaks result ≡ false }
-    ensures laid { (s : Effective) (cursor : Cursor) → signs_laid s root_place result cursor ≡ laid_if asked closing_mark_laid cursor }
+fn closing_atoms(asked: bool) -> Atoms<'static>
+    ensures whole { some_atom_breaks result ≡ false }
+    ensures rendered { (s : Effective) (cursor : Cursor) → render_atoms s root_place result cursor ≡ render_if asked render_closing_marker cursor }
 {
     if asked {
         (
-            Sign::Nothing,
-            Sign::Mark(Indicator::DocumentEnd),
-            Sign::Line,
+            Atom::Nothing,
+            Atom::Fixed(Indicator::DocumentEnd),
+            Atom::Line,
         )
     } else {
         NOTHING
@@ -102,27 +103,31 @@ fn closing_signs(asked: bool) -> Signs<'static>
 }
 
 /// Where a document starts, `---` on a line of its own, where it is asked for.
-pub(crate) fn write_document_mark<A: Allocator>(
+pub(crate) fn write_document_marker<A: Allocator>(
     pen: &mut Pen<A>,
     settings: &EffectiveSettings,
     asked: bool,
 ) -> Result<(), yaml_error_t>
     requires { IsReady pen.old }
-    ensures { Wrote (laid_if asked (document_mark_laid settings.now.canonical)) pen.old pen.new result }
+    ensures { Wrote (render_if asked (render_document_marker settings.now.canonical)) pen.old pen.new result }
 {
-    write_outside(pen, settings, start_signs(asked, settings.canonical))
+    write_document_atoms(pen, settings, start_atoms(asked, settings.canonical))
 }
 
-fn start_signs(asked: bool, canonical: bool) -> Signs<'static>
-    ensures whole { some_sign_breaks result ≡ false }
-    ensures laid { (s : Effective) (cursor : Cursor) → signs_laid s root_place result cursor ≡ laid_if asked (document_mark_laid canonical) cursor }
+fn start_atoms(asked: bool, canonical: bool) -> Atoms<'static>
+    ensures whole { some_atom_breaks result ≡ false }
+    ensures rendered { (s : Effective) (cursor : Cursor) → render_atoms s root_place result cursor ≡ render_if asked (render_document_marker canonical) cursor }
 {
     match (asked, canonical) {
-        (true, true) => (Sign::Line, Sign::Mark(Indicator::DocumentStart), Sign::Line),
+        (true, true) => (
+            Atom::Line,
+            Atom::Fixed(Indicator::DocumentStart),
+            Atom::Line,
+        ),
         (true, false) => (
-            Sign::Line,
-            Sign::Mark(Indicator::DocumentStart),
-            Sign::Nothing,
+            Atom::Line,
+            Atom::Fixed(Indicator::DocumentStart),
+            Atom::Nothing,
         ),
         (false, _) => NOTHING,
     }
@@ -135,23 +140,23 @@ pub(crate) fn write_version<A: Allocator>(
     version: Option<yaml_version_directive_t>,
 ) -> Result<(), yaml_error_t>
     requires { IsReady pen.old }
-    ensures { Wrote (version_laid (option_map seen_version version)) pen.old pen.new result }
+    ensures { Wrote (render_version (option_map seen_version version)) pen.old pen.new result }
 {
     match version {
-        Some(version) => write_outside(pen, settings, version_signs(version)),
-        None => write_outside(pen, settings, NOTHING),
+        Some(version) => write_document_atoms(pen, settings, version_atoms(version)),
+        None => write_document_atoms(pen, settings, NOTHING),
     }
 }
 
-fn version_signs(version: yaml_version_directive_t) -> Signs<'static>
-    ensures whole { some_sign_breaks result ≡ false }
-    ensures laid { (s : Effective) (cursor : Cursor) → signs_laid s root_place result cursor ≡ version_laid (Some (seen_version version)) cursor }
+fn version_atoms(version: yaml_version_directive_t) -> Atoms<'static>
+    ensures whole { some_atom_breaks result ≡ false }
+    ensures rendered { (s : Effective) (cursor : Cursor) → render_atoms s root_place result cursor ≡ render_version (Some (seen_version version)) cursor }
 {
     use Indicator::*;
-    use Sign::*;
+    use Atom::*;
     if version.minor == 2 {
-        (Mark(YamlDirective), Mark(Version12), Line)
+        (Fixed(YamlDirective), Fixed(Version12), Line)
     } else {
-        (Mark(YamlDirective), Mark(Version11), Line)
+        (Fixed(YamlDirective), Fixed(Version11), Line)
     }
 }

@@ -1,11 +1,11 @@
-//! Indicators: signs of punctuation and words of lines of their own (YAML 1.1, section 5.3).
+//! Indicators: punctuation and words of lines of their own (YAML 1.1, section 5.3).
 
 ghost use Rattle.std.specs.Prelude.{◌≡◌, true};
-ghost use Rattle.yaml_base.specs.Indicators.{indicator_laid};
+ghost use Rattle.yaml_base.specs.Indicators.{render_indicator};
 ghost use Rattle.yaml_pen.specs.Page.{IsReady};
 ghost use Rattle.yaml_pen.specs.Wrote.{Wrote};
-ghost use Rattle.yaml_emitter.specs.Signs.{is_sign};
-ghost use Rattle.yaml_emitter.specs.WrittenSigns.{seen_indicator, seen_row};
+ghost use Rattle.yaml_emitter.specs.Atoms.{is_visible_ascii};
+ghost use Rattle.yaml_emitter.specs.WrittenAtoms.{seen_indicator, seen_row};
 
 use std::alloc::Allocator;
 use yaml_base::yaml_error_t;
@@ -69,7 +69,7 @@ const INDENTED: Row = Row {
 impl Indicator {
     fn row(self) -> Row<'static>
         ensures row { seen_row result ≡ seen_indicator self }
-        ensures sign { is_sign result.text.now ≡ true }
+        ensures symbol { is_visible_ascii result.text.now ≡ true }
     {
         match self {
             Indicator::DocumentStart => Row {
@@ -152,7 +152,7 @@ pub(crate) fn write_indicator<A: Allocator>(
     indicator: Indicator,
 ) -> Result<(), yaml_error_t>
     requires { IsReady pen.old }
-    ensures { Wrote (indicator_laid (seen_indicator indicator)) pen.old pen.new result }
+    ensures { Wrote (render_indicator (seen_indicator indicator)) pen.old pen.new result }
 {
     pen.put_indicator(&indicator.row())
 }

@@ -3,10 +3,10 @@
 ghost use Rattle.std.specs.Prelude.{◌≡◌, ◌≤◌, ◌+◌, ℕ, List, false, chars, option_map};
 ghost use Rattle.std.specs.List.{list_any};
 ghost use Rattle.yaml_base.specs.Characters.{is_break};
-ghost use Rattle.yaml_base.specs.Cursor.{then_laid};
+ghost use Rattle.yaml_base.specs.Cursor.{render_then};
 ghost use Rattle.yaml_base.specs.Event.{Collection, CollectionStyle, TagDirective};
 ghost use Rattle.yaml_base.specs.Layout as layout;
-ghost use Rattle.yaml_base.specs.Layout.{alias_piece, anchor_laid, end_piece, line_column, place_laid, start_piece, asks_flow};
+ghost use Rattle.yaml_base.specs.Layout.{alias_piece, render_anchor, end_piece, line_column, render_place, start_piece, asks_flow};
 ghost use Rattle.yaml_base.specs.Event.{collection_tag};
 ghost use Rattle.yaml_base.specs.Steps.{is_first};
 ghost use Rattle.yaml_base.specs.Tags.{spelling};
@@ -16,16 +16,16 @@ ghost use Rattle.yaml_emitter.specs.BorrowedTexts.{seen_name, seen_collection};
 ghost use Rattle.yaml_emitter.specs.Given.{seen_effective};
 ghost use Rattle.yaml_emitter.specs.NodeEvents.{brackets_of};
 ghost use Rattle.yaml_emitter.specs.Places.{is_mapping, seen_place, seen_role};
-ghost use Rattle.yaml_emitter.specs.Signs.{name_breaks};
+ghost use Rattle.yaml_emitter.specs.Atoms.{name_breaks};
 ghost use Rattle.yaml_emitter.specs.WrittenPieces.{piece_at};
-ghost use Rattle.yaml_emitter.specs.WrittenSigns.{seen_tag, spelled_tag_laid, spelling_breaks};
+ghost use Rattle.yaml_emitter.specs.WrittenAtoms.{seen_tag, render_spelled_tag, spelling_breaks};
 
 use crate::effective::EffectiveSettings;
 use crate::place::{CollectionKind, Frame, Place};
+use crate::writing::atoms::write_atoms;
 use crate::writing::contents::CollectionContent;
-use crate::writing::places::{flow_end_signs, write_place};
-use crate::writing::properties::{alias_signs, has_properties, write_properties};
-use crate::writing::signs::write_signs;
+use crate::writing::places::{flow_end_atoms, write_place};
+use crate::writing::properties::{alias_atoms, has_properties, write_properties};
 use crate::writing::site::Site;
 use crate::writing::spelling::SpelledTag;
 use std::alloc::Allocator;
@@ -43,13 +43,13 @@ pub(crate) fn write_alias<A: Allocator>(
 ) -> Result<(), yaml_error_t>
     requires ready { IsReady pen.old }
     requires name { list_any is_break (chars name.now) ≡ false }
-    ensures { (mark : ℕ)
+    ensures { (open_ended : ℕ)
         → Wrote
-        (piece_at (alias_piece (seen_effective site.now.settings.now) (seen_place site.now.place) site.now.simple (chars name.now)) mark)
+        (piece_at (alias_piece (seen_effective site.now.settings.now) (seen_place site.now.place) site.now.simple (chars name.now)) open_ended)
         pen.old pen.new result }
 {
     write_place(pen, site)?;
-    write_signs(pen, site, alias_signs(name, site.simple))
+    write_atoms(pen, site, alias_atoms(name, site.simple))
 }
 
 /// Writes what stands before a node, its anchor and its tag.
@@ -65,9 +65,9 @@ pub(crate) fn write_lead<A: Allocator>(
     requires anchor { name_breaks (seen_name anchor) ≡ false }
     requires handle { spelling_breaks (seen_tag tag) ≡ false }
     ensures { Wrote
-        (λ cursor. then_laid
-        (place_laid (seen_effective site.now.settings.now) (seen_place site.now.place) site.now.simple cursor)
-        (λ between. then_laid (anchor_laid (seen_name anchor.entry) between) (spelled_tag_laid site.now.settings.now.portable (seen_tag tag.entry) bare)))
+        (λ cursor. render_then
+        (render_place (seen_effective site.now.settings.now) (seen_place site.now.place) site.now.simple cursor)
+        (λ between. render_then (render_anchor (seen_name anchor.entry) between) (render_spelled_tag site.now.settings.now.portable (seen_tag tag.entry) bare)))
         pen.old pen.new result }
 {
     write_place(pen, site)?;
@@ -88,11 +88,11 @@ pub(crate) fn write_collection_start<A: Allocator>(
     requires ready { IsReady pen.old }
     requires anchor { name_breaks (seen_name content.now.anchor) ≡ false }
     requires handle { spelling_breaks (seen_tag tag) ≡ false }
-    ensures written { (directives : List TagDirective) (style : CollectionStyle) (mark : ℕ)
+    ensures written { (directives : List TagDirective) (style : CollectionStyle) (open_ended : ℕ)
         → seen_tag tag.entry ≡ option_map (spelling directives) (collection_tag site.now.settings.now.canonical (seen_collection content.now style))
         → Wrote
         (piece_at (start_piece (seen_effective site.now.settings.now) directives (seen_place site.now.place) site.now.simple
-        (seen_collection content.now style)) mark)
+        (seen_collection content.now style)) open_ended)
         pen.old pen.new result }
     ensures ready { IsReady pen.new }
 {
@@ -134,16 +134,16 @@ pub(crate) fn write_collection_end<A: Allocator>(
     kind: CollectionKind,
 ) -> Result<(), yaml_error_t>
     requires { IsReady pen.old }
-    ensures { (mark : ℕ) → Wrote (piece_at
+    ensures { (open_ended : ℕ) → Wrote (piece_at
         (end_piece (seen_effective outer.now.settings.now) (brackets_of (is_mapping kind)) frame.now.place.in_flow
-        (is_first (seen_role frame.now.place.role)) outer.now.place.column) mark) pen.old pen.new result }
+        (is_first (seen_role frame.now.place.role)) outer.now.place.column) open_ended) pen.old pen.new result }
 {
     let empty = frame.place.role.is_first();
     if frame.place.in_flow {
-        write_signs(
+        write_atoms(
             pen,
             outer,
-            flow_end_signs(kind, empty, outer.settings.canonical),
+            flow_end_atoms(kind, empty, outer.settings.canonical),
         )
     } else {
         pen.write_nothing()

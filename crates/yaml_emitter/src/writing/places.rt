@@ -1,22 +1,22 @@
 //! What a place puts before its node, and what a collection's end writes.
 
 ghost use Rattle.std.specs.Prelude.{◌≡◌, true, false};
-ghost use Rattle.yaml_base.specs.Cursor.{Cursor, nothing_laid, new_line, then_laid};
-ghost use Rattle.yaml_base.specs.Indicators.{flow_key, flow_value, indicator_laid};
+ghost use Rattle.yaml_base.specs.Cursor.{Cursor, render_nothing, new_line, render_then};
+ghost use Rattle.yaml_base.specs.Indicators.{flow_key, flow_value, render_indicator};
 ghost use Rattle.yaml_base.specs.Layout as layout;
-ghost use Rattle.yaml_base.specs.Layout.{end_laid, flow_break, flow_place_laid, block_place_laid, line_column, place_laid};
+ghost use Rattle.yaml_base.specs.Layout.{render_end, flow_break, render_flow_place, render_block_place, line_column, render_place};
 ghost use Rattle.yaml_base.specs.Settings.{Effective};
 ghost use Rattle.yaml_pen.specs.Page.{IsReady};
 ghost use Rattle.yaml_pen.specs.Wrote.{Wrote};
 ghost use Rattle.yaml_emitter.specs.Given.{seen_effective};
 ghost use Rattle.yaml_emitter.specs.NodeEvents.{brackets_of};
 ghost use Rattle.yaml_emitter.specs.Places.{is_mapping, seen_role, seen_place};
-ghost use Rattle.yaml_emitter.specs.WrittenSigns.{seen_indicator, signs_laid, some_sign_breaks};
+ghost use Rattle.yaml_emitter.specs.WrittenAtoms.{seen_indicator, render_atoms, some_atom_breaks};
 
 use crate::effective::EffectiveSettings;
 use crate::place::{CollectionKind, Place, Role};
+use crate::writing::atoms::{Atom, Atoms, write_flow_line, write_new_line};
 use crate::writing::indicators::{Indicator, write_indicator};
-use crate::writing::signs::{Sign, Signs, write_flow_line, write_new_line};
 use crate::writing::site::Site;
 use std::alloc::Allocator;
 use yaml_base::yaml_error_t;
@@ -27,7 +27,7 @@ use yaml_pen::Pen;
 #[inline(always)]
 pub(crate) fn write_place<A: Allocator>(pen: &mut Pen<A>, site: &Site) -> Result<(), yaml_error_t>
     requires { IsReady pen.old }
-    ensures { Wrote (place_laid (seen_effective site.now.settings.now) (seen_place site.now.place) site.now.simple) pen.old pen.new result }
+    ensures { Wrote (render_place (seen_effective site.now.settings.now) (seen_place site.now.place) site.now.simple) pen.old pen.new result }
 {
     if site.place.in_flow {
         let place = site.place.at_line();
@@ -45,7 +45,7 @@ fn write_flow_place<A: Allocator>(
     simple: bool,
 ) -> Result<(), yaml_error_t>
     requires { IsReady pen.old }
-    ensures { Wrote (flow_place_laid (seen_effective settings.now) (seen_role place.now.role) simple place.now.column) pen.old pen.new result }
+    ensures { Wrote (render_flow_place (seen_effective settings.now) (seen_role place.now.role) simple place.now.column) pen.old pen.new result }
 {
     use Indicator::*;
     match (place.role, simple) {
@@ -71,19 +71,19 @@ fn write_flow_place<A: Allocator>(
     }
 }
 
-/// The sign before an entry in flow, and a new line where one is due.
+/// The atom before an entry in flow, and a new line where one is due.
 #[inline(always)]
 fn write_entry<A: Allocator>(
     pen: &mut Pen<A>,
     settings: &EffectiveSettings,
     place: &Place,
-    sign: Indicator,
+    atom: Indicator,
 ) -> Result<(), yaml_error_t>
     requires { IsReady pen.old }
-    ensures { Wrote (λ cursor. then_laid (indicator_laid (seen_indicator sign) cursor) (flow_break (seen_effective settings.now) place.now.column)) pen.old
+    ensures { Wrote (λ cursor. render_then (render_indicator (seen_indicator atom) cursor) (flow_break (seen_effective settings.now) place.now.column)) pen.old
         pen.new result }
 {
-    write_indicator(pen, sign)?;
+    write_indicator(pen, atom)?;
     write_flow_line(pen, settings, place)
 }
 
@@ -92,14 +92,14 @@ fn write_simple_key<A: Allocator>(
     pen: &mut Pen<A>,
     settings: &EffectiveSettings,
     place: &Place,
-    sign: Indicator,
+    atom: Indicator,
 ) -> Result<(), yaml_error_t>
     requires { IsReady pen.old }
-    ensures { Wrote (λ cursor. then_laid
-        (then_laid (indicator_laid (seen_indicator sign) cursor) (flow_break (seen_effective settings.now) place.now.column)) nothing_laid) pen.old pen.new
+    ensures { Wrote (λ cursor. render_then
+        (render_then (render_indicator (seen_indicator atom) cursor) (flow_break (seen_effective settings.now) place.now.column)) render_nothing) pen.old pen.new
         result }
 {
-    write_entry(pen, settings, place, sign)
+    write_entry(pen, settings, place, atom)
 }
 
 /// Writes what precedes any other key in flow: a bracket or a comma, a new line where one is due, and `?`.
@@ -108,24 +108,24 @@ fn write_long_key<A: Allocator>(
     pen: &mut Pen<A>,
     settings: &EffectiveSettings,
     place: &Place,
-    sign: Indicator,
+    atom: Indicator,
 ) -> Result<(), yaml_error_t>
     requires { IsReady pen.old }
-    ensures { Wrote (λ cursor. then_laid (then_laid (indicator_laid (seen_indicator sign) cursor) (flow_break (seen_effective settings.now) place.now.column))
-        (indicator_laid flow_key)) pen.old pen.new result }
+    ensures { Wrote (λ cursor. render_then (render_then (render_indicator (seen_indicator atom) cursor) (flow_break (seen_effective settings.now) place.now.column))
+        (render_indicator flow_key)) pen.old pen.new result }
 {
-    write_entry(pen, settings, place, sign)?;
+    write_entry(pen, settings, place, atom)?;
     write_indicator(pen, Indicator::FlowKey)
 }
 
-/// The sign of the value of another key in flow, on a new line where one is due.
+/// The atom of the value of another key in flow, on a new line where one is due.
 fn write_long_value<A: Allocator>(
     pen: &mut Pen<A>,
     settings: &EffectiveSettings,
     place: &Place,
 ) -> Result<(), yaml_error_t>
     requires { IsReady pen.old }
-    ensures { Wrote (λ cursor. then_laid (flow_break (seen_effective settings.now) place.now.column cursor) (indicator_laid flow_value)) pen.old pen.new
+    ensures { Wrote (λ cursor. render_then (flow_break (seen_effective settings.now) place.now.column cursor) (render_indicator flow_value)) pen.old pen.new
         result }
 {
     write_flow_line(pen, settings, place)?;
@@ -140,58 +140,62 @@ fn write_block_place<A: Allocator>(
     simple: bool,
 ) -> Result<(), yaml_error_t>
     requires { IsReady pen.old }
-    ensures { Wrote (block_place_laid (seen_role place.now.role) simple place.now.column) pen.old pen.new result }
+    ensures { Wrote (render_block_place (seen_role place.now.role) simple place.now.column) pen.old pen.new result }
 {
     use Indicator::*;
     match (place.role, simple) {
         (Role::Root, _) => pen.write_nothing(),
-        (Role::Item { .. }, _) => write_on_line(pen, place.at_line(), BlockEntry),
+        (Role::Item { .. }, _) => write_line_and_indicator(pen, place.at_line(), BlockEntry),
         (Role::Key { .. }, true) => write_line_alone(pen, place),
-        (Role::Key { .. }, false) => write_on_line(pen, place.at_line(), BlockKey),
+        (Role::Key { .. }, false) => write_line_and_indicator(pen, place.at_line(), BlockKey),
         (Role::Value { simple: true }, _) => write_indicator(pen, SimpleValue),
-        (Role::Value { simple: false }, _) => write_on_line(pen, place.at_line(), BlockValue),
+        (Role::Value { simple: false }, _) => write_line_and_indicator(
+            pen,
+            place.at_line(),
+            BlockValue,
+        ),
     }
 }
 
-/// A new line, and a sign on it.
+/// A new line, and an atom on it.
 #[inline(never)]
-fn write_on_line<A: Allocator>(
+fn write_line_and_indicator<A: Allocator>(
     pen: &mut Pen<A>,
     place: Place,
-    sign: Indicator,
+    atom: Indicator,
 ) -> Result<(), yaml_error_t>
     requires { IsReady pen.old }
-    ensures { Wrote (λ cursor. then_laid (new_line (line_column place.column) cursor) (indicator_laid (seen_indicator sign))) pen.old pen.new result }
+    ensures { Wrote (λ cursor. render_then (new_line (line_column place.column) cursor) (render_indicator (seen_indicator atom))) pen.old pen.new result }
 {
     write_new_line(pen, &place)?;
-    write_indicator(pen, sign)
+    write_indicator(pen, atom)
 }
 
-/// A new line without a sign.
+/// A new line without an atom.
 #[inline(always)]
 fn write_line_alone<A: Allocator>(pen: &mut Pen<A>, place: &Place) -> Result<(), yaml_error_t>
     requires { IsReady pen.old }
-    ensures { Wrote (λ cursor. then_laid (new_line (line_column place.now.column) cursor) nothing_laid) pen.old pen.new result }
+    ensures { Wrote (λ cursor. render_then (new_line (line_column place.now.column) cursor) render_nothing) pen.old pen.new result }
 {
     write_new_line(pen, place)
 }
 
-/// The signs of the end of a collection in flow: where nothing stands between the brackets, the opening one comes
+/// The atoms of the end of a collection in flow: where nothing stands between the brackets, the opening one comes
 /// first; in canonical mode a comma and a new line.
-pub(crate) fn flow_end_signs(kind: CollectionKind, empty: bool, canonical: bool) -> Signs<'static>
-    ensures whole { some_sign_breaks result ≡ false }
-    ensures laid { (s : Effective) (place : layout.Place) (cursor : Cursor) → s.canonical ≡ canonical
-        → signs_laid s place result cursor ≡ end_laid s (brackets_of (is_mapping kind)) true empty place.column cursor }
+pub(crate) fn flow_end_atoms(kind: CollectionKind, empty: bool, canonical: bool) -> Atoms<'static>
+    ensures whole { some_atom_breaks result ≡ false }
+    ensures rendered { (s : Effective) (place : layout.Place) (cursor : Cursor) → s.canonical ≡ canonical
+        → render_atoms s place result cursor ≡ render_end s (brackets_of (is_mapping kind)) true empty place.column cursor }
 {
     use CollectionKind::*;
     use Indicator::*;
-    use Sign::*;
+    use Atom::*;
     match (kind, empty, canonical) {
-        (Sequence, true, _) => (Nothing, Mark(FlowSequenceStart), Mark(FlowSequenceEnd)),
-        (Mapping, true, _) => (Nothing, Mark(FlowMappingStart), Mark(FlowMappingEnd)),
-        (Sequence, false, true) => (Mark(FlowEntry), Line, Mark(FlowSequenceEnd)),
-        (Mapping, false, true) => (Mark(FlowEntry), Line, Mark(FlowMappingEnd)),
-        (Sequence, false, false) => (Nothing, Nothing, Mark(FlowSequenceEnd)),
-        (Mapping, false, false) => (Nothing, Nothing, Mark(FlowMappingEnd)),
+        (Sequence, true, _) => (Nothing, Fixed(FlowSequenceStart), Fixed(FlowSequenceEnd)),
+        (Mapping, true, _) => (Nothing, Fixed(FlowMappingStart), Fixed(FlowMappingEnd)),
+        (Sequence, false, true) => (Fixed(FlowEntry), Line, Fixed(FlowSequenceEnd)),
+        (Mapping, false, true) => (Fixed(FlowEntry), Line, Fixed(FlowMappingEnd)),
+        (Sequence, false, false) => (Nothing, Nothing, Fixed(FlowSequenceEnd)),
+        (Mapping, false, false) => (Nothing, Nothing, Fixed(FlowMappingEnd)),
     }
 }

@@ -1,19 +1,19 @@
 //! Anchors, aliases and tags (YAML 1.1, sections 8.1, 8.2 and 8.4).
 
 ghost use Rattle.std.specs.Prelude.{◌≡◌, Bool, Some, None, chars, false, ◌&&◌};
-ghost use Rattle.yaml_base.specs.Cursor.{Cursor, nothing_laid, then_laid};
-ghost use Rattle.yaml_base.specs.Layout.{Place, anchor_laid, alias_laid};
+ghost use Rattle.yaml_base.specs.Cursor.{Cursor, render_nothing, render_then};
+ghost use Rattle.yaml_base.specs.Layout.{Place, render_anchor, render_alias};
 ghost use Rattle.yaml_base.specs.Settings.{Effective};
 ghost use Rattle.yaml_pen.specs.Page.{IsReady};
 ghost use Rattle.yaml_pen.specs.Wrote.{Wrote};
 ghost use Rattle.std.specs.List.{list_any};
 ghost use Rattle.yaml_base.specs.Characters.{is_break};
 ghost use Rattle.yaml_emitter.specs.BorrowedTexts.{seen_name};
-ghost use Rattle.yaml_emitter.specs.Signs.{name_breaks};
-ghost use Rattle.yaml_emitter.specs.WrittenSigns.{seen_tag, signs_laid, some_sign_breaks, spelled_tag_laid, spelling_breaks};
+ghost use Rattle.yaml_emitter.specs.Atoms.{name_breaks};
+ghost use Rattle.yaml_emitter.specs.WrittenAtoms.{seen_tag, render_atoms, some_atom_breaks, render_spelled_tag, spelling_breaks};
 
+use crate::writing::atoms::{Atom, Atoms, write_atoms};
 use crate::writing::indicators::Indicator;
-use crate::writing::signs::{Sign, Signs, write_signs};
 use crate::writing::site::Site;
 use crate::writing::spelling::SpelledTag;
 use std::alloc::Allocator;
@@ -24,7 +24,7 @@ use yaml_pen::Pen;
 #[inline(always)]
 pub(crate) fn has_properties(anchor: Option<&str>, tag: Option<SpelledTag>, bare: bool) -> bool
     ensures { result ≡ false → (portable : Bool) (cursor : Cursor)
-        → then_laid (anchor_laid (seen_name anchor.entry) cursor) (spelled_tag_laid portable (seen_tag tag.entry) bare) ≡ nothing_laid cursor }
+        → render_then (render_anchor (seen_name anchor.entry) cursor) (render_spelled_tag portable (seen_tag tag.entry) bare) ≡ render_nothing cursor }
 {
     anchor.is_some() || tag.is_some() || bare
 }
@@ -42,49 +42,49 @@ pub(crate) fn write_properties<A: Allocator>(
     requires anchor { name_breaks (seen_name anchor) ≡ false }
     requires handle { spelling_breaks (seen_tag tag) ≡ false }
     ensures { Wrote
-        (λ cursor. then_laid (anchor_laid (seen_name anchor.entry) cursor) (spelled_tag_laid site.now.settings.now.portable (seen_tag tag.entry) bare))
+        (λ cursor. render_then (render_anchor (seen_name anchor.entry) cursor) (render_spelled_tag site.now.settings.now.portable (seen_tag tag.entry) bare))
         pen.old pen.new result }
 {
-    write_signs(pen, site, anchor_signs(anchor))?;
-    write_signs(pen, site, tag_signs(tag, bare))
+    write_atoms(pen, site, anchor_atoms(anchor))?;
+    write_atoms(pen, site, tag_atoms(tag, bare))
 }
 
-fn anchor_signs(anchor: Option<&str>) -> Signs
+fn anchor_atoms(anchor: Option<&str>) -> Atoms
     requires { name_breaks (seen_name anchor) ≡ false }
-    ensures whole { some_sign_breaks result ≡ false }
-    ensures laid { (s : Effective) (place : Place) (cursor : Cursor) → signs_laid s place result cursor ≡ anchor_laid (seen_name anchor.entry) cursor }
+    ensures whole { some_atom_breaks result ≡ false }
+    ensures rendered { (s : Effective) (place : Place) (cursor : Cursor) → render_atoms s place result cursor ≡ render_anchor (seen_name anchor.entry) cursor }
 {
-    use Sign::*;
+    use Atom::*;
     match anchor {
-        Some(name) => (Nothing, Mark(Indicator::Anchor), Name(name)),
+        Some(name) => (Nothing, Fixed(Indicator::Anchor), Name(name)),
         None => (Nothing, Nothing, Nothing),
     }
 }
 
-fn tag_signs(tag: Option<SpelledTag>, bare: bool) -> Signs
+fn tag_atoms(tag: Option<SpelledTag>, bare: bool) -> Atoms
     requires { spelling_breaks (seen_tag tag) ≡ false }
-    ensures whole { some_sign_breaks result ≡ false }
-    ensures laid { (s : Effective) (place : Place) (cursor : Cursor)
-        → signs_laid s place result cursor ≡ spelled_tag_laid s.portable (seen_tag tag.entry) bare cursor }
+    ensures whole { some_atom_breaks result ≡ false }
+    ensures rendered { (s : Effective) (place : Place) (cursor : Cursor)
+        → render_atoms s place result cursor ≡ render_spelled_tag s.portable (seen_tag tag.entry) bare cursor }
 {
     use Indicator::*;
-    use Sign::*;
+    use Atom::*;
     match tag {
         Some(SpelledTag::Shorthand { handle, suffix }) => (Nothing, Handle(handle), Suffix(suffix)),
         Some(SpelledTag::Verbatim { tag }) => (
-            Mark(VerbatimStart),
+            Fixed(VerbatimStart),
             TagText(tag),
-            Mark(VerbatimEnd),
+            Fixed(VerbatimEnd),
         ),
-        None => bare_tag_signs(bare),
+        None => bare_tag_atoms(bare),
     }
 }
 
-fn bare_tag_signs(bare: bool) -> Signs<'static>
-    ensures whole { some_sign_breaks result ≡ false }
-    ensures laid { (s : Effective) (place : Place) (cursor : Cursor) → signs_laid s place result cursor ≡ spelled_tag_laid s.portable None bare cursor }
+fn bare_tag_atoms(bare: bool) -> Atoms<'static>
+    ensures whole { some_atom_breaks result ≡ false }
+    ensures rendered { (s : Effective) (place : Place) (cursor : Cursor) → render_atoms s place result cursor ≡ render_spelled_tag s.portable None bare cursor }
 {
-    use Sign::*;
+    use Atom::*;
     if bare {
         (Nothing, Nothing, Handle("!"))
     } else {
@@ -92,16 +92,16 @@ fn bare_tag_signs(bare: bool) -> Signs<'static>
     }
 }
 
-/// The signs of an alias; as a simple key it is followed by a space.
-pub(crate) fn alias_signs(name: &str, simple: bool) -> Signs
+/// The atoms of an alias; as a simple key it is followed by a space.
+pub(crate) fn alias_atoms(name: &str, simple: bool) -> Atoms
     requires { list_any is_break (chars name.now) ≡ false }
-    ensures whole { some_sign_breaks result ≡ false }
-    ensures laid { (s : Effective) (place : Place) (cursor : Cursor) → signs_laid s place result cursor ≡ alias_laid (chars name.now) simple cursor }
+    ensures whole { some_atom_breaks result ≡ false }
+    ensures rendered { (s : Effective) (place : Place) (cursor : Cursor) → render_atoms s place result cursor ≡ render_alias (chars name.now) simple cursor }
 {
-    use Sign::*;
+    use Atom::*;
     if simple {
-        (Mark(Indicator::Alias), Name(name), Space)
+        (Fixed(Indicator::Alias), Name(name), Space)
     } else {
-        (Mark(Indicator::Alias), Name(name), Nothing)
+        (Fixed(Indicator::Alias), Name(name), Nothing)
     }
 }

@@ -3,10 +3,10 @@
 ghost use Rattle.std.specs.Prelude.{◌≡◌, ◌&&◌, List, false, true, not, IfOk, IsOk, chars, is_some, option_map};
 ghost use Rattle.yaml_base.specs.scalars.Analysis.{is_empty};
 ghost use Rattle.yaml_base.specs.Event.{TagDirective, double_quoted};
-ghost use Rattle.yaml_base.specs.Layout.{choice_of, mark_after, scalar_piece};
+ghost use Rattle.yaml_base.specs.Layout.{choice_of, open_ended_after, scalar_piece};
 ghost use Rattle.yaml_base.specs.Event.{scalar_tag};
 ghost use Rattle.yaml_base.specs.Seen.{seen_scalar_style};
-ghost use Rattle.yaml_base.specs.scalars.Style.{lacks_tag_and_flags, style_asked};
+ghost use Rattle.yaml_base.specs.scalars.Style.{lacks_tag_and_flags, requested_style};
 ghost use Rattle.yaml_base.specs.Tags.{spelling};
 ghost use Rattle.yaml_pen.specs.Page.{IsReady};
 ghost use Rattle.yaml_pen.specs.Wrote.{Wrote};
@@ -15,14 +15,14 @@ ghost use Rattle.yaml_emitter.specs.BorrowedTexts.{seen_name, seen_scalar};
 ghost use Rattle.yaml_emitter.specs.Given.{seen_effective};
 ghost use Rattle.yaml_emitter.specs.Places.{seen_place};
 ghost use Rattle.yaml_emitter.specs.ScalarTexts.{without_answer};
-ghost use Rattle.yaml_emitter.specs.Signs.{name_breaks};
-ghost use Rattle.yaml_emitter.specs.WrittenPieces.{piece_at, seen_mark};
-ghost use Rattle.yaml_emitter.specs.WrittenSigns.{seen_tag, spelling_breaks};
+ghost use Rattle.yaml_emitter.specs.Atoms.{name_breaks};
+ghost use Rattle.yaml_emitter.specs.WrittenPieces.{piece_at, seen_open_ended};
+ghost use Rattle.yaml_emitter.specs.WrittenAtoms.{seen_tag, spelling_breaks};
 
 use crate::effective::EffectiveSettings;
 use crate::writing::contents::ScalarContent;
-use crate::writing::marks::OpenMark;
 use crate::writing::nodes::write_lead;
+use crate::writing::open_ended::OpenEnded;
 use crate::writing::site::Site;
 use crate::writing::spelling::SpelledTag;
 use crate::writing::styles::write_text;
@@ -31,15 +31,15 @@ use yaml_base::{YAML_DOUBLE_QUOTED_SCALAR_STYLE, yaml_error_t, yaml_scalar_style
 use yaml_pen::Pen;
 use yaml_scalar::{analyze_for_style, select_scalar_style};
 
-/// Writes a scalar at its place, its tag spelled so, and returns the open mark that it leaves.
+/// Writes a scalar at its place, its tag spelled so, and returns the open-ended state that it leaves.
 #[inline(always)]
 pub(crate) fn write_scalar<A: Allocator>(
     pen: &mut Pen<A>,
     site: &Site,
     content: &ScalarContent,
     tag: Option<SpelledTag>,
-    mark: OpenMark,
-) -> Result<OpenMark, yaml_error_t>
+    open_ended: OpenEnded,
+) -> Result<OpenEnded, yaml_error_t>
     requires ready { IsReady pen.old }
     requires anchor { name_breaks (seen_name content.now.anchor) ≡ false }
     requires handle { spelling_breaks (seen_tag tag) ≡ false }
@@ -52,17 +52,17 @@ pub(crate) fn write_scalar<A: Allocator>(
         → Wrote
         (piece_at
         (scalar_piece (seen_effective site.now.settings.now) directives (seen_place site.now.place) site.now.simple (seen_scalar content.now))
-        (seen_mark mark))
+        (seen_open_ended open_ended))
         pen.old pen.new (without_answer result) }
     ensures ready { IsReady pen.new }
-    ensures mark { IfOk result (λ after.
-        seen_mark after
-        ≡ mark_after (choice_of (seen_effective site.now.settings.now) (seen_place site.now.place) site.now.simple (seen_scalar content.now)).style
-        (chars content.now.value.now) (seen_mark mark)) }
+    ensures open_ended { IfOk result (λ after.
+        seen_open_ended after
+        ≡ open_ended_after (choice_of (seen_effective site.now.settings.now) (seen_place site.now.place) site.now.simple (seen_scalar content.now)).style
+        (chars content.now.value.now) (seen_open_ended open_ended)) }
 {
     let (style, bare) = choose(site, content, tag.is_some())?;
     write_lead(pen, site, content.anchor, tag, bare)?;
-    write_text(pen, site, style, content.value, mark)
+    write_text(pen, site, style, content.value, open_ended)
 }
 
 /// The style that a scalar is written in, and whether the bare tag stands before it.
@@ -99,7 +99,7 @@ fn choose(
 
 /// Whether double quotes are written, whatever the value holds.
 fn is_surely_double(canonical: bool, style: yaml_scalar_style_t) -> bool
-    ensures { result ≡ true → style_asked canonical (seen_scalar_style style) ≡ double_quoted }
+    ensures { result ≡ true → requested_style canonical (seen_scalar_style style) ≡ double_quoted }
 {
     canonical || matches!(style, YAML_DOUBLE_QUOTED_SCALAR_STYLE)
 }

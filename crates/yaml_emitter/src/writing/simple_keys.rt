@@ -11,7 +11,7 @@ ghost use Rattle.yaml_base.specs.Tags.{spelling};
 ghost use Rattle.yaml_emitter.specs.Places.{seen_place};
 ghost use Rattle.yaml_emitter.specs.BorrowedTexts.{seen_name, seen_collection, seen_scalar, seen_spelling};
 ghost use Rattle.yaml_emitter.specs.UsualScalars.{StandsPlain};
-ghost use Rattle.yaml_emitter.specs.WrittenSigns.{seen_tag, spelled_count};
+ghost use Rattle.yaml_emitter.specs.WrittenAtoms.{seen_tag, spelled_count};
 
 use crate::effective::EffectiveSettings;
 use crate::place::Place;

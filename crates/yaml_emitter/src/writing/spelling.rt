@@ -4,7 +4,7 @@ ghost use Rattle.std.specs.Prelude.{◌≡◌, chars, option_map};
 ghost use Rattle.yaml_base.specs.Tags.{spelling};
 ghost use Rattle.yaml_mark.specs.Spelled.{StandsFor};
 ghost use Rattle.yaml_emitter.specs.BorrowedTexts.{seen_name, seen_spelling};
-ghost use Rattle.yaml_emitter.specs.WrittenSigns.{seen_tag};
+ghost use Rattle.yaml_emitter.specs.WrittenAtoms.{seen_tag};
 
 use std::alloc::Allocator;
 use yaml_mark::{Directives, analyze_tag, tag_t};

@@ -1,10 +1,10 @@
 //! A scalar's text in its style (YAML 1.1, sections 9.1 and 9.3).
 
 ghost use Rattle.std.specs.Prelude.{◌≡◌, ◌+◌, ◌≤ℤ◌, pos, true, false, IfOk, chars};
-ghost use Rattle.yaml_base.specs.scalars.BlockHeader.{header_mark};
+ghost use Rattle.yaml_base.specs.scalars.BlockHeader.{header_open_ended};
 ghost use Rattle.yaml_base.specs.scalars.Analysis as analysis;
 ghost use Rattle.yaml_base.specs.Event.{plain, single_quoted, double_quoted, literal, folded};
-ghost use Rattle.yaml_base.specs.Layout.{deeper, mark_after};
+ghost use Rattle.yaml_base.specs.Layout.{deeper, open_ended_after};
 ghost use Rattle.yaml_base.specs.Seen.{seen_scalar_style};
 ghost use Rattle.yaml_pen.specs.Page.{IsReady};
 ghost use Rattle.yaml_pen.specs.Wrote.{Wrote};
@@ -12,11 +12,11 @@ ghost use Rattle.yaml_emitter.specs.Given.{seen_effective};
 ghost use Rattle.yaml_emitter.specs.Places.{seen_place};
 ghost use Rattle.yaml_emitter.specs.Reach.{most_column};
 ghost use Rattle.yaml_emitter.specs.ScalarTexts.{text_at, style_fits, without_answer};
-ghost use Rattle.yaml_emitter.specs.WrittenPieces.{seen_mark};
+ghost use Rattle.yaml_emitter.specs.WrittenPieces.{seen_open_ended};
 
 use crate::effective::EffectiveSettings;
 use crate::place::Place;
-use crate::writing::marks::OpenMark;
+use crate::writing::open_ended::OpenEnded;
 use crate::writing::site::Site;
 use std::alloc::Allocator;
 use yaml_base::{
@@ -29,28 +29,28 @@ use yaml_scalar::{
     write_single_quoted_scalar,
 };
 
-/// Writes a scalar's text in a style, and returns the open mark that it leaves.
+/// Writes a scalar's text in a style, and returns the open-ended state that it leaves.
 #[inline(always)]
 pub(crate) fn write_text<A: Allocator>(
     pen: &mut Pen<A>,
     site: &Site,
     style: yaml_scalar_style_t,
     value: &str,
-    mark: OpenMark,
-) -> Result<OpenMark, yaml_error_t>
+    open_ended: OpenEnded,
+) -> Result<OpenEnded, yaml_error_t>
     requires ready { IsReady pen.old }
     requires fits { style_fits (seen_scalar_style style) (chars value.now) site.now.simple ≡ true }
     ensures written { Wrote
         (text_at (seen_scalar_style style) (seen_effective site.now.settings.now) (seen_place site.now.place) site.now.simple (chars value.now))
         pen.old pen.new (without_answer result) }
-    ensures mark { IfOk result (λ after. seen_mark after ≡ mark_after (seen_scalar_style style) (chars value.now) (seen_mark mark)) }
+    ensures open_ended { IfOk result (λ after. seen_open_ended after ≡ open_ended_after (seen_scalar_style style) (chars value.now) (seen_open_ended open_ended)) }
 {
     match style {
         YAML_LITERAL_SCALAR_STYLE => write_literal(pen, site, value),
         YAML_FOLDED_SCALAR_STYLE => write_folded(pen, site, value),
-        YAML_PLAIN_SCALAR_STYLE => write_plain(pen, site, value, mark),
-        YAML_SINGLE_QUOTED_SCALAR_STYLE => write_single(pen, site, value, mark),
-        _ => write_double(pen, site, value, mark),
+        YAML_PLAIN_SCALAR_STYLE => write_plain(pen, site, value, open_ended),
+        YAML_SINGLE_QUOTED_SCALAR_STYLE => write_single(pen, site, value, open_ended),
+        _ => write_double(pen, site, value, open_ended),
     }
 }
 
@@ -59,13 +59,13 @@ fn write_plain<A: Allocator>(
     pen: &mut Pen<A>,
     site: &Site,
     value: &str,
-    mark: OpenMark,
-) -> Result<OpenMark, yaml_error_t>
+    open_ended: OpenEnded,
+) -> Result<OpenEnded, yaml_error_t>
     requires ready { IsReady pen.old }
     ensures written { Wrote
         (text_at plain (seen_effective site.now.settings.now) (seen_place site.now.place) site.now.simple (chars value.now))
         pen.old pen.new (without_answer result) }
-    ensures mark { IfOk result (λ after. after ≡ mark) }
+    ensures open_ended { IfOk result (λ after. after ≡ open_ended) }
 {
     let settings = site.settings;
     let indent = line_indent(settings, &site.place);
@@ -77,25 +77,25 @@ fn write_plain<A: Allocator>(
         indent,
         settings.width,
     )?;
-    Ok(mark)
+    Ok(open_ended)
 }
 
 fn write_single<A: Allocator>(
     pen: &mut Pen<A>,
     site: &Site,
     value: &str,
-    mark: OpenMark,
-) -> Result<OpenMark, yaml_error_t>
+    open_ended: OpenEnded,
+) -> Result<OpenEnded, yaml_error_t>
     requires ready { IsReady pen.old }
     ensures written { Wrote
         (text_at single_quoted (seen_effective site.now.settings.now) (seen_place site.now.place) site.now.simple (chars value.now))
         pen.old pen.new (without_answer result) }
-    ensures mark { IfOk result (λ after. after ≡ mark) }
+    ensures open_ended { IfOk result (λ after. after ≡ open_ended) }
 {
     let settings = site.settings;
     let indent = line_indent(settings, &site.place);
     write_single_quoted_scalar(pen, value, !site.simple, indent, settings.width)?;
-    Ok(mark)
+    Ok(open_ended)
 }
 
 #[inline(always)]
@@ -103,13 +103,13 @@ fn write_double<A: Allocator>(
     pen: &mut Pen<A>,
     site: &Site,
     value: &str,
-    mark: OpenMark,
-) -> Result<OpenMark, yaml_error_t>
+    open_ended: OpenEnded,
+) -> Result<OpenEnded, yaml_error_t>
     requires ready { IsReady pen.old }
     ensures written { Wrote
         (text_at double_quoted (seen_effective site.now.settings.now) (seen_place site.now.place) site.now.simple (chars value.now))
         pen.old pen.new (without_answer result) }
-    ensures mark { IfOk result (λ after. after ≡ mark) }
+    ensures open_ended { IfOk result (λ after. after ≡ open_ended) }
 {
     let settings = site.settings;
     let indent = line_indent(settings, &site.place);
@@ -121,7 +121,7 @@ fn write_double<A: Allocator>(
         indent,
         settings.width,
     )?;
-    Ok(mark)
+    Ok(open_ended)
 }
 
 #[inline(never)]
@@ -129,18 +129,18 @@ fn write_literal<A: Allocator>(
     pen: &mut Pen<A>,
     site: &Site,
     value: &str,
-) -> Result<OpenMark, yaml_error_t>
+) -> Result<OpenEnded, yaml_error_t>
     requires ready { IsReady pen.old }
     requires some { analysis.is_empty (chars value.now) ≡ false }
     ensures written { Wrote
         (text_at literal (seen_effective site.now.settings.now) (seen_place site.now.place) false (chars value.now))
         pen.old pen.new (without_answer result) }
-    ensures mark { IfOk result (λ after. seen_mark after ≡ header_mark (chars value.now)) }
+    ensures open_ended { IfOk result (λ after. seen_open_ended after ≡ header_open_ended (chars value.now)) }
 {
     let settings = site.settings;
     let indent = line_indent(settings, &site.place);
-    let mark = write_literal_scalar(pen, value, indent, settings.indent as i32)?;
-    Ok(OpenMark::after_header(mark))
+    let open_ended = write_literal_scalar(pen, value, indent, settings.indent as i32)?;
+    Ok(OpenEnded::after_header(open_ended))
 }
 
 #[inline(never)]
@@ -148,18 +148,24 @@ fn write_folded<A: Allocator>(
     pen: &mut Pen<A>,
     site: &Site,
     value: &str,
-) -> Result<OpenMark, yaml_error_t>
+) -> Result<OpenEnded, yaml_error_t>
     requires ready { IsReady pen.old }
     requires some { analysis.is_empty (chars value.now) ≡ false }
     ensures written { Wrote
         (text_at folded (seen_effective site.now.settings.now) (seen_place site.now.place) false (chars value.now))
         pen.old pen.new (without_answer result) }
-    ensures mark { IfOk result (λ after. seen_mark after ≡ header_mark (chars value.now)) }
+    ensures open_ended { IfOk result (λ after. seen_open_ended after ≡ header_open_ended (chars value.now)) }
 {
     let settings = site.settings;
     let indent = line_indent(settings, &site.place);
-    let mark = write_folded_scalar(pen, value, indent, settings.indent as i32, settings.width)?;
-    Ok(OpenMark::after_header(mark))
+    let open_ended = write_folded_scalar(
+        pen,
+        value,
+        indent,
+        settings.indent as i32,
+        settings.width,
+    )?;
+    Ok(OpenEnded::after_header(open_ended))
 }
 
 /// Where a scalar's further lines begin, in columns.

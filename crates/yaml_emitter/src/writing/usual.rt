@@ -59,7 +59,7 @@ fn lacks_anchor(anchor: Option<&str>) -> bool
     anchor.is_none()
 }
 
-/// Writes a scalar that stands plain as it is, by its value; the open mark stays.
+/// Writes a scalar that stands plain as it is, by its value; the open-ended state stays.
 #[inline(always)]
 pub(crate) fn write_usual<A: Allocator>(
     pen: &mut Pen<A>,
@@ -68,12 +68,12 @@ pub(crate) fn write_usual<A: Allocator>(
 ) -> Result<(), yaml_error_t>
     requires ready { IsReady pen.old }
     requires usual { IsUsual value.now }
-    ensures written { (directives : List TagDirective) (mark : ℕ) (content : ScalarContent)
+    ensures written { (directives : List TagDirective) (open_ended : ℕ) (content : ScalarContent)
         → StandsPlain site.now.settings.now.canonical content
         → content.value.now ≡ value.now
         → Wrote
         (piece_at
-        (scalar_piece (seen_effective site.now.settings.now) directives (seen_place site.now.place) site.now.simple (seen_scalar content)) mark)
+        (scalar_piece (seen_effective site.now.settings.now) directives (seen_place site.now.place) site.now.simple (seen_scalar content)) open_ended)
         pen.old pen.new result }
     ensures ready { IsReady pen.new }
 {

@@ -3,14 +3,14 @@ ghost use Rattle.std.specs.Prelude.{◌≡◌, ◌==◌, ◌<◌, ◌≤◌, len
 ghost use Rattle.std.specs.Str.{IsAscii, chars};
 ghost use Rattle.std.specs.List.{list_any};
 ghost use Rattle.yaml_base.specs.Characters.{is_break, line_feed};
-ghost use Rattle.yaml_base.specs.Cursor.{text_laid, nothing_laid};
-ghost use Rattle.yaml_pen.specs.Page.{buffer_size, IsReady, has_mark};
+ghost use Rattle.yaml_base.specs.Cursor.{render_text, render_nothing};
+ghost use Rattle.yaml_pen.specs.Page.{buffer_size, IsReady, has_bom};
 ghost use Rattle.yaml_pen.specs.Wrote.{Wrote};
 
 use crate::counting::{character_count, next_column};
 use crate::encoded::{encoded_break, encoded_character};
 use crate::outlet::BUFFER_SIZE;
-use crate::pen::{Pen, has_mark};
+use crate::pen::{Pen, has_bom};
 use std::alloc::Allocator;
 use yaml_base::yaml_error_t;
 
@@ -19,7 +19,7 @@ impl<A: Allocator> Pen<A> {
     pub fn write_char(&mut self, character: char) -> Result<(), yaml_error_t>
         requires ready { IsReady self.old }
         requires no_break { is_break character ≡ false }
-        ensures written { Wrote (text_laid (character ∷ [])) self.old self.new result }
+        ensures written { Wrote (render_text (character ∷ [])) self.old self.new result }
         ensures stays { IsSome self.old.error → self.new ≡ self.old }
     {
         self.write_character(character)
@@ -31,7 +31,7 @@ impl<A: Allocator> Pen<A> {
         requires ready { IsReady self.old }
         requires ascii { character < 128 }
         requires no_break { is_break character ≡ false }
-        ensures written { Wrote (text_laid (character ∷ [])) self.old self.new result }
+        ensures written { Wrote (render_text (character ∷ [])) self.old self.new result }
         ensures stays { IsSome self.old.error → self.new ≡ self.old }
     {
         self.write_ascii(&[character])
@@ -42,12 +42,12 @@ impl<A: Allocator> Pen<A> {
     pub fn write_run(&mut self, text: &str) -> Result<(), yaml_error_t>
         requires ready { IsReady self.old }
         requires no_break { list_any is_break (chars text.now) ≡ false }
-        ensures written { Wrote (text_laid (chars text.now)) self.old self.new result }
+        ensures written { Wrote (render_text (chars text.now)) self.old self.new result }
         ensures stays { IsSome self.old.error → self.new ≡ self.old }
     {
         if text.is_empty() {
             self.write_nothing()
-        } else if has_mark(self.encoding) {
+        } else if has_bom(self.encoding) {
             self.write_characters(text)
         } else {
             self.write_pieces(text)
@@ -61,10 +61,10 @@ impl<A: Allocator> Pen<A> {
         requires ascii { IsAscii text.now }
         requires no_break { list_any is_break text.now ≡ false }
         requires fits { length text.now ≤ buffer_size }
-        ensures written { Wrote (text_laid text.now) self.old self.new result }
+        ensures written { Wrote (render_text text.now) self.old self.new result }
         ensures stays { IsSome self.old.error → self.new ≡ self.old }
     {
-        if !has_mark(self.encoding) {
+        if !has_bom(self.encoding) {
             self.write_ascii_bytes(text)
         } else {
             self.write_ascii_characters(text)
@@ -74,7 +74,7 @@ impl<A: Allocator> Pen<A> {
     /// Writes a line break, as the setting says.
     pub fn put_break(&mut self) -> Result<(), yaml_error_t>
         requires ready { IsReady self.old }
-        ensures written { Wrote (text_laid (line_feed ∷ [])) self.old self.new result }
+        ensures written { Wrote (render_text (line_feed ∷ [])) self.old self.new result }
         ensures stays { IsSome self.old.error → self.new ≡ self.old }
     {
         let bytes = encoded_break(self.encoding, self.line_break);
@@ -87,7 +87,7 @@ impl<A: Allocator> Pen<A> {
     pub fn write_break(&mut self, line_break: char) -> Result<(), yaml_error_t>
         requires ready { IsReady self.old }
         requires a_break { is_break line_break ≡ true }
-        ensures written { Wrote (text_laid (line_break ∷ [])) self.old self.new result }
+        ensures written { Wrote (render_text (line_break ∷ [])) self.old self.new result }
         ensures stays { IsSome self.old.error → self.new ≡ self.old }
     {
         if line_break == '\n' {
@@ -101,7 +101,7 @@ impl<A: Allocator> Pen<A> {
     #[inline]
     pub fn write_nothing(&self) -> Result<(), yaml_error_t>
         requires { IsReady self.now }
-        ensures { Wrote nothing_laid self.now self.now result }
+        ensures { Wrote render_nothing self.now self.now result }
     {
         match self.error() {
             Some(error) => Err(error),
@@ -113,11 +113,11 @@ impl<A: Allocator> Pen<A> {
     #[inline]
     fn write_ascii_bytes(&mut self, text: &[u8]) -> Result<(), yaml_error_t>
         requires ready { IsReady self.old }
-        requires unmarked { has_mark self.old.encoding ≡ false }
+        requires no_bom { has_bom self.old.encoding ≡ false }
         requires ascii { IsAscii text.now }
         requires no_break { list_any is_break text.now ≡ false }
         requires fits { length text.now ≤ buffer_size }
-        ensures written { Wrote (text_laid text.now) self.old self.new result }
+        ensures written { Wrote (render_text text.now) self.old self.new result }
         ensures stays { IsSome self.old.error → self.new ≡ self.old }
     {
         self.outlet.append(text)?;
@@ -131,7 +131,7 @@ impl<A: Allocator> Pen<A> {
         requires ready { IsReady self.old }
         requires ascii { IsAscii text.now }
         requires no_break { list_any is_break text.now ≡ false }
-        ensures written { Wrote (text_laid text.now) self.old self.new result }
+        ensures written { Wrote (render_text text.now) self.old self.new result }
         ensures stays { IsSome self.old.error → self.new ≡ self.old }
     {
         match str::from_utf8(text) {
@@ -144,9 +144,9 @@ impl<A: Allocator> Pen<A> {
     #[inline(always)]
     fn write_pieces(&mut self, text: &str) -> Result<(), yaml_error_t>
         requires ready { IsReady self.old }
-        requires unmarked { has_mark self.old.encoding ≡ false }
+        requires no_bom { has_bom self.old.encoding ≡ false }
         requires no_break { list_any is_break (chars text.now) ≡ false }
-        ensures written { Wrote (text_laid (chars text.now)) self.old self.new result }
+        ensures written { Wrote (render_text (chars text.now)) self.old self.new result }
         ensures stays { IsSome self.old.error → self.new ≡ self.old }
     {
         self.write_nothing()?;
@@ -161,10 +161,10 @@ impl<A: Allocator> Pen<A> {
 
     fn write_piece(&mut self, text: &str) -> Result<(), yaml_error_t>
         requires ready { IsReady self.old }
-        requires unmarked { has_mark self.old.encoding ≡ false }
+        requires no_bom { has_bom self.old.encoding ≡ false }
         requires no_break { list_any is_break (chars text.now) ≡ false }
         requires fits { length text.now ≤ buffer_size }
-        ensures written { Wrote (text_laid (chars text.now)) self.old self.new result }
+        ensures written { Wrote (render_text (chars text.now)) self.old self.new result }
         ensures stays { IsSome self.old.error → self.new ≡ self.old }
     {
         self.outlet.append(text.as_bytes())?;
@@ -177,7 +177,7 @@ impl<A: Allocator> Pen<A> {
     fn write_characters(&mut self, text: &str) -> Result<(), yaml_error_t>
         requires ready { IsReady self.old }
         requires no_break { list_any is_break (chars text.now) ≡ false }
-        ensures written { Wrote (text_laid (chars text.now)) self.old self.new result }
+        ensures written { Wrote (render_text (chars text.now)) self.old self.new result }
         ensures stays { IsSome self.old.error → self.new ≡ self.old }
     {
         self.write_nothing()?;
@@ -192,7 +192,7 @@ impl<A: Allocator> Pen<A> {
     pub(super) fn write_character(&mut self, character: char) -> Result<(), yaml_error_t>
         requires ready { IsReady self.old }
         requires not_line_feed { (character == line_feed) ≡ false }
-        ensures written { Wrote (text_laid (character ∷ [])) self.old self.new result }
+        ensures written { Wrote (render_text (character ∷ [])) self.old self.new result }
         ensures stays { IsSome self.old.error → self.new ≡ self.old }
     {
         let bytes = encoded_character(self.encoding, character);

@@ -3,8 +3,8 @@ ghost use Rattle.std.specs.Prelude.{◌≡◌, ◌&&◌, false, true, IsSome};
 ghost use Rattle.std.specs.Str.{chars};
 ghost use Rattle.std.specs.List.{list_any};
 ghost use Rattle.yaml_base.specs.Characters.{is_break};
-ghost use Rattle.yaml_base.specs.Cursor.{text_laid, space_if, indicator};
-ghost use Rattle.yaml_base.specs.Indicators.{indicator_laid, indented, opening, spaced, tight};
+ghost use Rattle.yaml_base.specs.Cursor.{render_text, space_if, indicator};
+ghost use Rattle.yaml_base.specs.Indicators.{render_indicator, indented, opening, spaced, tight};
 ghost use Rattle.yaml_pen.specs.Indicators.{seen_indicator};
 ghost use Rattle.yaml_pen.specs.Page.{IsReady};
 ghost use Rattle.yaml_pen.specs.Wrote.{Wrote};
@@ -13,7 +13,7 @@ use crate::pen::Pen;
 use std::alloc::Allocator;
 use yaml_base::yaml_error_t;
 
-/// A sign of punctuation, or a word of a line of its own, with what it asks of the cursor and leaves behind.
+/// A piece of punctuation, or a word of a line of its own, with what it asks of the cursor and leaves behind.
 #[derive(Clone, Copy)]
 pub struct Indicator<'a> {
     /// What is written. It holds no break.
@@ -66,7 +66,7 @@ impl<'a> Indicator<'a> {
         }
     }
 
-    /// The sign of an entry in a block: a space before it, and it may stand in indentation.
+    /// The indicator of an entry in a block: a space before it, and it may stand in indentation.
     #[inline(always)]
     pub fn indented(text: &'a str) -> Indicator<'a>
         ensures { seen_indicator result ≡ indented (chars text.now) }
@@ -110,11 +110,11 @@ impl<A: Allocator> Pen<A> {
     pub fn put_indicator(&mut self, indicator: &Indicator) -> Result<(), yaml_error_t>
         requires ready { IsReady self.old }
         requires no_break { list_any is_break (chars indicator.now.text.now) ≡ false }
-        ensures written { Wrote (indicator_laid (seen_indicator indicator.now)) self.old self.new result }
+        ensures written { Wrote (render_indicator (seen_indicator indicator.now)) self.old self.new result }
         ensures stays { IsSome self.old.error → self.new ≡ self.old }
     {
         self.separate_if(indicator.needs_space)?;
-        self.write_sign(indicator.text)?;
+        self.write_indicator_text(indicator.text)?;
         self.set_flags(indicator.leaves_space, indicator.keeps_indention);
         Ok(())
     }
@@ -123,7 +123,7 @@ impl<A: Allocator> Pen<A> {
     #[inline]
     pub fn separate(&mut self) -> Result<(), yaml_error_t>
         requires ready { IsReady self.old }
-        ensures written { Wrote (λ cursor. text_laid (space_if true cursor) cursor) self.old self.new result }
+        ensures written { Wrote (λ cursor. render_text (space_if true cursor) cursor) self.old self.new result }
         ensures stays { IsSome self.old.error → self.new ≡ self.old }
     {
         self.separate_if(true)
@@ -133,7 +133,7 @@ impl<A: Allocator> Pen<A> {
     #[inline]
     pub fn separate_if(&mut self, needed: bool) -> Result<(), yaml_error_t>
         requires ready { IsReady self.old }
-        ensures written { Wrote (λ cursor. text_laid (space_if needed cursor) cursor) self.old self.new result }
+        ensures written { Wrote (λ cursor. render_text (space_if needed cursor) cursor) self.old self.new result }
         ensures stays { IsSome self.old.error → self.new ≡ self.old }
     {
         if needed && !self.whitespace {
@@ -143,16 +143,16 @@ impl<A: Allocator> Pen<A> {
         }
     }
 
-    // Most signs are one byte, which is a store.
+    // Most indicators are one byte, which is a store.
     #[inline(always)]
-    fn write_sign(&mut self, text: &str) -> Result<(), yaml_error_t>
+    fn write_indicator_text(&mut self, text: &str) -> Result<(), yaml_error_t>
         requires ready { IsReady self.old }
         requires no_break { list_any is_break (chars text.now) ≡ false }
-        ensures written { Wrote (text_laid (chars text.now)) self.old self.new result }
+        ensures written { Wrote (render_text (chars text.now)) self.old self.new result }
         ensures stays { IsSome self.old.error → self.new ≡ self.old }
     {
         match text.as_bytes() {
-            [sign] => self.put(*sign),
+            [byte] => self.put(*byte),
             _ => self.write_run(text),
         }
     }

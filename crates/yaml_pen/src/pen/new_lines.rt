@@ -1,21 +1,21 @@
 //! New lines, and the spaces that they begin with.
 ghost use Rattle.std.specs.Prelude.{◌≡◌, pos, ◌≤ℤ◌, ◌<◌, ◌≤◌, false, true, IsSome, unwrap_or, replicate};
 ghost use Rattle.yaml_base.specs.Characters.{space};
-ghost use Rattle.yaml_base.specs.Cursor.{text_laid, breaks_line, new_line};
+ghost use Rattle.yaml_base.specs.Cursor.{render_text, breaks_line, new_line};
 ghost use Rattle.yaml_base.specs.Settings.{line_feed_break};
 ghost use Rattle.yaml_base.specs.Seen.{seen_break};
-ghost use Rattle.yaml_pen.specs.Page.{IsReady, has_mark, natural};
+ghost use Rattle.yaml_pen.specs.Page.{IsReady, has_bom, natural};
 ghost use Rattle.yaml_pen.specs.Wrote.{Wrote};
-ghost use Rattle.yaml_pen.specs.Lines.{line_begun, line_break_laid, spaces_to};
+ghost use Rattle.yaml_pen.specs.Lines.{line_begun, render_line_break, spaces_to};
 
-use crate::pen::{Pen, has_mark};
+use crate::pen::{Pen, has_bom};
 use std::alloc::Allocator;
 use yaml_base::{yaml_break_t, yaml_error_t};
 
 /// The most spaces that are written in one call.
 const MOST_SPACES: u32 = 64;
 /// The most spaces that are written in one call with the break before them.
-const MOST_BEGUN: u32 = 31;
+const MOST_SPACES_AFTER_BREAK: u32 = 31;
 /// LF, and as many spaces.
 static LINE_START: [u8; 32] = *b"\n                               ";
 
@@ -66,12 +66,12 @@ impl<A: Allocator> Pen<A> {
         requires { at < 2147483648 }
         ensures breaks { result ≡ true → breaks_line at self.now.cursor ≡ true }
         ensures few { result ≡ true → at ≤ 31 }
-        ensures unmarked { result ≡ true → has_mark self.now.encoding ≡ false }
+        ensures no_bom { result ≡ true → has_bom self.now.encoding ≡ false }
         ensures line_feed { result ≡ true → self.now.line_break ≡ line_feed_break }
     {
-        at <= MOST_BEGUN
+        at <= MOST_SPACES_AFTER_BREAK
             && self.breaks_line(at)
-            && !has_mark(self.encoding)
+            && !has_bom(self.encoding)
             && is_line_feed(self.line_break)
     }
 
@@ -80,7 +80,7 @@ impl<A: Allocator> Pen<A> {
         requires ready { IsReady self.old }
         requires breaks { breaks_line at self.old.cursor ≡ true }
         requires few { at ≤ 31 }
-        requires unmarked { has_mark self.old.encoding ≡ false }
+        requires no_bom { has_bom self.old.encoding ≡ false }
         requires line_feed { self.old.line_break ≡ line_feed_break }
         ensures written { Wrote (line_begun at) self.old self.new result }
         ensures stays { IsSome self.old.error → self.new ≡ self.old }
@@ -105,7 +105,7 @@ impl<A: Allocator> Pen<A> {
     fn break_line(&mut self, at: u32) -> Result<(), yaml_error_t>
         requires ready { IsReady self.old }
         requires below { at < 2147483648 }
-        ensures written { Wrote (line_break_laid at) self.old self.new result }
+        ensures written { Wrote (render_line_break at) self.old self.new result }
         ensures stays { IsSome self.old.error → self.new ≡ self.old }
     {
         if self.breaks_line(at) {
@@ -134,7 +134,7 @@ impl<A: Allocator> Pen<A> {
 
     fn write_spaces(&mut self, count: u32) -> Result<(), yaml_error_t>
         requires ready { IsReady self.old }
-        ensures written { Wrote (text_laid (replicate count space)) self.old self.new result }
+        ensures written { Wrote (render_text (replicate count space)) self.old self.new result }
         ensures stays { IsSome self.old.error → self.new ≡ self.old }
     {
         if count <= MOST_SPACES {
@@ -147,7 +147,7 @@ impl<A: Allocator> Pen<A> {
     fn write_few_spaces(&mut self, count: u32) -> Result<(), yaml_error_t>
         requires ready { IsReady self.old }
         requires few { count ≤ 64 }
-        ensures written { Wrote (text_laid (replicate count space)) self.old self.new result }
+        ensures written { Wrote (render_text (replicate count space)) self.old self.new result }
         ensures stays { IsSome self.old.error → self.new ≡ self.old }
     {
         let spaces = [b' '; 64];
@@ -158,7 +158,7 @@ impl<A: Allocator> Pen<A> {
     #[inline(never)]
     fn write_many_spaces(&mut self, count: u32) -> Result<(), yaml_error_t>
         requires ready { IsReady self.old }
-        ensures written { Wrote (text_laid (replicate count space)) self.old self.new result }
+        ensures written { Wrote (render_text (replicate count space)) self.old self.new result }
         ensures stays { IsSome self.old.error → self.new ≡ self.old }
     {
         self.write_nothing()?;

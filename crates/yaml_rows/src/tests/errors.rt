@@ -25,12 +25,12 @@ fn outside(number: NodeNumber) -> anyhow::Result<()> {
 }
 
 // The answer is an error with these words.
-fn check_told(rt: &impl Abort, alloc: Global, answer: anyhow::Result<()>, words: &str) {
+fn check_reported(rt: &impl Abort, alloc: Global, answer: anyhow::Result<()>, words: &str) {
     match answer {
         Ok(()) => same(rt, b"", words.as_bytes()),
         Err(error) => {
-            let told = format!(in alloc; "{error}").expect(rt, "no memory");
-            same(rt, told.as_str().as_bytes(), words.as_bytes());
+            let reported = format!(in alloc; "{error}").expect(rt, "no memory");
+            same(rt, reported.as_str().as_bytes(), words.as_bytes());
         }
     }
 }
@@ -38,7 +38,7 @@ fn check_told(rt: &impl Abort, alloc: Global, answer: anyhow::Result<()>, words:
 #[test]
 fn a_caller_passes_errors_on(rt: HostRuntime) {
     let refused = emit_the_end(&rt, &mut made(&rt, rt.alloc(), &HUNDRED));
-    check_told(&rt, rt.alloc(), refused, "expected STREAM-START");
+    check_reported(&rt, rt.alloc(), refused, "expected STREAM-START");
     let numbered = outside(NodeNumber(-7));
-    check_told(&rt, rt.alloc(), numbered, "no node has the number -7");
+    check_reported(&rt, rt.alloc(), numbered, "no node has the number -7");
 }

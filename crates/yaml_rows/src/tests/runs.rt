@@ -101,9 +101,9 @@ fn ran(rt: &impl Abort, alloc: Global, script: &[u8]) -> Told {
 }
 
 // This is written and told.
-fn check_told(rt: &impl Abort, told: &Told, output: &[u8], line: &str) {
-    same(rt, told.output.as_slice(), output);
-    same(rt, told.line.as_slice(), line.as_bytes());
+fn check_reported(rt: &impl Abort, reported: &Told, output: &[u8], line: &str) {
+    same(rt, reported.output.as_slice(), output);
+    same(rt, reported.line.as_slice(), line.as_bytes());
 }
 
 // A run of the whole script.
@@ -215,7 +215,7 @@ fn whole_streams_are_written(rt: HostRuntime) {
     check_streams(&rt, rt.alloc(), "", WHOLE);
 }
 
-/// Scripts, each with the call that is refused, what is written, and what is told.
+/// Scripts, each with the call that is refused, what is written, and what is returned.
 type Refusals<'a> = &'a [(&'a str, run_answer_t, &'a [u8], &'a str)];
 
 // A refusal, and its line.
@@ -267,6 +267,6 @@ const TOLD: Refusals = &[
 ];
 
 #[test]
-fn refusals_are_told_with_their_line(rt: HostRuntime) {
+fn refusals_are_reported_with_their_line(rt: HostRuntime) {
     check_refusals(&rt, rt.alloc(), TOLD);
 }

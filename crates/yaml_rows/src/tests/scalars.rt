@@ -67,7 +67,7 @@ pub(super) fn check_written(
     same(rt, pen.output(), wanted.as_bytes());
 }
 
-/// The answer was an open mark, and this was written.
+/// The answer was an open-ended state, and this was written.
 fn check_marked(
     rt: &impl Abort,
     pen: &mut Pen<Global>,

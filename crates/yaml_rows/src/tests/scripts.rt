@@ -198,7 +198,7 @@ const BAD_LINES: &[(&str, u64)] = &[
 ];
 
 #[test]
-fn the_first_bad_line_is_told(rt: HostRuntime) {
+fn the_first_bad_line_is_reported(rt: HostRuntime) {
     check_bad_lines(&rt, rt.alloc(), BAD_LINES);
     check_bad_line(&rt, rt.alloc(), b"+STR any\n# \xFF", 2);
 }

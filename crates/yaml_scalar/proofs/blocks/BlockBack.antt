@@ -5,8 +5,8 @@ use Rattle.std.specs.Prelude.{Option}
 use Rattle.yaml_base.specs.scalars.Analysis.{Charset, allows_block}
 use Rattle.yaml_base.specs.scalars.BlockHeader.{Encloses}
 use Rattle.yaml_base.specs.Characters.{Text}
-use Rattle.yaml_base.specs.scalars.Literal.{literal_body, literal_laid}
-use Rattle.yaml_base.specs.scalars.Folded.{folded_body, folded_laid}
+use Rattle.yaml_base.specs.scalars.Literal.{literal_body, render_literal}
+use Rattle.yaml_base.specs.scalars.Folded.{folded_body, render_folded}
 use Rattle.yaml_base.specs.reading.ReadBlock.{read_block}
 use Rattle.yaml_pen.specs.Page.{Page, natural}
 use Rattle.yaml_pen.specs.Wrote.{Wrote}
@@ -38,14 +38,14 @@ indents indent best_indent least most within = record {
 
 module _ (charset : Charset) (value : Text) (allowed : allows_block charset value ≡ true) (indent best_indent : ℕ) (are : Indents indent best_indent)
     (column : Option ℕ) (enclosing : Encloses indent best_indent column) where
-  pub literal_back : {before after : Page} → Wrote (literal_laid indent best_indent value) before after (Ok tt)
+  pub literal_back : {before after : Page} → Wrote (render_literal indent best_indent value) before after (Ok tt)
       → ReadsBack (read_block charset.breaks12 column) value before.text after.text
   literal_back wrote =
       body_back (read_block charset.breaks12 column) value true (literal_body indent best_indent value)
       (λ cursor setting. (literal-kept charset value allowed indent best_indent are.least are.most are.within cursor column enclosing setting).reads)
       (λ cursor setting. (literal-kept charset value allowed indent best_indent are.least are.most are.within cursor column enclosing setting).indented) wrote
 
-  pub folded_back : (limit : Option ℕ) {before after : Page} → Wrote (folded_laid limit indent best_indent value) before after (Ok tt)
+  pub folded_back : (limit : Option ℕ) {before after : Page} → Wrote (render_folded limit indent best_indent value) before after (Ok tt)
       → ReadsBack (read_block charset.breaks12 column) value before.text after.text
   folded_back limit wrote =
       body_back (read_block charset.breaks12 column) value true (folded_body limit indent best_indent value)

@@ -1,11 +1,12 @@
--- The breaks at a block scalar's end: the header's sign says what chomping needs to keep them.
+-- The breaks at a block scalar's end: the header's indicator says what chomping needs to keep them.
 use Rattle.std.proofs.Common.{◌≡◌, refl, sym, ap, ◌∙◌, append_assoc, inl, inr}
 use Rattle.std.proofs.lemmas.Bool.{cases_Bool, false≢true}
 use Rattle.std.specs.Prelude.{ℕ, Bool, true, false, List, [], ◌∷◌, ◌++◌, ◌==◌, ◌&&◌, if◌then◌else◌}
 use Rattle.yaml_base.specs.Characters.{Text, is_break, line_feed}
 use Rattle.yaml_base.specs.scalars.Lines.{Part, line, line_break, begun, parts}
 use Rattle.yaml_base.specs.scalars.BlockHeader.{Ending, without_break, one_break, more_breaks, ending}
-use Rattle.yaml_base.specs.reading.ReadBlock.{Element, content, line_end, joined, unfolded, has_content, kept_lines, final_ends, is_even, even_next, fold_read}
+use Rattle.yaml_base.specs.reading.ReadBlock.{Element, content, line_end, joined, unfolded, has_content, kept_lines, final_ends, begins_unindented}
+use Rattle.yaml_base.specs.reading.ReadBlock.{next_content_unindented, fold_read}
 use Rattle.yaml_base.specs.reading.ReadBlock.{Chomping, strip, clip, keep, chomped}
 use Rattle.yaml_scalar.proofs.blocks.BlockParts.{bare}
 
@@ -15,12 +16,12 @@ kept-none [] h = refl
 kept-none (content text ∷ rest) h = cc h
 kept-none (line_end b ∷ rest) h = rw h refl
 
-even-none : (es : List Element) → has_content es ≡ false → even_next es ≡ false
+even-none : (es : List Element) → has_content es ≡ false → next_content_unindented es ≡ false
 even-none [] h = refl
 even-none (content text ∷ rest) h = cc h
 even-none (line_end b ∷ rest) h = even-none rest h
 
-even-kept : (es : List Element) → even_next (kept_lines es) ≡ even_next es
+even-kept : (es : List Element) → next_content_unindented (kept_lines es) ≡ next_content_unindented es
 even-kept [] = refl
 even-kept (content text ∷ rest) = refl
 even-kept (line_end b ∷ rest) =
@@ -37,12 +38,12 @@ fold-kept (line_end b ∷ rest) =
 
 -- what a line's end reads as
 abbrev break_read : Bool → ℕ → List Element → Text
-break_read after_even b rest = if after_even && b == line_feed && even_next rest then fold_read rest else b ∷ []
+break_read after_even b rest = if after_even && b == line_feed && next_content_unindented rest then fold_read rest else b ∷ []
 
-break-none : (after_even : Bool) (b : ℕ) (rest : List Element) → even_next rest ≡ false → break_read after_even b rest ≡ b ∷ []
+break-none : (after_even : Bool) (b : ℕ) (rest : List Element) → next_content_unindented rest ≡ false → break_read after_even b rest ≡ b ∷ []
 break-none true b rest h = by (b == line_feed)
   where
-    by : (same : Bool) → (if same && even_next rest then fold_read rest else b ∷ []) ≡ b ∷ []
+    by : (same : Bool) → (if same && next_content_unindented rest then fold_read rest else b ∷ []) ≡ b ∷ []
     by true = rw h refl
     by false = refl
 break-none false b rest h = refl
@@ -63,7 +64,8 @@ joined-kept (line_end b ∷ rest) =
 pub unfolded-kept : (after_even : Bool) (es : List Element) → unfolded after_even (kept_lines es) ++ final_ends es ≡ unfolded after_even es
 unfolded-kept after_even [] = refl
 unfolded-kept after_even (content text ∷ rest) =
-    append_assoc text (unfolded (is_even text) (kept_lines rest)) (final_ends rest) ∙ ap (λ t. text ++ t) (unfolded-kept (is_even text) rest)
+    append_assoc text (unfolded (begins_unindented text) (kept_lines rest)) (final_ends rest)
+    ∙ ap (λ t. text ++ t) (unfolded-kept (begins_unindented text) rest)
 unfolded-kept after_even (line_end b ∷ rest) =
     elim (cases_Bool (has_content rest)) [
       | inl some ↦ rw (some, even-kept rest, fold-kept rest)
@@ -118,7 +120,7 @@ ends-parts c [] = ends-one c (is_break c)
 ends-parts c (d ∷ []) = ends-two c d (is_break c) (is_break d)
 ends-parts c (d ∷ e ∷ rest) = ends-before (ending (d ∷ e ∷ rest)) c (parts (d ∷ e ∷ rest)) (is_break c) (ends-parts d (e ∷ rest))
 
--- the chomping that the header's sign asks for
+-- the chomping that the header's indicator asks for
 abbrev pub chomping_of : Ending → Chomping
 chomping_of without_break = strip
 chomping_of one_break = clip

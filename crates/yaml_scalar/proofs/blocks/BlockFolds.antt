@@ -5,8 +5,8 @@ use Rattle.std.specs.Prelude.{ℕ, Bool, true, false, List, [], ◌∷◌, ◌++
 use Rattle.yaml_base.specs.scalars.Analysis.{begins_with}
 use Rattle.yaml_base.specs.Characters.{Text, is_break, is_space, line_feed, space}
 use Rattle.yaml_base.specs.scalars.Lines.{Part, line, line_break, begun}
-use Rattle.yaml_base.specs.scalars.Folded.{is_past, folds, cut_from, cut_line, next_even, folded_parts}
-use Rattle.yaml_base.specs.reading.ReadBlock.{joined, unfolded, has_content, final_ends, is_even, even_next}
+use Rattle.yaml_base.specs.scalars.Folded.{is_past_limit, folds, cut_from, cut_line, next_line_unindented, folded_parts}
+use Rattle.yaml_base.specs.reading.ReadBlock.{joined, unfolded, has_content, final_ends, begins_unindented, next_content_unindented}
 use Rattle.yaml_scalar.proofs.blocks.BlockParts.{bare, Clean, IsLine, Ordinary, BeginsBroken, BeginsFlush, clean-begun}
 
 -- a line feed is ordinary
@@ -15,7 +15,7 @@ feed-ordinary true = record { same_break = refl; same_blank = refl; no_return = 
 feed-ordinary false = record { same_break = refl; same_blank = refl; no_return = refl; no_next_line = refl }
 
 -- the reader takes a line to begin with a blank where the writer takes it to begin with a space
-even-flush : (breaks12 : Bool) (text : Text) → IsLine breaks12 text → is_even text ≡ not (begins_with is_space text)
+even-flush : (breaks12 : Bool) (text : Text) → IsLine breaks12 text → begins_unindented text ≡ not (begins_with is_space text)
 even-flush breaks12 [] h = refl
 even-flush breaks12 (c ∷ rest) h = ap not ((h.0).same_blank)
 
@@ -26,7 +26,7 @@ record Cut (breaks12 : Bool) (text first : Text) (others : List Part) : Type 0 w
   ends : (rest : List Part) → final_ends (bare (others ++ rest)) ≡ final_ends (bare rest)
   reads : (rest : List Part) → first ++ unfolded true (bare (others ++ rest)) ≡ text ++ unfolded true (bare rest)
   flush : begins_with is_space text ≡ false → begins_with is_space first ≡ false
-  even : begins_with is_space text ≡ false → is_even first ≡ true
+  even : begins_with is_space text ≡ false → begins_unindented first ≡ true
 
 abbrev IsCut : Bool → Text → List Part → Type 0
 IsCut breaks12 text [] = ⊥
@@ -41,7 +41,7 @@ cut-step breaks12 c rest o e [] k fold f = absurd k
 cut-step breaks12 c rest o e (line_break b ∷ others) k fold f = absurd k
 cut-step breaks12 c rest o e (line first ∷ others) k true f =
     let spaced : c ≡ space = eqb-true c space (f refl).0 in
-    let even : is_even first ≡ true = k.even (f refl).1 in
+    let even : begins_unindented first ≡ true = k.even (f refl).1 in
     record {
       clean = λ more broken h. (tt, tt, (feed-ordinary breaks12, refl, k.clean more broken h));
       ends = λ more. k.ends more;
@@ -61,7 +61,7 @@ cut-step breaks12 c rest o e (line first ∷ others) k false f =
 -- a fold stands in place of a space, before another character
 pub fold-spaced : (limit : Option ℕ) (column c : ℕ) (rest : Text) → folds limit column c rest ≡ true → (is_space c ≡ true) × (begins_with is_space rest ≡ false)
 fold-spaced limit column c rest h =
-    let outer = and_parts (is_space c && not (begins_with is_space rest)) (is_past limit column) h in
+    let outer = and_parts (is_space c && not (begins_with is_space rest)) (is_past_limit limit column) h in
     let inner = and_parts (is_space c) (not (begins_with is_space rest)) outer.0 in
     (inner.0, not-true (begins_with is_space rest) inner.1)
 
@@ -85,7 +85,7 @@ record LineCut (breaks12 : Bool) (text : Text) (ps : List Part) : Type 0 where
   clean : (rest : List Part) → BeginsBroken rest → Clean breaks12 rest → Clean breaks12 (ps ++ rest)
   ends : (rest : List Part) → final_ends (bare (ps ++ rest)) ≡ final_ends (bare rest)
   reads : (after_even : Bool) (rest : List Part) → unfolded after_even (bare (ps ++ rest)) ≡ text ++ unfolded (not (begins_with is_space text)) (bare rest)
-  even : (rest : List Part) → even_next (bare (ps ++ rest)) ≡ not (begins_with is_space text)
+  even : (rest : List Part) → next_content_unindented (bare (ps ++ rest)) ≡ not (begins_with is_space text)
   some : (rest : List Part) → has_content (bare (ps ++ rest)) ≡ true
   flush : (rest : List Part) → begins_with is_space text ≡ false → BeginsFlush (ps ++ rest)
 
@@ -134,12 +134,12 @@ twice-content : (twice : Bool) (b : ℕ) (ps : List Part) → has_content (bare 
 twice-content true b ps = refl
 twice-content false b ps = refl
 
-twice-even : (twice : Bool) (b : ℕ) (ps : List Part) → even_next (bare (twice_or_once twice b ++ ps)) ≡ even_next (bare ps)
+twice-even : (twice : Bool) (b : ℕ) (ps : List Part) → next_content_unindented (bare (twice_or_once twice b ++ ps)) ≡ next_content_unindented (bare ps)
 twice-even true b ps = refl
 twice-even false b ps = refl
 
 -- it is doubled exactly where it would be folded, and then its second stays
-twice-reads : (twice after_even : Bool) (b : ℕ) (ps : List Part) → (after_even && b == line_feed && even_next (bare ps)) ≡ twice
+twice-reads : (twice after_even : Bool) (b : ℕ) (ps : List Part) → (after_even && b == line_feed && next_content_unindented (bare ps)) ≡ twice
     → unfolded after_even (bare (twice_or_once twice b ++ ps)) ≡ b ∷ unfolded false (bare ps)
 twice-reads true after_even b ps e = rw e refl
 twice-reads false after_even b ps e = rw e refl
@@ -152,7 +152,7 @@ twice-ends true false b ps s f = absurd (false≢true (f refl))
 twice-ends false some b ps s f = rw s refl
 
 -- a next line is a content
-even-some : (ps : List Part) → next_even ps ≡ true → has_content (bare ps) ≡ true
+even-some : (ps : List Part) → next_line_unindented ps ≡ true → has_content (bare ps) ≡ true
 even-some [] h = cc h
 even-some (line text ∷ rest) h = refl
 even-some (line_break b ∷ rest) h = even-some rest h
@@ -162,7 +162,7 @@ module _ (breaks12 : Bool) (limit : Option ℕ) (indent : ℕ) where
   folded-begins after_even [] h = tt
   folded-begins after_even (line text ∷ rest) h = absurd h
   folded-begins after_even (line_break b ∷ rest) h =
-      twice-begins (after_even && b == line_feed && next_even rest) b (folded_parts limit indent false rest)
+      twice-begins (after_even && b == line_feed && next_line_unindented rest) b (folded_parts limit indent false rest)
 
   -- folded parts are clean
   pub folded-clean : (after_even : Bool) (ps : List Part) → Clean breaks12 ps → Clean breaks12 (folded_parts limit indent after_even ps)
@@ -171,7 +171,8 @@ module _ (breaks12 : Bool) (limit : Option ℕ) (indent : ℕ) where
       let even = not (begins_with is_space text) in
       (line-cut breaks12 limit indent text h.0).clean (folded_parts limit indent even rest) (folded-begins even rest h.1) (folded-clean even rest h.2)
   folded-clean after_even (line_break b ∷ rest) h =
-      twice-clean breaks12 (after_even && b == line_feed && next_even rest) b (folded_parts limit indent false rest) h.0 h.1 (folded-clean false rest h.2)
+      twice-clean breaks12 (after_even && b == line_feed && next_line_unindented rest) b (folded_parts limit indent false rest) h.0 h.1
+      (folded-clean false rest h.2)
 
   -- hold content where the value does
   pub folded-content : (after_even : Bool) (ps : List Part) → Clean breaks12 ps
@@ -180,15 +181,16 @@ module _ (breaks12 : Bool) (limit : Option ℕ) (indent : ℕ) where
   folded-content after_even (line text ∷ rest) h =
       (line-cut breaks12 limit indent text h.0).some (folded_parts limit indent (not (begins_with is_space text)) rest)
   folded-content after_even (line_break b ∷ rest) h =
-      twice-content (after_even && b == line_feed && next_even rest) b (folded_parts limit indent false rest) ∙ folded-content false rest h.2
+      twice-content (after_even && b == line_feed && next_line_unindented rest) b (folded_parts limit indent false rest) ∙ folded-content false rest h.2
 
   -- are followed by a line without a leading blank where the value's are
-  folded-even : (after_even : Bool) (ps : List Part) → Clean breaks12 ps → even_next (bare (folded_parts limit indent after_even ps)) ≡ next_even ps
+  folded-even : (after_even : Bool) (ps : List Part) → Clean breaks12 ps
+      → next_content_unindented (bare (folded_parts limit indent after_even ps)) ≡ next_line_unindented ps
   folded-even after_even [] h = refl
   folded-even after_even (line text ∷ rest) h =
       (line-cut breaks12 limit indent text h.0).even (folded_parts limit indent (not (begins_with is_space text)) rest)
   folded-even after_even (line_break b ∷ rest) h =
-      twice-even (after_even && b == line_feed && next_even rest) b (folded_parts limit indent false rest) ∙ folded-even false rest h.2
+      twice-even (after_even && b == line_feed && next_line_unindented rest) b (folded_parts limit indent false rest) ∙ folded-even false rest h.2
 
   -- read as the value
   pub folded-reads : (after_even : Bool) (ps : List Part) → Clean breaks12 ps
@@ -198,7 +200,7 @@ module _ (breaks12 : Bool) (limit : Option ℕ) (indent : ℕ) where
       let even = not (begins_with is_space text) in
       (line-cut breaks12 limit indent text h.0).reads after_even (folded_parts limit indent even rest) ∙ ap (λ t. text ++ t) (folded-reads even rest h.2)
   folded-reads after_even (line_break b ∷ rest) h =
-      twice-reads (after_even && b == line_feed && next_even rest) after_even b (folded_parts limit indent false rest)
+      twice-reads (after_even && b == line_feed && next_line_unindented rest) after_even b (folded_parts limit indent false rest)
       (ap (λ next. after_even && b == line_feed && next) (folded-even false rest h.2))
       ∙ ap (λ t. b ∷ t) (folded-reads false rest h.2)
 
@@ -210,8 +212,8 @@ module _ (breaks12 : Bool) (limit : Option ℕ) (indent : ℕ) where
       let even = not (begins_with is_space text) in
       (line-cut breaks12 limit indent text h.0).ends (folded_parts limit indent even rest) ∙ folded-ends even rest h.2
   folded-ends after_even (line_break b ∷ rest) h =
-      twice-ends (after_even && b == line_feed && next_even rest) (has_content (bare rest)) b (folded_parts limit indent false rest)
-      (folded-content false rest h.2) (λ e. even-some rest (and_parts (after_even && b == line_feed) (next_even rest) e).1)
+      twice-ends (after_even && b == line_feed && next_line_unindented rest) (has_content (bare rest)) b (folded_parts limit indent false rest)
+      (folded-content false rest h.2) (λ e. even-some rest (and_parts (after_even && b == line_feed) (next_line_unindented rest) e).1)
       ∙ ap (λ t. (if has_content (bare rest) then [] else b ∷ []) ++ t) (folded-ends false rest h.2)
 
   -- and begin with a line that shows the indentation where the value's do

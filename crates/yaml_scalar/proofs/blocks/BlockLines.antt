@@ -6,36 +6,36 @@ use Rattle.std.specs.Prelude.{ℕ, zero, suc, Bool, true, false, List, [], ◌�
 use Rattle.yaml_base.specs.scalars.Analysis.{Charset, allows_block}
 use Rattle.yaml_base.specs.Characters.{Text, is_break, space, line_feed, carriage_return, next_line, line_separator, paragraph_separator}
 use Rattle.yaml_base.specs.Settings.{LineBreak}
-use Rattle.yaml_base.specs.LineBreaks.{is_laid_text, begins_indented, is_indented_text, with_breaks_written, with_line_breaks_read}
+use Rattle.yaml_base.specs.LineBreaks.{is_rendered_text, begins_indented, is_indented_text, with_breaks_written, with_line_breaks_read}
 use Rattle.yaml_base.specs.Cursor.{Cursor}
 use Rattle.yaml_base.specs.scalars.Lines.{Part, line, line_break, parts}
 use Rattle.yaml_base.specs.scalars.BlockHeader.{Ending, without_break, one_break, more_breaks, ending, begins_blank, ending_hint, block_body, Encloses}
 use Rattle.yaml_base.specs.scalars.Literal.{indented, literal_body}
 use Rattle.yaml_base.specs.scalars.Folded.{folded_parts, folded_body}
 use Rattle.yaml_base.specs.reading.ReadBlock.{read_block}
-use Rattle.yaml_base.proofs.BreakLaws.{breaks-round, laid-append, indented-written}
+use Rattle.yaml_base.proofs.BreakLaws.{breaks-round, rendered-append, indented-written}
 use Rattle.yaml_scalar.proofs.blocks.BlockParts.{Ordinary, IsLine, Clean, parts-clean}
 use Rattle.yaml_scalar.proofs.blocks.BlockFolds.{folded-clean}
-use Rattle.yaml_scalar.proofs.blocks.BlockReads.{allowed-ordinary, digit_text, sign_of, block-text, literal-reads, folded-read}
+use Rattle.yaml_scalar.proofs.blocks.BlockReads.{allowed-ordinary, digit_text, block_indicator_of, block-text, literal-reads, folded-read}
 
--- an ordinary character may stand in a laid text
-ordinary-laid : (breaks12 : Bool) (c : ℕ) → Ordinary breaks12 c → not (c == carriage_return || c == next_line) ≡ true
-ordinary-laid breaks12 c o = not_from_false (c == carriage_return || c == next_line) (or_from _ _ o.no_return o.no_next_line)
+-- an ordinary character may stand in a rendered text
+ordinary-rendered : (breaks12 : Bool) (c : ℕ) → Ordinary breaks12 c → not (c == carriage_return || c == next_line) ≡ true
+ordinary-rendered breaks12 c o = not_from_false (c == carriage_return || c == next_line) (or_from _ _ o.no_return o.no_next_line)
 
-line-laid : (breaks12 : Bool) (text : Text) → IsLine breaks12 text → is_laid_text text ≡ true
-line-laid breaks12 [] h = refl
-line-laid breaks12 (c ∷ rest) h = and_from _ _ (ordinary-laid breaks12 c h.0) (line-laid breaks12 rest h.2)
+line-rendered : (breaks12 : Bool) (text : Text) → IsLine breaks12 text → is_rendered_text text ≡ true
+line-rendered breaks12 [] h = refl
+line-rendered breaks12 (c ∷ rest) h = and_from _ _ (ordinary-rendered breaks12 c h.0) (line-rendered breaks12 rest h.2)
 
-spaces-laid : (n : ℕ) → is_laid_text (replicate n space) ≡ true
-spaces-laid zero = refl
-spaces-laid (suc n) = spaces-laid n
+spaces-rendered : (n : ℕ) → is_rendered_text (replicate n space) ≡ true
+spaces-rendered zero = refl
+spaces-rendered (suc n) = spaces-rendered n
 
-lines-laid : (breaks12 : Bool) (indent : ℕ) (ps : List Part) → Clean breaks12 ps → is_laid_text (indented indent ps) ≡ true
-lines-laid breaks12 indent [] h = refl
-lines-laid breaks12 indent (line text ∷ rest) h =
-    laid-append (replicate indent space ++ text) (indented indent rest)
-    (laid-append (replicate indent space) text (spaces-laid indent) (line-laid breaks12 text h.0)) (lines-laid breaks12 indent rest h.2)
-lines-laid breaks12 indent (line_break b ∷ rest) h = and_from _ _ (ordinary-laid breaks12 b h.0) (lines-laid breaks12 indent rest h.2)
+lines-rendered : (breaks12 : Bool) (indent : ℕ) (ps : List Part) → Clean breaks12 ps → is_rendered_text (indented indent ps) ≡ true
+lines-rendered breaks12 indent [] h = refl
+lines-rendered breaks12 indent (line text ∷ rest) h =
+    rendered-append (replicate indent space ++ text) (indented indent rest)
+    (rendered-append (replicate indent space) text (spaces-rendered indent) (line-rendered breaks12 text h.0)) (lines-rendered breaks12 indent rest h.2)
+lines-rendered breaks12 indent (line_break b ∷ rest) h = and_from _ _ (ordinary-rendered breaks12 b h.0) (lines-rendered breaks12 indent rest h.2)
 
 -- a text without a break, before another
 line-indented : (breaks12 : Bool) (text rest : Text) → IsLine breaks12 text → is_indented_text rest ≡ true → is_indented_text (text ++ rest) ≡ true
@@ -65,8 +65,9 @@ lines-indented breaks12 less (line text ∷ rest) h =
 lines-indented breaks12 less (line_break b ∷ rest) h =
     and_from _ _ (or_right _ _ (lines-begin breaks12 less rest h.2)) (lines-indented breaks12 less rest h.2)
 
-digit-laid : (n : ℕ) → n ≤ 9 → not ((48 + n) == carriage_return || (48 + n) == next_line) ≡ true
-digit-laid n high = not_from_false _ (or_from _ _ (ne_eqb (48 + n) carriage_return (λ e. omega (arith, e))) (ne_eqb (48 + n) next_line (λ e. omega (arith, e))))
+digit-rendered : (n : ℕ) → n ≤ 9 → not ((48 + n) == carriage_return || (48 + n) == next_line) ≡ true
+digit-rendered n high =
+    not_from_false _ (or_from _ _ (ne_eqb (48 + n) carriage_return (λ e. omega (arith, e))) (ne_eqb (48 + n) next_line (λ e. omega (arith, e))))
 
 digit-unbroken : (n : ℕ) → n ≤ 9 → is_break (48 + n) ≡ false
 digit-unbroken n high =
@@ -75,22 +76,22 @@ digit-unbroken n high =
     (ne_eqb (48 + n) next_line (λ e. omega (arith, e)))) (ne_eqb (48 + n) line_separator (λ e. omega (arith, e))))
     (ne_eqb (48 + n) paragraph_separator (λ e. omega (arith, e)))
 
-hint-laid : (e : Ending) → is_laid_text (ending_hint e) ≡ true
-hint-laid without_break = refl
-hint-laid one_break = refl
-hint-laid more_breaks = refl
+hint-rendered : (e : Ending) → is_rendered_text (ending_hint e) ≡ true
+hint-rendered without_break = refl
+hint-rendered one_break = refl
+hint-rendered more_breaks = refl
 
-digit-text-laid : (blank : Bool) (n : ℕ) → n ≤ 9 → is_laid_text (digit_text blank n) ≡ true
-digit-text-laid true n high = and_from _ _ (digit-laid n high) refl
-digit-text-laid false n high = refl
+digit-text-rendered : (blank : Bool) (n : ℕ) → n ≤ 9 → is_rendered_text (digit_text blank n) ≡ true
+digit-text-rendered true n high = and_from _ _ (digit-rendered n high) refl
+digit-text-rendered false n high = refl
 
--- the header before laid lines
-header-laid : (folded blank : Bool) (e : Ending) (n : ℕ) (lines : Text) → n ≤ 9 → is_laid_text lines ≡ true
-    → is_laid_text (sign_of folded ∷ ((digit_text blank n ++ ending_hint e) ++ line_feed ∷ lines)) ≡ true
-header-laid true blank e n lines high h = laid-append (digit_text blank n ++ ending_hint e) (line_feed ∷ lines)
-    (laid-append (digit_text blank n) (ending_hint e) (digit-text-laid blank n high) (hint-laid e)) h
-header-laid false blank e n lines high h = laid-append (digit_text blank n ++ ending_hint e) (line_feed ∷ lines)
-    (laid-append (digit_text blank n) (ending_hint e) (digit-text-laid blank n high) (hint-laid e)) h
+-- the header before rendered lines
+header-rendered : (folded blank : Bool) (e : Ending) (n : ℕ) (lines : Text) → n ≤ 9 → is_rendered_text lines ≡ true
+    → is_rendered_text (block_indicator_of folded ∷ ((digit_text blank n ++ ending_hint e) ++ line_feed ∷ lines)) ≡ true
+header-rendered true blank e n lines high h = rendered-append (digit_text blank n ++ ending_hint e) (line_feed ∷ lines)
+    (rendered-append (digit_text blank n) (ending_hint e) (digit-text-rendered blank n high) (hint-rendered e)) h
+header-rendered false blank e n lines high h = rendered-append (digit_text blank n ++ ending_hint e) (line_feed ∷ lines)
+    (rendered-append (digit_text blank n) (ending_hint e) (digit-text-rendered blank n high) (hint-rendered e)) h
 
 -- the header's break is the first, so the lines after it begin with two spaces
 hint-indented : (e : Ending) (rest : Text) → is_indented_text rest ≡ true → is_indented_text (ending_hint e ++ rest) ≡ true
@@ -102,31 +103,31 @@ digit-indented : (blank : Bool) (n : ℕ) (rest : Text) → n ≤ 9 → is_inden
 digit-indented true n rest high h = rw (digit-unbroken n high) h
 digit-indented false n rest high h = h
 
-sign-indented : (folded : Bool) (rest : Text) → is_indented_text rest ≡ true → is_indented_text (sign_of folded ∷ rest) ≡ true
-sign-indented true rest h = h
-sign-indented false rest h = h
+symbol-indented : (folded : Bool) (rest : Text) → is_indented_text rest ≡ true → is_indented_text (block_indicator_of folded ∷ rest) ≡ true
+symbol-indented true rest h = h
+symbol-indented false rest h = h
 
 header-indented : (folded blank : Bool) (e : Ending) (n : ℕ) (lines : Text) → n ≤ 9 → begins_indented lines ≡ true → is_indented_text lines ≡ true
-    → is_indented_text (sign_of folded ∷ ((digit_text blank n ++ ending_hint e) ++ line_feed ∷ lines)) ≡ true
+    → is_indented_text (block_indicator_of folded ∷ ((digit_text blank n ++ ending_hint e) ++ line_feed ∷ lines)) ≡ true
 header-indented folded blank e n lines high b h =
-    sign-indented folded ((digit_text blank n ++ ending_hint e) ++ line_feed ∷ lines)
+    symbol-indented folded ((digit_text blank n ++ ending_hint e) ++ line_feed ∷ lines)
     (ap is_indented_text (append_assoc (digit_text blank n) (ending_hint e) (line_feed ∷ lines))
     ∙ digit-indented blank n (ending_hint e ++ line_feed ∷ lines) high (hint-indented e (line_feed ∷ lines) (and_from _ _ b h)))
 
 -- a body of clean lines
-body-laid : (breaks12 folded : Bool) (indent best_indent : ℕ) (value : Text) (ps : List Part) (cursor : Cursor) → best_indent ≤ 9 → Clean breaks12 ps
-    → is_laid_text (block_body (sign_of folded) best_indent value (indented indent ps) cursor).text ≡ true
-body-laid breaks12 folded indent best_indent value ps cursor high clean =
-    ap is_laid_text (block-text (sign_of folded) best_indent value (indented indent ps) cursor)
-    ∙ header-laid folded (begins_blank value) (ending value) best_indent (indented indent ps) high (lines-laid breaks12 indent ps clean)
+body-rendered : (breaks12 folded : Bool) (indent best_indent : ℕ) (value : Text) (ps : List Part) (cursor : Cursor) → best_indent ≤ 9 → Clean breaks12 ps
+    → is_rendered_text (block_body (block_indicator_of folded) best_indent value (indented indent ps) cursor).text ≡ true
+body-rendered breaks12 folded indent best_indent value ps cursor high clean =
+    ap is_rendered_text (block-text (block_indicator_of folded) best_indent value (indented indent ps) cursor)
+    ∙ header-rendered folded (begins_blank value) (ending value) best_indent (indented indent ps) high (lines-rendered breaks12 indent ps clean)
 
 body-indented : (breaks12 folded : Bool) (indent best_indent : ℕ) (value : Text) (ps : List Part) (cursor : Cursor) → best_indent ≤ 9 → 2 ≤ indent
     → Clean breaks12 ps
-    → is_indented_text (block_body (sign_of folded) best_indent value (indented indent ps) cursor).text ≡ true
+    → is_indented_text (block_body (block_indicator_of folded) best_indent value (indented indent ps) cursor).text ≡ true
 body-indented breaks12 folded zero best_indent value ps cursor high low clean = absurd (omega arith)
 body-indented breaks12 folded (suc zero) best_indent value ps cursor high low clean = absurd (omega arith)
 body-indented breaks12 folded (suc (suc less)) best_indent value ps cursor high low clean =
-    ap is_indented_text (block-text (sign_of folded) best_indent value (indented (suc (suc less)) ps) cursor)
+    ap is_indented_text (block-text (block_indicator_of folded) best_indent value (indented (suc (suc less)) ps) cursor)
     ∙ header-indented folded (begins_blank value) (ending value) best_indent (indented (suc (suc less)) ps) high
     (lines-begin breaks12 less ps clean) (lines-indented breaks12 less ps clean)
 
@@ -136,21 +137,21 @@ pub record IsBlockText (breaks12 : Bool) (column : Option ℕ) (setting : LineBr
   pub reads : read_block breaks12 column (with_line_breaks_read (with_breaks_written setting body)) ≡ Some value
   pub indented : is_indented_text (with_breaks_written setting body) ≡ true
 
-block-kept : (breaks12 : Bool) (column : Option ℕ) (setting : LineBreak) (value body : Text) → is_laid_text body ≡ true → is_indented_text body ≡ true
+block-kept : (breaks12 : Bool) (column : Option ℕ) (setting : LineBreak) (value body : Text) → is_rendered_text body ≡ true → is_indented_text body ≡ true
     → read_block breaks12 column body ≡ Some value → IsBlockText breaks12 column setting value body
-block-kept breaks12 column setting value body laid lines reads = record {
-  reads = rw (breaks-round setting body laid) reads;
+block-kept breaks12 column setting value body rendered lines reads = record {
+  reads = rw (breaks-round setting body rendered) reads;
   indented = indented-written setting body lines;
 }
 
 module _ (charset : Charset) (value : Text) (allowed : allows_block charset value ≡ true) (indent best_indent : ℕ)
     (low : 2 ≤ best_indent) (high : best_indent ≤ 9) (above : best_indent ≤ indent) (cursor : Cursor) where
-  pub literal-laid : is_laid_text (literal_body indent best_indent value cursor).text ≡ true
-  literal-laid = body-laid charset.breaks12 false indent best_indent value (parts value) cursor high
+  pub literal-rendered : is_rendered_text (literal_body indent best_indent value cursor).text ≡ true
+  literal-rendered = body-rendered charset.breaks12 false indent best_indent value (parts value) cursor high
       (parts-clean charset.breaks12 value (allowed-ordinary charset value allowed))
 
-  pub folded-laid : (limit : Option ℕ) → is_laid_text (folded_body limit indent best_indent value cursor).text ≡ true
-  folded-laid limit = body-laid charset.breaks12 true indent best_indent value (folded_parts limit indent false (parts value)) cursor high
+  pub folded-rendered : (limit : Option ℕ) → is_rendered_text (folded_body limit indent best_indent value cursor).text ≡ true
+  folded-rendered limit = body-rendered charset.breaks12 true indent best_indent value (folded_parts limit indent false (parts value)) cursor high
       (folded-clean charset.breaks12 limit indent false (parts value) (parts-clean charset.breaks12 value (allowed-ordinary charset value allowed)))
 
   pub literal-indented : is_indented_text (literal_body indent best_indent value cursor).text ≡ true
@@ -165,12 +166,12 @@ module _ (charset : Charset) (value : Text) (allowed : allows_block charset valu
   pub literal-kept : (column : Option ℕ) → Encloses indent best_indent column → (setting : LineBreak)
       → IsBlockText charset.breaks12 column setting value (literal_body indent best_indent value cursor).text
   literal-kept column enclosing setting =
-      block-kept charset.breaks12 column setting value (literal_body indent best_indent value cursor).text literal-laid literal-indented
+      block-kept charset.breaks12 column setting value (literal_body indent best_indent value cursor).text literal-rendered literal-indented
       (literal-reads charset value allowed indent best_indent low high above column enclosing cursor)
 
   -- and a folded body
   pub folded-kept : (limit : Option ℕ) (column : Option ℕ) → Encloses indent best_indent column → (setting : LineBreak)
       → IsBlockText charset.breaks12 column setting value (folded_body limit indent best_indent value cursor).text
   folded-kept limit column enclosing setting =
-      block-kept charset.breaks12 column setting value (folded_body limit indent best_indent value cursor).text (folded-laid limit) (folded-indented limit)
+      block-kept charset.breaks12 column setting value (folded_body limit indent best_indent value cursor).text (folded-rendered limit) (folded-indented limit)
       (folded-read charset value allowed indent best_indent low high above column enclosing cursor limit)

@@ -6,7 +6,8 @@ use Rattle.yaml_base.specs.Characters.{Text, is_break, is_blank, is_space, space
 use Rattle.yaml_base.specs.LineBreaks.{is_read_break}
 use Rattle.yaml_base.specs.scalars.Lines.{Part, line, line_break, begun, parts}
 use Rattle.yaml_base.specs.scalars.Literal.{indented}
-use Rattle.yaml_base.specs.reading.ReadBlock.{Element, content, line_end, elements, extended, joined, leading_spaces, detected, unindented, all_unindented}
+use Rattle.yaml_base.specs.reading.ReadBlock.{Element, content, line_end, elements, prepend_to_elements, joined, leading_spaces, detected_indentation}
+use Rattle.yaml_base.specs.reading.ReadBlock.{unindented, all_unindented}
 
 -- a character that a writer and a reader take for the same: a break or not, a space or no blank;
 -- and no break that reads as another
@@ -103,24 +104,25 @@ spaces-unbroken breaks12 zero text h = h
 spaces-unbroken true (suc n) text h = (refl, spaces-unbroken true n text h)
 spaces-unbroken false (suc n) text h = (refl, spaces-unbroken false n text h)
 
-extended-alone : (c : ℕ) (es : List Element) → NoContentFirst es → extended c es ≡ content (c ∷ []) ∷ es
-extended-alone c [] h = refl
-extended-alone c (content text ∷ rest) h = absurd h
-extended-alone c (line_end b ∷ rest) h = refl
+prepend_to_elements-alone : (c : ℕ) (es : List Element) → NoContentFirst es → prepend_to_elements c es ≡ content (c ∷ []) ∷ es
+prepend_to_elements-alone c [] h = refl
+prepend_to_elements-alone c (content text ∷ rest) h = absurd h
+prepend_to_elements-alone c (line_end b ∷ rest) h = refl
 
-element-unbroken : (breaks12 : Bool) (c : ℕ) (es : List Element) (b : Bool) → b ≡ false → (if b then line_end c ∷ es else extended c es) ≡ extended c es
+element-unbroken : (breaks12 : Bool) (c : ℕ) (es : List Element) (b : Bool) → b ≡ false
+    → (if b then line_end c ∷ es else prepend_to_elements c es) ≡ prepend_to_elements c es
 element-unbroken breaks12 c es b e = rw e refl
 
 -- a text without a break, and then one that doesn't begin with a content
 elements-unbroken : (breaks12 : Bool) (c : ℕ) (text rest : Text) → Unbroken breaks12 (c ∷ text) → NoContentFirst (elements breaks12 rest)
     → elements breaks12 (c ∷ (text ++ rest)) ≡ content (c ∷ text) ∷ elements breaks12 rest
 elements-unbroken breaks12 c [] rest h apart =
-    element-unbroken breaks12 c (elements breaks12 rest) (is_read_break breaks12 c) h.0 ∙ extended-alone c (elements breaks12 rest) apart
+    element-unbroken breaks12 c (elements breaks12 rest) (is_read_break breaks12 c) h.0 ∙ prepend_to_elements-alone c (elements breaks12 rest) apart
 elements-unbroken breaks12 c (d ∷ text) rest h apart =
     element-unbroken breaks12 c (elements breaks12 (d ∷ (text ++ rest))) (is_read_break breaks12 c) h.0
-    ∙ ap (extended c) (elements-unbroken breaks12 d text rest h.1 apart)
+    ∙ ap (prepend_to_elements c) (elements-unbroken breaks12 d text rest h.1 apart)
 
-element-broken : (c : ℕ) (es : List Element) (b : Bool) → b ≡ true → (if b then line_end c ∷ es else extended c es) ≡ line_end c ∷ es
+element-broken : (c : ℕ) (es : List Element) (b : Bool) → b ≡ true → (if b then line_end c ∷ es else prepend_to_elements c es) ≡ line_end c ∷ es
 element-broken c es b e = rw e refl
 
 -- a reader cuts indented clean parts where they were joined
@@ -159,8 +161,9 @@ leading-spaces zero (c ∷ rest) h = rw h refl
 leading-spaces (suc n) text h = ap suc (leading-spaces n text h)
 
 -- where no digit tells the indentation, the first line shows it
-pub detected-shifted : (n : ℕ) (ps : List Part) → BeginsFlush ps → all_unindented (detected (shifted n ps)) (shifted n ps) ≡ Some (bare ps)
-detected-shifted n [] h = refl
-detected-shifted n (line text ∷ rest) h =
+pub detected_indentation-shifted : (n : ℕ) (ps : List Part) → BeginsFlush ps
+    → all_unindented (detected_indentation (shifted n ps)) (shifted n ps) ≡ Some (bare ps)
+detected_indentation-shifted n [] h = refl
+detected_indentation-shifted n (line text ∷ rest) h =
     ap (λ k. all_unindented k (shifted n (line text ∷ rest))) (leading-spaces n text h) ∙ unindented-shifted n (line text ∷ rest)
-detected-shifted n (line_break b ∷ rest) h = absurd h
+detected_indentation-shifted n (line_break b ∷ rest) h = absurd h

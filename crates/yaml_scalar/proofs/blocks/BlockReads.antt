@@ -8,14 +8,14 @@ use Rattle.yaml_base.specs.Characters.{Text, is_break, is_ascii, is_printable, i
 use Rattle.yaml_base.specs.Characters.{line_separator, paragraph_separator}
 use Rattle.yaml_base.specs.Cursor.{Cursor}
 use Rattle.yaml_base.specs.scalars.Lines.{Part, line, line_break, begun, parts}
-use Rattle.yaml_base.specs.scalars.BlockHeader.{Ending, without_break, one_break, more_breaks, ending, begins_blank, indentation_hint, ending_hint, hint_laid}
+use Rattle.yaml_base.specs.scalars.BlockHeader.{Ending, without_break, one_break, more_breaks, ending, begins_blank, indentation_hint, ending_hint, render_hint}
 use Rattle.yaml_base.specs.scalars.BlockHeader.{block_body, Encloses}
 use Rattle.yaml_base.specs.scalars.Literal.{indented, literal_body}
 use Rattle.yaml_base.specs.scalars.Folded.{folded_parts, folded_body}
 use Rattle.yaml_base.specs.reading.ReadBlock.{elements, unfolded, has_content, kept_lines, final_ends, read_indentation, all_unindented, chomped, lines_read}
 use Rattle.yaml_base.specs.reading.ReadBlock.{read_lines, digit_first, after_digit, read_block}
 use Rattle.yaml_scalar.proofs.blocks.BlockParts.{Ordinary, AllOrdinary, Clean, BeginsFlush, bare, shifted, parts-clean, joined-parts, elements-indented}
-use Rattle.yaml_scalar.proofs.blocks.BlockParts.{unindented-shifted, detected-shifted}
+use Rattle.yaml_scalar.proofs.blocks.BlockParts.{unindented-shifted, detected_indentation-shifted}
 use Rattle.yaml_scalar.proofs.blocks.BlockFinal.{ends-parts, chomping_of, chomped-ends, joined-kept, unfolded-kept}
 use Rattle.yaml_scalar.proofs.blocks.BlockFolds.{folded-clean, folded-content, folded-reads, folded-ends, folded-flush}
 
@@ -68,16 +68,17 @@ allowed-ordinary charset value h =
     ordinary-somewhere charset value parts.1
 
 -- the text of a hint
-hint-text : (hint : Text) (cursor : Cursor) → (hint_laid hint cursor).text ≡ hint
+hint-text : (hint : Text) (cursor : Cursor) → (render_hint hint cursor).text ≡ hint
 hint-text [] cursor = refl
 hint-text (c ∷ rest) cursor = refl
 
 -- the text of a header, and the lines after it
-pub block-text : (sign best_indent : ℕ) (value lines : Text) (cursor : Cursor)
-    → (block_body sign best_indent value lines cursor).text ≡ sign ∷ ((indentation_hint best_indent value ++ ending_hint (ending value)) ++ line_feed ∷ lines)
-block-text sign best_indent value lines cursor =
+pub block-text : (symbol best_indent : ℕ) (value lines : Text) (cursor : Cursor)
+    → (block_body symbol best_indent value lines cursor).text ≡ symbol ∷ ((indentation_hint best_indent value ++ ending_hint
+    (ending value)) ++ line_feed ∷ lines)
+block-text symbol best_indent value lines cursor =
     rw (hint-text (indentation_hint best_indent value), hint-text (ending_hint (ending value)))
-    (ap (λ t. sign ∷ t) (append_assoc (indentation_hint best_indent value ++ ending_hint (ending value)) (line_feed ∷ []) lines))
+    (ap (λ t. symbol ∷ t) (append_assoc (indentation_hint best_indent value ++ ending_hint (ending value)) (line_feed ∷ []) lines))
 
 -- the digit of an indent of 2 to 9
 is-digit : (n : ℕ) → 2 ≤ n → n ≤ 9 → is_between 49 57 (48 + n) ≡ true
@@ -98,12 +99,12 @@ digit_of blank best_indent = if blank then Some best_indent else None
 abbrev pub digit_text : Bool → ℕ → Text
 digit_text blank best_indent = if blank then (48 + best_indent) ∷ [] else []
 
-abbrev pub sign_of : Bool → ℕ
-sign_of folded = if folded then 62 else 124
+abbrev pub block_indicator_of : Bool → ℕ
+block_indicator_of folded = if folded then 62 else 124
 
 -- the reader takes from a header what it says
 read-header : (breaks12 folded blank : Bool) (e : Ending) (best_indent : ℕ) (column : Option ℕ) (lines : Text) → 2 ≤ best_indent → best_indent ≤ 9
-    → read_block breaks12 column (sign_of folded ∷ ((digit_text blank best_indent ++ ending_hint e) ++ line_feed ∷ lines))
+    → read_block breaks12 column (block_indicator_of folded ∷ ((digit_text blank best_indent ++ ending_hint e) ++ line_feed ∷ lines))
     ≡ read_lines folded (chomping_of e) (digit_of blank best_indent) column (elements breaks12 lines)
 read-header breaks12 true true without_break n column lines low high = rw
     (digit-read n (45 ∷ line_feed ∷ lines) low high, digit-passed n (45 ∷ line_feed ∷ lines) low high) refl
@@ -130,8 +131,8 @@ unindented-lines : (blank : Bool) (indent best_indent : ℕ) (column : Option �
     → all_unindented (read_indentation (digit_of blank best_indent) column (shifted indent ps)) (shifted indent ps) ≡ Some (bare ps)
 unindented-lines true indent best_indent None ps e f = rw (sym e) (unindented-shifted indent ps)
 unindented-lines true indent best_indent (Some column) ps e f = rw (sym e) (unindented-shifted indent ps)
-unindented-lines false indent best_indent None ps e f = detected-shifted indent ps (f refl)
-unindented-lines false indent best_indent (Some column) ps e f = detected-shifted indent ps (f refl)
+unindented-lines false indent best_indent None ps e f = detected_indentation-shifted indent ps (f refl)
+unindented-lines false indent best_indent (Some column) ps e f = detected_indentation-shifted indent ps (f refl)
 
 -- a value's first character says whether its first line shows the read_indentation
 flush-parts : (c : ℕ) (rest : Text) → begins_blank (c ∷ rest) ≡ false → BeginsFlush (parts (c ∷ rest))
@@ -157,11 +158,11 @@ flush-value (c ∷ rest) h = flush-parts c rest h
 block-reads : (breaks12 folded : Bool) (indent best_indent : ℕ) (column : Option ℕ) (value : Text) (ps : List Part) (cursor : Cursor)
     → 2 ≤ best_indent → best_indent ≤ 9 → 1 ≤ indent → Encloses indent best_indent column
     → Clean breaks12 ps → (begins_blank value ≡ false → BeginsFlush ps)
-    → read_block breaks12 column (block_body (sign_of folded) best_indent value (indented indent ps) cursor).text
+    → read_block breaks12 column (block_body (block_indicator_of folded) best_indent value (indented indent ps) cursor).text
     ≡ Some (lines_read folded (chomping_of (ending value)) (bare ps))
 block-reads breaks12 folded zero best_indent column value ps cursor low high positive e clean flush = absurd (omega arith)
 block-reads breaks12 folded (suc less) best_indent column value ps cursor low high positive e clean flush =
-    ap (read_block breaks12 column) (block-text (sign_of folded) best_indent value (indented (suc less) ps) cursor)
+    ap (read_block breaks12 column) (block-text (block_indicator_of folded) best_indent value (indented (suc less) ps) cursor)
     ∙ read-header breaks12 folded (begins_blank value) (ending value) best_indent column (indented (suc less) ps) low high
     ∙ ap (read_lines folded (chomping_of (ending value)) (digit_of (begins_blank value) best_indent) column) (elements-indented breaks12 less ps clean)
     ∙ ap (option_map (lines_read folded (chomping_of (ending value)))) (unindented-lines (begins_blank value) (suc less) best_indent column ps e flush)

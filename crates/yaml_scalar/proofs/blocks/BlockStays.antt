@@ -1,14 +1,15 @@
--- What stays in a block scalar's line is laid out as itself.
+-- What stays in a block scalar's line is rendered as itself.
 use Rattle.std.proofs.Common.{◌≡◌, refl, ap, sym, ◌∙◌}
 use Rattle.std.specs.Prelude.{ℕ, Bool, true, false, not, Option, Ok, [], ◌∷◌, if◌then◌else◌}
 use Rattle.yaml_base.specs.scalars.Analysis.{begins_with}
 use Rattle.yaml_base.specs.Characters.{Text, is_break, is_space}
-use Rattle.yaml_base.specs.Cursor.{Cursor, Laid, text_laid, then_laid, with_flags}
-use Rattle.yaml_base.specs.scalars.Folded.{folds, is_past}
+use Rattle.yaml_base.specs.Cursor.{Cursor, Rendered, render_text, render_then, with_flags}
+use Rattle.yaml_base.specs.scalars.Folded.{folds, is_past_limit}
 use Rattle.yaml_pen.proofs.Composing.{wrote_all}
 use Rattle.yaml_pen.specs.Page.{Page}
 use Rattle.yaml_pen.specs.Wrote.{Wrote}
-use Rattle.yaml_scalar.specs.BlockSteps.{content_laid, end_laid, folded_laid, inner_laid, is_doubled, lines_from, place_after, stays_at, step_laid, within}
+use Rattle.yaml_scalar.specs.BlockSteps.{render_content, render_end, render_folded, render_inner, is_doubled, lines_from, place_after, stays_at}
+use Rattle.yaml_scalar.specs.BlockSteps.{render_step, within}
 use Rattle.yaml_scalar.specs.WholeRuns.{has_limit}
 use Rattle.yaml_scalar.specs.declared.block_lines.Place.{Place}
 use Rattle.yaml_scalar.specs.declared.block_lines.Place.TheVariants.{LineStart, Folding, Fixed}
@@ -24,31 +25,32 @@ stays_unbroken limit Fixed c h = line.stays_unbroken false false c h
 
 -- behind a character of a line indentation is off
 inner_off : (limit : Option ℕ) (indent : ℕ) (place : Place) (c : ℕ) (rest : Text) (cursor : Cursor)
-    → (inner_laid limit indent place c rest cursor).cursor.indention ≡ false
+    → (render_inner limit indent place c rest cursor).cursor.indention ≡ false
 inner_off limit indent LineStart c rest cursor = refl
 inner_off limit indent Folding c rest cursor = by (folds limit cursor.column c rest)
   where
-    by : (fold : Bool) → (folded_laid fold indent c cursor).cursor.indention ≡ false
+    by : (fold : Bool) → (render_folded fold indent c cursor).cursor.indention ≡ false
     by true = refl
     by false = refl
 inner_off limit indent Fixed c rest cursor = refl
 
 step_off : (folded : Bool) (limit : Option ℕ) (indent : ℕ) (place : Place) (c : ℕ) (rest : Text) (cursor : Cursor) (d : ℕ)
-    → stays_at limit (place_after folded place c) d ≡ true → (step_laid limit indent place c rest cursor).cursor.indention ≡ false
+    → stays_at limit (place_after folded place c) d ≡ true → (render_step limit indent place c rest cursor).cursor.indention ≡ false
 step_off folded limit indent place c rest cursor d = by (is_break c)
   where
     by : (b : Bool) → stays_at limit (if b then LineStart else within folded place c) d ≡ true
-        → (if b then end_laid (is_doubled place c rest) c cursor else inner_laid limit indent place c rest cursor).cursor.indention ≡ false
+        → (if b then render_end (is_doubled place c rest) c cursor else render_inner limit indent place c rest cursor).cursor.indention ≡ false
     by true h = cc
     by false h = inner_off limit indent place c rest cursor
 
--- there a character that stays is laid out as itself
+-- there a character that stays is rendered as itself
 inner_kept : (limit : Option ℕ) (indent : ℕ) (place : Place) (c : ℕ) (rest : Text) (cursor : Cursor)
-    → stays_at limit place c ≡ true → inner_laid limit indent place c rest cursor ≡ content_laid c cursor
+    → stays_at limit place c ≡ true → render_inner limit indent place c rest cursor ≡ render_content c cursor
 inner_kept limit indent LineStart c rest cursor h = cc
 inner_kept limit indent Folding c rest cursor h =
-    ap (λ b. folded_laid b indent c cursor)
-    (no_fold (λ l. is_past l cursor.column) refl (is_space c) (not (begins_with is_space rest)) limit (line.stays_parts (has_limit limit) false c h).no_fold)
+    ap (λ b. render_folded b indent c cursor)
+    (no_fold (λ l. is_past_limit l cursor.column) refl (is_space c) (not (begins_with is_space rest)) limit
+    (line.stays_parts (has_limit limit) false c h).no_fold)
 inner_kept limit indent Fixed c rest cursor h = refl
 
 stays_within : (folded : Bool) (limit : Option ℕ) (place : Place) (c d : ℕ) → stays_at limit place d ≡ true → within folded place c ≡ place
@@ -58,18 +60,18 @@ stays_within folded limit Fixed c d h = refl
 
 stands_at : (folded : Bool) (limit : Option ℕ) (indent : ℕ) (place : Place) (c : ℕ) (rest : Text) (cursor : Cursor)
     → stays_at limit place c ≡ true → cursor.indention ≡ false
-    → lines_from folded limit indent place (c ∷ rest) cursor ≡ then_laid (text_laid (c ∷ []) cursor) (lines_from folded limit indent place rest)
+    → lines_from folded limit indent place (c ∷ rest) cursor ≡ render_then (render_text (c ∷ []) cursor) (lines_from folded limit indent place rest)
 stands_at folded limit indent place c rest cursor h off =
-    ap (λ (b : Bool). then_laid (if b then end_laid (is_doubled place c rest) c cursor else inner_laid limit indent place c rest cursor)
+    ap (λ (b : Bool). render_then (if b then render_end (is_doubled place c rest) c cursor else render_inner limit indent place c rest cursor)
     (lines_from folded limit indent (if b then LineStart else within folded place c) rest)) (stays_unbroken limit place c h)
-    ∙ ap (λ (p : Place). then_laid (inner_laid limit indent place c rest cursor) (lines_from folded limit indent p rest))
+    ∙ ap (λ (p : Place). render_then (render_inner limit indent place c rest cursor) (lines_from folded limit indent p rest))
     (stays_within folded limit place c c h)
-    ∙ ap (λ (l : Laid). then_laid l (lines_from folded limit indent place rest)) (inner_kept limit indent place c rest cursor h)
-    ∙ ap (λ (b : Bool). then_laid (with_flags cursor.whitespace b (text_laid (c ∷ []) cursor)) (lines_from folded limit indent place rest)) (sym off)
+    ∙ ap (λ (l : Rendered). render_then l (lines_from folded limit indent place rest)) (inner_kept limit indent place c rest cursor h)
+    ∙ ap (λ (b : Bool). render_then (with_flags cursor.whitespace b (render_text (c ∷ []) cursor)) (lines_from folded limit indent place rest)) (sym off)
 
 -- so it stands for itself behind a step
 pub block_alone : (folded : Bool) (limit : Option ℕ) (indent : ℕ) (place placed : Place) (c : ℕ) (rest : Text) {here after : Page}
-    → placed ≡ place_after folded place c → Wrote (step_laid limit indent place c rest) here after (Ok tt)
+    → placed ≡ place_after folded place c → Wrote (render_step limit indent place c rest) here after (Ok tt)
     → StandAlone (λ before. lines_from folded limit indent placed) (stays_at limit placed) after.cursor
 block_alone folded limit indent place placed c rest {here} {after} is wrote =
     record {

@@ -1,18 +1,18 @@
--- Lines laid out character by character, as code writes them, are the literal and the folded layout.
+-- Lines rendered character by character, as code writes them, are the literal and the folded layout.
 use Rattle.std.proofs.Common.{◌≡◌, ◌≤◌, refl, sym, ap, ◌∙◌, append_assoc, arith, inl, inr}
 use Rattle.std.proofs.lemmas.Bool.{cases_Bool, and_right, or_from, le-ltb, or_parts, ltb-false}
 use Rattle.std.specs.Prelude.{ℕ, zero, suc, Bool, true, false, List, [], ◌∷◌, ◌++◌, ◌==◌, ◌&&◌, ◌||◌, ◌+◌, ◌-◌, not, Option, replicate, nat_lt, if◌then◌else◌}
 use Rattle.yaml_base.specs.Characters.{Text, is_break, space, line_feed}
-use Rattle.yaml_base.specs.Cursor.{Cursor, Laid, first_cursor, then_laid, next_column, column_after, breaks_line, new_line}
+use Rattle.yaml_base.specs.Cursor.{Cursor, Rendered, first_cursor, render_then, next_column, column_after, breaks_line, new_line}
 use Rattle.yaml_base.specs.scalars.Lines.{Part, line, line_break, begun, parts}
-use Rattle.yaml_base.specs.scalars.BlockHeader.{without_break, one_break, more_breaks, ending, ends_in_break, lines_laid}
+use Rattle.yaml_base.specs.scalars.BlockHeader.{without_break, one_break, more_breaks, ending, ends_in_break, render_lines}
 use Rattle.yaml_base.specs.scalars.Literal.{indented}
 use Rattle.yaml_scalar.specs.declared.block_lines.Place.{Place}
 use Rattle.yaml_scalar.specs.declared.block_lines.Place.TheVariants.{LineStart, Folding, Fixed}
-use Rattle.yaml_scalar.specs.BlockSteps.{place_after, folded_laid, inner_laid, is_doubled, end_laid, step_laid, lines_from}
+use Rattle.yaml_scalar.specs.BlockSteps.{place_after, render_folded, render_inner, is_doubled, render_end, render_step, lines_from}
 use Rattle.yaml_base.specs.scalars.Folded.{folds}
 
-abbrev first_line : ℕ → Text → Laid
+abbrev first_line : ℕ → Text → Rendered
 first_line indent text = record { text = text; cursor = record { column = indent; whitespace = true; indention = true } }
 
 -- a new line where a line begins
@@ -29,9 +29,9 @@ column-spaces : (n column : ℕ) → column_after (replicate n space) column ≡
 column-spaces zero column = omega arith
 column-spaces (suc n) column = column-spaces n (column + 1) ∙ omega arith
 
-column-after-append : (front rest : Text) (column : ℕ) → column_after (front ++ rest) column ≡ column_after rest (column_after front column)
+column-after-append : (prefix rest : Text) (column : ℕ) → column_after (prefix ++ rest) column ≡ column_after rest (column_after prefix column)
 column-after-append [] rest column = refl
-column-after-append (c ∷ front) rest column = column-after-append front rest (next_column c column)
+column-after-append (c ∷ prefix) rest column = column-after-append prefix rest (next_column c column)
 
 column-new-line : (at : ℕ) (cursor : Cursor) → column_after (new_line at cursor).text cursor.column ≡ at
 column-new-line at cursor = by (breaks_line at cursor) refl
@@ -59,31 +59,31 @@ last_broken before [] = before
 last_broken before (c ∷ rest) = last_broken (is_break c) rest
 
 step-cursor : (limit : Option ℕ) (indent : ℕ) (place : Place) (c : ℕ) (rest : Text) (column : ℕ) (indention : Bool)
-    → (step_laid limit indent place c rest (spot column indention)).cursor
-    ≡ after_text (step_laid limit indent place c rest (spot column indention)).text (is_break c) column
+    → (render_step limit indent place c rest (spot column indention)).cursor
+    ≡ after_text (render_step limit indent place c rest (spot column indention)).text (is_break c) column
 step-cursor limit indent place c rest column indention = by (is_break c) refl
   where
-    fold-cursor : (fold : Bool) → (folded_laid fold indent c (spot column indention)).cursor
-        ≡ after_text (folded_laid fold indent c (spot column indention)).text false column
+    fold-cursor : (fold : Bool) → (render_folded fold indent c (spot column indention)).cursor
+        ≡ after_text (render_folded fold indent c (spot column indention)).text false column
     fold-cursor true = ap (λ n. spot n false) (sym (column-new-line indent (spot column indention)))
     fold-cursor false = refl
 
-    inner : (at : Place) → (inner_laid limit indent at c rest (spot column indention)).cursor
-        ≡ after_text (inner_laid limit indent at c rest (spot column indention)).text false column
+    inner : (at : Place) → (render_inner limit indent at c rest (spot column indention)).cursor
+        ≡ after_text (render_inner limit indent at c rest (spot column indention)).text false column
     inner LineStart = ap (λ n. spot n false)
         (ap (next_column c) (sym (column-new-line indent (spot column indention)))
         ∙ sym (column-after-append (new_line indent (spot column indention)).text (c ∷ []) column))
     inner Folding = fold-cursor (folds limit column c rest)
     inner Fixed = refl
 
-    outer : (twice : Bool) → (end_laid twice c (spot column indention)).cursor ≡ after_text (end_laid twice c (spot column indention)).text true column
+    outer : (twice : Bool) → (render_end twice c (spot column indention)).cursor ≡ after_text (render_end twice c (spot column indention)).text true column
     outer true = refl
     outer false = refl
 
     by : (b : Bool) → is_break c ≡ b
-        → (if b then end_laid (is_doubled place c rest) c (spot column indention) else inner_laid limit indent place c rest (spot column indention)).cursor
-        ≡ after_text (if b then end_laid (is_doubled place c rest) c (spot column indention) else
-        inner_laid limit indent place c rest (spot column indention)).text b column
+        → (if b then render_end (is_doubled place c rest) c (spot column indention) else render_inner limit indent place c rest (spot column indention)).cursor
+        ≡ after_text (if b then render_end (is_doubled place c rest) c (spot column indention) else
+        render_inner limit indent place c rest (spot column indention)).text b column
     by true e = outer (is_doubled place c rest)
     by false e = inner place
 
@@ -92,18 +92,18 @@ pub lines-cursor : (folded : Bool) (limit : Option ℕ) (indent : ℕ) (place : 
     ≡ after_text (lines_from folded limit indent place text (spot column indention)).text (last_broken indention text) column
 lines-cursor folded limit indent place [] column indention = refl
 lines-cursor folded limit indent place (c ∷ rest) column indention =
-    let step : Laid = step_laid limit indent place c rest (spot column indention) in
+    let step : Rendered = render_step limit indent place c rest (spot column indention) in
     let at : ℕ = column_after step.text column in
     let next : Place = place_after folded place c in
     let is : step.cursor ≡ spot at (is_break c) = step-cursor limit indent place c rest column indention in
     let whole : lines_from folded limit indent place (c ∷ rest) (spot column indention)
-    ≡ then_laid (record { text = step.text; cursor = spot at (is_break c) }) (lines_from folded limit indent next rest) =
-    ap (λ (k : Cursor). then_laid (record { text = step.text; cursor = k }) (lines_from folded limit indent next rest)) is in
-    ap (λ (l : Laid). l.cursor) whole
+    ≡ render_then (record { text = step.text; cursor = spot at (is_break c) }) (lines_from folded limit indent next rest) =
+    ap (λ (k : Cursor). render_then (record { text = step.text; cursor = k }) (lines_from folded limit indent next rest)) is in
+    ap (λ (l : Rendered). l.cursor) whole
     ∙ lines-cursor folded limit indent next rest at (is_break c)
     ∙ ap (λ n. spot n (last_broken (is_break c) rest))
     (sym (column-after-append step.text (lines_from folded limit indent next rest (spot at (is_break c))).text column)
-    ∙ ap (λ (l : Laid). column_after l.text column) (sym whole))
+    ∙ ap (λ (l : Rendered). column_after l.text column) (sym whole))
 
 pub ending-last : (c : ℕ) (rest : Text) → ends_in_break (ending (c ∷ rest)) ≡ last_broken (is_break c) rest
 ending-last c [] = by (is_break c)
@@ -122,28 +122,28 @@ ending-last c (d ∷ e ∷ rest) = ending-last d (e ∷ rest)
 
 -- what a line's first character leads to
 pub start-step : (limit : Option ℕ) (indent c : ℕ) (rest : Text) → is_break c ≡ false
-    → step_laid limit indent LineStart c rest first_cursor ≡ record { text = replicate indent space ++ c ∷ []; cursor = spot (indent + 1) false }
+    → render_step limit indent LineStart c rest first_cursor ≡ record { text = replicate indent space ++ c ∷ []; cursor = spot (indent + 1) false }
 start-step limit indent c rest e =
-    rw e (ap (λ t. record { text = t ++ c ∷ []; cursor = spot (indent + 1) false }) (ap (λ (l : Laid). l.text) (new-line-first indent)))
+    rw e (ap (λ t. record { text = t ++ c ∷ []; cursor = spot (indent + 1) false }) (ap (λ (l : Rendered). l.text) (new-line-first indent)))
 
 -- one step further
-pub from-step : (folded : Bool) (limit : Option ℕ) (indent : ℕ) (place next : Place) (c : ℕ) (rest : Text) (cursor : Cursor) (to : Laid)
-    → step_laid limit indent place c rest cursor ≡ to → place_after folded place c ≡ next
+pub from-step : (folded : Bool) (limit : Option ℕ) (indent : ℕ) (place next : Place) (c : ℕ) (rest : Text) (cursor : Cursor) (to : Rendered)
+    → render_step limit indent place c rest cursor ≡ to → place_after folded place c ≡ next
     → (lines_from folded limit indent place (c ∷ rest) cursor).text ≡ to.text ++ (lines_from folded limit indent next rest to.cursor).text
 from-step folded limit indent place next c rest cursor to e f =
-    ap (λ (l : Laid). l.text ++ (lines_from folded limit indent (place_after folded place c) rest l.cursor).text) e
+    ap (λ (l : Rendered). l.text ++ (lines_from folded limit indent (place_after folded place c) rest l.cursor).text) e
     ∙ ap (λ p. to.text ++ (lines_from folded limit indent p rest to.cursor).text) f
 
 -- a break, that isn't doubled
 pub break-step : (limit : Option ℕ) (indent : ℕ) (place : Place) (c : ℕ) (rest : Text) (column : ℕ) (indention twice : Bool) → is_break c ≡ true
     → is_doubled place c rest ≡ twice
-    → step_laid limit indent place c rest (spot column indention) ≡ record { text = if twice then c ∷ c ∷ [] else c ∷ []; cursor = first_cursor }
+    → render_step limit indent place c rest (spot column indention) ≡ record { text = if twice then c ∷ c ∷ [] else c ∷ []; cursor = first_cursor }
 break-step limit indent place c rest column indention true e f = rw (e, f) refl
 break-step limit indent place c rest column indention false e f = rw (e, f) refl
 
 -- a character that stays on its line
 pub content-step : (limit : Option ℕ) (indent : ℕ) (c : ℕ) (rest : Text) (column : ℕ) → is_break c ≡ false
-    → step_laid limit indent Fixed c rest (spot column false) ≡ record { text = c ∷ []; cursor = spot (column + 1) false }
+    → render_step limit indent Fixed c rest (spot column false) ≡ record { text = c ∷ []; cursor = spot (column + 1) false }
 content-step limit indent c rest column e = rw e refl
 
 -- parts that go on in a line
@@ -192,16 +192,16 @@ literal-from : (limit : Option ℕ) (indent : ℕ) (text : Text) → LiteralFrom
 literal-from limit indent [] = record { start = refl; inner = λ column. refl }
 literal-from limit indent (c ∷ rest) = literal-more limit indent c rest (literal-from limit indent rest)
 
--- what was laid, and the cursor, by the text alone
-pub laid-by : (text : Text) (lines : Text) (a : Laid) → a.text ≡ lines → a.cursor ≡ after_text a.text (ends_in_break (ending text)) 0
-    → a ≡ lines_laid text lines first_cursor
-laid-by text lines a e f = λ i. record { text = e i; cursor = (f ∙ ap (λ t. after_text t (ends_in_break (ending text)) 0) e) i }
+-- what was rendered, and the cursor, by the text alone
+pub rendered-by : (text : Text) (lines : Text) (a : Rendered) → a.text ≡ lines → a.cursor ≡ after_text a.text (ends_in_break (ending text)) 0
+    → a ≡ render_lines text lines first_cursor
+rendered-by text lines a e f = λ i. record { text = e i; cursor = (f ∙ ap (λ t. after_text t (ends_in_break (ending text)) 0) e) i }
 
 -- a literal scalar's lines, character by character
 pub literal-lines-from : (limit : Option ℕ) (indent c : ℕ) (rest : Text)
-    → lines_from false limit indent LineStart (c ∷ rest) first_cursor ≡ lines_laid (c ∷ rest) (indented indent (parts (c ∷ rest))) first_cursor
+    → lines_from false limit indent LineStart (c ∷ rest) first_cursor ≡ render_lines (c ∷ rest) (indented indent (parts (c ∷ rest))) first_cursor
 literal-lines-from limit indent c rest =
-    laid-by (c ∷ rest) (indented indent (parts (c ∷ rest))) (lines_from false limit indent LineStart (c ∷ rest) first_cursor)
+    rendered-by (c ∷ rest) (indented indent (parts (c ∷ rest))) (lines_from false limit indent LineStart (c ∷ rest) first_cursor)
     (literal-from limit indent (c ∷ rest)).start
     (lines-cursor false limit indent LineStart (c ∷ rest) 0 true
     ∙ ap (λ b. after_text (lines_from false limit indent LineStart (c ∷ rest) first_cursor).text b 0) (sym (ending-last c rest)))

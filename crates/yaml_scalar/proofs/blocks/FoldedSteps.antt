@@ -1,18 +1,18 @@
--- Folded lines laid out character by character, as code writes them, are the folded layout.
+-- Folded lines rendered character by character, as code writes them, are the folded layout.
 use Rattle.std.proofs.Common.{◌≡◌, refl, sym, ap, ◌∙◌, append_assoc, inl, inr}
 use Rattle.std.proofs.lemmas.Bool.{cases_Bool, false≢true, false_from_ne_true, eqb-true}
 use Rattle.std.specs.Prelude.{ℕ, Bool, true, false, List, [], ◌∷◌, ◌++◌, ◌==◌, ◌&&◌, ◌+◌, not, Option, replicate, if◌then◌else◌}
 use Rattle.yaml_base.specs.scalars.Analysis.{begins_with}
 use Rattle.yaml_base.specs.Characters.{Text, is_break, is_space, space, line_feed}
 use Rattle.yaml_base.specs.Cursor.{first_cursor}
-use Rattle.yaml_base.specs.scalars.Lines.{Part, line, line_break, begun, part_before, parts}
-use Rattle.yaml_base.specs.scalars.BlockHeader.{lines_laid}
+use Rattle.yaml_base.specs.scalars.Lines.{Part, line, line_break, begun, prepend_part, parts}
+use Rattle.yaml_base.specs.scalars.BlockHeader.{render_lines}
 use Rattle.yaml_base.specs.scalars.Literal.{indented}
 use Rattle.yaml_scalar.specs.declared.block_lines.Place.TheVariants.{LineStart, Folding, Fixed}
-use Rattle.yaml_scalar.specs.BlockSteps.{step_laid, lines_from}
-use Rattle.yaml_base.specs.scalars.Folded.{is_past, folds, cut_from, next_even, folded_parts}
+use Rattle.yaml_scalar.specs.BlockSteps.{render_step, lines_from}
+use Rattle.yaml_base.specs.scalars.Folded.{is_past_limit, folds, cut_from, next_line_unindented, folded_parts}
 use Rattle.yaml_scalar.proofs.blocks.BlockSteps.{after_text, spot, lines-cursor, ending-last, start-step, from-step, break-step, content-step, continued}
-use Rattle.yaml_scalar.proofs.blocks.BlockSteps.{laid-by}
+use Rattle.yaml_scalar.proofs.blocks.BlockSteps.{rendered-by}
 
 -- a line of folded parts goes on, where it is never folded
 abbrev fixed_text : Option ℕ → ℕ → List Part → Text
@@ -58,7 +58,7 @@ continued-first indent c (line_break b ∷ others) rest h = absurd h
 
 -- a fold
 fold-step : (limit : Option ℕ) (indent c : ℕ) (rest : Text) (column : ℕ) (fold : Bool) → is_break c ≡ false → folds limit column c rest ≡ fold
-    → step_laid limit indent Folding c rest (spot column false)
+    → render_step limit indent Folding c rest (spot column false)
     ≡ record { text = if fold then line_feed ∷ replicate indent space else c ∷ []; cursor = spot (if fold then indent else column + 1) false }
 fold-step limit indent c rest column true e f = rw (e, f) refl
 fold-step limit indent c rest column false e f = rw (e, f) refl
@@ -87,7 +87,7 @@ head-spaced (d ∷ rest) =
 
 -- the fold that a line's cut sees is the one that the text shows
 folds-head : (limit : Option ℕ) (column c : ℕ) (rest : Text) → folds limit column c (head_line (parts rest)) ≡ folds limit column c rest
-folds-head limit column c rest = ap (λ b. is_space c && not b && is_past limit column) (sym (head-spaced rest))
+folds-head limit column c rest = ap (λ b. is_space c && not b && is_past_limit limit column) (sym (head-spaced rest))
 
 -- a line's first character, where it is a space and where it isn't
 fixed-begun : (limit : Option ℕ) (indent c : ℕ) (ps : List Part) → is_space c ≡ true
@@ -151,7 +151,7 @@ twice-text indent c false ps = refl
 
 folded-broken : (limit : Option ℕ) (indent c : ℕ) (rest : Text) → is_break c ≡ true → FoldedFrom limit indent rest → FoldedFrom limit indent (c ∷ rest)
 folded-broken limit indent c rest e more =
-    let twice : Bool = c == line_feed && next_even (parts rest) in
+    let twice : Bool = c == line_feed && next_line_unindented (parts rest) in
     record {
       start = from-step true limit indent LineStart LineStart c rest first_cursor _ (break-step limit indent LineStart c rest 0 true false e refl) (rw e refl)
           ∙ rw e (ap (λ t. c ∷ t) more.start);
@@ -173,7 +173,7 @@ folded-first limit indent c rest e more =
           ∙ ap (λ t. (replicate indent space ++ c ∷ []) ++ t) (more.bent (indent + 1)) ∙ sym (folding-begun limit indent c (parts rest) even)
     ]
 
-part-begun : (c : ℕ) (ps : List Part) → is_break c ≡ false → begun c ps ≡ part_before c ps
+part-begun : (c : ℕ) (ps : List Part) → is_break c ≡ false → begun c ps ≡ prepend_part c ps
 part-begun c ps e = rw e refl
 
 folded-more : (limit : Option ℕ) (indent c : ℕ) (rest : Text) → is_break c ≡ false → FoldedFrom limit indent rest → FoldedFrom limit indent (c ∷ rest)
@@ -201,9 +201,10 @@ folded-from limit indent (c ∷ rest) =
 -- a folded scalar's lines, character by character
 pub folded-lines-from : (limit : Option ℕ) (indent c : ℕ) (rest : Text)
     → lines_from true limit indent LineStart (c ∷ rest) first_cursor
-    ≡ lines_laid (c ∷ rest) (indented indent (folded_parts limit indent false (parts (c ∷ rest)))) first_cursor
+    ≡ render_lines (c ∷ rest) (indented indent (folded_parts limit indent false (parts (c ∷ rest)))) first_cursor
 folded-lines-from limit indent c rest =
-    laid-by (c ∷ rest) (indented indent (folded_parts limit indent false (parts (c ∷ rest)))) (lines_from true limit indent LineStart (c ∷ rest) first_cursor)
+    rendered-by (c ∷ rest) (indented indent (folded_parts limit indent false (parts (c ∷ rest))))
+    (lines_from true limit indent LineStart (c ∷ rest) first_cursor)
     (folded-from limit indent (c ∷ rest)).start
     (lines-cursor true limit indent LineStart (c ∷ rest) 0 true
     ∙ ap (λ b. after_text (lines_from true limit indent LineStart (c ∷ rest) first_cursor).text b 0) (sym (ending-last c rest)))

@@ -276,8 +276,8 @@ fn flattened_members_go_into_the_map_around_them(rt: HostRuntime) {
         none: None,
     };
     check_text(&rt, rt.alloc(), &outer, "---\nfirstName: 1\ndepth: 2\n");
-    let is_told = is_wrongly_flattened(rt.alloc(), &Wrong { number: 1 });
-    equal(&rt, &is_told, &true);
+    let is_reported = is_wrongly_flattened(rt.alloc(), &Wrong { number: 1 });
+    equal(&rt, &is_reported, &true);
 }
 
 /// The name of a variant with data, and no data.

@@ -11,7 +11,7 @@ use Rattle.yaml_emitter.proofs.standing.KeptDocuments.{documents_kept}
 use Rattle.yaml_emitter.proofs.standing.Promising.{promised}
 use Rattle.yaml_emitter.specs.Given.{nothing_given}
 use Rattle.yaml_emitter.specs.State.{new_state}
-use Rattle.yaml_writer.specs.Writing.{Ended, Gave, Passed, StandsTaken, WriterState, opening, plain_start, text_event}
+use Rattle.yaml_writer.specs.Writing.{EndedCollection, GaveEvent, PassedEvents, StandsTaken, WriterState, opening, plain_start, text_event}
 
 -- a writer without properties for the next node
 abbrev bare : WriterState
@@ -34,14 +34,14 @@ module _ (later : List Event) (sent : List ℕ) (before : WriterState) (stood : 
       grows.output
 
   -- so no state whose output was emptied is told of a call, whether it gave an event, and whatever its error is,
-  emptied_giving : (event : Event) (error : Option yaml_error_t) → Gave before event error after → after.emitter.page.output ≡ [] → ⊥
+  emptied_giving : (event : Event) (error : Option yaml_error_t) → GaveEvent before event error after → after.emitter.page.output ≡ [] → ⊥
   emptied_giving event error h = not_empty after.emitter.page.output (stays h.grows)
 
   -- or ended the document and began the next,
-  emptied_passing : (events : List Event) (answer : Result (Unit {0}) yaml_error_t) → Passed before events answer after
+  emptied_passing : (events : List Event) (answer : Result (Unit {0}) yaml_error_t) → PassedEvents before events answer after
       → after.emitter.page.output ≡ [] → ⊥
   emptied_passing events answer h = not_empty after.emitter.page.output (stays h.grows)
 
   -- or ended a collection
-  emptied_ending : (answer : Result (Unit {0}) yaml_error_t) → Ended before answer after → after.emitter.page.output ≡ [] → ⊥
+  emptied_ending : (answer : Result (Unit {0}) yaml_error_t) → EndedCollection before answer after → after.emitter.page.output ≡ [] → ⊥
   emptied_ending answer h = not_empty after.emitter.page.output (stays h.grows)

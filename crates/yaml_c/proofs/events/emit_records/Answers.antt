@@ -1,6 +1,6 @@
 use Rattle.std.proofs.Common.{rules, ◌≤◌, length, refl, ap, sym, ◌∙◌, inl, option_map}
 use Rattle.yaml_base.specs.Seen.{seen_event}
-use Rattle.yaml_pen.proofs.Writing.{none_from_told}
+use Rattle.yaml_pen.proofs.Writing.{none_from_result}
 use Rattle.yaml_tool.specs.Runs.{events_in}
 use Rattle.yaml_tool.proofs.RunLemmas.{some_told}
 use Rattle.yaml_c.proofs.EmissionLemmas.{given_more, refused_next, ended_flushed}
@@ -29,7 +29,7 @@ loop-record-preserved g c =
       search rules,
       refl,
       c.yaml_emitter_emit.ensures.output,
-      none_from_told after.error c.in_default-yaml_emitter_emit.ensures.answered,
+      none_from_result after.error c.in_default-yaml_emitter_emit.ensures.answered,
       search rules,
       given_more c.args.arena.now c.args.directives.now c.args.events.now c.args.emitter.now now.emitter after now.record-index now.number now.last _ event has
           now.invariant.4 c.loop-record-test.true (ap (option_map seen_event) (sym c.in-Some.is) ∙ c.in-Ok.ensures)

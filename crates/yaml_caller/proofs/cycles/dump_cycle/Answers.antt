@@ -3,7 +3,7 @@ use Rattle.yaml_base.specs.graphs.Documents.{graph_of}
 use Rattle.yaml_caller.specs.Letter.{letter_settings}
 use Rattle.yaml_caller.specs.Cycle.{cycle_bytes, cycle_graph}
 use Rattle.yaml_caller.proofs.KnownStreams.{stream_bytes}
-use Rattle.yaml_caller.proofs.OnlyMemory.{front_memory, exit_memory}
+use Rattle.yaml_caller.proofs.OnlyMemory.{prefix_memory, exit_memory}
 use Rattle.yaml_caller.proofs.CycleFits.{cycle_fits, dump_memory}
 use Rattle.yaml_caller.proofs.Dumped.{dumped_cycle, cycle_events, none_waits, cycle_row, all_portable, one_dumped, after_dump, still_open, then_ok}
 use Rattle.yaml_caller.proofs.cycles.dump_cycle.Goals as goal
@@ -27,7 +27,7 @@ returns g c =
       trees =
           then_ok c.yaml_emitter_close.result (c.yaml_emitter_close.ensures.trees unclosed)
           (λ reads. reads letter_settings dumped_cycle stands (cycle_graph ∷ []) all_portable one_dumped);
-      memory = front_memory cycle_events cycle_events [] c.yaml_emitter_close.new.emitter c.yaml_emitter_close.result cycle_fits refl promised answered;
+      memory = prefix_memory cycle_events cycle_events [] c.yaml_emitter_close.new.emitter c.yaml_emitter_close.result cycle_fits refl promised answered;
     }
 
 pub returns-in_err-yaml_emitter_dump-clause-memory : goal.returns-in_err-yaml_emitter_dump-clause-memory

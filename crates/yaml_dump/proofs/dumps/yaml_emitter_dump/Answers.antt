@@ -6,7 +6,7 @@ use Rattle.yaml_base.specs.graphs.Meetings.{document_event_list}
 use Rattle.yaml_base.specs.Seen.{seen_event}
 use Rattle.yaml_base.proofs.DocumentsUnfold.{document_unfolds}
 use Rattle.yaml_pen.proofs.Composing.{grows_then}
-use Rattle.yaml_pen.proofs.Writing.{none_from_told}
+use Rattle.yaml_pen.proofs.Writing.{none_from_result}
 use Rattle.yaml_dump.specs.Dumps.{closing, opening}
 use Rattle.yaml_dump.proofs.GraphLemmas.{closing_reads, closing_trees}
 use Rattle.yaml_dump.proofs.Emissions.{begun_then, on_ok, on_err, closed_by, exit_dumps, dumps_closing, dumps_events}
@@ -20,10 +20,10 @@ returns-in_err-open_if_needed-clause-dumps g c none =
     c.in_err-open_if_needed.ensures.unopened (c.in_err-open_if_needed.ensures.emits given all stands) c.from_residual-in_err-open_if_needed.ensures)
 
 pub close_if_needed-requires-clause-no_error : goal.close_if_needed-requires-clause-no_error
-close_if_needed-requires-clause-no_error g c = none_from_told c.open_if_needed.new.emitter.error c.in_ok-open_if_needed.ensures.answered
+close_if_needed-requires-clause-no_error g c = none_from_result c.open_if_needed.new.emitter.error c.in_ok-open_if_needed.ensures.answered
 
 pub emit_each-requires-clause-no_error : goal.emit_each-requires-clause-no_error
-emit_each-requires-clause-no_error g c = none_from_told c.open_if_needed.new.emitter.error c.in_ok-open_if_needed.ensures.answered
+emit_each-requires-clause-no_error g c = none_from_result c.open_if_needed.new.emitter.error c.in_ok-open_if_needed.ensures.answered
 
 pub returns-then-is_empty-clause-dumps : goal.returns-then-is_empty-clause-dumps
 returns-then-is_empty-clause-dumps g c none =

@@ -5,7 +5,7 @@ use Rattle.std.proofs.lemmas.List.{map-id}
 use Rattle.std.specs.Vec.Iter.{into_iter_items}
 use Rattle.yaml_base.specs.Seen.{seen_event}
 use Rattle.yaml_pen.proofs.Composing.{grows_itself, grows_then}
-use Rattle.yaml_pen.proofs.Writing.{none_from_told}
+use Rattle.yaml_pen.proofs.Writing.{none_from_result}
 use Rattle.yaml_emitter.specs.StandsAfter.{StandsAfter}
 use Rattle.yaml_dump.proofs.Emissions.{keeps_same, keeps_more, some_told, events_more, parts_more, failed_at}
 use Rattle.yaml_dump.proofs.emitting.emit_each.Goals as goal
@@ -26,7 +26,7 @@ loop-event-preserved g c =
       tt,
       tt,
       c.yaml_emitter_emit.ensures.output,
-      none_from_told c.yaml_emitter_emit.new.emitter.error c.in_default.ensures.answered,
+      none_from_result c.yaml_emitter_emit.new.emitter.error c.in_default.ensures.answered,
       parts_more now.yielded c.in-Some.event (into_iter_items c.next.new.self)
           (into_iter_items now.event-iterator) c.args.events.items now.invariant.4 c.in-Some.ensures.steps.0,
       λ given all stands.

@@ -13,8 +13,8 @@ returns-in-Enters g c =
     let graph = graph_of c.args.document.now in
     let places = c.args.places.now in
     let numbered = subst (λ step. IsNumbered (length places) (seen_step step)) c.in-Enters.is c.requires.placed.numbered in
-    IfOk-weaker c.beginning_at.result _ _
+    IfOk-weaker c.opening_event_at.result _ _
     (λ event is walk has_places.
     subst (λ step. seen_events_of event ≡ step_events graph walk (seen_step step)) (sym c.in-Enters.is)
     (entered graph walk places c.in-Enters.number (seen_events_of event) numbered has_places is))
-    c.beginning_at.ensures
+    c.opening_event_at.ensures

@@ -1,5 +1,5 @@
 use Rattle.std.proofs.Common.{ap, ◌∙◌, sym, subst}
-use Rattle.yaml_pen.proofs.Writing.{none_from_told}
+use Rattle.yaml_pen.proofs.Writing.{none_from_result}
 use Rattle.yaml_emitter.specs.State.{State}
 use Rattle.yaml_dump.proofs.GraphLemmas.{graphs_read, trees_read}
 use Rattle.yaml_pen.specs.Wrote.{Grows}
@@ -12,14 +12,14 @@ pub returns-clause-graphs : goal.returns-clause-graphs
 returns-clause-graphs g c running given all graphs stands canonical dumped =
     graphs_read given all graphs _ (c.mark_closed.ensures.promised given _ (c.in_ok-yaml_emitter_emit.ensures.stands given all stands))
     (ap (λ (state : State). state.error) c.mark_closed.ensures.set
-    ∙ none_from_told c.yaml_emitter_emit.new.emitter.error c.in_ok-yaml_emitter_emit.ensures.answered)
+    ∙ none_from_result c.yaml_emitter_emit.new.emitter.error c.in_ok-yaml_emitter_emit.ensures.answered)
     canonical dumped
 
 pub returns-clause-trees : goal.returns-clause-trees
 returns-clause-trees g c running given all stands =
     trees_read given all _ (c.mark_closed.ensures.promised given _ (c.in_ok-yaml_emitter_emit.ensures.stands given all stands))
     (ap (λ (s : State). s.error) c.mark_closed.ensures.set
-    ∙ none_from_told c.yaml_emitter_emit.new.emitter.error c.in_ok-yaml_emitter_emit.ensures.answered)
+    ∙ none_from_result c.yaml_emitter_emit.new.emitter.error c.in_ok-yaml_emitter_emit.ensures.answered)
 
 pub returns-clause-grows : goal.returns-clause-grows
 returns-clause-grows g c =

@@ -2,12 +2,12 @@ use Rattle.std.proofs.Common.{Err, ◌++◌, ◌∷◌, ◌≤◌, [], drop, Lis
 use Rattle.std.proofs.lemmas.Bool.{false≢true}
 use Rattle.yaml_base.specs.Event.{Event}
 use Rattle.yaml_base.specs.Seen.{seen_event, seen_events}
-use Rattle.yaml_pen.specs.Page.{told}
+use Rattle.yaml_pen.specs.Page.{result_of_error}
 use Rattle.yaml_pen.specs.Wrote.{Grows}
 use Rattle.yaml_emitter.specs.Inside.{state_of}
 use Rattle.yaml_emitter.specs.Queue.{is_head_ready}
 use Rattle.yaml_emitter.specs.State.{KeepsGiven, KeepsSet, MachineState, State, machine_of}
-use Rattle.yaml_emitter.specs.StandsAfter.{StandsAfter, StandsBy, failed_by}
+use Rattle.yaml_emitter.specs.StandsAfter.{StandsAfter, MachineStands, failed_by}
 use Rattle.yaml_emitter.proofs.standing.Emitting.{none_became_ready, stands_alone, stands_failing, stands_written}
 use Rattle.yaml_emitter.proofs.standing.EmitterKept.{has_output_inside, kept_emitting, room_left, seen_more, within_count}
 use Rattle.yaml_emitter.proofs.standing.Growing.{grows_page}
@@ -28,8 +28,9 @@ invariant_of-emitter-then-is_ready_alone g c =
 pub invariant_of-emitter-in-Ok : goal.invariant_of-emitter-in-Ok
 invariant_of-emitter-in-Ok g c =
     kept_emitting c.emitter.inside _ (has_output_inside c.emitter.inside c.emitter.view_is c.requires) refl
-    (subst (λ n. 4 ≤ n) (sym (c.drop_front.ensures.room ∙ c.push_reserved.ensures.capacity)) c.emitter.invariant.room)
-    (ap is_head_ready (c.drop_front.ensures.rest ∙ ap (λ q. drop c.in-Ok.count (seen_events q)) (sym c.as_slice.ensures.value)) ∙ c.in-Ok.ensures.written.ended)
+    (subst (λ n. 4 ≤ n) (sym (c.drop_written.ensures.room ∙ c.push_reserved.ensures.capacity)) c.emitter.invariant.room)
+    (ap is_head_ready (c.drop_written.ensures.rest ∙ ap (λ q. drop c.in-Ok.count (seen_events q)) (sym c.as_slice.ensures.value))
+    ∙ c.in-Ok.ensures.written.ended)
 
 pub invariant_of-emitter-in-Err : goal.invariant_of-emitter-in-Err
 invariant_of-emitter-in-Err g c =
@@ -50,7 +51,7 @@ returns-in-Some-clause-promised g c given all stands =
 pub returns-in-Some-clause-fits : goal.returns-in-Some-clause-fits
 returns-in-Some-clause-fits g c given all stands fits =
     memory_only (state_of c.emitter.inside).error given (all ++ seen_event c.args.event ∷ []) (returns-in-Some-clause-promised g c given all stands).fits fits
-    (Err c.in-Some.error) (sym (ap told (sym c.error.ensures ∙ c.in-Some.is)))
+    (Err c.in-Some.error) (sym (ap result_of_error (sym c.error.ensures ∙ c.in-Some.is)))
 
 pub returns-in-Some-clause-grows : goal.returns-in-Some-clause-grows
 returns-in-Some-clause-grows g c = grows_page c.args.emitter.now.page c.emitter.inside.machine.page (ap (λ (s : State). s.page) c.emitter.view_is)
@@ -67,7 +68,7 @@ returns-then-is_ready_alone-clause-stands g c given all stands =
     let h = subst (λ s. StandsAfter given all s) (sym c.emitter.view_is) stands in
     let alone : before.held ≡ [] = ap seen_events (c.is_ready_alone.ensures.alone c.if-is_ready_alone.true) in
     stands_with given all c.args.event _
-    (subst (λ (l : List Event). StandsBy given (all ++ seen_event c.args.event ∷ []) c.write_alone.new.self.error l c.write_alone.new.self) (sym alone)
+    (subst (λ (l : List Event). MachineStands given (all ++ seen_event c.args.event ∷ []) c.write_alone.new.self.error l c.write_alone.new.self) (sym alone)
     (stands_alone given all (seen_event c.args.event) before c.write_alone.new.self h.so (sym c.error.ensures ∙ c.in_default.is) alone
     c.write_alone.ensures.stands))
     h.texts
@@ -96,11 +97,11 @@ returns-then-is_ready_alone-clause-waits g c given all stands none same =
     (none_became_ready given all event before h.so (sym c.error.ensures ∙ c.in_default.is) same) in
     absurd (false≢true (sym unready ∙ c.is_ready_alone.ensures.ready c.if-is_ready_alone.true))
 
-pub write_front-requires : goal.write_front-requires
-write_front-requires g c = sym c.error.ensures ∙ c.in_default.is
+pub write_ready-requires : goal.write_ready-requires
+write_ready-requires g c = sym c.error.ensures ∙ c.in_default.is
 
-pub drop_front-requires : goal.drop_front-requires
-drop_front-requires g c =
+pub drop_written-requires : goal.drop_written-requires
+drop_written-requires g c =
     within_count seen_event c.as_slice.result.now c.in-Ok.count _ c.in-Ok.ensures.written.within c.as_slice.ensures.len
 
 pub returns-in-Ok-clause-stands : goal.returns-in-Ok-clause-stands
@@ -108,8 +109,11 @@ returns-in-Ok-clause-stands g c given all stands =
     let before : State = state_of c.emitter.inside in
     let h = subst (λ s. StandsAfter given all s) (sym c.emitter.view_is) stands in
     stands_with given all c.args.event _
-    (stands_written given all (seen_event c.args.event) before (seen_events c.as_slice.result.now) (seen_events c.drop_front.new.queue.items) c.in-Ok.count
-    c.write_front.new.machine h.so (sym c.error.ensures ∙ c.in_default.is) (seen_more seen_event c.emitter.inside.queue.items _ c.as_slice.result.now c.args.event c.as_slice.ensures.value c.push_reserved.ensures.items) c.in-Ok.ensures.written c.write_front.ensures.error (c.drop_front.ensures.rest ∙ ap (λ q. drop c.in-Ok.count (seen_events q)) (sym c.as_slice.ensures.value)))
+    (stands_written given all (seen_event c.args.event) before (seen_events c.as_slice.result.now) (seen_events c.drop_written.new.queue.items) c.in-Ok.count
+    c.write_ready.new.machine h.so (sym c.error.ensures ∙ c.in_default.is)
+    (seen_more seen_event c.emitter.inside.queue.items _ c.as_slice.result.now c.args.event c.as_slice.ensures.value c.push_reserved.ensures.items)
+    c.in-Ok.ensures.written c.write_ready.ensures.error
+    (c.drop_written.ensures.rest ∙ ap (λ q. drop c.in-Ok.count (seen_events q)) (sym c.as_slice.ensures.value)))
     h.texts
 
 pub returns-in-Ok-clause-promised : goal.returns-in-Ok-clause-promised
@@ -118,27 +122,28 @@ returns-in-Ok-clause-promised g c given all stands =
 
 pub returns-in-Ok-clause-grows : goal.returns-in-Ok-clause-grows
 returns-in-Ok-clause-grows g c =
-    subst (λ (s : State). Grows s.page c.write_front.new.machine.page) c.emitter.view_is c.write_front.ensures.grows
+    subst (λ (s : State). Grows s.page c.write_ready.new.machine.page) c.emitter.view_is c.write_ready.ensures.grows
 
 pub returns-in-Ok-clause-set : goal.returns-in-Ok-clause-set
 returns-in-Ok-clause-set g c =
     subst (λ (s : State). KeepsSet (record s { started = true })
-    (state_of (record c.emitter.inside { started = true; queue = c.drop_front.new.queue; machine = c.write_front.new.machine }))) c.emitter.view_is
-    (emitting_keeps (state_of c.emitter.inside) (seen_events c.drop_front.new.queue.items) c.write_front.new.machine c.write_front.ensures.set)
+    (state_of (record c.emitter.inside { started = true; queue = c.drop_written.new.queue; machine = c.write_ready.new.machine }))) c.emitter.view_is
+    (emitting_keeps (state_of c.emitter.inside) (seen_events c.drop_written.new.queue.items) c.write_ready.new.machine c.write_ready.ensures.set)
 
 pub returns-in-Ok-clause-answered : goal.returns-in-Ok-clause-answered
-returns-in-Ok-clause-answered g c = sym (ap told c.write_front.ensures.error)
+returns-in-Ok-clause-answered g c = sym (ap result_of_error c.write_ready.ensures.error)
 
 pub returns-in-Err-clause-stands : goal.returns-in-Err-clause-stands
 returns-in-Err-clause-stands g c given all stands =
     let before : State = state_of c.emitter.inside in
     let event = seen_event c.args.event in
     let h = subst (λ s. StandsAfter given all s) (sym c.emitter.view_is) stands in
-    let failed = stands_failing given all event before (seen_events c.as_slice.result.now) c.in-Err.error c.write_front.new.machine h.so
-    (sym c.error.ensures ∙ c.in_default.is) (seen_more seen_event c.emitter.inside.queue.items _ c.as_slice.result.now c.args.event c.as_slice.ensures.value c.push_reserved.ensures.items) c.in-Err.ensures.failed in
+    let failed = stands_failing given all event before (seen_events c.as_slice.result.now) c.in-Err.error c.write_ready.new.machine h.so
+    (sym c.error.ensures ∙ c.in_default.is) (seen_more seen_event c.emitter.inside.queue.items _ c.as_slice.result.now c.args.event c.as_slice.ensures.value
+    c.push_reserved.ensures.items) c.in-Err.ensures.failed in
     stands_with given all c.args.event _
-    (subst (λ (m : MachineState). StandsBy given (all ++ event ∷ []) m.error (seen_events c.clear.new.self.items) m) (sym c.fail.ensures)
-    (subst (λ (l : List Event). StandsBy given (all ++ event ∷ []) (Some c.in-Err.error) l (failed_by c.in-Err.error c.write_front.new.machine))
+    (subst (λ (m : MachineState). MachineStands given (all ++ event ∷ []) m.error (seen_events c.clear.new.self.items) m) (sym c.fail.ensures)
+    (subst (λ (l : List Event). MachineStands given (all ++ event ∷ []) (Some c.in-Err.error) l (failed_by c.in-Err.error c.write_ready.new.machine))
     (sym (ap seen_events c.clear.ensures.items)) failed))
     h.texts
 
@@ -149,7 +154,7 @@ returns-in-Err-clause-promised g c given all stands =
 pub returns-in-Err-clause-fits : goal.returns-in-Err-clause-fits
 returns-in-Err-clause-fits g c given all stands fits =
     memory_only c.fail.new.self.error given (all ++ seen_event c.args.event ∷ []) (returns-in-Err-clause-promised g c given all stands).fits fits
-    (Err c.in-Err.error) (ap told (sym (ap (λ (m : MachineState). m.error) c.fail.ensures)))
+    (Err c.in-Err.error) (ap result_of_error (sym (ap (λ (m : MachineState). m.error) c.fail.ensures)))
 
 pub returns-in-Err-clause-waits : goal.returns-in-Err-clause-waits
 returns-in-Err-clause-waits g c given all stands none same =
@@ -162,7 +167,7 @@ returns-in-Err-clause-waits g c given all stands none same =
 pub returns-in-Err-clause-grows : goal.returns-in-Err-clause-grows
 returns-in-Err-clause-grows g c =
     subst (λ (m : MachineState). Grows c.args.emitter.now.page m.page) (sym c.fail.ensures)
-    (subst (λ (s : State). Grows s.page c.write_front.new.machine.page) c.emitter.view_is c.write_front.ensures.grows)
+    (subst (λ (s : State). Grows s.page c.write_ready.new.machine.page) c.emitter.view_is c.write_ready.ensures.grows)
 
 pub returns-in-Err-clause-set : goal.returns-in-Err-clause-set
 returns-in-Err-clause-set g c =
@@ -170,10 +175,10 @@ returns-in-Err-clause-set g c =
     (state_of (record c.emitter.inside { started = true; queue = c.clear.new.self; machine = c.fail.new.self }))) c.emitter.view_is
     (emitting_keeps (state_of c.emitter.inside) (seen_events c.clear.new.self.items) c.fail.new.self
     (subst (λ (m : MachineState). KeepsGiven (machine_of (state_of c.emitter.inside)) m) (sym c.fail.ensures)
-    (record { given = c.write_front.ensures.set.given; taken = c.write_front.ensures.set.taken })))
+    (record { given = c.write_ready.ensures.set.given; taken = c.write_ready.ensures.set.taken })))
 
 pub returns-in-Err-clause-answered : goal.returns-in-Err-clause-answered
-returns-in-Err-clause-answered g c = ap told (sym (ap (λ (m : MachineState). m.error) c.fail.ensures))
+returns-in-Err-clause-answered g c = ap result_of_error (sym (ap (λ (m : MachineState). m.error) c.fail.ensures))
 
 pub returns-then-is_ready_alone-clause-set : goal.returns-then-is_ready_alone-clause-set
 returns-then-is_ready_alone-clause-set g c =

@@ -2,19 +2,19 @@ use Rattle.std.proofs.Common.{Err, List, ◌∙◌, ◌≡◌, ◌≤◌, None, 
 use Rattle.yaml_base.specs.Event.{Event}
 use Rattle.yaml_base.specs.Seen.{seen_events}
 use Rattle.yaml_base.specs.declared.errors.yaml_error_t.TheVariants.{Memory}
-use Rattle.yaml_pen.specs.Page.{encoded, told}
+use Rattle.yaml_pen.specs.Page.{encoded, result_of_error}
 use Rattle.yaml_pen.specs.Wrote.{Grows}
-use Rattle.yaml_pen.proofs.Writing.{none_from_told}
+use Rattle.yaml_pen.proofs.Writing.{none_from_result}
 use Rattle.yaml_pen.proofs.Composing.{flushed_grows}
 use Rattle.yaml_emitter.specs.Inside.{state_of}
 use Rattle.yaml_emitter.specs.Queue.{is_head_ready}
 use Rattle.yaml_emitter.specs.State.{MachineState, State}
-use Rattle.yaml_emitter.specs.StandsAfter.{StandsAfter, StandsBy}
+use Rattle.yaml_emitter.specs.StandsAfter.{StandsAfter, MachineStands}
 use Rattle.yaml_emitter.proofs.standing.EmitterKept.{has_output_inside, kept_emitting}
 use Rattle.yaml_emitter.proofs.standing.Growing.{flushed_unflushed}
 use Rattle.yaml_emitter.proofs.standing.Promising.{promised, promises_bytes, stands_encoded, stands_unfailed}
 use Rattle.yaml_emitter.proofs.standing.PromisingRoom.{memory_only}
-use Rattle.yaml_emitter.proofs.standing.StandingMore.{flush_failed, flush_stands, some_from_told}
+use Rattle.yaml_emitter.proofs.standing.StandingMore.{flush_failed, flush_stands, some_from_result}
 use Rattle.yaml_emitter.proofs.emit.yaml_emitter_flush.Goals as goal
 
 pub invariant_of-emitter : goal.invariant_of-emitter
@@ -33,7 +33,7 @@ returns-in-Some-clause-promised g c given all stands = promised given all c.args
 pub returns-in-Some-clause-fits : goal.returns-in-Some-clause-fits
 returns-in-Some-clause-fits g c given all stands fits =
     memory_only c.args.emitter.now.error given all (returns-in-Some-clause-promised g c given all stands).fits fits (Err c.in-Some.error)
-    (sym (ap told (sym (ap (λ (s : State). s.error) c.emitter.view_is) ∙ sym c.error.ensures ∙ c.in-Some.is)))
+    (sym (ap result_of_error (sym (ap (λ (s : State). s.error) c.emitter.view_is) ∙ sym c.error.ensures ∙ c.in-Some.is)))
 
 pub returns-in-Ok-clause-stands : goal.returns-in-Ok-clause-stands
 returns-in-Ok-clause-stands g c given all stands =
@@ -41,7 +41,8 @@ returns-in-Ok-clause-stands g c given all stands =
     record {
       texts = h.texts;
       so =
-          flush_stands given all (seen_events c.emitter.inside.queue.items) c.emitter.inside.machine c.flush.new.self h.so (sym c.error.ensures ∙ c.in_default.is)
+          flush_stands given all (seen_events c.emitter.inside.queue.items) c.emitter.inside.machine c.flush.new.self h.so
+          (sym c.error.ensures ∙ c.in_default.is)
           c.flush.ensures.kept c.in-Ok.ensures.flushed;
     }
 
@@ -50,8 +51,9 @@ returns-in-Ok-clause-promised g c given all stands = promised given all _ (retur
 
 pub returns-in-Ok-clause-flushed : goal.returns-in-Ok-clause-flushed
 returns-in-Ok-clause-flushed g c given all stands =
-    let unfailed = none_from_told c.flush.new.self.page.error c.in-Ok.ensures.flushed.answered in
-    promises_bytes given all (state_of (record c.emitter.inside { machine = c.flush.new.self })) (returns-in-Ok-clause-stands g c given all stands).so (ap (λ (m : MachineState). m.error) c.flush.ensures.kept ∙ unfailed)
+    let unfailed = none_from_result c.flush.new.self.page.error c.in-Ok.ensures.flushed.answered in
+    promises_bytes given all (state_of (record c.emitter.inside { machine = c.flush.new.self })) (returns-in-Ok-clause-stands g c given all stands).so
+    (ap (λ (m : MachineState). m.error) c.flush.ensures.kept ∙ unfailed)
     (c.in-Ok.ensures.flushed.all unfailed).1
 
 pub returns-in-Ok-clause-grows : goal.returns-in-Ok-clause-grows
@@ -74,7 +76,7 @@ returns-in-Err-clause-stands g c given all stands =
     record {
       texts = h.texts;
       so =
-          subst (λ (l : List Event). StandsBy given all c.flush.new.self.error l c.flush.new.self) (sym (ap seen_events c.clear.ensures.items))
+          subst (λ (l : List Event). MachineStands given all c.flush.new.self.error l c.flush.new.self) (sym (ap seen_events c.clear.ensures.items))
           (flush_failed given all (seen_events c.emitter.inside.queue.items) c.emitter.inside.machine c.flush.new.self c.in-Err.error h.so
           (sym c.error.ensures ∙ c.in_default.is) c.flush.ensures.kept c.in-Err.ensures.flushed);
     }
@@ -85,7 +87,7 @@ returns-in-Err-clause-promised g c given all stands = promised given all _ (retu
 pub returns-in-Err-clause-fits : goal.returns-in-Err-clause-fits
 returns-in-Err-clause-fits g c given all stands fits =
     memory_only c.flush.new.self.error given all (returns-in-Err-clause-promised g c given all stands).fits fits (Err c.in-Err.error)
-    (c.in-Err.ensures.flushed.answered ∙ ap told (sym (ap (λ (m : MachineState). m.error) c.flush.ensures.kept)))
+    (c.in-Err.ensures.flushed.answered ∙ ap result_of_error (sym (ap (λ (m : MachineState). m.error) c.flush.ensures.kept)))
 
 pub returns-in-Err-clause-grows : goal.returns-in-Err-clause-grows
 returns-in-Err-clause-grows g c =
@@ -93,7 +95,7 @@ returns-in-Err-clause-grows g c =
 
 pub returns-in-Err-clause-unflushed : goal.returns-in-Err-clause-unflushed
 returns-in-Err-clause-unflushed g c memory =
-    flushed_unflushed c.flush.ensures.flushed (some_from_told c.flush.new.self.page.error Memory (sym memory ∙ c.in-Err.ensures.flushed.answered))
+    flushed_unflushed c.flush.ensures.flushed (some_from_result c.flush.new.self.page.error Memory (sym memory ∙ c.in-Err.ensures.flushed.answered))
     ∙ ap (λ (s : State). s.page.output) c.emitter.view_is
 
 pub returns-in-Err-clause-empty : goal.returns-in-Err-clause-empty
@@ -104,12 +106,12 @@ returns-in-Err-clause-empty g c given all stands none bytes =
     let bytes_inside = subst (λ (s : State). s.page.output ≡ encoded s.page) (sym c.emitter.view_is)
     (stands_encoded given all c.args.emitter.now stands.so none bytes) in
     let unchanged = c.flush.ensures.empty page_unfailed bytes_inside in
-    let failed = some_from_told c.flush.new.self.page.error c.in-Err.error c.in-Err.ensures.flushed.answered in
+    let failed = some_from_result c.flush.new.self.page.error c.in-Err.error c.in-Err.ensures.flushed.answered in
     let wrong : Some c.in-Err.error ≡ None = sym failed ∙ ap (λ (m : MachineState). m.page.error) unchanged ∙ page_unfailed in
     cc
 
 pub returns-in-Ok-clause-answered : goal.returns-in-Ok-clause-answered
-returns-in-Ok-clause-answered g c = c.in-Ok.ensures.flushed.answered ∙ ap told (sym (ap (λ (m : MachineState). m.error) c.flush.ensures.kept))
+returns-in-Ok-clause-answered g c = c.in-Ok.ensures.flushed.answered ∙ ap result_of_error (sym (ap (λ (m : MachineState). m.error) c.flush.ensures.kept))
 
 pub returns-in-Err-clause-answered : goal.returns-in-Err-clause-answered
-returns-in-Err-clause-answered g c = c.in-Err.ensures.flushed.answered ∙ ap told (sym (ap (λ (m : MachineState). m.error) c.flush.ensures.kept))
+returns-in-Err-clause-answered g c = c.in-Err.ensures.flushed.answered ∙ ap result_of_error (sym (ap (λ (m : MachineState). m.error) c.flush.ensures.kept))

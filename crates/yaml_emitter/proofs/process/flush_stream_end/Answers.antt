@@ -1,4 +1,4 @@
-use Rattle.yaml_emitter.proofs.standing.HandingOut.{wrote_flushed}
+use Rattle.yaml_emitter.proofs.standing.LastFlushes.{wrote_flushed}
 use Rattle.yaml_emitter.proofs.process.flush_stream_end.Goals as goal
 
 pub returns-clause-written : goal.returns-clause-written

@@ -2,7 +2,7 @@ use Rattle.std.proofs.Common.{◌+◌, ◌||◌, drop, ap, sym, ◌∙◌, arith
 use Rattle.std.proofs.lemmas.Grind.{common_steps}
 use Rattle.std.proofs.lemmas.List.{drop_all}
 use Rattle.yaml_base.specs.Seen.{seen_event, seen_events}
-use Rattle.yaml_emitter.proofs.standing.Fronts.{one_if, closes_after, closes_after-none, closes_after-next, one_if-le-one}
+use Rattle.yaml_emitter.proofs.standing.WrittenPrefixes.{one_if, closes_after, closes_after-none, closes_after-next, one_if-le-one}
 use Rattle.yaml_emitter.proofs.queue.closes.Goals as goal
 
 pub returns-then-starts-ended : goal.returns-then-starts-ended

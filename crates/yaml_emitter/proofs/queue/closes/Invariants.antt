@@ -1,6 +1,6 @@
 use Rattle.std.proofs.Common.{◌≡◌, ◌≤◌, drop}
 use Rattle.yaml_base.specs.Seen.{seen_events}
-use Rattle.yaml_emitter.proofs.standing.Fronts.{closes_after}
+use Rattle.yaml_emitter.proofs.standing.WrittenPrefixes.{closes_after}
 use Rattle.yaml_emitter.proofs.queue.closes.Given as goal
 
 abbrev pub invariant-loop-event : goal.invariant-loop-event

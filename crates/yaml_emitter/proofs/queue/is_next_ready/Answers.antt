@@ -4,10 +4,10 @@ use Rattle.std.proofs.lemmas.Bool.{le-ltb}
 use Rattle.std.specs.List.{list_any}
 use Rattle.std.specs.Prelude.{nat_lt}
 use Rattle.yaml_base.specs.Event.{Event}
-use Rattle.yaml_base.specs.Ready.{awaited, fronts, is_balanced}
+use Rattle.yaml_base.specs.Ready.{awaited, nonempty_prefixes, is_balanced}
 use Rattle.yaml_base.specs.Seen.{seen_event}
 use Rattle.yaml_emitter.specs.Queue.{is_head_ready}
-use Rattle.yaml_emitter.proofs.standing.Fronts.{alone_open}
+use Rattle.yaml_emitter.proofs.standing.WrittenPrefixes.{alone_open}
 use Rattle.yaml_emitter.proofs.queue.is_next_ready.Goals as goal
 
 -- an event alone that awaits others isn't ready
@@ -17,8 +17,8 @@ unready_alone : {E : Type 0} (seen : E → Event) (xs : List E) (x : E) → x �
 unready_alone seen [] x is waits more some few = absurd (some refl)
 unready_alone seen (y ∷ []) x is waits more some few =
     let here : (awaited (seen y) == 0) ≡ false = ap (λ e. awaited (seen e) == 0) (sym is) ∙ waits in
-    sym (ap (λ (b : Bool). b || nat_lt (awaited (seen y)) 1 || list_any is_balanced (fronts (seen y ∷ []))) here
-    ∙ ap (λ (b : Bool). b || list_any is_balanced (fronts (seen y ∷ []))) (ap (λ e. nat_lt (awaited (seen e)) 1) (sym is) ∙ more)
+    sym (ap (λ (b : Bool). b || nat_lt (awaited (seen y)) 1 || list_any is_balanced (nonempty_prefixes (seen y ∷ []))) here
+    ∙ ap (λ (b : Bool). b || list_any is_balanced (nonempty_prefixes (seen y ∷ []))) (ap (λ e. nat_lt (awaited (seen e)) 1) (sym is) ∙ more)
     ∙ alone_open (seen y) here)
 unready_alone seen (y ∷ z ∷ zs) x is waits more some few = absurd (omega (arith, few))
 

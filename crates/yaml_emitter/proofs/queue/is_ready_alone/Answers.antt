@@ -4,7 +4,7 @@ use Rattle.std.proofs.lemmas.List.{nil_from_length}
 use Rattle.std.specs.List.{list_any}
 use Rattle.std.specs.Prelude.{◌==◌, ◌||◌, nat_lt}
 use Rattle.yaml_base.specs.Event.{Event}
-use Rattle.yaml_base.specs.Ready.{awaited, fronts, is_balanced}
+use Rattle.yaml_base.specs.Ready.{awaited, nonempty_prefixes, is_balanced}
 use Rattle.yaml_base.specs.Seen.{seen_event}
 use Rattle.yaml_emitter.specs.Queue.{is_head_ready}
 use Rattle.yaml_emitter.proofs.queue.is_ready_alone.Goals as goal
@@ -12,7 +12,7 @@ use Rattle.yaml_emitter.proofs.queue.is_ready_alone.Goals as goal
 -- an event that awaits nothing is ready alone
 ready_alone : (event : Event) → (awaited event == 0) ≡ true → is_head_ready (event ∷ []) ≡ true
 ready_alone event none =
-    ap (λ (b : Bool). b || nat_lt (awaited event) (length (event ∷ [])) || list_any is_balanced (fronts (event ∷ []))) none
+    ap (λ (b : Bool). b || nat_lt (awaited event) (length (event ∷ [])) || list_any is_balanced (nonempty_prefixes (event ∷ []))) none
 
 pub returns-then-is_empty-clause-alone : goal.returns-then-is_empty-clause-alone
 returns-then-is_empty-clause-alone g c told =

@@ -11,7 +11,8 @@ invariant_of-emitter g c = kept_given c.emitter.inside c.set_canonical.new.self 
 pub returns-clause-set : goal.returns-clause-set
 returns-clause-set g c =
     ap (λ (m : MachineState). state_of (record c.emitter.inside { machine = m })) c.set_canonical.ensures
-    ∙ ap (λ (s : State). let made : State = record s { given = record s.given { canonical = c.args.canonical }; settings = record s.settings { canonical = c.args.canonical } } in made) c.emitter.view_is
+    ∙ ap (λ (s : State). let made : State = record s
+    { given = record s.given { canonical = c.args.canonical }; settings = record s.settings { canonical = c.args.canonical } } in made) c.emitter.view_is
 
 pub returns-clause-stands : goal.returns-clause-stands
 returns-clause-stands g c stands = stands_given c.args.emitter.now _ _ _ (returns-clause-set g c) refl stands

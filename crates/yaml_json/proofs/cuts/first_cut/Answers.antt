@@ -1,5 +1,5 @@
 use Rattle.std.proofs.Common.{◌≡◌, ◌<◌, ◌≤◌, ℕ, List, None, Some, sym, subst, arith, get_or, length, take}
-use Rattle.yaml_json.specs.Texts.{CutsFirst, after_byte}
+use Rattle.yaml_json.specs.Texts.{CutsFirstText, after_byte}
 use Rattle.yaml_json.proofs.Cutting.{all_scanned, one_cut, one_scanned}
 use Rattle.yaml_json.proofs.cuts.first_cut.Goals as goal
 
@@ -9,8 +9,8 @@ returns-in-None c =
     let l = c.bytes in
     let less : l.end < length text = grind arith in
     let is : after_byte l.scan (get_or text l.end 0) ≡ None = grind arith in
-    subst (λ (first : List ℕ). CutsFirst text first c.split_at.result.1.now) (sym c.split_at.ensures.front)
-    (subst (CutsFirst text (take l.end text)) (sym c.split_at.ensures.back) (one_cut text l.end l.scan l.invariant.1 less is))
+    subst (λ (first : List ℕ). CutsFirstText text first c.split_at.result.1.now) (sym c.split_at.ensures.front)
+    (subst (CutsFirstText text (take l.end text)) (sym c.split_at.ensures.back) (one_cut text l.end l.scan l.invariant.1 less is))
 
 pub bytes-preserved : goal.bytes-preserved
 bytes-preserved c =

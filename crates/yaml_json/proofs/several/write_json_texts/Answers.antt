@@ -4,25 +4,29 @@ use Rattle.yaml_base.specs.declared.errors.yaml_error_t.{yaml_error_t}
 use Rattle.yaml_json.proofs.Stopping.{if_some}
 use Rattle.yaml_json.proofs.WroteLemmas.{bare_awaits_none}
 use Rattle.yaml_json.proofs.Refusing.{why_told}
-use Rattle.yaml_json.proofs.TextsInTurn.{is_more, next_failed, no_more, some_more, text_refused, texts_begin, texts_done, texts_failed, texts_go_on, texts_names, texts_read}
+use Rattle.yaml_json.proofs.TextsInTurn.{is_more, next_failed, no_more, some_more, text_refused, texts_begin, texts_done, texts_failed, texts_go_on}
+use Rattle.yaml_json.proofs.TextsInTurn.{texts_names, texts_read}
 use Rattle.yaml_json.specs.Failing.{FailedInTexts, failure_of}
 use Rattle.yaml_json.proofs.several.write_json_texts.Goals as goal
 
 pub texts-init : goal.texts-init
-texts-init g c = (search rules, texts_begin c.args.settings.depth c.args.settings.flow c.args.settings.unique_names c.args.text.now c.args.writer.now c.requires)
+texts-init g c =
+    (search rules, texts_begin c.args.settings.depth c.args.settings.flow c.args.settings.unique_names c.args.text.now c.args.writer.now c.requires)
 
 pub write_text_by-requires : goal.write_text_by-requires
 write_text_by-requires g c = c.texts.invariant.1.wrote.bare
 
 pub returns-then-is_empty-clause-written : goal.returns-then-is_empty-clause-written
 returns-then-is_empty-clause-written g c =
-    texts_done c.args.settings.depth c.args.settings.flow c.args.settings.unique_names c.args.text.now c.args.writer.now c.texts.rest.now c.first_cut.result.0.now c.first_cut.result.1.now
+    texts_done c.args.settings.depth c.args.settings.flow c.args.settings.unique_names c.args.text.now c.args.writer.now c.texts.rest.now
+    c.first_cut.result.0.now c.first_cut.result.1.now
     c.texts.writer c.write_text_by.new.writer c.first_cut.ensures c.texts.invariant.1 c.in_default.ensures.names c.in_default.ensures.written
     (no_more c.first_cut.result.1.now c.is_empty.result c.is_empty.ensures c.if-is_empty.true)
 
 pub returns-then-is_empty-clause-reads : goal.returns-then-is_empty-clause-reads
 returns-then-is_empty-clause-reads g c =
-    texts_read c.args.settings.depth c.args.settings.flow c.args.settings.unique_names c.args.text.now c.args.writer.now c.texts.rest.now c.first_cut.result.0.now c.first_cut.result.1.now
+    texts_read c.args.settings.depth c.args.settings.flow c.args.settings.unique_names c.args.text.now c.args.writer.now c.texts.rest.now
+    c.first_cut.result.0.now c.first_cut.result.1.now
     c.texts.writer c.write_text_by.new.writer c.first_cut.ensures c.texts.invariant.1 c.in_default.ensures.names c.in_default.ensures.written
     (no_more c.first_cut.result.1.now c.is_empty.result c.is_empty.ensures c.if-is_empty.true)
 
@@ -33,8 +37,10 @@ texts-smaller g c =
 pub texts-preserved : goal.texts-preserved
 texts-preserved g c = (
   search rules,
-  texts_go_on c.args.settings.depth c.args.settings.flow c.args.settings.unique_names c.args.text.now c.args.writer.now c.texts.rest.now c.first_cut.result.0.now c.first_cut.result.1.now
-      c.texts.writer c.write_text_by.new.writer c.first_cut.ensures c.texts.invariant.1 c.in_default.ensures.names c.in_default.ensures.written c.next_document.result
+  texts_go_on c.args.settings.depth c.args.settings.flow c.args.settings.unique_names c.args.text.now c.args.writer.now c.texts.rest.now
+      c.first_cut.result.0.now c.first_cut.result.1.now
+      c.texts.writer c.write_text_by.new.writer c.first_cut.ensures c.texts.invariant.1 c.in_default.ensures.names c.in_default.ensures.written
+      c.next_document.result
       c.next_document.new.self (is_more c.first_cut.result.1.now c.is_empty.result c.is_empty.ensures c.if-is_empty.false)
       (c.next_document.ensures.passed (bare_awaits_none c.write_text_by.new.writer c.in_default.ensures.written.wrote.bare)),
 )
@@ -46,22 +52,27 @@ returns-in-Err-clause-failed g c =
     FailedInTexts c.args.settings.depth c.args.settings.flow c.args.text.now c.args.writer.now code c.write_text_by.new.writer))
     (sym c.error_of.ensures.by_writer)
     (if_some (failure_of c.in-Err.stop)
-    (texts_failed c.args.settings.depth c.args.settings.flow c.args.settings.unique_names c.args.text.now c.args.writer.now c.texts.rest.now c.first_cut.result.0.now c.first_cut.result.1.now
+    (texts_failed c.args.settings.depth c.args.settings.flow c.args.settings.unique_names c.args.text.now c.args.writer.now c.texts.rest.now
+    c.first_cut.result.0.now c.first_cut.result.1.now
     c.texts.writer c.write_text_by.new.writer c.first_cut.ensures c.texts.invariant.1)
     c.in-Err.ensures.stopped)
 
 pub returns-in-Err-next_document-clause-failed : goal.returns-in-Err-next_document-clause-failed
 returns-in-Err-next_document-clause-failed g c =
-    next_failed c.args.settings.depth c.args.settings.flow c.args.settings.unique_names c.args.text.now c.args.writer.now c.texts.rest.now c.first_cut.result.0.now c.first_cut.result.1.now
-    c.texts.writer c.write_text_by.new.writer c.first_cut.ensures c.texts.invariant.1 c.in_default.ensures.names c.in_default.ensures.written c.next_document.new.self
+    next_failed c.args.settings.depth c.args.settings.flow c.args.settings.unique_names c.args.text.now c.args.writer.now c.texts.rest.now
+    c.first_cut.result.0.now c.first_cut.result.1.now
+    c.texts.writer c.write_text_by.new.writer c.first_cut.ensures c.texts.invariant.1 c.in_default.ensures.names c.in_default.ensures.written
+    c.next_document.new.self
     c.in-Err-next_document.error
     (c.in-Err-next_document.ensures.passed (bare_awaits_none c.write_text_by.new.writer c.in_default.ensures.written.wrote.bare))
 
 pub returns-in-Err-clause-refused : goal.returns-in-Err-clause-refused
 returns-in-Err-clause-refused g c is =
-    text_refused c.args.settings.depth c.args.settings.flow c.args.settings.unique_names c.args.text.now c.args.writer.now c.texts.rest.now c.first_cut.result.0.now
+    text_refused c.args.settings.depth c.args.settings.flow c.args.settings.unique_names c.args.text.now c.args.writer.now c.texts.rest.now
+    c.first_cut.result.0.now
     c.first_cut.result.1.now c.texts.writer c.first_cut.ensures c.texts.invariant.1 c.error_of.result
-    (why_told c.args.settings.depth c.args.settings.unique_names c.first_cut.result.0.now c.in-Err.stop c.error_of.result c.error_of.ensures.says c.in-Err.ensures.refused)
+    (why_told c.args.settings.depth c.args.settings.unique_names c.first_cut.result.0.now c.in-Err.stop c.error_of.result c.error_of.ensures.says
+    c.in-Err.ensures.refused)
 
 pub returns-then-is_empty-clause-names : goal.returns-then-is_empty-clause-names
 returns-then-is_empty-clause-names g c =

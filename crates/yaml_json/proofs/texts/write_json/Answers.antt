@@ -5,7 +5,8 @@ use Rattle.yaml_json.proofs.texts.write_json.Goals as goal
 pub returns-clause-refused : goal.returns-clause-refused
 returns-clause-refused g c =
     why_no_json c.args.settings.depth c.args.settings.unique_names c.args.text.now c.error_of.result
-    (why_told c.args.settings.depth c.args.settings.unique_names c.args.text.now c.in-Err.stop c.error_of.result c.error_of.ensures.says c.in-Err.ensures.refused)
+    (why_told c.args.settings.depth c.args.settings.unique_names c.args.text.now c.in-Err.stop c.error_of.result c.error_of.ensures.says
+    c.in-Err.ensures.refused)
 
 pub returns-in-Ok-clause-names : goal.returns-in-Ok-clause-names
 returns-in-Ok-clause-names g c =

@@ -18,7 +18,7 @@ use Rattle.yaml_json.proofs.WroteLemmas.{always, on_ok}
 use Rattle.yaml_json.specs.Failing.{failure}
 use Rattle.yaml_json.specs.JsonEvents.{bool_content, null_content, number_content, text_content}
 use Rattle.yaml_json.specs.Refused.{RefusesText}
-use Rattle.yaml_json.specs.Walk.{BeginFailed, Began, Keeps, RefusesToken}
+use Rattle.yaml_json.specs.Walk.{BeginFailed, BeganValue, Keeps, RefusesToken}
 use Rattle.yaml_json.proofs.values.write_token.Goals as goal
 
 number_apart : (text : Bor (List ℕ)) (token : Token) → token ≡ variants.Number text → token ≡ variants.Bad → ⊥
@@ -30,7 +30,7 @@ pub returns-in-Null-clause-began : goal.returns-in-Null-clause-began
 returns-in-Null-clause-began g c =
     let a = c.args in
     subst (λ (t : Token). OnOk c.write_null.result
-    (Began a.settings.now.depth a.settings.now.flow (token_of t) a.nest.now.kinds.items a.writer.now a.nest.now.kinds.items c.write_null.new.writer))
+    (BeganValue a.settings.now.depth a.settings.now.flow (token_of t) a.nest.now.kinds.items a.writer.now a.nest.now.kinds.items c.write_null.new.writer))
     (sym c.in-Null.is)
     (on_ok c.write_null.result
     (scalar_began a.settings.now.depth a.settings.now.flow a.nest.now.kinds.items a.writer.now c.write_null.new.writer tokens.null
@@ -59,7 +59,7 @@ pub returns-in-Bool-clause-began : goal.returns-in-Bool-clause-began
 returns-in-Bool-clause-began g c =
     let a = c.args in
     subst (λ (t : Token). OnOk c.write_bool.result
-    (Began a.settings.now.depth a.settings.now.flow (token_of t) a.nest.now.kinds.items a.writer.now a.nest.now.kinds.items c.write_bool.new.writer))
+    (BeganValue a.settings.now.depth a.settings.now.flow (token_of t) a.nest.now.kinds.items a.writer.now a.nest.now.kinds.items c.write_bool.new.writer))
     (sym c.in-Bool.is)
     (on_ok c.write_bool.result
     (scalar_began a.settings.now.depth a.settings.now.flow a.nest.now.kinds.items a.writer.now c.write_bool.new.writer (tokens.boolean c.in-Bool.flag)
@@ -89,7 +89,7 @@ returns-in-Number-clause-began g c =
     let a = c.args in
     let text = c.in-Number.text.now in
     subst (λ (t : Token). OnOk c.write_number.result
-    (Began a.settings.now.depth a.settings.now.flow (token_of t) a.nest.now.kinds.items a.writer.now a.nest.now.kinds.items c.write_number.new.writer))
+    (BeganValue a.settings.now.depth a.settings.now.flow (token_of t) a.nest.now.kinds.items a.writer.now a.nest.now.kinds.items c.write_number.new.writer))
     (sym c.in-Number.is)
     (on_ok c.write_number.result
     (scalar_began a.settings.now.depth a.settings.now.flow a.nest.now.kinds.items a.writer.now c.write_number.new.writer (tokens.number text)
@@ -125,7 +125,7 @@ returns-in-String-clause-began g c =
     let a = c.args in
     let text = c.in-String.text.now in
     subst (λ (t : Token). OnOk c.write_text.result
-    (Began a.settings.now.depth a.settings.now.flow (token_of t) a.nest.now.kinds.items a.writer.now a.nest.now.kinds.items c.write_text.new.writer))
+    (BeganValue a.settings.now.depth a.settings.now.flow (token_of t) a.nest.now.kinds.items a.writer.now a.nest.now.kinds.items c.write_text.new.writer))
     (sym c.in-String.is)
     (on_ok c.write_text.result
     (scalar_began a.settings.now.depth a.settings.now.flow a.nest.now.kinds.items a.writer.now c.write_text.new.writer (tokens.string text)

@@ -2,7 +2,7 @@ use Rattle.std.proofs.Common.{◌≡◌, List, [], subst, arith}
 use Rattle.std.specs.Prelude.{IfSome}
 use Rattle.yaml_writer.specs.declared.kinds.CollectionKind.{CollectionKind}
 use Rattle.yaml_json.specs.Failing.{failure_of}
-use Rattle.yaml_json.specs.Walk.{BeganFirst, FirstFailed, RefusesFirst}
+use Rattle.yaml_json.specs.Walk.{BeganFirstValue, FirstFailed, RefusesFirst}
 use Rattle.yaml_json.proofs.KeepingNames.{names_begin, names_on}
 use Rattle.yaml_json.proofs.Refusing.{first_refused}
 use Rattle.yaml_json.proofs.Stopping.{if_some}
@@ -32,7 +32,7 @@ each_token-init g c =
     let a = c.args in (
       first_so_far a.settings.now.depth a.settings.now.flow a.reader.now a.writer.now c.write_first.new.reader c.write_first.new.nest.kinds.items
           c.write_first.new.writer c.requires
-          (subst (λ (levels : List CollectionKind). BeganFirst a.settings.now.depth a.settings.now.flow a.reader.now levels a.writer.now
+          (subst (λ (levels : List CollectionKind). BeganFirstValue a.settings.now.depth a.settings.now.flow a.reader.now levels a.writer.now
           c.write_first.new.reader c.write_first.new.nest.kinds.items c.write_first.new.writer) c.new.ensures.items c.in_default.ensures.began),
       c.in_default.ensures.fits,
       names_on a.reader.now a.reader.now c.write_first.new.reader c.new-2.result c.write_first.new.nest.names

@@ -14,7 +14,7 @@ returns-in_default c =
 pub returns-then-is_empty-2 : goal.returns-then-is_empty-2
 returns-then-is_empty-2 c =
     let start = strip_prefix_char 33 c.args.handle.now c.strip_prefix.result c.strip_prefix.ensures.cases (lit< tt) in
-    fact.mark_alone c.args.handle.now c.in-Some.rest.now c.utf8.handle (rw c.in-Some.is at start) (sym c.if-is_empty-2.ensures)
+    fact.exclamation_alone c.args.handle.now c.in-Some.rest.now c.utf8.handle (rw c.in-Some.is at start) (sym c.if-is_empty-2.ensures)
 
 pub returns-in_default-strip_suffix : goal.returns-in_default-strip_suffix
 returns-in_default-strip_suffix c =
@@ -27,12 +27,12 @@ pub returns-then-not-is_all_alpha : goal.returns-then-not-is_all_alpha
 returns-then-not-is_all_alpha c =
     let start = strip_prefix_char 33 c.args.handle.now c.strip_prefix.result c.strip_prefix.ensures.cases (lit< tt) in
     let end = strip_suffix_char 33 c.in-Some.rest.now c.strip_suffix.result c.strip_suffix.ensures.cases (lit< tt) in
-    fact.both_marks c.args.handle.now c.in-Some.rest.now c.in-Some-strip_suffix.middle.now false c.utf8.handle
+    fact.both_exclamations c.args.handle.now c.in-Some.rest.now c.in-Some-strip_suffix.middle.now false c.utf8.handle
     (rw c.in-Some.is at start) (rw c.in-Some-strip_suffix.is at end) (sym c.if-not-is_all_alpha.ensures)
 
 pub returns : goal.returns
 returns c =
     let start = strip_prefix_char 33 c.args.handle.now c.strip_prefix.result c.strip_prefix.ensures.cases (lit< tt) in
     let end = strip_suffix_char 33 c.in-Some.rest.now c.strip_suffix.result c.strip_suffix.ensures.cases (lit< tt) in
-    fact.both_marks c.args.handle.now c.in-Some.rest.now c.in-Some-strip_suffix.middle.now true c.utf8.handle
+    fact.both_exclamations c.args.handle.now c.in-Some.rest.now c.in-Some-strip_suffix.middle.now true c.utf8.handle
     (rw c.in-Some.is at start) (rw c.in-Some-strip_suffix.is at end) (sym c.if-not-is_all_alpha.ensures)

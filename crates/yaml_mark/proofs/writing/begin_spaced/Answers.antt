@@ -3,7 +3,7 @@ use Rattle.std.specs.List.{list_any}
 use Rattle.std.proofs.lemmas.Str.{chars-nil}
 use Rattle.yaml_base.specs.Characters.{is_break}
 use Rattle.yaml_base.specs.Indicators.{Indicator, spaced}
-use Rattle.yaml_mark.proofs.EscapingLemmas.{no_sign}
+use Rattle.yaml_mark.proofs.EscapingLemmas.{no_indicator}
 use Rattle.yaml_mark.proofs.writing.begin_spaced.Goals as goal
 
 pub put_indicator-requires-clause-no_break : goal.put_indicator-requires-clause-no_break
@@ -11,4 +11,4 @@ put_indicator-requires-clause-no_break g c =
     ap (λ (s : Indicator). list_any is_break s.text) c.spaced.ensures ∙ ap (list_any is_break) chars-nil
 
 pub returns : goal.returns
-returns g c = no_sign (c.spaced.ensures ∙ ap spaced chars-nil) c.put_indicator.ensures.written
+returns g c = no_indicator (c.spaced.ensures ∙ ap spaced chars-nil) c.put_indicator.ensures.written

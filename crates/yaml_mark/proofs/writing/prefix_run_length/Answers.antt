@@ -5,8 +5,8 @@ use Rattle.yaml_mark.specs.Escaping.{IsPrefixRun}
 use Rattle.yaml_mark.proofs.EscapingLemmas.{marked_run, prefix_run}
 use Rattle.yaml_mark.proofs.writing.prefix_run_length.Goals as goal
 
-pub overflow_sub-mark : goal.overflow_sub-mark
-overflow_sub-mark c = omega (arith, ap (λ (l : List ℕ). length l) c.in-Some.ensures.0)
+pub overflow_sub-exclamation : goal.overflow_sub-exclamation
+overflow_sub-exclamation c = omega (arith, ap (λ (l : List ℕ). length l) c.in-Some.ensures.0)
 
 pub overflow_add-result : goal.overflow_add-result
 overflow_add-result c =

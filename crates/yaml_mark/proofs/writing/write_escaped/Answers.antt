@@ -6,7 +6,7 @@ use Rattle.std.specs.Str.{IsCharBoundary, chars}
 use Rattle.yaml_base.specs.Percent.{byte_escaped, suffix_escaped}
 use Rattle.std.specs.List.{flat_map}
 use Rattle.yaml_pen.proofs.Composing.{wrote_exit}
-use Rattle.yaml_pen.proofs.Fronts.{front_more, front_failed, front_whole}
+use Rattle.yaml_pen.proofs.WrittenPrefixes.{prefix_more, prefix_failed, prefix_whole}
 use Rattle.yaml_mark.specs.Escaping.{are_escaped}
 use Rattle.yaml_mark.proofs.EscapingLemmas.{forms_cut, moves_on, next_boundary, run_boundary, run_cut}
 use Rattle.yaml_mark.proofs.writing.write_escaped.Goals as goal
@@ -14,30 +14,30 @@ use Rattle.yaml_mark.proofs.writing.write_escaped.Goals as goal
 pub split_at-requires : goal.split_at-requires
 split_at-requires g c =
     subst (λ (n : ℕ). IsCharBoundary c.loop-rest.rest.now n) (sym c.run_length.ensures)
-    (run_boundary (are_escaped c.args.signs) c.loop-rest.rest.now c.loop-rest.invariant.is_text)
+    (run_boundary (are_escaped c.args.indicators) c.loop-rest.rest.now c.loop-rest.invariant.is_text)
 
 pub write_run-requires-clause-no_break : goal.write_run-requires-clause-no_break
 write_run-requires-clause-no_break g c =
-    (run_cut (are_escaped c.args.signs) c.loop-rest.rest.now c.split_at.result.0.now c.split_at.result.1.now c.run_length.result
+    (run_cut (are_escaped c.args.indicators) c.loop-rest.rest.now c.split_at.result.0.now c.split_at.result.1.now c.run_length.result
     c.loop-rest.invariant.is_text c.run_length.ensures c.split_at.ensures.front c.split_at.ensures.back).unbroken
 
 pub split_at-requires-in-loop-rest : goal.split_at-requires-in-loop-rest
 split_at-requires-in-loop-rest g c =
     subst (λ (n : ℕ). IsCharBoundary c.split_at.result.1.now n) (sym c.escaped_length.ensures)
-    (next_boundary (are_escaped c.args.signs) c.split_at.result.1.now)
+    (next_boundary (are_escaped c.args.indicators) c.split_at.result.1.now)
 
 pub returns-in_err-write_run : goal.returns-in_err-write_run
 returns-in_err-write_run g c =
-    let escaped = are_escaped c.args.signs in
+    let escaped = are_escaped c.args.indicators in
     let run = run_cut escaped c.loop-rest.rest.now c.split_at.result.0.now c.split_at.result.1.now c.run_length.result
     c.loop-rest.invariant.is_text c.run_length.ensures c.split_at.ensures.front c.split_at.ensures.back in
     wrote_exit c.from_residual-in_err-write_run.ensures
-    (front_failed (chars c.split_at.result.0.now) (suffix_escaped escaped (chars c.split_at.result.1.now)) c.loop-rest.invariant.front run.parts
+    (prefix_failed (chars c.split_at.result.0.now) (suffix_escaped escaped (chars c.split_at.result.1.now)) c.loop-rest.invariant.prefix run.parts
     c.in_err-write_run.ensures.written)
 
 pub returns-in_err-write_forms : goal.returns-in_err-write_forms
 returns-in_err-write_forms g c =
-    let escaped = are_escaped c.args.signs in
+    let escaped = are_escaped c.args.indicators in
     let others = c.split_at.result.1.now in
     let first = c.split_at-in-loop-rest.result.0.now in
     let behind = c.split_at-in-loop-rest.result.1.now in
@@ -45,14 +45,14 @@ returns-in_err-write_forms g c =
     c.loop-rest.invariant.is_text c.run_length.ensures c.split_at.ensures.front c.split_at.ensures.back in
     let forms = forms_cut escaped others first behind c.escaped_length.result run.is_text c.escaped_length.ensures
     c.split_at-in-loop-rest.ensures.front c.split_at-in-loop-rest.ensures.back in
-    let more = front_more (chars c.split_at.result.0.now) (suffix_escaped escaped (chars others)) c.loop-rest.invariant.front run.parts
+    let more = prefix_more (chars c.split_at.result.0.now) (suffix_escaped escaped (chars others)) c.loop-rest.invariant.prefix run.parts
     c.in_ok-write_run.ensures.written in
     wrote_exit c.from_residual-in_err-write_forms.ensures
-    (front_failed (flat_map byte_escaped first) (suffix_escaped escaped (chars behind)) more forms.parts c.in_err-write_forms.ensures)
+    (prefix_failed (flat_map byte_escaped first) (suffix_escaped escaped (chars behind)) more forms.parts c.in_err-write_forms.ensures)
 
 pub loop-rest-preserved : goal.loop-rest-preserved
 loop-rest-preserved g c =
-    let escaped = are_escaped c.args.signs in
+    let escaped = are_escaped c.args.indicators in
     let others = c.split_at.result.1.now in
     let first = c.split_at-in-loop-rest.result.0.now in
     let behind = c.split_at-in-loop-rest.result.1.now in
@@ -60,20 +60,20 @@ loop-rest-preserved g c =
     c.loop-rest.invariant.is_text c.run_length.ensures c.split_at.ensures.front c.split_at.ensures.back in
     let forms = forms_cut escaped others first behind c.escaped_length.result run.is_text c.escaped_length.ensures
     c.split_at-in-loop-rest.ensures.front c.split_at-in-loop-rest.ensures.back in
-    let more = front_more (chars c.split_at.result.0.now) (suffix_escaped escaped (chars others)) c.loop-rest.invariant.front run.parts
+    let more = prefix_more (chars c.split_at.result.0.now) (suffix_escaped escaped (chars others)) c.loop-rest.invariant.prefix run.parts
     c.in_ok-write_run.ensures.written in
     record {
-      front = front_more (flat_map byte_escaped first) (suffix_escaped escaped (chars behind)) more forms.parts c.in_ok-write_forms.ensures;
+      prefix = prefix_more (flat_map byte_escaped first) (suffix_escaped escaped (chars behind)) more forms.parts c.in_ok-write_forms.ensures;
       is_text = forms.is_text;
     }
 
 pub loop-rest-smaller : goal.loop-rest-smaller
 loop-rest-smaller g c =
-    let moves = moves_on (are_escaped c.args.signs) c.loop-rest.rest.now c.split_at.result.1.now c.run_length.result c.escaped_length.result
+    let moves = moves_on (are_escaped c.args.indicators) c.loop-rest.rest.now c.split_at.result.1.now c.run_length.result c.escaped_length.result
     (sym c.loop-rest-test.ensures) c.run_length.ensures c.split_at.ensures.back c.escaped_length.ensures in
     omega (arith, moves, c.split_at.ensures.back_len, c.split_at-in-loop-rest.ensures.back_len)
 
 pub returns : goal.returns
 returns g c =
     let none = nil_from_length c.loop-rest.rest.now (eqb-true _ 0 (sym c.is_empty.ensures ∙ c.loop-rest-test.false)) in
-    front_whole c.loop-rest.invariant.front (ap (suffix_escaped (are_escaped c.args.signs)) (ap chars none ∙ chars-nil))
+    prefix_whole c.loop-rest.invariant.prefix (ap (suffix_escaped (are_escaped c.args.indicators)) (ap chars none ∙ chars-nil))

@@ -1,13 +1,14 @@
 use Rattle.std.proofs.Common.{length}
 use Rattle.std.specs.Str.{chars, IsUtf8}
 use Rattle.yaml_base.specs.Percent.{suffix_escaped}
-use Rattle.yaml_pen.proofs.Fronts.{WroteFront}
+use Rattle.yaml_pen.proofs.WrittenPrefixes.{WrotePrefix}
 use Rattle.yaml_mark.specs.Escaping.{are_escaped}
 use Rattle.yaml_mark.proofs.writing.write_escaped.Given as goal
 
 abbrev pub invariant-loop-rest : goal.invariant-loop-rest
 invariant-loop-rest g l = record {
-  front : WroteFront (suffix_escaped (are_escaped l.signs) (chars l.fn.text)) (suffix_escaped (are_escaped l.signs) (chars l.rest)) l.initial.pen l.pen;
+  prefix : WrotePrefix (suffix_escaped (are_escaped l.indicators) (chars l.fn.text))
+      (suffix_escaped (are_escaped l.indicators) (chars l.rest)) l.initial.pen l.pen;
   is_text : IsUtf8 l.rest;
 }
 

@@ -1,7 +1,7 @@
 use Rattle.std.proofs.Common.{Err, true, subst}
 use Rattle.std.specs.Str.{chars}
 use Rattle.yaml_base.specs.Characters.{Text}
-use Rattle.yaml_base.specs.Cursor.{text_laid}
+use Rattle.yaml_base.specs.Cursor.{render_text}
 use Rattle.yaml_base.specs.Percent.{percent_escaped, prefix_escaped}
 use Rattle.yaml_pen.specs.Wrote.{Wrote}
 use Rattle.yaml_pen.proofs.Composing.{wrote_exit, wrote_text_failed, wrote_text_then}
@@ -23,12 +23,12 @@ returns-in_err-write_run g c =
     let is = prefix_parts c.prefix_run_length.ensures c.split_at.ensures.front c.split_at.ensures.back in
     wrote_exit c.from_residual-in_err-write_run.ensures
     (content_whole true (prefix_escaped c.args.portable (chars c.args.prefix.now)) c.in_ok-begin_spaced.ensures
-    (subst (λ (t : Text). Wrote (text_laid t) c.begin_spaced.new.pen c.write_run.new.self (Err c.in_err-write_run.field-0.0)) is
+    (subst (λ (t : Text). Wrote (render_text t) c.begin_spaced.new.pen c.write_run.new.self (Err c.in_err-write_run.field-0.0)) is
     (wrote_text_failed (percent_escaped (chars c.split_at.result.1.now)) c.in_err-write_run.ensures.written)))
 
 pub returns : goal.returns
 returns g c =
     let is = prefix_parts c.prefix_run_length.ensures c.split_at.ensures.front c.split_at.ensures.back in
     content_whole true (prefix_escaped c.args.portable (chars c.args.prefix.now)) c.in_ok-begin_spaced.ensures
-    (subst (λ (t : Text). Wrote (text_laid t) c.begin_spaced.new.pen c.write_escaped.new.pen c.write_escaped.result) is
+    (subst (λ (t : Text). Wrote (render_text t) c.begin_spaced.new.pen c.write_escaped.new.pen c.write_escaped.result) is
     (wrote_text_then c.in_ok-write_run.ensures.written c.write_escaped.ensures))

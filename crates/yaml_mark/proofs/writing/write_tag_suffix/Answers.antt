@@ -1,6 +1,6 @@
 use Rattle.std.proofs.Common.{Bool, false, subst}
 use Rattle.std.specs.Str.{chars}
-use Rattle.yaml_base.specs.Cursor.{text_laid}
+use Rattle.yaml_base.specs.Cursor.{render_text}
 use Rattle.yaml_base.specs.Percent.{suffix_escaped}
 use Rattle.yaml_pen.specs.Wrote.{Wrote}
 use Rattle.yaml_pen.proofs.Composing.{wrote_exit}
@@ -15,5 +15,5 @@ pub returns : goal.returns
 returns g c =
     content_whole false (suffix_escaped c.args.portable (chars c.args.suffix.now)) c.in_ok-begin_tight.ensures
     (subst (λ (escaped : Bool). Wrote
-    (text_laid (suffix_escaped escaped (chars c.args.suffix.now))) c.begin_tight.new.pen c.write_escaped.new.pen c.write_escaped.result)
-    c.flow_signs.ensures c.write_escaped.ensures)
+    (render_text (suffix_escaped escaped (chars c.args.suffix.now))) c.begin_tight.new.pen c.write_escaped.new.pen c.write_escaped.result)
+    c.flow_indicators.ensures c.write_escaped.ensures)

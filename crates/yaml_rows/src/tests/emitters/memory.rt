@@ -142,7 +142,7 @@ fn check_end<A: Allocator + Copy>(
 }
 
 // A stream of which one growth is refused, with a flush after each event or none. Answers whether there is that growth.
-fn is_told<A: Allocator + Copy>(
+fn is_reported<A: Allocator + Copy>(
     rt: &impl Abort,
     heap: &Refusing<Global>,
     alloc: A,
@@ -170,7 +170,7 @@ fn refuse_in_turn(
 ) {
     for number in 1..usize::MAX {
         heap.refuse(number);
-        if !is_told(rt, heap, heap, (events, flushes), whole) {
+        if !is_reported(rt, heap, heap, (events, flushes), whole) {
             return;
         }
     }
@@ -192,7 +192,7 @@ fn check_encodings(rt: &impl Abort, alloc: Global, long: &str, text: &str) {
 }
 
 #[test]
-fn each_refused_growth_is_told(rt: HostRuntime) {
+fn each_refused_growth_is_reported(rt: HostRuntime) {
     let alloc = rt.alloc();
     let long = "y".repeat(alloc, 17_000).expect(&rt, "no memory");
     let text = text_of(&rt, alloc, long.as_str());

@@ -1,5 +1,5 @@
-//! Scripts that aren't understood: the first bad line is told, and nothing is written.
-use super::{check_told, ran};
+//! Scripts that aren't understood: the first bad line is returned, and nothing is written.
+use super::{check_reported, ran};
 use crate::tests::equal;
 use std::alloc::Global;
 use std::process::Abort;
@@ -7,7 +7,7 @@ use std::process::Abort;
 fn check_bad(rt: &impl Abort, alloc: Global, rows: &[(&str, &str)]) {
     for row in rows {
         let ran = ran(rt, alloc, row.0.as_bytes());
-        check_told(rt, &ran, b"", row.1);
+        check_reported(rt, &ran, b"", row.1);
         equal(rt, &(row.0, ran.status), &(row.0, 2));
     }
 }

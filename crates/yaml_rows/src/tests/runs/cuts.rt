@@ -1,5 +1,5 @@
 //! The first script, cut after each of its bytes.
-use super::{FIRST, check_told, ran};
+use super::{FIRST, check_reported, ran};
 use crate::tests::equal;
 use std::alloc::Global;
 use std::process::Abort;
@@ -16,7 +16,7 @@ const LINES: &[(&str, &str)] = &[
 ];
 
 /// What is told of a bad line of this number.
-fn told_of(rt: &impl Abort, alloc: Global, bad_line: Option<u8>) -> String {
+fn reported_of(rt: &impl Abort, alloc: Global, bad_line: Option<u8>) -> String {
     match bad_line {
         Some(number) => format!(in alloc; "yamlemit: line {number}: cannot be read\n").expect(
             rt,
@@ -26,11 +26,11 @@ fn told_of(rt: &impl Abort, alloc: Global, bad_line: Option<u8>) -> String {
     }
 }
 
-// The script up to a place within its line of this number: what is told, and what was written.
-fn check_cut(rt: &impl Abort, alloc: Global, front: &[u8], bad_line: Option<u8>, output: &str) {
-    let ran = ran(rt, alloc, front);
-    let told = told_of(rt, alloc, bad_line);
-    check_told(rt, &ran, output.as_bytes(), told.as_str());
+// The script up to a place within its line of this number: what is returned, and what was written.
+fn check_cut(rt: &impl Abort, alloc: Global, prefix: &[u8], bad_line: Option<u8>, output: &str) {
+    let ran = ran(rt, alloc, prefix);
+    let reported = reported_of(rt, alloc, bad_line);
+    check_reported(rt, &ran, output.as_bytes(), reported.as_str());
     let status = if bad_line.is_some() { 2 } else { 0 };
     equal(rt, &(bad_line, ran.status), &(bad_line, status));
 }
@@ -44,16 +44,16 @@ struct Cut<'a> {
     before: &'a str,
 }
 
-// A cut inside a line is told as that line; at its start and at its end nothing is.
+// A cut inside a line is returned as that line; at its start and at its end nothing is.
 fn check_within(rt: &impl Abort, alloc: Global, cut: &Cut, within: usize) {
     let end = within.saturating_add(cut.start);
-    let front = FIRST.as_bytes().get(..end).unwrap_or(b"");
+    let prefix = FIRST.as_bytes().get(..end).unwrap_or(b"");
     if within == 0 {
-        check_cut(rt, alloc, front, None, cut.before);
+        check_cut(rt, alloc, prefix, None, cut.before);
     } else if within == cut.line.0.len() {
-        check_cut(rt, alloc, front, None, cut.line.1);
+        check_cut(rt, alloc, prefix, None, cut.line.1);
     } else {
-        check_cut(rt, alloc, front, Some(cut.number), "");
+        check_cut(rt, alloc, prefix, Some(cut.number), "");
     }
 }
 
@@ -88,8 +88,8 @@ fn check_lines(rt: &impl Abort, alloc: Global, lines: &[(&str, &str)]) {
     equal(rt, &start, &FIRST.len());
 }
 
-// No front of a line is a line but the empty one.
+// No prefix of a line is a line but the empty one.
 #[test]
-fn each_front_of_a_script_is_told(rt: HostRuntime) {
+fn each_prefix_of_a_script_is_reported(rt: HostRuntime) {
     check_lines(&rt, rt.alloc(), LINES);
 }

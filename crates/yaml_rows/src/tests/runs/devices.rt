@@ -61,14 +61,14 @@ fn check_read(rt: &impl Abort, alloc: Global, calls: usize, answer: run_answer_t
         calls,
     };
     let mut output: Vec<u8> = Vec::new(alloc);
-    let told = run(alloc, &mut reader, &mut output);
-    equal(rt, &(calls, told), &(calls, answer));
+    let reported = run(alloc, &mut reader, &mut output);
+    equal(rt, &(calls, reported), &(calls, answer));
     same(rt, output.as_slice(), written);
 }
 
 // The call after the last byte finds the end.
 #[test]
-fn each_failed_read_is_told(rt: HostRuntime) {
+fn each_failed_read_is_reported(rt: HostRuntime) {
     for calls in 0..=FIRST.len() {
         check_read(&rt, rt.alloc(), calls, run_answer_t::ReadFailed, b"");
     }
@@ -85,8 +85,8 @@ fn check_write(
     taken: &[u8],
 ) {
     let mut left = script.as_bytes();
-    let told = run(alloc, &mut left, writer);
-    equal(rt, &(taken.len(), told), &(taken.len(), answer));
+    let reported = run(alloc, &mut left, writer);
+    equal(rt, &(taken.len(), reported), &(taken.len(), answer));
     same(rt, writer.taken.as_slice(), taken);
 }
 
@@ -111,7 +111,7 @@ fn check_writes(rt: &impl Abort, alloc: Global, whole: &[u8]) {
 }
 
 #[test]
-fn each_failed_write_is_told(rt: HostRuntime) {
+fn each_failed_write_is_reported(rt: HostRuntime) {
     check_writes(&rt, rt.alloc(), b"---\n\"a\"\n");
 }
 

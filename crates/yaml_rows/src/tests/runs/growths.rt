@@ -9,13 +9,13 @@ use yaml_tool::{run, run_answer_t};
 // A run in which a growth was refused, where this is what a whole run tells and writes.
 fn check_refused(
     rt: &impl Abort,
-    told: run_answer_t,
+    reported: run_answer_t,
     output: &[u8],
     answer: run_answer_t,
     whole: &[u8],
 ) {
-    let run_answer_t::Refused(line, error) = told else {
-        equal(rt, &(told, output.len()), &(run_answer_t::NoMemory, 0));
+    let run_answer_t::Refused(line, error) = reported else {
+        equal(rt, &(reported, output.len()), &(run_answer_t::NoMemory, 0));
         return;
     };
     equal(rt, &error, &yaml_error_t::Memory);
@@ -37,13 +37,13 @@ fn is_refused(
     heap.refuse(number);
     let mut left = script;
     let mut output: Vec<u8> = Vec::new(alloc);
-    let told = run(&heap, &mut left, &mut output);
+    let reported = run(&heap, &mut left, &mut output);
     if heap.left() != 0 {
-        equal(rt, &told, &answer);
+        equal(rt, &reported, &answer);
         same(rt, output.as_slice(), whole);
         return false;
     }
-    check_refused(rt, told, output.as_slice(), answer, whole);
+    check_refused(rt, reported, output.as_slice(), answer, whole);
     true
 }
 

@@ -1,4 +1,4 @@
-//! Portable mode: documents begin with `---`, signs of flow after a handle are escaped, a prefix begins with its `!`.
+//! Portable mode: documents begin with `---`, flow indicators after a handle are escaped, a prefix begins with its `!`.
 use super::{Group, StreamGroup, check_all_roots, check_all_streams};
 
 /// Roots of documents, after some settings.

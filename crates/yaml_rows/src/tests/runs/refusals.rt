@@ -206,7 +206,7 @@ const TAGGED: Refusals = &[(
 const CANONICAL: &str = "canonical on\nwidth -1\n";
 
 #[test]
-fn each_refusal_is_told(rt: HostRuntime) {
+fn each_refusal_is_reported(rt: HostRuntime) {
     check_topics(&rt, rt.alloc(), "", REFUSED);
     check_topics(&rt, rt.alloc(), CANONICAL, REFUSED);
     check_refusals(&rt, rt.alloc(), CANONICAL, TAGGED);

@@ -23,7 +23,7 @@ pub(super) fn is_allowed(value: &str) -> bool
     analyze_scalar(value, true, false).block_allowed
 }
 
-/// A literal value where it is allowed; the open mark, or -1.
+/// A literal value where it is allowed; the open-ended state, or -1.
 fn write_literal(
     pen: &mut Pen<Global>,
     value: &str,
@@ -42,7 +42,7 @@ fn write_literal(
     Ok(-1)
 }
 
-/// A folded value where it is allowed; the open mark, or -1.
+/// A folded value where it is allowed; the open-ended state, or -1.
 fn write_folded(
     pen: &mut Pen<Global>,
     value: &str,
@@ -125,11 +125,11 @@ fn an_item_follows_its_sign(rt: HostRuntime) {
     check_marked(&rt, &mut pen, answer, ("- |2-\n   a", 0));
 }
 
-/// A value, at an indent, its header, and the open mark.
+/// A value, at an indent, its header, and the open-ended state.
 #[derive(Drop)]
 struct Header(&'static str, i32, &'static str, i32);
 
-// The open mark; -1 where no setting indents so.
+// The open-ended state; -1 where no setting indents so.
 fn write_header(pen: &mut Pen<Global>, row: &Header) -> Result<i32, yaml_error_t>
     requires { IsReady pen.old }
     ensures { IsReady pen.new }

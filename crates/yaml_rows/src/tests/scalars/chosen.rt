@@ -34,7 +34,7 @@ fn write_in_line(
     }
 }
 
-// Writes in one style; answers the open mark.
+// Writes in one style; answers the open-ended state.
 pub(super) fn write_in(
     pen: &mut Pen<Global>,
     style: yaml_scalar_style_t,
@@ -71,7 +71,7 @@ fn chosen(
     Ok(style)
 }
 
-/// A value, the style asked for, whether unicode is on, the width; what is written, and the open mark.
+/// A value, the style asked for, whether unicode is on, the width; what is written, and the open-ended state.
 #[derive(Drop)]
 struct Root(
     &'static str,

@@ -94,6 +94,6 @@ fn check_limit(rt: &impl Abort, pen: &mut Pen<Global>)
 }
 
 #[test]
-fn a_limit_cuts_and_is_told_again(rt: HostRuntime) {
+fn a_limit_cuts_and_is_reported_again(rt: HostRuntime) {
     check_limit(&rt, &mut begun_within(&rt, rt.alloc(), 3));
 }

@@ -15,13 +15,13 @@ loop-c-preserved c =
     let charset = seen_charset c.args.charset in
     let rest : List ℕ = c.as_str-rest.result.now in
     let more = seen_barred c.with_next-more.result in
-    let read = seen_barred c.past_quiet-in-Some.result.0 in
+    let read = seen_barred c.skip_quiet-in-Some.result.0 in
     record {
-      is_text = subst IsUtf8 (sym c.chars-chars-in-Some.ensures.rest) c.past_quiet-in-Some.ensures.is_text;
+      is_text = subst IsUtf8 (sym c.chars-chars-in-Some.ensures.rest) c.skip_quiet-in-Some.ensures.is_text;
       so_far = barred_more charset _ (seen_barred c.loop-c.barred) _ _ rest c.in-Some.c so_far.is_text c.in-Some.ensures.steps.0 c.as_str-rest.ensures
           so_far.so_far c.with_next-more.ensures
           ∙ ap (λ (l : List ℕ). either more (barred_in charset (chars l))) (sym c.as_str-rest.ensures)
-          ∙ c.past_quiet-in-Some.ensures.same
+          ∙ c.skip_quiet-in-Some.ensures.same
           ∙ ap (λ (l : List ℕ). either read (barred_in charset (chars l))) (sym c.chars-chars-in-Some.ensures.rest);
     }
 

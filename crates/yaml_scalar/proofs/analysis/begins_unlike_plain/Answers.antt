@@ -1,7 +1,7 @@
 use Rattle.std.proofs.Common.{◌≡◌, ℕ, List, ◌∷◌, sym, ap, ◌∙◌, chars}
 use Rattle.std.proofs.lemmas.Str.{chars_past_char}
 use Rattle.std.specs.Prelude.{◌||◌, ◌&&◌, codes}
-use Rattle.yaml_base.specs.scalars.Analysis.{begins_like_mark, begins_unlike_plain, ends_word, is_indicator}
+use Rattle.yaml_base.specs.scalars.Analysis.{begins_like_marker, begins_unlike_plain, ends_word, is_indicator}
 use Rattle.yaml_base.specs.Characters.{Text, is_among, is_space}
 use Rattle.yaml_scalar.proofs.FirstCharacters.{ordinary_plain}
 use Rattle.yaml_scalar.proofs.analysis.begins_unlike_plain.Goals as goal
@@ -21,8 +21,8 @@ returns-in-Some-2 c =
     let parts : chars c.args.value.now ≡ first ∷ chars rest =
     chars_past_char c.args.value.now rest first c.utf8.value (sym c.chars-chars.ensures.rest ∙ c.in-Some.ensures.steps.0) in
     c.first_bars_plain.ensures
-    ∙ ap (λ (t : Text). is_space first || begins_like_mark t || is_indicator first || (is_among (codes "?:-") first && ends_word (chars c.as_str.result.now)))
+    ∙ ap (λ (t : Text). is_space first || begins_like_marker t || is_indicator first || (is_among (codes "?:-") first && ends_word (chars c.as_str.result.now)))
     parts
-    ∙ ap (λ (l : List ℕ). is_space first || begins_like_mark (first ∷ chars rest) || is_indicator first
+    ∙ ap (λ (l : List ℕ). is_space first || begins_like_marker (first ∷ chars rest) || is_indicator first
     || (is_among (codes "?:-") first && ends_word (chars l))) c.as_str.ensures
     ∙ sym (ap begins_unlike_plain parts)

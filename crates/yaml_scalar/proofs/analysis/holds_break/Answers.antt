@@ -11,12 +11,12 @@ pub loop-c-preserved : goal.loop-c-preserved
 loop-c-preserved c =
     let so_far = c.loop-c.invariant in
     record {
-      is_text = subst IsUtf8 (sym c.chars-chars-in-Some.ensures.rest) c.past_unbroken-in-Some.utf8;
+      is_text = subst IsUtf8 (sym c.chars-chars-in-Some.ensures.rest) c.skip_unbroken-in-Some.utf8;
       same = so_far.same
           ∙ ap (list_any is_break) (chars_past_char _ _ c.in-Some.c so_far.is_text c.in-Some.ensures.steps.0)
           ∙ ap (λ b. b || list_any is_break (chars c.next.new.self.rest.now)) (sym c.if-is_break.ensures)
           ∙ ap (λ (l : List ℕ). list_any is_break (chars l)) (sym c.as_str.ensures)
-          ∙ c.past_unbroken-in-Some.ensures.same
+          ∙ c.skip_unbroken-in-Some.ensures.same
           ∙ ap (λ (l : List ℕ). list_any is_break (chars l)) (sym c.chars-chars-in-Some.ensures.rest);
     }
 

@@ -6,14 +6,14 @@ use Rattle.yaml_scalar.proofs.block_header.break_ending.Goals as goal
 
 pub returns-then-is_break : goal.returns-then-is_break
 returns-then-is_break c =
-    let front = c.args.front.now in
-    let text = IsUtf8-append front (encode_utf8 c.args.before) c.utf8.front (IsUtf8-encode c.args.before c.ranges.before.0) in
+    let prefix = c.args.prefix.now in
+    let text = IsUtf8-append prefix (encode_utf8 c.args.before) c.utf8.prefix (IsUtf8-encode c.args.before c.ranges.before.0) in
     ap (λ b. if b then more_breaks else one_break) c.if-is_break.ensures
-    ∙ sym (two-end front c.args.before c.args.last c.utf8.front text c.ranges.before.0 c.ranges.last.0 c.requires)
+    ∙ sym (two-end prefix c.args.before c.args.last c.utf8.prefix text c.ranges.before.0 c.ranges.last.0 c.requires)
 
 pub returns-else-is_break : goal.returns-else-is_break
 returns-else-is_break c =
-    let front = c.args.front.now in
-    let text = IsUtf8-append front (encode_utf8 c.args.before) c.utf8.front (IsUtf8-encode c.args.before c.ranges.before.0) in
+    let prefix = c.args.prefix.now in
+    let text = IsUtf8-append prefix (encode_utf8 c.args.before) c.utf8.prefix (IsUtf8-encode c.args.before c.ranges.before.0) in
     ap (λ b. if b then more_breaks else one_break) c.if-is_break.ensures
-    ∙ sym (two-end front c.args.before c.args.last c.utf8.front text c.ranges.before.0 c.ranges.last.0 c.requires)
+    ∙ sym (two-end prefix c.args.before c.args.last c.utf8.prefix text c.ranges.before.0 c.ranges.last.0 c.requires)

@@ -1,6 +1,6 @@
 use Rattle.std.proofs.Common.{Ok, Err, rules}
 use Rattle.std.specs.Str.{chars}
-use Rattle.yaml_base.specs.scalars.BlockHeader.{hints_laid}
+use Rattle.yaml_base.specs.scalars.BlockHeader.{render_hints}
 use Rattle.yaml_pen.specs.Page.{natural}
 use Rattle.yaml_pen.specs.Wrote.{Wrote}
 use Rattle.yaml_pen.proofs.Composing.{wrote_exit, wrote_as, wrote_failed, wrote_then}
@@ -13,26 +13,26 @@ pub returns-in_err-put_indicator : goal.returns-in_err-put_indicator
 returns-in_err-put_indicator g c =
     let n = natural c.args.best_indent in
     let value = chars c.args.value.now in
-    let sign = rw (c.spaced.ensures, c.sign.ensures) at c.in_err-put_indicator.ensures.written in
+    let block_indicator = rw (c.spaced.ensures, c.block_indicator.ensures) at c.in_err-put_indicator.ensures.written in
     wrote_exit c.from_residual.ensures
     (wrote_as (separated_header (is_folded c.args.style) n value) (header-steps (is_folded c.args.style) n value c.args.pen.now.cursor)
-    (wrote_failed header_end (wrote_failed (hints_laid n value) sign)))
+    (wrote_failed header_end (wrote_failed (render_hints n value) block_indicator)))
 
 pub returns-in_err-write_hints : goal.returns-in_err-write_hints
 returns-in_err-write_hints g c =
     let n = natural c.args.best_indent in
     let value = chars c.args.value.now in
-    let sign = rw (c.spaced.ensures, c.sign.ensures) at c.in_ok-put_indicator.ensures.written in
-    let hints : Wrote (hints_laid n value) c.put_indicator.new.self c.write_hints.new.pen (Err c.in_err-write_hints.field-0.0) = search rules in
+    let block_indicator = rw (c.spaced.ensures, c.block_indicator.ensures) at c.in_ok-put_indicator.ensures.written in
+    let hints : Wrote (render_hints n value) c.put_indicator.new.self c.write_hints.new.pen (Err c.in_err-write_hints.field-0.0) = search rules in
     wrote_exit c.from_residual-in_err-write_hints.ensures
     (wrote_as (separated_header (is_folded c.args.style) n value) (header-steps (is_folded c.args.style) n value c.args.pen.now.cursor)
-    (wrote_failed header_end (wrote_then sign hints)))
+    (wrote_failed header_end (wrote_then block_indicator hints)))
 
 pub returns : goal.returns
 returns g c =
     let n = natural c.args.best_indent in
     let value = chars c.args.value.now in
-    let sign = rw (c.spaced.ensures, c.sign.ensures) at c.in_ok-put_indicator.ensures.written in
-    let hints : Wrote (hints_laid n value) c.put_indicator.new.self c.write_hints.new.pen (Ok tt) = search rules in
+    let block_indicator = rw (c.spaced.ensures, c.block_indicator.ensures) at c.in_ok-put_indicator.ensures.written in
+    let hints : Wrote (render_hints n value) c.put_indicator.new.self c.write_hints.new.pen (Ok tt) = search rules in
     wrote_as (separated_header (is_folded c.args.style) n value) (header-steps (is_folded c.args.style) n value c.args.pen.now.cursor)
-    (wrote_then (wrote_then sign hints) c.end_header.ensures)
+    (wrote_then (wrote_then block_indicator hints) c.end_header.ensures)

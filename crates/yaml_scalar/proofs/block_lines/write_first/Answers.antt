@@ -3,13 +3,13 @@ use Rattle.yaml_base.specs.Cursor.{new_line}
 use Rattle.yaml_pen.specs.Page.{natural}
 use Rattle.yaml_pen.specs.Wrote.{Wrote}
 use Rattle.yaml_pen.proofs.Composing.{wrote_exit, wrote_failed, wrote_then}
-use Rattle.yaml_scalar.specs.BlockSteps.{content_laid}
+use Rattle.yaml_scalar.specs.BlockSteps.{render_content}
 use Rattle.yaml_scalar.proofs.block_lines.write_first.Goals as goal
 
 pub returns-in_err-write_indent : goal.returns-in_err-write_indent
 returns-in_err-write_indent g c =
     let line : Wrote (new_line (natural c.args.indent)) c.args.pen.now c.write_indent.new.self (Err c.in_err-write_indent.field-0.0) = search rules in
-    wrote_exit c.from_residual.ensures (wrote_failed (content_laid c.args.character) line)
+    wrote_exit c.from_residual.ensures (wrote_failed (render_content c.args.character) line)
 
 pub returns : goal.returns
 returns g c =

@@ -2,7 +2,7 @@ use Rattle.std.proofs.Common.{◌∙◌, sym, subst, chars, IsUtf8, List, ℕ}
 use Rattle.std.specs.Str.Iter.{chars_rest}
 use Rattle.std.proofs.lemmas.Str.{IsUtf8-drop, IsUtf8-past_char}
 use Rattle.yaml_base.specs.Characters.{Text}
-use Rattle.yaml_base.specs.Cursor.{Cursor, Laid}
+use Rattle.yaml_base.specs.Cursor.{Cursor, Rendered}
 use Rattle.yaml_pen.specs.Page.{natural}
 use Rattle.yaml_pen.proofs.Composing.{wrote_exit}
 use Rattle.yaml_scalar.specs.BlockCode.{is_folded}
@@ -26,7 +26,7 @@ write_run-requires-clause-no_break g c =
 pub returns-in_err-write_step : goal.returns-in_err-write_step
 returns-in_err-write_step g c =
     let folded = is_folded c.args.lines.style in
-    let lines : Place → Text → Cursor → Laid = lines_from folded (limit_of c.args.lines.width) (natural c.args.lines.indent) in
+    let lines : Place → Text → Cursor → Rendered = lines_from folded (limit_of c.args.lines.width) (natural c.args.lines.indent) in
     let rest : List ℕ = c.as_str-rest.result.now in
     let first = character_still (lines c.loop-character.place) c.in-Some.character _ _ rest c.loop-character.invariant.1 c.in-Some.ensures.steps.0
     c.as_str-rest.ensures c.loop-character.invariant.0 in

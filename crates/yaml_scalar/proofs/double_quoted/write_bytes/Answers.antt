@@ -2,7 +2,7 @@ use Rattle.std.proofs.Common.{ap, subst, sym, ◌∙◌, arith, length}
 use Rattle.std.specs.List.{list_any}
 use Rattle.std.specs.Str.{IsAscii}
 use Rattle.yaml_base.specs.Characters.{Text, is_break}
-use Rattle.yaml_base.specs.Cursor.{text_laid}
+use Rattle.yaml_base.specs.Cursor.{render_text}
 use Rattle.yaml_base.specs.scalars.DoubleQuoted.{escape_text}
 use Rattle.yaml_pen.specs.Wrote.{Wrote}
 use Rattle.yaml_scalar.proofs.EscapeBytes.{escape-plain, escape-short, plain-ascii, plain-unbroken}
@@ -22,5 +22,5 @@ write_ascii-requires-clause-fits g c =
 
 pub returns : goal.returns
 returns g c =
-    subst (λ (t : Text). Wrote (text_laid t) c.args.pen.now c.write_ascii.new.self c.write_ascii.result)
+    subst (λ (t : Text). Wrote (render_text t) c.args.pen.now c.write_ascii.new.self c.write_ascii.result)
     c.requires.bytes c.write_ascii.ensures.written

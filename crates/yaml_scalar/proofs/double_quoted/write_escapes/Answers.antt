@@ -1,13 +1,13 @@
 use Rattle.std.proofs.Common.{refl}
-use Rattle.yaml_scalar.proofs.GatheredTexts.{failed_gathered, gathered_plain, wrote_gathered}
+use Rattle.yaml_scalar.proofs.BatchTexts.{failed_batched, batched_plain, wrote_batch}
 use Rattle.yaml_scalar.proofs.double_quoted.write_escapes.Goals as goal
 
-pub write_gathered-requires-clause-plain : goal.write_gathered-requires-clause-plain
-write_gathered-requires-clause-plain g c = gathered_plain c.gather-next.ensures.gathered
+pub write_batch-requires-clause-plain : goal.write_batch-requires-clause-plain
+write_batch-requires-clause-plain g c = batched_plain c.fill_batch-next.ensures.batched
 
-pub returns-in_err-write_gathered-clause-written : goal.returns-in_err-write_gathered-clause-written
-returns-in_err-write_gathered-clause-written g c =
-    failed_gathered _ c.from_residual.ensures c.gather-next.ensures.gathered c.in_err-write_gathered.ensures
+pub returns-in_err-write_batch-clause-written : goal.returns-in_err-write_batch-clause-written
+returns-in_err-write_batch-clause-written g c =
+    failed_batched _ c.from_residual.ensures c.fill_batch-next.ensures.batched c.in_err-write_batch.ensures
 
 pub returns-clause-written : goal.returns-clause-written
-returns-clause-written g c = wrote_gathered c.gather-next.ensures.gathered refl refl c.in_ok-write_gathered.ensures
+returns-clause-written g c = wrote_batch c.fill_batch-next.ensures.batched refl refl c.in_ok-write_batch.ensures

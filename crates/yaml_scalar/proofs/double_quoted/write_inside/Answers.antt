@@ -5,7 +5,7 @@ use Rattle.yaml_base.specs.scalars.DoubleQuoted.{double_inside}
 use Rattle.yaml_pen.proofs.Composing.{wrote_exit}
 use Rattle.yaml_pen.specs.Page.{natural}
 use Rattle.yaml_scalar.specs.Width.{limit_where}
-use Rattle.yaml_scalar.proofs.GatheredTexts.{gathered_failed, gathered_left}
+use Rattle.yaml_scalar.proofs.BatchTexts.{batched_failed, batched_left}
 use Rattle.yaml_scalar.proofs.InsideSteps.{inside_after, inside_alone, stays_unbroken}
 use Rattle.yaml_scalar.proofs.RunsWritten.{character_still, end_still, run_failed, run_more}
 use Rattle.yaml_scalar.proofs.StillToWrite.{still_failed, still_rest, still_same}
@@ -36,7 +36,7 @@ loop-c-preserved g c =
     record {
       is_text = subst IsUtf8 (sym c.chars-chars-in-Some.ensures.rest) c.in_ok-last.ensures.is_text;
       still = still_same (double_inside quoting.unicode limit indent (Some c.in_ok-last.last)) (ap chars (sym c.chars-chars-in-Some.ensures.rest))
-          (gathered_left quoting.unicode limit indent c.in_ok-last.ensures.written after);
+          (batched_left quoting.unicode limit indent c.in_ok-last.ensures.written after);
     }
 
 pub returns-in_err-last : goal.returns-in_err-last
@@ -53,7 +53,7 @@ returns-in_err-last g c =
     is_text c.run_after-run.ensures c.split_at.ensures.front c.split_at.ensures.back (still_rest first c.in_ok-write_next.ensures)
     c.in_ok-write_run.ensures.written in
     wrote_exit c.from_residual-in_err-last.ensures
-    (gathered_failed quoting.unicode limit indent c.in_err-last.ensures.written after)
+    (batched_failed quoting.unicode limit indent c.in_err-last.ensures.written after)
 
 pub returns-in_err-write_next : goal.returns-in_err-write_next
 returns-in_err-write_next g c =

@@ -4,7 +4,7 @@ use Rattle.std.specs.List.{list_any}
 use Rattle.yaml_base.specs.Characters.{is_break}
 use Rattle.yaml_base.specs.Indicators.{Indicator}
 use Rattle.std.specs.Str.{chars}
-use Rattle.yaml_base.specs.scalars.DoubleQuoted.{double_inside, double_quoted_laid, quote_laid}
+use Rattle.yaml_base.specs.scalars.DoubleQuoted.{double_inside, render_double_quoted, render_quote}
 use Rattle.yaml_pen.proofs.Composing.{wrote_as, wrote_exit, wrote_failed, wrote_then}
 use Rattle.yaml_pen.specs.Page.{natural}
 use Rattle.yaml_scalar.specs.Width.{limit_where}
@@ -29,7 +29,7 @@ returns g c =
     let opening = rw (c.spaced.ensures, quote_chars) at c.in_ok-put_indicator.ensures.written in
     let closing = rw (c.tight.ensures, quote_chars) at c.put_indicator-2.ensures.written in
     wrote_as
-    (double_quoted_laid quoting.unicode (limit_where quoting.allow_breaks quoting.width) (natural quoting.indent) (chars c.args.value.now))
+    (render_double_quoted quoting.unicode (limit_where quoting.allow_breaks quoting.width) (natural quoting.indent) (chars c.args.value.now))
     (double-steps quoting.unicode (limit_where quoting.allow_breaks quoting.width) (natural quoting.indent) (chars c.args.value.now) c.args.pen.now.cursor)
     (wrote_then (wrote_then opening c.in_ok-write_value.ensures) closing)
 
@@ -40,9 +40,9 @@ returns-in_err-put_indicator g c =
     let inside = double_inside quoting.unicode (limit_where quoting.allow_breaks quoting.width) (natural quoting.indent) None (chars c.args.value.now) in
     wrote_exit c.from_residual.ensures
     (wrote_as
-    (double_quoted_laid quoting.unicode (limit_where quoting.allow_breaks quoting.width) (natural quoting.indent) (chars c.args.value.now))
+    (render_double_quoted quoting.unicode (limit_where quoting.allow_breaks quoting.width) (natural quoting.indent) (chars c.args.value.now))
     (double-steps quoting.unicode (limit_where quoting.allow_breaks quoting.width) (natural quoting.indent) (chars c.args.value.now) c.args.pen.now.cursor)
-    (wrote_failed quote_laid (wrote_failed inside opening)))
+    (wrote_failed render_quote (wrote_failed inside opening)))
 
 pub returns-in_err-write_value : goal.returns-in_err-write_value
 returns-in_err-write_value g c =
@@ -50,6 +50,6 @@ returns-in_err-write_value g c =
     let opening = rw (c.spaced.ensures, quote_chars) at c.in_ok-put_indicator.ensures.written in
     wrote_exit c.from_residual-in_err-write_value.ensures
     (wrote_as
-    (double_quoted_laid quoting.unicode (limit_where quoting.allow_breaks quoting.width) (natural quoting.indent) (chars c.args.value.now))
+    (render_double_quoted quoting.unicode (limit_where quoting.allow_breaks quoting.width) (natural quoting.indent) (chars c.args.value.now))
     (double-steps quoting.unicode (limit_where quoting.allow_breaks quoting.width) (natural quoting.indent) (chars c.args.value.now) c.args.pen.now.cursor)
-    (wrote_failed quote_laid (wrote_then opening c.in_err-write_value.ensures)))
+    (wrote_failed render_quote (wrote_then opening c.in_err-write_value.ensures)))

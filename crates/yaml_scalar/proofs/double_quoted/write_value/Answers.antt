@@ -4,7 +4,7 @@ use Rattle.yaml_base.specs.scalars.DoubleQuoted.{double_inside}
 use Rattle.yaml_pen.proofs.Composing.{wrote_as}
 use Rattle.yaml_pen.specs.Page.{natural}
 use Rattle.yaml_scalar.specs.Width.{limit_where}
-use Rattle.yaml_scalar.proofs.ShortRuns.{short_inside_laid}
+use Rattle.yaml_scalar.proofs.ShortRuns.{short_inside_rendered}
 use Rattle.yaml_scalar.proofs.double_quoted.write_value.Goals as goal
 
 pub write_short_run-requires-clause-few : goal.write_short_run-requires-clause-few
@@ -19,5 +19,5 @@ returns-then-is_short g c =
     let limit = limit_where quoting.allow_breaks quoting.width in
     let indent = natural quoting.indent in
     wrote_as (double_inside quoting.unicode limit indent None (chars c.args.value.now))
-    (short_inside_laid quoting.unicode limit indent c.args.pen.now.cursor (c.if-is_short.ensures refl))
+    (short_inside_rendered quoting.unicode limit indent c.args.pen.now.cursor (c.if-is_short.ensures refl))
     c.write_short_run.ensures

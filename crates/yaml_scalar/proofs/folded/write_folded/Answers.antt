@@ -3,7 +3,7 @@ use Rattle.std.proofs.lemmas.Int.{to_z-of_z}
 use Rattle.std.specs.Str.{chars}
 use mir.Val.{SFits}
 use mir.Syntax.{w32}
-use Rattle.yaml_base.specs.scalars.Folded.{folded_laid}
+use Rattle.yaml_base.specs.scalars.Folded.{render_folded}
 use Rattle.yaml_pen.specs.Page.{natural}
 use Rattle.yaml_pen.proofs.Composing.{wrote_exit, wrote_as, wrote_failed, wrote_then}
 use Rattle.yaml_scalar.specs.Width.{limit_of}
@@ -21,7 +21,7 @@ returns-in_err-write_header g c =
     let limit = limit_of c.args.width in
     let header = simp to_z-of_z at c.in_err-write_header.ensures in
     wrote_exit c.from_residual.ensures
-    (wrote_as (folded_laid limit n best value) (some-folded limit n best value c.args.pen.now.cursor c.requires.some)
+    (wrote_as (render_folded limit n best value) (some-folded limit n best value c.args.pen.now.cursor c.requires.some)
     (wrote_failed (lines_from true limit n LineStart value) header))
 
 pub returns : goal.returns
@@ -35,5 +35,5 @@ returns g c =
     let limit = limit_of c.args.width in
     let header = simp to_z-of_z at c.in_ok-write_header.ensures in
     let lines = simp to_z-of_z at c.write_lines.ensures in
-    wrote_as (folded_laid limit n best value) (some-folded limit n best value c.args.pen.now.cursor c.requires.some)
+    wrote_as (render_folded limit n best value) (some-folded limit n best value c.args.pen.now.cursor c.requires.some)
     (wrote_then header lines)

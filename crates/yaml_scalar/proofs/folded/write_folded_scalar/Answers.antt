@@ -1,7 +1,7 @@
 use Rattle.std.proofs.Common.{Ok, rules}
 use Rattle.std.proofs.lemmas.Result.{IfOk-from_err}
 use Rattle.std.specs.Str.{chars}
-use Rattle.yaml_base.specs.scalars.Folded.{folded_laid}
+use Rattle.yaml_base.specs.scalars.Folded.{render_folded}
 use Rattle.yaml_base.specs.reading.ReadBlock.{read_block}
 use Rattle.yaml_pen.specs.Page.{natural}
 use Rattle.yaml_pen.specs.Wrote.{Wrote}
@@ -20,6 +20,6 @@ returns-clause-reads g c charset allowed column enclosing =
     let n = natural c.args.indent in
     let best = natural c.args.best_indent in
     let value = chars c.args.value.now in
-    let wrote : Wrote (folded_laid (limit_of c.args.width) n best value) c.args.pen.now c.write_folded.new.pen (Ok tt) = search rules in
+    let wrote : Wrote (render_folded (limit_of c.args.width) n best value) c.args.pen.now c.write_folded.new.pen (Ok tt) = search rules in
     folded_back charset value allowed n best (indents c.args.indent c.args.best_indent c.requires.least c.requires.most c.requires.within) column enclosing
     (limit_of c.args.width) wrote

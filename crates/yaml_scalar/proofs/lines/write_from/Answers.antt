@@ -3,7 +3,7 @@ use Rattle.std.specs.Str.Iter.{chars_rest}
 use Rattle.std.proofs.lemmas.Str.{IsUtf8-drop, IsUtf8-past_char}
 use Rattle.yaml_base.specs.scalars.Plain.{Kind, kind_of}
 use Rattle.yaml_pen.proofs.Composing.{wrote_exit}
-use Rattle.yaml_scalar.specs.LineSteps.{seen_kind, steps_laid, written_as}
+use Rattle.yaml_scalar.specs.LineSteps.{seen_kind, render_steps, written_as}
 use Rattle.yaml_scalar.specs.Width.{limit_where}
 use Rattle.yaml_scalar.proofs.LinesWritten.{LinesLeft}
 use Rattle.yaml_scalar.proofs.RunsWritten.{character_still, end_still, standing_failed, standing_more}
@@ -26,7 +26,7 @@ returns-in_err-write_step g c =
     let lines = c.args.lines in
     let limit = limit_where lines.allow_breaks lines.width in
     let rest : List ℕ = c.as_str-rest.result.now in
-    let left = steps_laid (written_as lines.quoted) limit lines.indent in
+    let left = render_steps (written_as lines.quoted) limit lines.indent in
     let first = character_still (left (seen_kind c.loop-character.before)) c.in-Some.character _ _ rest so_far.is_text c.in-Some.ensures.steps.0
     c.as_str-rest.ensures so_far.still in
     wrote_exit c.from_residual.ensures (still_failed (left (kind_of c.in-Some.character) (chars rest)) first c.in_err-write_step.ensures)
@@ -38,7 +38,7 @@ returns-in_err-write_run g c =
     let limit = limit_where lines.allow_breaks lines.width in
     let rest : List ℕ = c.as_str-rest.result.now in
     let is_text = subst IsUtf8 (sym c.as_str-rest.ensures) (IsUtf8-past_char _ _ c.in-Some.character so_far.is_text c.in-Some.ensures.steps.0) in
-    let left = steps_laid (written_as lines.quoted) limit lines.indent in
+    let left = render_steps (written_as lines.quoted) limit lines.indent in
     let first = character_still (left (seen_kind c.loop-character.before)) c.in-Some.character _ _ rest so_far.is_text c.in-Some.ensures.steps.0
     c.as_str-rest.ensures so_far.still in
     wrote_exit c.from_residual-in_err-write_run.ensures
@@ -56,7 +56,7 @@ loop-character-preserved g c =
     let rest : List ℕ = c.as_str-rest.result.now in
     let is_text = subst IsUtf8 (sym c.as_str-rest.ensures) (IsUtf8-past_char _ _ c.in-Some.character so_far.is_text c.in-Some.ensures.steps.0) in
     let behind = c.chars-characters-in-Some.ensures.rest ∙ c.split_at.ensures.back in
-    let first = character_still (steps_laid written limit lines.indent (seen_kind c.loop-character.before)) c.in-Some.character _ _ rest so_far.is_text
+    let first = character_still (render_steps written limit lines.indent (seen_kind c.loop-character.before)) c.in-Some.character _ _ rest so_far.is_text
     c.in-Some.ensures.steps.0 c.as_str-rest.ensures so_far.still in
     record {
       is_text = subst IsUtf8 (sym behind) (IsUtf8-drop _ _ is_text c.run_after-run.ensures.run.boundary);
@@ -73,5 +73,5 @@ pub returns : goal.returns
 returns g c =
     let lines = c.args.lines in
     let limit = limit_where lines.allow_breaks lines.width in
-    (end_still (steps_laid (written_as lines.quoted) limit lines.indent (seen_kind c.loop-character.before)) _
+    (end_still (render_steps (written_as lines.quoted) limit lines.indent (seen_kind c.loop-character.before)) _
     c.in_default.ensures.steps.0.0 c.loop-character.invariant.still).writes _ _ c.write_nothing.ensures

@@ -1,7 +1,7 @@
 use Rattle.std.proofs.Common.{◌≡◌, ◌∙◌, ap, sym, ◌++◌, ◌+◌, ◌-◌, ◌∷◌, [], arith, subst, List, ℕ, Ok}
 use Rattle.std.proofs.lemmas.List.{replicate_more, replicate-append-replicate}
 use Rattle.yaml_base.specs.Characters.{space}
-use Rattle.yaml_base.specs.Cursor.{text_laid}
+use Rattle.yaml_base.specs.Cursor.{render_text}
 use Rattle.yaml_base.specs.scalars.Plain.{indentation}
 use Rattle.yaml_pen.specs.Wrote.{Wrote}
 use Rattle.yaml_pen.proofs.Composing.{wrote_exit, wrote_cut, wrote_text_then}
@@ -15,10 +15,10 @@ returns-in_err-put g c =
     ∙ replicate-append-replicate (written + 1) (c.args.indent - (written + 1)) space
     ∙ ap (λ n. indentation n) (omega arith)) in
     wrote_exit c.from_residual-in_err-put.ensures
-    (wrote_cut (text_laid (indentation c.args.indent)) (indentation (c.args.indent - (written + 1))) more
+    (wrote_cut (render_text (indentation c.args.indent)) (indentation (c.args.indent - (written + 1))) more
     (wrote_text_then c.loop-written.invariant c.in_err-put.ensures.written))
 
 pub loop-written-preserved : goal.loop-written-preserved
 loop-written-preserved g c =
-    subst (λ (l : List ℕ). Wrote (text_laid l) c.args.pen.now c.put.new.self (Ok tt)) (replicate_more c.loop-written.written space)
+    subst (λ (l : List ℕ). Wrote (render_text l) c.args.pen.now c.put.new.self (Ok tt)) (replicate_more c.loop-written.written space)
     (wrote_text_then c.loop-written.invariant c.in_ok-put.ensures.written)

@@ -1,10 +1,10 @@
 use Rattle.std.proofs.Common.{refl, chars}
 use Rattle.yaml_base.specs.scalars.Plain.{spaces}
 use Rattle.yaml_pen.proofs.Composing.{wrote_as}
-use Rattle.yaml_scalar.specs.LineSteps.{steps_laid, written_as}
+use Rattle.yaml_scalar.specs.LineSteps.{render_steps, written_as}
 use Rattle.yaml_scalar.specs.Width.{limit_where}
 use Rattle.yaml_scalar.proofs.LinesWritten.{wrote_runs}
-use Rattle.yaml_scalar.proofs.ShortRuns.{short_line_laid}
+use Rattle.yaml_scalar.proofs.ShortRuns.{short_line_rendered}
 use Rattle.yaml_scalar.proofs.lines.write_lines.Goals as goal
 
 pub write_short_run-requires-clause-few : goal.write_short_run-requires-clause-few
@@ -18,6 +18,6 @@ returns-then-is_short_line g c =
     let lines = c.args.lines in
     let limit = limit_where lines.allow_breaks lines.width in
     wrote_runs lines.quoted limit lines.indent (chars c.args.value.now)
-    (wrote_as (steps_laid (written_as lines.quoted) limit lines.indent spaces (chars c.args.value.now))
-    (short_line_laid lines.quoted limit lines.indent c.args.pen.now.cursor (c.if-is_short_line.ensures refl))
+    (wrote_as (render_steps (written_as lines.quoted) limit lines.indent spaces (chars c.args.value.now))
+    (short_line_rendered lines.quoted limit lines.indent c.args.pen.now.cursor (c.if-is_short_line.ensures refl))
     c.write_short_run.ensures)

@@ -2,7 +2,7 @@ use Rattle.std.proofs.Common.{subst, chars}
 use Rattle.yaml_base.specs.scalars.Plain.{Kind}
 use Rattle.yaml_pen.proofs.Composing.{wrote_exit}
 use Rattle.yaml_pen.specs.Wrote.{Wrote}
-use Rattle.yaml_scalar.specs.LineSteps.{steps_laid, written_as}
+use Rattle.yaml_scalar.specs.LineSteps.{render_steps, written_as}
 use Rattle.yaml_scalar.specs.Width.{limit_where}
 use Rattle.yaml_scalar.proofs.LinesWritten.{wrote_runs}
 use Rattle.yaml_scalar.proofs.RunsWritten.{standing_failed, standing_more}
@@ -39,6 +39,6 @@ returns g c =
     c.utf8.value c.run_after-first.ensures.run c.split_at.ensures.front c.split_at.ensures.back (still_all c.requires) c.in_ok-write_run.ensures.written in
     wrote_runs lines.quoted limit lines.indent (chars c.args.value.now)
     (still.writes _ _
-    (subst (λ (kind : Kind). Wrote (steps_laid (written_as lines.quoted) limit lines.indent kind (chars c.split_at.result.1.now)) c.write_run.new.self
+    (subst (λ (kind : Kind). Wrote (render_steps (written_as lines.quoted) limit lines.indent kind (chars c.split_at.result.1.now)) c.write_run.new.self
     c.write_from.new.pen c.write_from.result)
     c.kind_of-before.ensures c.write_from.ensures))

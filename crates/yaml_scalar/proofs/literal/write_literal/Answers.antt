@@ -3,7 +3,7 @@ use Rattle.std.proofs.lemmas.Int.{to_z-of_z}
 use Rattle.std.specs.Str.{chars}
 use mir.Val.{SFits}
 use mir.Syntax.{w32}
-use Rattle.yaml_base.specs.scalars.Literal.{literal_laid}
+use Rattle.yaml_base.specs.scalars.Literal.{render_literal}
 use Rattle.yaml_pen.specs.Page.{natural}
 use Rattle.yaml_pen.proofs.Composing.{wrote_exit, wrote_as, wrote_failed, wrote_then}
 use Rattle.yaml_scalar.specs.Width.{limit_of}
@@ -22,7 +22,7 @@ returns-in_err-write_header g c =
     let limit = limit_of (pos largest_i32) in
     let header = simp to_z-of_z at c.in_err-write_header.ensures in
     wrote_exit c.from_residual.ensures
-    (wrote_as (literal_laid n best value) (some-literal limit n best value c.args.pen.now.cursor c.requires.some)
+    (wrote_as (render_literal n best value) (some-literal limit n best value c.args.pen.now.cursor c.requires.some)
     (wrote_failed (lines_from false limit n LineStart value) header))
 
 pub returns : goal.returns
@@ -36,5 +36,5 @@ returns g c =
     let limit = limit_of (pos largest_i32) in
     let header = simp to_z-of_z at c.in_ok-write_header.ensures in
     let lines = simp to_z-of_z at c.write_lines.ensures in
-    wrote_as (literal_laid n best value) (some-literal limit n best value c.args.pen.now.cursor c.requires.some)
+    wrote_as (render_literal n best value) (some-literal limit n best value c.args.pen.now.cursor c.requires.some)
     (wrote_then header lines)

@@ -1,11 +1,11 @@
 use Rattle.std.proofs.Common.{◌≡◌, ◌∙◌, ap, arith, refl, true, length}
 use Rattle.std.proofs.lemmas.List.{length-take-le}
-use Rattle.yaml_scalar.proofs.WholeRuns.{run_in_front}
+use Rattle.yaml_scalar.proofs.WholeRuns.{run_in_prefix}
 use Rattle.yaml_scalar.proofs.runs.run_within.Goals as goal
 
 pub returns-clause-run : goal.returns-clause-run
 returns-clause-run c test tells =
-    run_in_front test c.args.before c.args.text.now c.split_at.result.0.now c.floor_char_boundary.result c.run_up_to.result.length c.run_up_to.result.last
+    run_in_prefix test c.args.before c.args.text.now c.split_at.result.0.now c.floor_char_boundary.result c.run_up_to.result.length c.run_up_to.result.last
     c.utf8.text c.floor_char_boundary.ensures.boundary c.split_at.ensures.front (c.run_up_to.ensures test tells)
 
 pub returns-clause-within : goal.returns-clause-within

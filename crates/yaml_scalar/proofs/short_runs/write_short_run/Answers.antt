@@ -2,7 +2,7 @@ use Rattle.std.proofs.Common.{◌∙◌, ap, arith, subst, sym, length, List, �
 use Rattle.std.specs.List.{list_any}
 use Rattle.std.specs.Str.{IsAscii}
 use Rattle.yaml_base.specs.Characters.{is_break}
-use Rattle.yaml_base.specs.Cursor.{text_laid}
+use Rattle.yaml_base.specs.Cursor.{render_text}
 use Rattle.yaml_pen.specs.Wrote.{Wrote}
 use Rattle.yaml_scalar.proofs.EscapeBytes.{plain-ascii, plain-unbroken}
 use Rattle.yaml_scalar.proofs.short_runs.write_short_run.Goals as goal
@@ -18,5 +18,5 @@ write_ascii-requires-clause-fits g c = omega (arith, ap length c.as_bytes.ensure
 
 pub returns : goal.returns
 returns g c =
-    subst (λ (t : List ℕ). Wrote (text_laid t) c.args.pen.now c.write_ascii.new.self c.write_ascii.result) c.as_bytes.ensures.value
+    subst (λ (t : List ℕ). Wrote (render_text t) c.args.pen.now c.write_ascii.new.self c.write_ascii.result) c.as_bytes.ensures.value
     c.write_ascii.ensures.written

@@ -1,10 +1,10 @@
 use Rattle.std.proofs.Common.{arith, chars, length}
 use Rattle.yaml_base.specs.scalars.Plain.{spaces}
 use Rattle.yaml_pen.proofs.Composing.{wrote_as}
-use Rattle.yaml_scalar.specs.LineSteps.{steps_laid, written_as}
+use Rattle.yaml_scalar.specs.LineSteps.{render_steps, written_as}
 use Rattle.yaml_scalar.specs.Width.{limit_where}
 use Rattle.yaml_scalar.proofs.LinesWritten.{wrote_runs, wrote_unquoted}
-use Rattle.yaml_scalar.proofs.ShortRuns.{short_line_laid}
+use Rattle.yaml_scalar.proofs.ShortRuns.{short_line_rendered}
 use Rattle.yaml_scalar.proofs.StaysInLine.{room_less}
 use Rattle.yaml_scalar.proofs.UsualTexts.{usual_line, usual_some}
 use Rattle.yaml_scalar.proofs.usual.write_usual_line.Goals as goal
@@ -26,8 +26,8 @@ returns-then-value-line_room g c =
     (c.line_room.ensures (omega (arith, some, c.if-value-line_room.true))) in
     wrote_unquoted lines.quoted limit lines.indent (chars c.args.value.now) c.requires.plain
     (wrote_runs lines.quoted limit lines.indent (chars c.args.value.now)
-    (wrote_as (steps_laid (written_as lines.quoted) limit lines.indent spaces (chars c.args.value.now))
-    (short_line_laid lines.quoted limit lines.indent cursor (usual_line limit cursor c.requires.plain c.requires.usual room))
+    (wrote_as (render_steps (written_as lines.quoted) limit lines.indent spaces (chars c.args.value.now))
+    (short_line_rendered lines.quoted limit lines.indent cursor (usual_line limit cursor c.requires.plain c.requires.usual room))
     c.write_short_run.ensures))
 
 pub returns-else-value-line_room : goal.returns-else-value-line_room

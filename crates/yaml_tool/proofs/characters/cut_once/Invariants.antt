@@ -1,13 +1,13 @@
 use Rattle.std.proofs.Common.{◌≤◌, length}
 use Rattle.std.specs.Str.{chars}
 use Rattle.yaml_tool.specs.Cuts.{IsFree, prefix_of}
-use Rattle.yaml_tool.proofs.CharacterLemmas.{Passed}
+use Rattle.yaml_tool.proofs.CharacterLemmas.{PassedEvents}
 use Rattle.yaml_tool.proofs.characters.cut_once.Given as goal
 
 abbrev pub invariant-loop-character : goal.invariant-loop-character
 invariant-loop-character l = record {
-  passed : Passed l.text l.rest;
-  free : IsFree l.sign (chars (prefix_of l.text l.rest));
+  passed : PassedEvents l.text l.rest;
+  free : IsFree l.delimiter (chars (prefix_of l.text l.rest));
   within : length l.rest ≤ length l.text;
 }
 

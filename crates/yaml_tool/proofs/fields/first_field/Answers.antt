@@ -2,19 +2,19 @@ use Rattle.std.proofs.Common.{◌≡◌, ℕ, List, [], ◌∷◌, true, false, 
 use Rattle.std.specs.Str.{chars}
 use Rattle.yaml_base.specs.scripts.Script.{outside, pieces_from, separates, field_and, field_read, fields_read}
 use Rattle.yaml_tool.specs.Cuts.{prefix_of}
-use Rattle.yaml_tool.specs.Fields.{seen_field_state, attached}
+use Rattle.yaml_tool.specs.Fields.{seen_field_state, prepend_to_first_piece}
 use Rattle.yaml_tool.proofs.CharacterLemmas.{nothing_passed, empty_prefix, one_passed, prefix_passed, all_passed}
-use Rattle.yaml_tool.proofs.FieldLemmas.{stops_first, goes_first, past_run, further_on, run_within, whole_line, field_before, field_alone}
+use Rattle.yaml_tool.proofs.FieldLemmas.{stops_first, goes_first, skip_run, further_on, run_within, whole_line, field_before, field_alone}
 use Rattle.yaml_tool.proofs.fields.first_field.Goals as goal
 
 pub loop-character-init : goal.loop-character-init
 loop-character-init c =
     let line = c.args.line.now in
-    let rest = c.past_run-rest.result.now in
-    let runs = c.past_run-rest.ensures in
+    let rest = c.skip_run-rest.result.now in
+    let runs = c.skip_run-rest.ensures in
     let passed = nothing_passed line c.utf8.line in
-    let empty = ap (λ prefix. attached prefix (pieces_from outside (chars line))) (sym (empty_prefix line)) in record {
-      passed = past_run outside line line rest passed runs;
+    let empty = ap (λ prefix. prepend_to_first_piece prefix (pieces_from outside (chars line))) (sym (empty_prefix line)) in record {
+      passed = skip_run outside line line rest passed runs;
       cut = further_on outside line line rest (pieces_from outside (chars line)) passed runs empty;
       within = run_within outside line rest runs;
     }
@@ -38,8 +38,8 @@ loop-character-preserved c =
     let rest = c.loop-character.rest.now in
     let character = c.in-Some.character in
     let after = c.in-Some.after.now in
-    let end = c.past_run-rest-in-Some.result.now in
-    let runs = c.past_run-rest-in-Some.ensures in
+    let end = c.skip_run-rest-in-Some.result.now in
+    let runs = c.skip_run-rest-in-Some.ensures in
     let standing = seen_field_state c.loop-character.standing in
     let next = seen_field_state c.after-standing.result in
     let is_not : separates standing character ≡ false = sym c.separates.ensures ∙ c.if-separates.false in
@@ -48,8 +48,8 @@ loop-character-preserved c =
     before.cut
     ∙ goes_first standing character (chars (prefix_of line rest)) (chars (prefix_of line after)) (chars rest) (chars after) c.in-Some.ensures.characters is_not
     (prefix_passed line rest after character before.passed c.in-Some.ensures.bytes)
-    ∙ ap (λ s. attached (chars (prefix_of line after)) (pieces_from s (chars after))) (sym c.after-standing.ensures) in record {
-      passed = past_run next line after end passed runs;
+    ∙ ap (λ s. prepend_to_first_piece (chars (prefix_of line after)) (pieces_from s (chars after))) (sym c.after-standing.ensures) in record {
+      passed = skip_run next line after end passed runs;
       cut = further_on next line after end (pieces_from outside (chars line)) passed runs cut;
       within = omega (arith, before.within, c.in-Some.ensures.shorter, run_within next after end runs);
     }
@@ -62,5 +62,5 @@ returns-clause-cut c =
     let prefix = chars (prefix_of line rest) in
     let nothing = c.in_default.ensures.characters in
     field_alone (chars line) (chars line)
-    (c.loop-character.invariant.cut ∙ ap (λ more. attached prefix (pieces_from standing more)) nothing ∙ whole_line prefix
+    (c.loop-character.invariant.cut ∙ ap (λ more. prepend_to_first_piece prefix (pieces_from standing more)) nothing ∙ whole_line prefix
     ∙ ap (λ (all : List ℕ). all ∷ []) (sym (all_passed line rest c.loop-character.invariant.passed nothing)))

@@ -2,15 +2,15 @@ use Rattle.std.proofs.Common.{◌≡◌, ◌≤◌, length}
 use Rattle.std.specs.Str.{chars}
 use Rattle.yaml_base.specs.scripts.Script.{outside, pieces_from}
 use Rattle.yaml_tool.specs.Cuts.{prefix_of}
-use Rattle.yaml_tool.specs.Fields.{seen_field_state, attached}
-use Rattle.yaml_tool.proofs.CharacterLemmas.{Passed}
+use Rattle.yaml_tool.specs.Fields.{seen_field_state, prepend_to_first_piece}
+use Rattle.yaml_tool.proofs.CharacterLemmas.{PassedEvents}
 use Rattle.yaml_tool.proofs.fields.first_field.Given as goal
 
 abbrev pub invariant-loop-character : goal.invariant-loop-character
 invariant-loop-character l = record {
-  passed : Passed l.line l.rest;
+  passed : PassedEvents l.line l.rest;
   cut : pieces_from outside (chars l.line)
-      ≡ attached (chars (prefix_of l.line l.rest)) (pieces_from (seen_field_state l.standing) (chars l.rest));
+      ≡ prepend_to_first_piece (chars (prefix_of l.line l.rest)) (pieces_from (seen_field_state l.standing) (chars l.rest));
   within : length l.rest ≤ length l.line;
 }
 

@@ -4,53 +4,53 @@ use Rattle.yaml_base.specs.Seen.{seen_event}
 use Rattle.yaml_base.specs.scripts.Script.{line_read, fields_read}
 use Rattle.yaml_tool.specs.Fields.{later_fields}
 use Rattle.yaml_tool.specs.Settings.{seen_setting}
-use Rattle.yaml_tool.proofs.LineLemmas.{bytes_said, bytes_said_nothing, comment_said, fields_said, event_said, setting_said}
+use Rattle.yaml_tool.proofs.LineLemmas.{bytes_parsed, bytes_parsed_nothing, comment_parsed, fields_parsed, event_parsed, setting_parsed}
 use Rattle.yaml_tool.proofs.lines.parse_line.Goals as goal
 
 pub returns-in_default : goal.returns-in_default
-returns-in_default g c = sym (bytes_said_nothing c.args.bytes.now c.in_default.ensures.cases.0)
+returns-in_default g c = sym (bytes_parsed_nothing c.args.bytes.now c.in_default.ensures.cases.0)
 
 pub returns-in_default-first_character : goal.returns-in_default-first_character
 returns-in_default-first_character g c =
-    bytes_said c.args.bytes.now c.in-Ok.line.now _ c.in-Ok.ensures.cases.0 c.in-Ok.ensures.cases.1
+    bytes_parsed c.args.bytes.now c.in-Ok.line.now _ c.in-Ok.ensures.cases.0 c.in-Ok.ensures.cases.1
     (sym (ap line_read c.in_default-first_character.ensures.characters))
 
 pub returns-in-None : goal.returns-in-None
 returns-in-None g c =
     let comment = chars c.in-Some.comment.now in
-    bytes_said c.args.bytes.now c.in-Ok.line.now _ c.in-Ok.ensures.cases.0 c.in-Ok.ensures.cases.1
-    (comment_said (chars c.in-Ok.line.now) comment (c.in-Some.ensures.characters ∙ ap (λ d. d ∷ comment) c.if-first-eq35.true) c.in-None.ensures.cut)
+    bytes_parsed c.args.bytes.now c.in-Ok.line.now _ c.in-Ok.ensures.cases.0 c.in-Ok.ensures.cases.1
+    (comment_parsed (chars c.in-Ok.line.now) comment (c.in-Some.ensures.characters ∙ ap (λ d. d ∷ comment) c.if-first-eq35.true) c.in-None.ensures.cut)
 
 pub returns-in-Some-2 : goal.returns-in-Some-2
 returns-in-Some-2 g c =
     let line = chars c.in-Ok.line.now in
-    bytes_said c.args.bytes.now c.in-Ok.line.now _ c.in-Ok.ensures.cases.0 c.in-Ok.ensures.cases.1
-    (event_said c.in-Some-event_named.name (chars c.in-Some-word_after.word.now) (fields_read line) (later_fields c.in-Some-word_after.rest)
+    bytes_parsed c.args.bytes.now c.in-Ok.line.now _ c.in-Ok.ensures.cases.0 c.in-Ok.ensures.cases.1
+    (event_parsed c.in-Some-event_named.name (chars c.in-Some-word_after.word.now) (fields_read line) (later_fields c.in-Some-word_after.rest)
     (Some (seen_event c.in-Some-2.event)) c.in-Some-event_named.ensures c.in-Some-word_after.ensures
     (sym (ap (option_map seen_event) c.in-Some-2.is) ∙ c.in_ok-event-in-Some-event_named.ensures)
-    ∙ fields_said line (chars c.in-Some.comment.now) c.in-Some.first c.in-Some.ensures.characters c.if-first-eq35.false)
+    ∙ fields_parsed line (chars c.in-Some.comment.now) c.in-Some.first c.in-Some.ensures.characters c.if-first-eq35.false)
 
 pub returns-in-None-2 : goal.returns-in-None-2
 returns-in-None-2 g c =
     let line = chars c.in-Ok.line.now in
-    bytes_said c.args.bytes.now c.in-Ok.line.now _ c.in-Ok.ensures.cases.0 c.in-Ok.ensures.cases.1
-    (event_said c.in-Some-event_named.name (chars c.in-Some-word_after.word.now) (fields_read line) (later_fields c.in-Some-word_after.rest)
+    bytes_parsed c.args.bytes.now c.in-Ok.line.now _ c.in-Ok.ensures.cases.0 c.in-Ok.ensures.cases.1
+    (event_parsed c.in-Some-event_named.name (chars c.in-Some-word_after.word.now) (fields_read line) (later_fields c.in-Some-word_after.rest)
     None c.in-Some-event_named.ensures c.in-Some-word_after.ensures
     (sym (ap (option_map seen_event) c.in-None-2.is) ∙ c.in_ok-event-in-Some-event_named.ensures)
-    ∙ fields_said line (chars c.in-Some.comment.now) c.in-Some.first c.in-Some.ensures.characters c.if-first-eq35.false)
+    ∙ fields_parsed line (chars c.in-Some.comment.now) c.in-Some.first c.in-Some.ensures.characters c.if-first-eq35.false)
 
-pub returns-in-Some-setting_in : goal.returns-in-Some-setting_in
-returns-in-Some-setting_in g c =
+pub returns-in-Some-parse_setting : goal.returns-in-Some-parse_setting
+returns-in-Some-parse_setting g c =
     let line = chars c.in-Ok.line.now in
-    bytes_said c.args.bytes.now c.in-Ok.line.now _ c.in-Ok.ensures.cases.0 c.in-Ok.ensures.cases.1
-    (setting_said (chars c.in-Some-word_after.word.now) (fields_read line) (later_fields c.in-Some-word_after.rest)
-    (Some (seen_setting c.in-Some-setting_in.setting)) c.in-None-event_named.ensures c.in-Some-word_after.ensures c.in-Some-setting_in.ensures
-    ∙ fields_said line (chars c.in-Some.comment.now) c.in-Some.first c.in-Some.ensures.characters c.if-first-eq35.false)
+    bytes_parsed c.args.bytes.now c.in-Ok.line.now _ c.in-Ok.ensures.cases.0 c.in-Ok.ensures.cases.1
+    (setting_parsed (chars c.in-Some-word_after.word.now) (fields_read line) (later_fields c.in-Some-word_after.rest)
+    (Some (seen_setting c.in-Some-parse_setting.setting)) c.in-None-event_named.ensures c.in-Some-word_after.ensures c.in-Some-parse_setting.ensures
+    ∙ fields_parsed line (chars c.in-Some.comment.now) c.in-Some.first c.in-Some.ensures.characters c.if-first-eq35.false)
 
-pub returns-in-None-setting_in : goal.returns-in-None-setting_in
-returns-in-None-setting_in g c =
+pub returns-in-None-parse_setting : goal.returns-in-None-parse_setting
+returns-in-None-parse_setting g c =
     let line = chars c.in-Ok.line.now in
-    bytes_said c.args.bytes.now c.in-Ok.line.now _ c.in-Ok.ensures.cases.0 c.in-Ok.ensures.cases.1
-    (setting_said (chars c.in-Some-word_after.word.now) (fields_read line) (later_fields c.in-Some-word_after.rest)
-    None c.in-None-event_named.ensures c.in-Some-word_after.ensures c.in-None-setting_in.ensures
-    ∙ fields_said line (chars c.in-Some.comment.now) c.in-Some.first c.in-Some.ensures.characters c.if-first-eq35.false)
+    bytes_parsed c.args.bytes.now c.in-Ok.line.now _ c.in-Ok.ensures.cases.0 c.in-Ok.ensures.cases.1
+    (setting_parsed (chars c.in-Some-word_after.word.now) (fields_read line) (later_fields c.in-Some-word_after.rest)
+    None c.in-None-event_named.ensures c.in-Some-word_after.ensures c.in-None-parse_setting.ensures
+    ∙ fields_parsed line (chars c.in-Some.comment.now) c.in-Some.first c.in-Some.ensures.characters c.if-first-eq35.false)

@@ -3,7 +3,7 @@ use Rattle.std.proofs.lemmas.Iterator.Adapters.{YieldsList-from_vec}
 use Rattle.std.proofs.lemmas.Iterator.Consumers.{YieldsList-end}
 use Rattle.std.proofs.lemmas.List.{map-id}
 use Rattle.std.specs.Vec.Iter.{into_iter_items}
-use Rattle.yaml_pen.proofs.Writing.{none_from_told}
+use Rattle.yaml_pen.proofs.Writing.{none_from_result}
 use Rattle.yaml_emitter.specs.StandsAfter.{StandsAfter}
 use Rattle.yaml_tool.specs.Scripts.{seen_numbered}
 use Rattle.yaml_tool.specs.Runs.{events_in, LastLine}
@@ -29,7 +29,7 @@ loop-numbered-preserved g c =
       tt,
       tt,
       c.yaml_emitter_emit.ensures.output,
-      none_from_told c.yaml_emitter_emit.new.emitter.error c.in_default.ensures.answered,
+      none_from_result c.yaml_emitter_emit.new.emitter.error c.in_default.ensures.answered,
       parts_more now.yielded c.in-Some.numbered (into_iter_items c.next.new.self)
           (into_iter_items now.numbered-iterator) c.args.events.items now.invariant.4 c.in-Some.ensures.steps.0,
       λ given stands.

@@ -6,8 +6,8 @@ use Rattle.yaml_tool.specs.Settings.{seen_settings}
 use Rattle.yaml_tool.proofs.RunLemmas.{tells_all, told_answer, silent_only}
 use Rattle.yaml_tool.proofs.runs.run.Goals as goal
 
-pub returns-in-Ok-write_all-clause-told : goal.returns-in-Ok-write_all-clause-told
-returns-in-Ok-write_all-clause-told g c =
+pub returns-in-Ok-write_all-clause-reported : goal.returns-in-Ok-write_all-clause-reported
+returns-in-Ok-write_all-clause-reported g c =
     let set = seen_settings c.in-Ok.script.settings in
     let all = map seen_numbered c.in-Ok.script.events.items in
     let answer = c.emit_all-answer.result in

@@ -1,6 +1,6 @@
 use Rattle.std.proofs.Common.{[], map, ap, sym, subst, ◌∙◌}
 use Rattle.yaml_base.specs.scripts.Script as notation
-use Rattle.yaml_tool.specs.Scripts.{seen_progress, seen_numbered, script_behind, IsFaultOf}
+use Rattle.yaml_tool.specs.Scripts.{seen_progress, seen_numbered, script_after_lines, IsFaultOf}
 use Rattle.yaml_tool.specs.Settings.{seen_setting}
 use Rattle.yaml_tool.proofs.ScriptLemmas.{left_alone, fault_last, good_last, fault_alone, exit_with}
 use Rattle.yaml_tool.proofs.scripts.finish.Goals as goal
@@ -8,7 +8,7 @@ use Rattle.yaml_tool.proofs.scripts.finish.Goals as goal
 pub returns-in_err-number-clause-fault : goal.returns-in_err-number-clause-fault
 returns-in_err-number-clause-fault g c =
     let before = seen_progress c.args.progress in
-    exit_with (λ error. IsFaultOf error (script_behind c.args.number before c.args.bytes.now)) c.in_err-number.field-0.0 c.from_residual.result
+    exit_with (λ error. IsFaultOf error (script_after_lines c.args.number before c.args.bytes.now)) c.in_err-number.field-0.0 c.from_residual.result
     c.from_residual.ensures
     (fault_alone c.in_err-number.field-0.0 c.args.number before c.args.bytes.now (c.in_err-number.ensures.fault []))
 
@@ -18,7 +18,8 @@ returns-in_err-take_line-clause-fault g c =
     let now = seen_progress c.take_lines.new.progress in
     let error = c.in_err-take_line.field-0.0 in
     let taken = c.in_ok-number.ensures.taken in
-    exit_with (λ error. IsFaultOf error (script_behind c.args.number before c.args.bytes.now)) error c.from_residual-in_err-take_line.result c.from_residual-in_err-take_line.ensures
+    exit_with (λ error. IsFaultOf error (script_after_lines c.args.number before c.args.bytes.now)) error c.from_residual-in_err-take_line.result
+    c.from_residual-in_err-take_line.ensures
     (subst (IsFaultOf error) (sym (left_alone c.args.number before c.args.bytes.now c.in_ok-number.number now c.in_ok-number.last.now taken))
     (fault_last error c.in_ok-number.number now c.in_ok-number.last.now taken.free c.in_err-take_line.ensures.fault))
 

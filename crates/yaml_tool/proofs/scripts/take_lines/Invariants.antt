@@ -1,11 +1,11 @@
 use Rattle.std.proofs.Common.{◌≡◌, ◌≤◌, ◌+◌, ℕ, List, ◌++◌, length}
-use Rattle.yaml_tool.specs.Scripts.{seen_progress, script_behind}
+use Rattle.yaml_tool.specs.Scripts.{seen_progress, script_after_lines}
 use Rattle.yaml_tool.proofs.scripts.take_lines.Given as goal
 
 abbrev pub invariant-loop-end : goal.invariant-loop-end
 invariant-loop-end g l =
-    ((more : List ℕ) → script_behind l.fn.number (seen_progress l.initial.progress) (l.bytes ++ more)
-    ≡ script_behind l.number (seen_progress l.progress) (l.rest ++ more))
+    ((more : List ℕ) → script_after_lines l.fn.number (seen_progress l.initial.progress) (l.bytes ++ more)
+    ≡ script_after_lines l.number (seen_progress l.progress) (l.rest ++ more))
     × (l.number + length l.rest ≤ l.fn.number + length l.bytes)
 
 abbrev pub decreases-loop-end : goal.decreases-loop-end

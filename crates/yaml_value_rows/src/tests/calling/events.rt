@@ -174,7 +174,7 @@ fn a_flush_writes_what_is_ready(rt: HostRuntime) {
     give_and_flush(&rt, rt.alloc(), &mut emitter);
 }
 
-/// Sends what was handed out since the last call.
+/// Sends what was flushed since the last call.
 fn send(emitter: &mut yaml_emitter_t<Global>, sent: &mut Vec<u8>) -> Result<(), yaml_error_t>
     ensures { emitter.new.has_output ≡ emitter.old.has_output }
 {

@@ -39,7 +39,7 @@ fn give_shared(writer: &mut Writer<Global>) -> Result<(), yaml_error_t> {
     writer.end()
 }
 
-/// Ends a document, begins the next, and sends what was handed out since the last call.
+/// Ends a document, begins the next, and sends what was flushed since the last call.
 fn send_document(writer: &mut Writer<Global>, sent: &mut Vec<u8>) -> Result<(), yaml_error_t> {
     writer.next_document()?;
     let part = writer.take_output();

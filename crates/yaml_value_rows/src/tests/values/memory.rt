@@ -8,7 +8,7 @@ use yaml_value::Value;
 
 // Writes a value with this growth refused, and answers whether there is one. It is told, and then the value is
 // written as ever.
-fn is_told<'a>(
+fn is_reported<'a>(
     rt: &impl Abort,
     heap: Heap<'a>,
     value: &Value<Heap<'a>>,
@@ -32,7 +32,7 @@ fn is_told<'a>(
 // A value gives this text, and each growth that it takes is refused in turn.
 fn writes<'a>(rt: &impl Abort, heap: Heap<'a>, value: &Value<Heap<'a>>, expected: &[u8]) {
     for number in 1..usize::MAX {
-        if !is_told(rt, heap, value, expected, number) {
+        if !is_reported(rt, heap, value, expected, number) {
             return;
         }
     }

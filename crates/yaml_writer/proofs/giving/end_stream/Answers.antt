@@ -1,8 +1,8 @@
 use Rattle.std.proofs.Common.{[], ◌∷◌, ◌++◌, ◌∙◌, ap, true, Err, IfErr, subst, sym}
 use Rattle.std.proofs.lemmas.Result.{err_from_is_err_and}
 use Rattle.yaml_base.specs.Event.{document_end, stream_end}
-use Rattle.yaml_emitter.proofs.standing.StandingMore.{some_from_told}
-use Rattle.yaml_pen.proofs.Writing.{none_from_told}
+use Rattle.yaml_emitter.proofs.standing.StandingMore.{some_from_result}
+use Rattle.yaml_pen.proofs.Writing.{none_from_result}
 use Rattle.yaml_writer.proofs.Finishing.{closed, closed_stands, error_kept, failed_unfinished, none_waits, rest_finished, some_waits, waiting_unaccepted}
 use Rattle.yaml_writer.proofs.Taken.{still_taken}
 use Rattle.yaml_writer.specs.Unfinished.{IsUnfinished}
@@ -26,7 +26,7 @@ returns-in_err-yaml_emitter_emit-clause-unfinished g c =
       closed_stands given all after (c.yaml_emitter_emit-2.ensures.stands given (all ++ document_end true ∷ []) ended),
       closed given all after (c.yaml_emitter_emit-2.ensures.promised given (all ++ document_end true ∷ []) ended),
     ))
-    (some_from_told after.error error c.in_err-yaml_emitter_emit.ensures.answered))
+    (some_from_result after.error error c.in_err-yaml_emitter_emit.ensures.answered))
 
 pub returns-then-held-gt0-clause-unfinished : goal.returns-then-held-gt0-clause-unfinished
 returns-then-held-gt0-clause-unfinished g c =
@@ -34,7 +34,7 @@ returns-then-held-gt0-clause-unfinished g c =
     let between = c.yaml_emitter_emit.new.emitter in
     let closed_once = c.yaml_emitter_emit-2.new.emitter in
     let after = c.yaml_emitter_emit-then-held-gt0.new.emitter in
-    let none = none_from_told closed_once.error c.in_ok-yaml_emitter_emit.ensures.answered in
+    let none = none_from_result closed_once.error c.in_ok-yaml_emitter_emit.ensures.answered in
     let some = some_waits c.held.result closed_once.held c.if-held-gt0.true c.held.ensures in
     third_err before after c.yaml_emitter_emit-then-held-gt0.result c.yaml_emitter_emit-then-held-gt0.ensures.answered
     (λ error is.
@@ -60,7 +60,7 @@ returns-then-held-gt0-clause-finishes g c =
     let between = c.yaml_emitter_emit.new.emitter in
     let closed_once = c.yaml_emitter_emit-2.new.emitter in
     let after = c.yaml_emitter_emit-then-held-gt0.new.emitter in
-    let none = none_from_told closed_once.error c.in_ok-yaml_emitter_emit.ensures.answered in
+    let none = none_from_result closed_once.error c.in_ok-yaml_emitter_emit.ensures.answered in
     let some = some_waits c.held.result closed_once.held c.if-held-gt0.true c.held.ensures in
     third_ok after c.yaml_emitter_emit-then-held-gt0.result c.yaml_emitter_emit-then-held-gt0.ensures.answered
     (λ unfailed given all sent stands.
@@ -86,5 +86,5 @@ returns-clause-finishes g c given all sent stands =
     still_taken given with_end with_both sent between after ended c.yaml_emitter_emit-2.ensures.set c.yaml_emitter_emit-2.ensures.grows
     (c.yaml_emitter_emit-2.ensures.stands given with_end ended.stands) in
     rest_finished given all with_both sent after closes (closed given all after (c.yaml_emitter_emit-2.ensures.promised given with_end ended.stands))
-    (none_from_told after.error c.in_ok-yaml_emitter_emit.ensures.answered)
+    (none_from_result after.error c.in_ok-yaml_emitter_emit.ensures.answered)
     (none_waits c.held.result after.held c.if-held-gt0.false c.held.ensures)

@@ -1,7 +1,7 @@
 use Rattle.std.proofs.Common.{◌≡◌, Bool, is_none, option_map, rules, subst}
 use Rattle.yaml_base.specs.Event.{sequence_start}
 use Rattle.yaml_base.specs.Seen.{seen_sequence_style, seen_text}
-use Rattle.yaml_writer.specs.Writing.{Adds}
+use Rattle.yaml_writer.specs.Writing.{AddsEvent}
 use Rattle.yaml_writer.proofs.giving.give_sequence.Goals as goal
 
 pub returns-clause-adds : goal.returns-clause-adds
@@ -9,7 +9,7 @@ returns-clause-adds g c =
     let none : c.is_none-implicit.result ≡ is_none c.args.tag = search rules in
     subst
     (λ (implicit : Bool).
-    Adds c.args.emitter.now
+    AddsEvent c.args.emitter.now
     (sequence_start
     (record {
       anchor = option_map seen_text c.args.anchor;

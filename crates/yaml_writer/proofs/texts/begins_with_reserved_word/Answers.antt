@@ -10,6 +10,6 @@ use Rattle.yaml_writer.proofs.texts.begins_with_reserved_word.Goals as goal
 pub returns : goal.returns
 returns c =
     c.is_reserved_word.ensures
-    ∙ ap (λ (front : List ℕ). is_reserved_word (map to_ascii_lowercase front))
-    (c.ascii_front.ensures ∙ ap (λ (head : List ℕ). take_while is_ascii head) c.head.ensures)
+    ∙ ap (λ (prefix : List ℕ). is_reserved_word (map to_ascii_lowercase prefix))
+    (c.ascii_prefix.ensures ∙ ap (λ (head : List ℕ). take_while is_ascii head) c.head.ensures)
     ∙ reserved_by_head c.args.text.now

@@ -3,12 +3,12 @@ use Rattle.yaml_emitter.specs.Inside.{state_of}
 use Rattle.yaml_emitter.specs.State.{State}
 use Rattle.yaml_emitter.specs.StandsAfter.{StandsAfter}
 use Rattle.yaml_emitter.proofs.standing.Promising.{promised}
-use Rattle.yaml_emitter.proofs.standing.StandingMarked.{stands_marked}
+use Rattle.yaml_emitter.proofs.standing.StandingFlagged.{stands_flagged}
 use Rattle.yaml_emitter.proofs.emitter.yaml_emitter_t.mark_closed.Goals as goal
 
 pub returns-clause-stands : goal.returns-clause-stands
 returns-clause-stands g c given all stands =
-    stands_marked given all (state_of c.self.inside) c.self.inside.opened true (subst (λ (s : State). StandsAfter given all s) (sym c.self.view_is) stands)
+    stands_flagged given all (state_of c.self.inside) c.self.inside.opened true (subst (λ (s : State). StandsAfter given all s) (sym c.self.view_is) stands)
 
 pub returns-clause-promised : goal.returns-clause-promised
 returns-clause-promised g c given all stands = promised given all _ (returns-clause-stands g c given all stands)

@@ -17,7 +17,7 @@ write_collection_end-requires g c =
 
 pub invariant_of-self-in_err-write_collection_end-in-Some : goal.invariant_of-self-in_err-write_collection_end-in-Some
 invariant_of-self-in_err-write_collection_end-in-Some g c =
-    kept_at_node c.self.inside c.write_collection_end.new.pen c.pop.new.self c.self.inside.mark c.self.invariant
+    kept_at_node c.self.inside c.write_collection_end.new.pen c.pop.new.self c.self.inside.open_ended c.self.invariant
     (at_node_inside c.self.inside c.self.view_is c.requires.stage) (c.write_collection_end.ensures 0).ready
 
 pub returns-in_err-write_collection_end-in-Some : goal.returns-in_err-write_collection_end-in-Some
@@ -32,12 +32,12 @@ returns-in_err-write_collection_end-in-Some g c = λ empty.
     (may_end_here c.self.inside.frames
     (seen_frame c.in-Some.frame) c.pop.new.self (is_mapping c.args.kind) c.may_end.result c.in-Some.ensures c.may_end.ensures c.if-not-may_end.false)
     (ap (λ (p : Place). p.column) c.next_place-around.ensures.place)
-    (c.in_err-write_collection_end-in-Some.ensures (machine_state c.self.inside).mark)))
+    (c.in_err-write_collection_end-in-Some.ensures (machine_state c.self.inside).open_ended)))
 
 pub invariant_of-self-in-Some : goal.invariant_of-self-in-Some
 invariant_of-self-in-Some g c =
     kept_advancing c.self.inside c.write_collection_end.new.pen c.advance-self-inside.result c.advance-self-inside.new.self c.pop.new.self
-    c.in-Some.frame.simple c.self.inside.mark c.self.invariant
+    c.in-Some.frame.simple c.self.inside.open_ended c.self.invariant
     (c.advance-self-inside.ensures.stage c.self.inside.directives) (c.in_ok-write_collection_end-in-Some.ensures 0).ready
 
 pub returns-in_ok-write_collection_end-in-Some : goal.returns-in_ok-write_collection_end-in-Some
@@ -50,7 +50,7 @@ returns-in_ok-write_collection_end-in-Some g c = λ empty.
     (seen_frame c.in-Some.frame) c.pop.new.self (is_mapping c.args.kind) c.may_end.result c.in-Some.ensures c.may_end.ensures c.if-not-may_end.false)
     (ap (λ (p : Place). p.column) c.next_place-around.ensures.place)
     (c.advance-self-inside.ensures.stage c.self.inside.directives)
-    (c.in_ok-write_collection_end-in-Some.ensures (machine_state c.self.inside).mark))
+    (c.in_ok-write_collection_end-in-Some.ensures (machine_state c.self.inside).open_ended))
 
 pub returns-then-not-may_end : goal.returns-then-not-may_end
 returns-then-not-may_end g c = grind (arith, common_steps) steps 4000000

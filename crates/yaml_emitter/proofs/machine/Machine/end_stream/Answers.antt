@@ -8,7 +8,7 @@ use Rattle.yaml_emitter.proofs.machine.Machine.end_stream.Goals as goal
 
 pub invariant_of-self : goal.invariant_of-self
 invariant_of-self g c =
-    kept_writing c.self.inside c.flush_stream_end.new.pen c.self.inside.stage c.self.inside.frames c.self.inside.mark c.self.invariant
+    kept_writing c.self.inside c.flush_stream_end.new.pen c.self.inside.stage c.self.inside.frames c.self.inside.open_ended c.self.invariant
     (fits_ready (machine_state c.self.inside).stage c.flush_stream_end.new.pen
     (behind_start (stage_inside c.self.inside c.self.view_is c.requires.stage) refl) c.in_err-flush_stream_end.ensures.written.ready)
 
@@ -22,11 +22,11 @@ returns-in_err-flush_stream_end g c = λ empty.
 
 pub invariant_of-self-2 : goal.invariant_of-self-2
 invariant_of-self-2 g c =
-    kept_writing c.self.inside c.flush_stream_end.new.pen _ c.self.inside.frames c.self.inside.mark c.self.invariant
+    kept_writing c.self.inside c.flush_stream_end.new.pen _ c.self.inside.frames c.self.inside.open_ended c.self.invariant
     c.in_ok-flush_stream_end.ensures.written.ready
 
 pub returns : goal.returns
 returns g c = λ empty.
     rw (← c.self.view_is)
     (stream_ended empty (machine_state c.self.inside) c.args.first c.flush_stream_end.new.pen (stage_inside c.self.inside c.self.view_is c.requires.stage)
-    c.in_ok-flush_stream_end.ensures.written c.in_ok-flush_stream_end.ensures.handed_out)
+    c.in_ok-flush_stream_end.ensures.written c.in_ok-flush_stream_end.ensures.flushed_whole)

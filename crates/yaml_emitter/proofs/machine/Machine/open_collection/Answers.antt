@@ -5,7 +5,7 @@ use Rattle.yaml_base.specs.Event.{any_layout}
 use Rattle.yaml_base.specs.Refusal.{most_open}
 use Rattle.yaml_base.specs.Event.{collection_tag}
 use Rattle.yaml_base.specs.Tags.{spelling}
-use Rattle.yaml_emitter.specs.WrittenSigns.{seen_tag}
+use Rattle.yaml_emitter.specs.WrittenAtoms.{seen_tag}
 use Rattle.yaml_emitter.proofs.pieces.WritingTags.{spelled_handle}
 use Rattle.yaml_base.specs.declared.errors.yaml_error_t.TheVariants.{Memory}
 use Rattle.yaml_emitter.specs.BorrowedTexts.{seen_collection}
@@ -45,7 +45,7 @@ write_collection_start-requires-clause-anchor g c = collection_anchor c.args.sel
 
 pub invariant_of-self : goal.invariant_of-self
 invariant_of-self g c =
-    kept_at_node c.self.inside c.write_collection_start.new.pen c.self.inside.frames c.self.inside.mark c.self.invariant
+    kept_at_node c.self.inside c.write_collection_start.new.pen c.self.inside.frames c.self.inside.open_ended c.self.invariant
     (at_node_inside c.self.inside c.self.view_is c.requires.stage) c.write_collection_start.ensures.ready
 
 pub returns-in_err-write_collection_start : goal.returns-in_err-write_collection_start
@@ -63,12 +63,12 @@ returns-in_err-write_collection_start g c = λ style asked.
     c.next_place-place.ensures.place
     (c.is_simple_collection_key-simple.ensures c.self.inside.directives style
     (c.spell-tag.ensures ∙ ap (option_map (spelling c.self.inside.directives)) (c.written_collection_tag-written.ensures style)))
-    (c.in_err-write_collection_start.ensures.written c.self.inside.directives style (machine_state c.self.inside).mark
+    (c.in_err-write_collection_start.ensures.written c.self.inside.directives style (machine_state c.self.inside).open_ended
     (c.spell-tag.ensures ∙ ap (option_map (spelling c.self.inside.directives)) (c.written_collection_tag-written.ensures style)))))
 
 pub invariant_of-self-in_err-push : goal.invariant_of-self-in_err-push
 invariant_of-self-in_err-push g c =
-    kept_at_node c.self.inside c.write_collection_start.new.pen c.push.new.self c.self.inside.mark c.self.invariant
+    kept_at_node c.self.inside c.write_collection_start.new.pen c.push.new.self c.self.inside.open_ended c.self.invariant
     (at_node_inside c.self.inside c.self.view_is c.requires.stage) c.write_collection_start.ensures.ready
 
 pub returns-in_err-push : goal.returns-in_err-push
@@ -87,12 +87,12 @@ returns-in_err-push g c = λ style asked.
     c.next_place-place.ensures.place
     (c.is_simple_collection_key-simple.ensures c.self.inside.directives style
     (c.spell-tag.ensures ∙ ap (option_map (spelling c.self.inside.directives)) (c.written_collection_tag-written.ensures style)))
-    (c.in_ok-write_collection_start.ensures.written c.self.inside.directives style (machine_state c.self.inside).mark
+    (c.in_ok-write_collection_start.ensures.written c.self.inside.directives style (machine_state c.self.inside).open_ended
     (c.spell-tag.ensures ∙ ap (option_map (spelling c.self.inside.directives)) (c.written_collection_tag-written.ensures style)))))
 
 pub invariant_of-self-2 : goal.invariant_of-self-2
 invariant_of-self-2 g c =
-    kept_at_node c.self.inside c.write_collection_start.new.pen c.push.new.self c.self.inside.mark c.self.invariant
+    kept_at_node c.self.inside c.write_collection_start.new.pen c.push.new.self c.self.inside.open_ended c.self.invariant
     (at_node_inside c.self.inside c.self.view_is c.requires.stage) c.write_collection_start.ensures.ready
 
 pub returns : goal.returns
@@ -112,7 +112,7 @@ returns g c = λ style asked.
     c.opened_frame-frame.ensures.frame
     (pushed_at_node c.self.inside c.push.new.self (seen_frame c.opened_frame-frame.result)
     (at_node_inside c.self.inside c.self.view_is c.requires.stage) c.in_ok-push.ensures.ok)
-    (c.in_ok-write_collection_start.ensures.written c.self.inside.directives style (machine_state c.self.inside).mark
+    (c.in_ok-write_collection_start.ensures.written c.self.inside.directives style (machine_state c.self.inside).open_ended
     (c.spell-tag.ensures ∙ ap (option_map (spelling c.self.inside.directives)) (c.written_collection_tag-written.ensures style))))
 
 pub opened_frame-frame-requires : goal.opened_frame-frame-requires

@@ -16,7 +16,7 @@ write_alias-requires-clause-name g c = sound_alias (chars c.args.name.now) c.req
 
 pub invariant_of-self : goal.invariant_of-self
 invariant_of-self g c =
-    kept_at_node c.self.inside c.write_alias.new.pen c.self.inside.frames c.self.inside.mark c.self.invariant
+    kept_at_node c.self.inside c.write_alias.new.pen c.self.inside.frames c.self.inside.open_ended c.self.invariant
     (at_node_inside c.self.inside c.self.view_is c.requires.stage) (c.write_alias.ensures 0).ready
 
 pub returns-in_err-write_alias : goal.returns-in_err-write_alias
@@ -28,12 +28,12 @@ returns-in_err-write_alias g c = λ empty.
     (chars c.args.name.now) empty c.is_simple_alias_key-simple.result _ c.write_alias.new.pen c.in_err-write_alias.field-0.0
     (seen_at_node c.self.inside (at_node_inside c.self.inside c.self.view_is c.requires.stage)) c.requires.names c.next_place-place.ensures.place
     c.is_simple_alias_key-simple.ensures
-    (c.in_err-write_alias.ensures (machine_state c.self.inside).mark)))
+    (c.in_err-write_alias.ensures (machine_state c.self.inside).open_ended)))
 
 pub invariant_of-self-2 : goal.invariant_of-self-2
 invariant_of-self-2 g c =
     kept_advancing c.self.inside c.write_alias.new.pen c.advance-self-inside.result c.advance-self-inside.new.self c.self.inside.frames
-    c.is_simple_alias_key-simple.result c.self.inside.mark c.self.invariant
+    c.is_simple_alias_key-simple.result c.self.inside.open_ended c.self.invariant
     (c.advance-self-inside.ensures.stage c.self.inside.directives) (c.in_ok-write_alias.ensures 0).ready
 
 pub returns : goal.returns
@@ -44,4 +44,4 @@ returns g c = λ empty.
     (seen_at_node c.self.inside (at_node_inside c.self.inside c.self.view_is c.requires.stage)) c.requires.names c.next_place-place.ensures.place
     c.is_simple_alias_key-simple.ensures
     (c.advance-self-inside.ensures.stage c.self.inside.directives)
-    (c.in_ok-write_alias.ensures (machine_state c.self.inside).mark))
+    (c.in_ok-write_alias.ensures (machine_state c.self.inside).open_ended))

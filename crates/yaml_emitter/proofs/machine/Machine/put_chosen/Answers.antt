@@ -1,8 +1,8 @@
 use Rattle.std.proofs.Common.{true, false, ap, ◌∙◌, option_map}
 use Rattle.yaml_base.specs.Event.{scalar_tag}
 use Rattle.yaml_base.specs.Tags.{spelling}
-use Rattle.yaml_emitter.specs.WrittenSigns.{seen_tag}
-use Rattle.yaml_emitter.proofs.pieces.SignsWritten.{written_is_some}
+use Rattle.yaml_emitter.specs.WrittenAtoms.{seen_tag}
+use Rattle.yaml_emitter.proofs.pieces.AtomsWritten.{written_is_some}
 use Rattle.yaml_emitter.proofs.pieces.WritingTags.{spelled_handle}
 use Rattle.yaml_base.specs.Event.{scalar}
 use Rattle.yaml_emitter.specs.BorrowedTexts.{seen_scalar}
@@ -42,7 +42,7 @@ write_scalar-requires-clause-anchor g c = scalar_anchor c.args.self.now.given.ca
 
 pub invariant_of-self : goal.invariant_of-self
 invariant_of-self g c =
-    kept_at_node c.self.inside c.write_scalar.new.pen c.self.inside.frames c.self.inside.mark c.self.invariant
+    kept_at_node c.self.inside c.write_scalar.new.pen c.self.inside.frames c.self.inside.open_ended c.self.invariant
     (at_node_inside c.self.inside c.self.view_is c.requires.stage) c.in_err-self-inside.ensures.ready
 
 pub returns-in_err-self-inside : goal.returns-in_err-self-inside
@@ -84,6 +84,6 @@ returns g c = λ empty.
     (c.is_simple_scalar_key-simple.ensures c.self.inside.directives
     (c.spell-tag.ensures ∙ ap (option_map (spelling c.self.inside.directives)) c.written_scalar_tag-written.ensures))
     (c.advance-self-inside.ensures.stage c.self.inside.directives)
-    c.in_ok-self-inside.ensures.mark
+    c.in_ok-self-inside.ensures.open_ended
     (c.in_ok-self-inside.ensures.written c.self.inside.directives
     (c.spell-tag.ensures ∙ ap (option_map (spelling c.self.inside.directives)) c.written_scalar_tag-written.ensures)))

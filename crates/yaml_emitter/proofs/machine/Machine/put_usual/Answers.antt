@@ -1,6 +1,6 @@
 use Rattle.std.proofs.Common.{ap, subst, sym}
 use Rattle.yaml_base.specs.Event.{scalar}
-use Rattle.yaml_base.specs.Layout.{mark_after}
+use Rattle.yaml_base.specs.Layout.{open_ended_after}
 use Rattle.yaml_base.specs.scalars.Style.{Choice}
 use Rattle.yaml_emitter.specs.BorrowedTexts.{seen_scalar}
 use Rattle.yaml_emitter.specs.Given.{seen_effective}
@@ -8,7 +8,7 @@ use Rattle.yaml_emitter.specs.MachineInside.{machine_state}
 use Rattle.yaml_emitter.specs.Places.{seen_place}
 use Rattle.yaml_emitter.specs.State.{MachineState}
 use Rattle.yaml_emitter.specs.UsualScalars.{StandsPlain}
-use Rattle.yaml_emitter.specs.WrittenPieces.{seen_mark}
+use Rattle.yaml_emitter.specs.WrittenPieces.{seen_open_ended}
 use Rattle.yaml_emitter.proofs.events_done.ProcessedBy.{processed_exit}
 use Rattle.yaml_emitter.proofs.events_done.NodesDone.{at_node_inside, ready_inside, seen_at_node, kept_at_node, kept_advancing, names_inside}
 use Rattle.yaml_emitter.proofs.events_done.NodesDone.{scalar_cut, scalar_written}
@@ -21,7 +21,7 @@ write_usual-requires-clause-ready g c =
 
 pub invariant_of-self : goal.invariant_of-self
 invariant_of-self g c =
-    kept_at_node c.self.inside c.write_usual.new.pen c.self.inside.frames c.self.inside.mark c.self.invariant
+    kept_at_node c.self.inside c.write_usual.new.pen c.self.inside.frames c.self.inside.open_ended c.self.invariant
     (at_node_inside c.self.inside c.self.view_is c.requires.stage) c.in_err-write_usual.ensures.ready
 
 pub returns-in_err-write_usual : goal.returns-in_err-write_usual
@@ -38,12 +38,12 @@ returns-in_err-write_usual g c = λ content stands same names empty.
     (not_lacking c.self.inside.given.canonical stands)
     c.next_place-place.ensures.place
     (c.is_simple_usual_key-simple.ensures c.self.inside.settings.canonical c.self.inside.directives content inside same)
-    (c.in_err-write_usual.ensures.written c.self.inside.directives (seen_mark c.self.inside.mark) content inside same)))
+    (c.in_err-write_usual.ensures.written c.self.inside.directives (seen_open_ended c.self.inside.open_ended) content inside same)))
 
 pub invariant_of-self-2 : goal.invariant_of-self-2
 invariant_of-self-2 g c =
     kept_advancing c.self.inside c.write_usual.new.pen c.advance-self-inside.result c.advance-self-inside.new.self c.self.inside.frames
-    c.is_simple_usual_key-simple.result c.self.inside.mark c.self.invariant
+    c.is_simple_usual_key-simple.result c.self.inside.open_ended c.self.invariant
     (c.advance-self-inside.ensures.stage c.self.inside.directives) c.in_ok-write_usual.ensures.ready
 
 pub returns : goal.returns
@@ -58,6 +58,6 @@ returns g c = λ content stands same names empty.
     c.next_place-place.ensures.place
     (c.is_simple_usual_key-simple.ensures c.self.inside.settings.canonical c.self.inside.directives content inside same)
     (c.advance-self-inside.ensures.stage c.self.inside.directives)
-    (sym (ap (λ (choice : Choice). mark_after choice.style (seen_scalar content).value (seen_mark c.self.inside.mark))
+    (sym (ap (λ (choice : Choice). open_ended_after choice.style (seen_scalar content).value (seen_open_ended c.self.inside.open_ended))
     (usual_choice (seen_effective c.self.inside.settings) (seen_place c.next_place-place.result) c.is_simple_usual_key-simple.result inside)))
-    (c.in_ok-write_usual.ensures.written c.self.inside.directives (seen_mark c.self.inside.mark) content inside same))
+    (c.in_ok-write_usual.ensures.written c.self.inside.directives (seen_open_ended c.self.inside.open_ended) content inside same))

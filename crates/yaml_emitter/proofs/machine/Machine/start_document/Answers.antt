@@ -3,7 +3,7 @@ use Rattle.std.specs.Prelude.{option_and_then}
 use Rattle.yaml_base.specs.Event.{DocumentStart, document_start}
 use Rattle.yaml_base.specs.Seen.{seen_directive, seen_version}
 use Rattle.yaml_base.specs.Tags.{version_fault, directives_fault}
-use Rattle.yaml_emitter.specs.Signs.{some_handle_breaks}
+use Rattle.yaml_emitter.specs.Atoms.{some_handle_breaks}
 use Rattle.yaml_emitter.specs.MachineInside.{machine_state}
 use Rattle.yaml_emitter.specs.Processing.{Processed}
 use Rattle.yaml_emitter.specs.State.{MachineState}
@@ -42,7 +42,7 @@ pub invariant_of-self-in_err-write_document_start : goal.invariant_of-self-in_er
 invariant_of-self-in_err-write_document_start g c =
     let emptied = record c.self.inside { directives = c.replace-before.new.dest } in
     let at = stage_inside c.self.inside c.self.view_is c.requires.stage in
-    kept_writing emptied c.write_document_start.new.pen c.self.inside.stage c.self.inside.frames c.self.inside.mark
+    kept_writing emptied c.write_document_start.new.pen c.self.inside.stage c.self.inside.frames c.self.inside.open_ended
     (kept_without c.self.inside c.replace-before.new.dest c.args.first (c.replace-before.ensures.after ∙ c.new.ensures) at c.self.invariant)
     (fits_ready (machine_state emptied).stage c.write_document_start.new.pen
     (behind_start (ap (λ (s : MachineState). s.stage) (seen_without c.self.inside c.replace-before.new.dest c.args.first at) ∙ at) refl)

@@ -13,7 +13,7 @@ invariant_of-self g c =
     record {
       handles = c.self.invariant.handles;
       canonical = ap (λ (s : Effective). s.canonical) c.effective-self-inside.ensures.gives;
-      page = subst (λ (p : Page). IsReady p) (sym c.begin_page.ensures) (record { begun = c.effective-self-inside.ensures.encoding; marked = refl });
+      page = subst (λ (p : Page). IsReady p) (sym c.begin_page.ensures) (record { begun = c.effective-self-inside.ensures.encoding; bom_written = refl });
     }
 
 pub returns : goal.returns
@@ -24,5 +24,5 @@ returns g c = λ empty.
     (stage_inside c.self.inside c.self.view_is c.requires.stage)
     c.effective-self-inside.ensures.gives
     (c.begin_page.ensures
-    ∙ ap (λ (e : Option Encoding). let p : Page = record c.self.inside.pen { encoding = e; line_break = s.line_break; mark_due = false } in p)
+    ∙ ap (λ (e : Option Encoding). let p : Page = record c.self.inside.pen { encoding = e; line_break = s.line_break; bom_due = false } in p)
     (given_is_there (seen_encoding c.effective-self-inside.result.encoding) utf8 c.effective-self-inside.ensures.encoding)))

@@ -1,27 +1,28 @@
 use Rattle.std.proofs.Common.{◌∙◌, ap, subst, sym, false, [], Ok, Err, refl}
 use Rattle.yaml_base.specs.Seen.{seen_event}
-use Rattle.yaml_pen.specs.Page.{told}
+use Rattle.yaml_pen.specs.Page.{result_of_error}
 use Rattle.yaml_pen.specs.Wrote.{Grows}
 use Rattle.yaml_emitter.specs.State.{KeepsGiven, MachineState}
-use Rattle.yaml_emitter.specs.StandsAfter.{StandsBy}
+use Rattle.yaml_emitter.specs.StandsAfter.{MachineStands}
 use Rattle.yaml_emitter.proofs.standing.Emitting.{processed_error, stands_on_end, took_alone, took_failed, took_next}
 use Rattle.yaml_emitter.proofs.standing.Growing.{processed_grows}
 use Rattle.yaml_emitter.proofs.standing.KeepsSet.{processed_keeps_given}
 use Rattle.yaml_emitter.proofs.machine.Machine.write_alone.Goals as goal
 
 pub returns-in-Ok-clause-stands : goal.returns-in-Ok-clause-stands
-returns-in-Ok-clause-stands g c given all front reached =
+returns-in-Ok-clause-stands g c given all prefix reached =
     let event = seen_event c.args.event.now in
-    let on = took_next _ _ _ (took_alone event c.args.self.now c.process.new.self (Ok tt) c.in-Ok.ensures) c.requires.ready given all front reached in
+    let on = took_next _ _ _ (took_alone event c.args.self.now c.process.new.self (Ok tt) c.in-Ok.ensures) c.requires.ready given all prefix reached in
     stands_on_end given all on.0 _ c.process.new.self on.1
     (processed_error event false c.args.self.now c.process.new.self (Ok tt) c.in-Ok.ensures ∙ c.requires.no_error) refl
 
 pub returns-in-Err-clause-stands : goal.returns-in-Err-clause-stands
-returns-in-Err-clause-stands g c given all front reached =
+returns-in-Err-clause-stands g c given all prefix reached =
     let event = seen_event c.args.event.now in
-    subst (λ (m : MachineState). StandsBy given all m.error [] m) (sym c.fail.ensures) (
+    subst (λ (m : MachineState). MachineStands given all m.error [] m) (sym c.fail.ensures) (
       refl,
-      took_failed _ _ _ c.in-Err.error (took_alone event c.args.self.now c.process.new.self (Err c.in-Err.error) c.in-Err.ensures) c.requires.ready given all front
+      took_failed _ _ _ c.in-Err.error (took_alone event c.args.self.now c.process.new.self
+          (Err c.in-Err.error) c.in-Err.ensures) c.requires.ready given all prefix
           reached,
     )
 
@@ -43,4 +44,5 @@ returns-in-Err-clause-set g c =
 
 pub returns-in-Ok-clause-answered : goal.returns-in-Ok-clause-answered
 returns-in-Ok-clause-answered g c =
-    sym (ap told (processed_error (seen_event c.args.event.now) false c.args.self.now c.process.new.self (Ok tt) c.in-Ok.ensures ∙ c.requires.no_error))
+    sym (ap result_of_error (processed_error (seen_event c.args.event.now) false c.args.self.now c.process.new.self (Ok tt) c.in-Ok.ensures
+    ∙ c.requires.no_error))

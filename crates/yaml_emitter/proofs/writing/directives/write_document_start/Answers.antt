@@ -1,7 +1,7 @@
 use Rattle.std.proofs.Common.{map, option_map, ap, ◌∙◌, ◌&&◌, ◌||◌, ◌==◌, not, Bool}
 use Rattle.yaml_base.specs.Seen.{seen_version, seen_directive}
 use Rattle.yaml_emitter.specs.Given.{seen_effective}
-use Rattle.yaml_emitter.specs.WrittenPieces.{seen_mark}
+use Rattle.yaml_emitter.specs.WrittenPieces.{seen_open_ended}
 use Rattle.yaml_emitter.proofs.pieces.WritingPieces.{wrote_document_start}
 use Rattle.yaml_emitter.proofs.writing.directives.write_document_start.Goals as goal
 
@@ -13,8 +13,8 @@ returns g c =
       directives = map seen_directive c.args.start.now.directives.now;
       implicit = c.args.start.now.implicit;
     })
-    (seen_mark c.args.mark)
-    (c.closes_before-closes.ensures ∙ ap (λ (d : Bool). d && not (seen_mark c.args.mark == 0)) c.has_directives-directed.ensures)
+    (seen_open_ended c.args.open_ended)
+    (c.closes_before-closes.ensures ∙ ap (λ (d : Bool). d && not (seen_open_ended c.args.open_ended == 0)) c.has_directives-directed.ensures)
     (c.is_explicit-explicit.ensures
     ∙ ap (λ (d : Bool). not c.args.start.now.implicit || not c.args.first || (c.args.settings.now.canonical || c.args.settings.now.portable) || d)
     c.has_directives-directed.ensures)

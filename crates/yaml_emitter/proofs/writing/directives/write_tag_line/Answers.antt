@@ -2,19 +2,19 @@ use Rattle.std.specs.Str.{chars}
 use Rattle.yaml_base.specs.Cursor.{new_line}
 use Rattle.yaml_pen.proofs.Composing.{wrote_as, wrote_exit, wrote_failed, wrote_then}
 use Rattle.yaml_emitter.specs.Given.{seen_effective}
-use Rattle.yaml_emitter.specs.WrittenPieces.{tag_words_laid}
+use Rattle.yaml_emitter.specs.WrittenPieces.{render_tag_words}
 use Rattle.yaml_emitter.proofs.writing.directives.write_tag_line.Goals as goal
 
-pub returns-in_err-write_outside : goal.returns-in_err-write_outside
-returns-in_err-write_outside g c =
+pub returns-in_err-write_document_atoms : goal.returns-in_err-write_document_atoms
+returns-in_err-write_document_atoms g c =
     wrote_exit c.from_residual.ensures
     (wrote_failed (new_line 0)
-    (wrote_as (tag_words_laid c.args.settings.now.portable (record { handle = chars c.args.handle.now; prefix = chars c.args.prefix.now }))
-    (c.tag_directive_signs.ensures.laid (seen_effective c.args.settings.now) c.args.pen.now.cursor) c.in_err-write_outside.ensures))
+    (wrote_as (render_tag_words c.args.settings.now.portable (record { handle = chars c.args.handle.now; prefix = chars c.args.prefix.now }))
+    (c.tag_directive_atoms.ensures.rendered (seen_effective c.args.settings.now) c.args.pen.now.cursor) c.in_err-write_document_atoms.ensures))
 
 pub returns : goal.returns
 returns g c =
     wrote_then
-    (wrote_as (tag_words_laid c.args.settings.now.portable (record { handle = chars c.args.handle.now; prefix = chars c.args.prefix.now }))
-    (c.tag_directive_signs.ensures.laid (seen_effective c.args.settings.now) c.args.pen.now.cursor) c.in_ok-write_outside.ensures)
-    c.write_outside-2.ensures
+    (wrote_as (render_tag_words c.args.settings.now.portable (record { handle = chars c.args.handle.now; prefix = chars c.args.prefix.now }))
+    (c.tag_directive_atoms.ensures.rendered (seen_effective c.args.settings.now) c.args.pen.now.cursor) c.in_ok-write_document_atoms.ensures)
+    c.write_document_atoms-2.ensures

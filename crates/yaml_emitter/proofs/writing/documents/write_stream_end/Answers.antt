@@ -1,12 +1,12 @@
 use Rattle.std.proofs.Common.{subst, Bool, ◌==◌}
-use Rattle.yaml_base.specs.Layout.{laid_if, closing_mark_laid}
+use Rattle.yaml_base.specs.Layout.{render_if, render_closing_marker}
 use Rattle.yaml_pen.specs.Wrote.{Wrote}
-use Rattle.yaml_emitter.specs.WrittenPieces.{seen_mark}
+use Rattle.yaml_emitter.specs.WrittenPieces.{seen_open_ended}
 use Rattle.yaml_emitter.proofs.pieces.WritingPieces.{wrote_lead}
 use Rattle.yaml_emitter.proofs.writing.documents.write_stream_end.Goals as goal
 
 pub returns : goal.returns
 returns g c =
-    wrote_lead (laid_if (seen_mark c.args.mark == 2) closing_mark_laid) (seen_mark c.args.mark)
-    (subst (λ (asked : Bool). Wrote (laid_if asked closing_mark_laid) c.args.pen.now c.write_closing_mark.new.pen c.write_closing_mark.result)
-    c.keeps_breaks.ensures c.write_closing_mark.ensures)
+    wrote_lead (render_if (seen_open_ended c.args.open_ended == 2) render_closing_marker) (seen_open_ended c.args.open_ended)
+    (subst (λ (asked : Bool). Wrote (render_if asked render_closing_marker) c.args.pen.now c.write_closing_marker.new.pen c.write_closing_marker.result)
+    c.keeps_breaks.ensures c.write_closing_marker.ensures)

@@ -1,5 +1,5 @@
 use Rattle.std.proofs.Common.{option_map, sym, ap, ◌∙◌}
-use Rattle.yaml_base.specs.Layout.{version_laid}
+use Rattle.yaml_base.specs.Layout.{render_version}
 use Rattle.yaml_base.specs.Seen.{seen_version}
 use Rattle.yaml_pen.proofs.Composing.{wrote_as}
 use Rattle.yaml_emitter.specs.Given.{seen_effective}
@@ -7,7 +7,7 @@ use Rattle.yaml_emitter.proofs.writing.documents.write_version.Goals as goal
 
 pub returns-in-Some : goal.returns-in-Some
 returns-in-Some g c =
-    wrote_as (version_laid (option_map seen_version c.args.version))
-    (c.version_signs.ensures.laid (seen_effective c.args.settings.now) c.args.pen.now.cursor
-    ∙ ap (λ version. version_laid (option_map seen_version version) c.args.pen.now.cursor) (sym c.in-Some.is))
-    c.write_outside.ensures
+    wrote_as (render_version (option_map seen_version c.args.version))
+    (c.version_atoms.ensures.rendered (seen_effective c.args.settings.now) c.args.pen.now.cursor
+    ∙ ap (λ version. render_version (option_map seen_version version) c.args.pen.now.cursor) (sym c.in-Some.is))
+    c.write_document_atoms.ensures

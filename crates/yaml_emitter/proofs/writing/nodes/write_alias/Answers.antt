@@ -1,6 +1,6 @@
 use Rattle.std.specs.Str.{chars}
-use Rattle.yaml_base.specs.Cursor.{Cursor, then_laid}
-use Rattle.yaml_base.specs.Layout.{place_laid, alias_laid}
+use Rattle.yaml_base.specs.Cursor.{Cursor, render_then}
+use Rattle.yaml_base.specs.Layout.{render_place, render_alias}
 use Rattle.yaml_emitter.specs.Given.{seen_effective}
 use Rattle.yaml_emitter.specs.Places.{seen_place}
 use Rattle.yaml_emitter.proofs.pieces.WritingPieces.{wrote_lead}
@@ -10,15 +10,16 @@ use Rattle.yaml_emitter.proofs.writing.nodes.write_alias.Goals as goal
 pub returns-in_err-write_place : goal.returns-in_err-write_place
 returns-in_err-write_place g c =
     let site = c.args.site.now in
-    let alias = alias_laid (chars c.args.name.now) site.simple in
-    λ mark. wrote_lead (λ (cursor : Cursor). then_laid (place_laid (seen_effective site.settings.now) (seen_place site.place) site.simple cursor) alias) mark
+    let alias = render_alias (chars c.args.name.now) site.simple in
+    λ open_ended. wrote_lead (λ (cursor : Cursor). render_then
+    (render_place (seen_effective site.settings.now) (seen_place site.place) site.simple cursor) alias) open_ended
     (wrote_exit c.from_residual.ensures (wrote_failed alias c.in_err-write_place.ensures))
 
 pub returns : goal.returns
 returns g c =
     let site = c.args.site.now in
     let s = seen_effective site.settings.now in
-    let alias = alias_laid (chars c.args.name.now) site.simple in
-    λ mark. wrote_lead (λ (cursor : Cursor). then_laid (place_laid s (seen_place site.place) site.simple cursor) alias) mark
+    let alias = render_alias (chars c.args.name.now) site.simple in
+    λ open_ended. wrote_lead (λ (cursor : Cursor). render_then (render_place s (seen_place site.place) site.simple cursor) alias) open_ended
     (wrote_then c.in_ok-write_place.ensures
-    (wrote_as alias (c.alias_signs.ensures.laid s (seen_place site.place) c.write_place.new.pen.cursor) c.write_signs.ensures))
+    (wrote_as alias (c.alias_atoms.ensures.rendered s (seen_place site.place) c.write_place.new.pen.cursor) c.write_atoms.ensures))

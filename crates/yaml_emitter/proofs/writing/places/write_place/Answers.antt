@@ -1,18 +1,18 @@
 use Rattle.std.proofs.Common.{ap, ◌∙◌}
-use Rattle.yaml_base.specs.Layout.{flow_place_laid, place_laid}
+use Rattle.yaml_base.specs.Layout.{render_flow_place, render_place}
 use Rattle.yaml_pen.proofs.Composing.{wrote_as}
 use Rattle.yaml_emitter.specs.Given.{seen_effective}
 use Rattle.yaml_emitter.specs.Places.{seen_place, seen_role}
 use Rattle.yaml_emitter.specs.declared.place.Role as kinds
-use Rattle.yaml_emitter.proofs.pieces.SignsWritten.{flow_at_line, flow_here, block_here}
+use Rattle.yaml_emitter.proofs.pieces.AtomsWritten.{flow_at_line, flow_here, block_here}
 use Rattle.yaml_emitter.proofs.writing.places.write_place.Goals as goal
 
 pub returns-then-site : goal.returns-then-site
 returns-then-site g c =
     let s = seen_effective c.args.site.now.settings.now in
     let place = seen_place c.args.site.now.place in
-    wrote_as (place_laid s place c.args.site.now.simple)
-    (ap (λ (role : kinds.Role). flow_place_laid s (seen_role role) c.args.site.now.simple c.at_line-place.result.column c.args.pen.now.cursor)
+    wrote_as (render_place s place c.args.site.now.simple)
+    (ap (λ (role : kinds.Role). render_flow_place s (seen_role role) c.args.site.now.simple c.at_line-place.result.column c.args.pen.now.cursor)
     c.at_line-place.ensures.role
     ∙ flow_at_line s place.role c.args.site.now.simple c.at_line-place.result.column place.column c.args.pen.now.cursor c.at_line-place.ensures.column
     ∙ flow_here s place c.args.site.now.simple c.args.pen.now.cursor c.if-site.true)
@@ -22,5 +22,5 @@ pub returns-else-site : goal.returns-else-site
 returns-else-site g c =
     let s = seen_effective c.args.site.now.settings.now in
     let place = seen_place c.args.site.now.place in
-    wrote_as (place_laid s place c.args.site.now.simple) (block_here s place c.args.site.now.simple c.args.pen.now.cursor c.if-site.false)
+    wrote_as (render_place s place c.args.site.now.simple) (block_here s place c.args.site.now.simple c.args.pen.now.cursor c.if-site.false)
     c.write_block_place.ensures

@@ -6,8 +6,8 @@ use Rattle.yaml_pen.proofs.Composing.{wrote_then, wrote_failed}
 use Rattle.yaml_emitter.specs.BorrowedTexts.{seen_scalar}
 use Rattle.yaml_emitter.specs.Given.{seen_effective}
 use Rattle.yaml_emitter.specs.Places.{seen_place}
-use Rattle.yaml_emitter.specs.ScalarTexts.{scalar_text_laid, style_fits}
-use Rattle.yaml_emitter.specs.WrittenPieces.{seen_mark}
+use Rattle.yaml_emitter.specs.ScalarTexts.{render_scalar_text, style_fits}
+use Rattle.yaml_emitter.specs.WrittenPieces.{seen_open_ended}
 use Rattle.yaml_emitter.proofs.pieces.WritingScalars.{wrote_exit_from, wrote_scalar, chosen_fits}
 use Rattle.yaml_emitter.proofs.writing.scalars.write_scalar.Goals as goal
 
@@ -17,9 +17,10 @@ returns-in_err-write_lead-clause-written g c = λ directives spelled.
     let content = seen_scalar c.args.content.now in
     let s = seen_effective site.settings.now in
     wrote_exit_from c.from_residual-in_err-write_lead.result c.from_residual-in_err-write_lead.ensures
-    (wrote_scalar s directives (seen_place site.place) site.simple content (seen_mark c.args.mark)
+    (wrote_scalar s directives (seen_place site.place) site.simple content (seen_open_ended c.args.open_ended)
     c.in_ok-style.ensures.choice spelled
-    (wrote_failed (scalar_text_laid (seen_scalar_style c.in_ok-style.style) s site.place.in_flow site.simple (deeper s.indent site.place.column) content.value)
+    (wrote_failed (render_scalar_text (seen_scalar_style c.in_ok-style.style) s site.place.in_flow site.simple
+    (deeper s.indent site.place.column) content.value)
     c.in_err-write_lead.ensures))
 
 pub write_text-requires-clause-fits : goal.write_text-requires-clause-fits
@@ -32,6 +33,7 @@ write_text-requires-clause-fits g c =
 pub returns-clause-written : goal.returns-clause-written
 returns-clause-written g c = λ directives spelled.
     let site = c.args.site.now in
-    wrote_scalar (seen_effective site.settings.now) directives (seen_place site.place) site.simple (seen_scalar c.args.content.now) (seen_mark c.args.mark)
+    wrote_scalar (seen_effective site.settings.now) directives (seen_place site.place) site.simple (seen_scalar c.args.content.now)
+    (seen_open_ended c.args.open_ended)
     c.in_ok-style.ensures.choice spelled
     (wrote_then c.in_ok-write_lead.ensures c.write_text.ensures.written)

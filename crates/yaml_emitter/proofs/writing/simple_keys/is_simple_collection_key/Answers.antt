@@ -3,8 +3,8 @@ use Rattle.yaml_base.specs.Layout.{is_key, is_short, name_count, tag_count}
 use Rattle.yaml_base.specs.Event.{collection_tag}
 use Rattle.yaml_emitter.specs.BorrowedTexts.{seen_collection}
 use Rattle.yaml_emitter.specs.Places.{seen_role}
-use Rattle.yaml_emitter.specs.WrittenSigns.{spelled_count}
-use Rattle.yaml_emitter.proofs.pieces.SignsWritten.{tag_count-spelled}
+use Rattle.yaml_emitter.specs.WrittenAtoms.{spelled_count}
+use Rattle.yaml_emitter.proofs.pieces.AtomsWritten.{tag_count-spelled}
 use Rattle.yaml_emitter.proofs.pieces.WritingTags.{short_collection, simple_where}
 use Rattle.yaml_emitter.proofs.writing.simple_keys.is_simple_collection_key.Goals as goal
 

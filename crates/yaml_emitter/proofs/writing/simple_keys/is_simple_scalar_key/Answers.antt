@@ -6,8 +6,8 @@ use Rattle.yaml_base.specs.Layout.{is_key, is_short, byte_count, name_count}
 use Rattle.yaml_base.specs.Event.{scalar_tag}
 use Rattle.yaml_emitter.specs.BorrowedTexts.{seen_scalar}
 use Rattle.yaml_emitter.specs.Places.{seen_role}
-use Rattle.yaml_emitter.specs.WrittenSigns.{spelled_count}
-use Rattle.yaml_emitter.proofs.pieces.SignsWritten.{tag_count-spelled}
+use Rattle.yaml_emitter.specs.WrittenAtoms.{spelled_count}
+use Rattle.yaml_emitter.proofs.pieces.AtomsWritten.{tag_count-spelled}
 use Rattle.yaml_emitter.proofs.pieces.WritingTags.{simple_where}
 use Rattle.yaml_emitter.proofs.writing.simple_keys.is_simple_scalar_key.Goals as goal
 

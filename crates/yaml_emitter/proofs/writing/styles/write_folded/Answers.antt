@@ -5,8 +5,8 @@ use mir.Val.{SFits}
 use Rattle.yaml_emitter.proofs.pieces.WritingScalars.{wrote_exit_from, wrote_folded}
 use Rattle.yaml_emitter.proofs.writing.styles.write_folded.Goals as goal
 
-pub returns-in_err-mark-clause-written : goal.returns-in_err-mark-clause-written
-returns-in_err-mark-clause-written g c =
+pub returns-in_err-open_ended-clause-written : goal.returns-in_err-open_ended-clause-written
+returns-in_err-open_ended-clause-written g c =
     let fits : SFits w32 c.args.site.now.settings.now.width = search rules in
     let indent_fits : SFits w32 c.line_indent-indent.result = search rules in
     let best : to_z w32 c.args.site.now.settings.now.indent
@@ -15,7 +15,7 @@ returns-in_err-mark-clause-written g c =
     (wrote_folded c.args.site.now.settings.now c.args.site.now.place.in_flow false (chars c.args.value.now)
     (to_z-of_z w32 c.line_indent-indent.result indent_fits ∙ c.line_indent-indent.ensures.value)
     (to_z-of_z w32 c.args.site.now.settings.now.width fits) c.args.site.now.settings.now.counts
-    best refl c.in_err-mark.ensures.written)
+    best refl c.in_err-open_ended.ensures.written)
 
 pub returns-clause-written : goal.returns-clause-written
 returns-clause-written g c =
@@ -26,4 +26,4 @@ returns-clause-written g c =
     wrote_folded c.args.site.now.settings.now c.args.site.now.place.in_flow false (chars c.args.value.now)
     (to_z-of_z w32 c.line_indent-indent.result indent_fits ∙ c.line_indent-indent.ensures.value)
     (to_z-of_z w32 c.args.site.now.settings.now.width fits) c.args.site.now.settings.now.counts
-    best refl c.in_ok-mark.ensures.written
+    best refl c.in_ok-open_ended.ensures.written

@@ -4,21 +4,21 @@ use Rattle.yaml_base.specs.Layout.{deeper}
 use Rattle.yaml_pen.proofs.Composing.{wrote_exit, wrote_then, wrote_failed}
 use Rattle.yaml_emitter.specs.Given.{seen_effective}
 use Rattle.yaml_emitter.specs.Places.{seen_place}
-use Rattle.yaml_emitter.specs.ScalarTexts.{scalar_text_laid}
+use Rattle.yaml_emitter.specs.ScalarTexts.{render_scalar_text}
 use Rattle.yaml_emitter.proofs.pieces.UsualChoices.{wrote_usual}
 use Rattle.yaml_emitter.proofs.writing.usual.write_usual.Goals as goal
 
 pub returns-in_err-write_lead-clause-written : goal.returns-in_err-write_lead-clause-written
-returns-in_err-write_lead-clause-written g c = λ directives mark content stands same.
+returns-in_err-write_lead-clause-written g c = λ directives open_ended content stands same.
     let site = c.args.site.now in
     let s = seen_effective site.settings.now in
     wrote_exit c.from_residual.ensures
-    (wrote_usual s directives (seen_place site.place) site.simple mark stands same
-    (wrote_failed (scalar_text_laid plain s site.place.in_flow site.simple (deeper s.indent site.place.column) (chars c.args.value.now))
+    (wrote_usual s directives (seen_place site.place) site.simple open_ended stands same
+    (wrote_failed (render_scalar_text plain s site.place.in_flow site.simple (deeper s.indent site.place.column) (chars c.args.value.now))
     c.in_err-write_lead.ensures))
 
 pub returns-clause-written : goal.returns-clause-written
-returns-clause-written g c = λ directives mark content stands same.
+returns-clause-written g c = λ directives open_ended content stands same.
     let site = c.args.site.now in
-    wrote_usual (seen_effective site.settings.now) directives (seen_place site.place) site.simple mark stands same
+    wrote_usual (seen_effective site.settings.now) directives (seen_place site.place) site.simple open_ended stands same
     (wrote_then c.in_ok-write_lead.ensures c.write_usual_text.ensures)

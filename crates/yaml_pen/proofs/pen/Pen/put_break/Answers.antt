@@ -1,8 +1,8 @@
 use Rattle.std.proofs.Common.{sym, ◌∙◌, ap, subst, [], ◌∷◌, min}
 use Rattle.yaml_base.specs.Characters.{line_feed}
 use Rattle.yaml_pen.specs.Page.{Page, IsReady}
-use Rattle.yaml_base.specs.Cursor.{text_laid}
-use Rattle.yaml_pen.proofs.Writing.{Adds-appended, IsPen-added, Wrote-added, known_encoding, scalar-break, break-column, Names, Names-break, break_of}
+use Rattle.yaml_base.specs.Cursor.{render_text}
+use Rattle.yaml_pen.proofs.Writing.{AddsEvent-appended, IsPen-added, Wrote-added, known_encoding, scalar-break, break-column, Names, Names-break, break_of}
 use Rattle.yaml_pen.proofs.Writing.{line_break_of}
 use Rattle.yaml_pen.proofs.pen.Pen.put_break.Goals as goal
 
@@ -11,10 +11,10 @@ invariant_of-self-2 g c =
     let ready = subst IsReady (sym c.self.view_is) c.requires.ready in
     let e = known_encoding _ ready.begun in
     let bytes = c.as_slice.ensures.value ∙ c.encoded_break-bytes.ensures e.0 e.1 in
-    let adds = Adds-appended e.0 (break_of c.self.inside.line_break) _ c.self.inside.outlet c.append.new.self c.in_ok-append.ensures bytes in
+    let adds = AddsEvent-appended e.0 (break_of c.self.inside.line_break) _ c.self.inside.outlet c.append.new.self c.in_ok-append.ensures bytes in
     IsPen-added e.0 (break_of c.self.inside.line_break) c.self.inside.encoding c.self.inside.line_break c.self.inside.outlet c.append.new.self
     c.self.inside.whitespace c.self.inside.indention
-    c.self.inside.mark_due c.self.inside.column _ c.self.invariant ready.marked e.1 (scalar-break (line_break_of c.self.inside.line_break)) adds
+    c.self.inside.bom_due c.self.inside.column _ c.self.invariant ready.bom_written e.1 (scalar-break (line_break_of c.self.inside.line_break)) adds
     (sym (ap (λ n. min n 4294967295) (break-column (line_break_of c.self.inside.line_break) _)))
 
 pub returns-clause-written : goal.returns-clause-written
@@ -22,9 +22,9 @@ returns-clause-written g c =
     let ready = subst IsReady (sym c.self.view_is) c.requires.ready in
     let e = known_encoding _ ready.begun in
     let bytes = c.as_slice.ensures.value ∙ c.encoded_break-bytes.ensures e.0 e.1 in
-    let adds = Adds-appended e.0 (break_of c.self.inside.line_break) _ c.self.inside.outlet c.append.new.self c.in_ok-append.ensures bytes in
+    let adds = AddsEvent-appended e.0 (break_of c.self.inside.line_break) _ c.self.inside.outlet c.append.new.self c.in_ok-append.ensures bytes in
     Wrote-added e.0 (break_of c.self.inside.line_break) c.self.inside.encoding c.self.inside.line_break c.self.inside.outlet c.append.new.self
     c.self.inside.whitespace c.self.inside.indention
-    c.self.inside.mark_due c.self.inside.column c.args.self.now (text_laid (line_feed ∷ [])) c.self.invariant e.1
+    c.self.inside.bom_due c.self.inside.column c.args.self.now (render_text (line_feed ∷ [])) c.self.invariant e.1
     (scalar-break (line_break_of c.self.inside.line_break)) adds c.self.view_is
-    c.requires.ready (subst (λ (p : Page). Names (break_of c.self.inside.line_break) (text_laid (line_feed ∷ [])) p) c.self.view_is (Names-break _))
+    c.requires.ready (subst (λ (p : Page). Names (break_of c.self.inside.line_break) (render_text (line_feed ∷ [])) p) c.self.view_is (Names-break _))

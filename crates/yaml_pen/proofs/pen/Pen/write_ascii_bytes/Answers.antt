@@ -1,8 +1,8 @@
 use Rattle.std.proofs.Common.{refl, sym, ◌∙◌, ap, subst, length}
-use Rattle.yaml_base.specs.Cursor.{text_laid}
+use Rattle.yaml_base.specs.Cursor.{render_text}
 use Rattle.yaml_base.specs.Settings.{utf8}
-use Rattle.yaml_pen.specs.Page.{Page, IsReady, has_mark}
-use Rattle.yaml_pen.proofs.Writing.{Adds-appended, IsPen-added, Names-run, Wrote-added, piece-column, unmarked}
+use Rattle.yaml_pen.specs.Page.{Page, IsReady, has_bom}
+use Rattle.yaml_pen.proofs.Writing.{AddsEvent-appended, IsPen-added, Names-run, Wrote-added, piece-column, no_bom}
 use Rattle.yaml_pen.proofs.AsciiRuns.{ascii-bytes, ascii-scalars}
 use Rattle.yaml_pen.proofs.pen.Pen.write_ascii_bytes.Goals as goal
 
@@ -10,23 +10,23 @@ pub invariant_of-self-2 : goal.invariant_of-self-2
 invariant_of-self-2 g c =
     let text = c.args.text.now in
     let ready = subst IsReady (sym c.self.view_is) c.requires.ready in
-    let is_utf8 = unmarked _ ready.begun (ap (λ (p : Page). has_mark p.encoding) c.self.view_is ∙ c.requires.unmarked) in
+    let is_utf8 = no_bom _ ready.begun (ap (λ (p : Page). has_bom p.encoding) c.self.view_is ∙ c.requires.no_bom) in
     let bytes = ascii-bytes c.args.text.now c.requires.ascii in
-    let adds = Adds-appended utf8 text _ c.self.inside.outlet c.append.new.self c.in_ok-append.ensures bytes in
+    let adds = AddsEvent-appended utf8 text _ c.self.inside.outlet c.append.new.self c.in_ok-append.ensures bytes in
     IsPen-added utf8 text c.self.inside.encoding c.self.inside.line_break c.self.inside.outlet c.append.new.self c.self.inside.whitespace
     c.self.inside.indention
-    c.self.inside.mark_due c.self.inside.column _ c.self.invariant ready.marked is_utf8 (ascii-scalars c.args.text.now c.requires.ascii) adds
+    c.self.inside.bom_due c.self.inside.column _ c.self.invariant ready.bom_written is_utf8 (ascii-scalars c.args.text.now c.requires.ascii) adds
     (c.saturating_add-self-inside.ensures ∙ piece-column text _ c.self.inside.column (length text) c.requires.no_break c.self.invariant.column refl)
 
 pub returns-clause-written : goal.returns-clause-written
 returns-clause-written g c =
     let text = c.args.text.now in
     let ready = subst IsReady (sym c.self.view_is) c.requires.ready in
-    let is_utf8 = unmarked _ ready.begun (ap (λ (p : Page). has_mark p.encoding) c.self.view_is ∙ c.requires.unmarked) in
+    let is_utf8 = no_bom _ ready.begun (ap (λ (p : Page). has_bom p.encoding) c.self.view_is ∙ c.requires.no_bom) in
     let bytes = ascii-bytes c.args.text.now c.requires.ascii in
-    let adds = Adds-appended utf8 text _ c.self.inside.outlet c.append.new.self c.in_ok-append.ensures bytes in
+    let adds = AddsEvent-appended utf8 text _ c.self.inside.outlet c.append.new.self c.in_ok-append.ensures bytes in
     Wrote-added utf8 text c.self.inside.encoding c.self.inside.line_break c.self.inside.outlet c.append.new.self c.self.inside.whitespace
     c.self.inside.indention
-    c.self.inside.mark_due c.self.inside.column c.args.self.now (text_laid text) c.self.invariant is_utf8
+    c.self.inside.bom_due c.self.inside.column c.args.self.now (render_text text) c.self.invariant is_utf8
     (ascii-scalars c.args.text.now c.requires.ascii) adds c.self.view_is
     c.requires.ready (Names-run text c.args.self.now c.requires.no_break)

@@ -3,7 +3,7 @@ use Rattle.std.specs.List.{list_any}
 use Rattle.std.specs.Str.{chars}
 use Rattle.std.proofs.lemmas.Str.{IsUtf8-from_ascii, chars-IsAscii}
 use Rattle.yaml_base.specs.Characters.{Text, is_break}
-use Rattle.yaml_base.specs.Cursor.{text_laid}
+use Rattle.yaml_base.specs.Cursor.{render_text}
 use Rattle.yaml_pen.specs.Wrote.{Wrote}
 use Rattle.yaml_pen.proofs.pen.Pen.write_ascii_characters.Goals as goal
 
@@ -14,7 +14,7 @@ write_characters-requires-clause-no_break g c =
 
 pub returns-in-Ok-clause-written : goal.returns-in-Ok-clause-written
 returns-in-Ok-clause-written g c =
-    subst (λ (t : Text). Wrote (text_laid t) c.args.self.now c.write_characters.new.self c.write_characters.result)
+    subst (λ (t : Text). Wrote (render_text t) c.args.self.now c.write_characters.new.self c.write_characters.result)
     (ap chars c.in-Ok.ensures.cases.0 ∙ chars-IsAscii c.args.text.now c.requires.ascii) c.write_characters.ensures.written
 
 pub returns-in-Err-clause-written : goal.returns-in-Err-clause-written

@@ -3,12 +3,12 @@ use Rattle.std.specs.Str.Iter.{chars_rest}
 use Rattle.std.specs.List.{list_any}
 use Rattle.std.proofs.Common.{◌≡◌, false, length}
 use Rattle.yaml_base.specs.Characters.{is_break}
-use Rattle.yaml_pen.proofs.Fronts.{WroteFront}
+use Rattle.yaml_pen.proofs.WrittenPrefixes.{WrotePrefix}
 use Rattle.yaml_pen.proofs.pen.Pen.write_characters.Given as goal
 
 abbrev pub invariant-loop-character : goal.invariant-loop-character
 invariant-loop-character g l = record {
-  front : WroteFront (chars l.fn.text) (chars (chars_rest l.characters)) l.initial.self l.self;
+  prefix : WrotePrefix (chars l.fn.text) (chars (chars_rest l.characters)) l.initial.self l.self;
   is_text : IsUtf8 (chars_rest l.characters);
   no_break : list_any is_break (chars (chars_rest l.characters)) ≡ false;
 }

@@ -3,7 +3,7 @@ use Rattle.std.proofs.lemmas.List.{take-replicate}
 use Rattle.std.proofs.lemmas.Str.{IsAscii-take}
 use Rattle.std.specs.List.{list_any}
 use Rattle.yaml_base.specs.Characters.{is_break, space}
-use Rattle.yaml_base.specs.Cursor.{text_laid}
+use Rattle.yaml_base.specs.Cursor.{render_text}
 use Rattle.yaml_pen.specs.Wrote.{Wrote}
 use Rattle.yaml_pen.proofs.Spaces.{spaces_ascii, spaces_unbroken}
 use Rattle.yaml_pen.proofs.pen.Pen.write_few_spaces.Goals as goal
@@ -17,5 +17,5 @@ write_ascii-requires-clause-no_break g c =
 
 pub returns-clause-written : goal.returns-clause-written
 returns-clause-written g c =
-    subst (λ (l : List ℕ). Wrote (text_laid l) c.args.self.now c.write_ascii.new.self c.write_ascii.result)
+    subst (λ (l : List ℕ). Wrote (render_text l) c.args.self.now c.write_ascii.new.self c.write_ascii.result)
     (take-replicate c.args.count 64 space c.requires.few) c.write_ascii.ensures.written

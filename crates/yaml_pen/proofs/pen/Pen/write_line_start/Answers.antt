@@ -1,17 +1,17 @@
 use Rattle.std.proofs.Common.{◌≡◌, sym, ◌∙◌, ap, subst, arith, replicate, take, ◌+◌, ◌≤◌, ◌∷◌, ℕ, List, add-one, min}
 use Rattle.std.proofs.lemmas.List.{take-replicate}
 use Rattle.yaml_base.specs.Characters.{line_feed, space}
-use Rattle.yaml_base.specs.Cursor.{column_after, text_laid}
+use Rattle.yaml_base.specs.Cursor.{column_after, render_text}
 use Rattle.yaml_base.specs.Decode.{decode}
 use Rattle.yaml_base.specs.Seen.{seen_encoding}
 use Rattle.yaml_base.specs.Settings.{utf8}
 use Rattle.yaml_pen.specs.declared.pen.new_lines.TheConstants.{LINE_START}
 use Rattle.yaml_pen.specs.Lines.{line_begun}
-use Rattle.yaml_pen.specs.Page.{Page, IsReady, has_mark}
+use Rattle.yaml_pen.specs.Page.{Page, IsReady, has_bom}
 use Rattle.yaml_pen.proofs.Composing.{wrote_as}
 use Rattle.yaml_pen.proofs.NewLines.{broken_begun, column_after-spaces}
 use Rattle.yaml_pen.proofs.Spaces.{line_start_ascii, line_start_names}
-use Rattle.yaml_pen.proofs.Writing.{Adds-appended, IsPen-added, Wrote-added, unmarked}
+use Rattle.yaml_pen.proofs.Writing.{AddsEvent-appended, IsPen-added, Wrote-added, no_bom}
 use Rattle.yaml_pen.proofs.AsciiRuns.{ascii-bytes, ascii-scalars}
 use Rattle.yaml_pen.proofs.pen.Pen.write_line_start.Goals as goal
 
@@ -29,26 +29,26 @@ pub invariant_of-self-2 : goal.invariant_of-self-2
 invariant_of-self-2 g c =
     let raw = line_feed ∷ replicate c.args.at space in
     let ready = subst IsReady (sym c.self.view_is) c.requires.ready in
-    let is_utf8 = unmarked _ ready.begun (ap (λ (p : Page). has_mark p.encoding) c.self.view_is ∙ c.requires.unmarked) in
+    let is_utf8 = no_bom _ ready.begun (ap (λ (p : Page). has_bom p.encoding) c.self.view_is ∙ c.requires.no_bom) in
     let ascii = line_start_ascii c.args.at in
     let bytes = line_start c.args.at c.requires.few ∙ ascii-bytes raw ascii in
-    let adds = Adds-appended utf8 raw _ c.self.inside.outlet c.append.new.self c.in_ok-append.ensures bytes in
+    let adds = AddsEvent-appended utf8 raw _ c.self.inside.outlet c.append.new.self c.in_ok-append.ensures bytes in
     IsPen-added utf8 raw c.self.inside.encoding c.self.inside.line_break c.self.inside.outlet c.append.new.self c.self.inside.whitespace
     c.self.inside.indention
-    c.self.inside.mark_due c.self.inside.column _ c.self.invariant ready.marked is_utf8 (ascii-scalars raw ascii) adds
+    c.self.inside.bom_due c.self.inside.column _ c.self.invariant ready.bom_written is_utf8 (ascii-scalars raw ascii) adds
     (at_column c.args.at (column_after (decode (seen_encoding c.self.inside.encoding) c.self.inside.outlet.all) 0) c.requires.few)
 
 pub returns-clause-written : goal.returns-clause-written
 returns-clause-written g c =
     let raw = line_feed ∷ replicate c.args.at space in
     let ready = subst IsReady (sym c.self.view_is) c.requires.ready in
-    let is_utf8 = unmarked _ ready.begun (ap (λ (p : Page). has_mark p.encoding) c.self.view_is ∙ c.requires.unmarked) in
+    let is_utf8 = no_bom _ ready.begun (ap (λ (p : Page). has_bom p.encoding) c.self.view_is ∙ c.requires.no_bom) in
     let ascii = line_start_ascii c.args.at in
     let bytes = line_start c.args.at c.requires.few ∙ ascii-bytes raw ascii in
-    let adds = Adds-appended utf8 raw _ c.self.inside.outlet c.append.new.self c.in_ok-append.ensures bytes in
+    let adds = AddsEvent-appended utf8 raw _ c.self.inside.outlet c.append.new.self c.in_ok-append.ensures bytes in
     wrote_as (line_begun c.args.at) (broken_begun c.args.at c.args.self.now.cursor c.requires.breaks)
     (Wrote-added utf8 raw c.self.inside.encoding c.self.inside.line_break c.self.inside.outlet c.append.new.self c.self.inside.whitespace
     c.self.inside.indention
-    c.self.inside.mark_due c.self.inside.column c.args.self.now (text_laid raw) c.self.invariant is_utf8
+    c.self.inside.bom_due c.self.inside.column c.args.self.now (render_text raw) c.self.invariant is_utf8
     (ascii-scalars raw ascii) adds c.self.view_is
     c.requires.ready (line_start_names c.args.at c.args.self.now c.requires.line_feed))

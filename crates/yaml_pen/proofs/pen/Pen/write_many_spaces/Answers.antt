@@ -1,7 +1,7 @@
 use Rattle.std.proofs.Common.{◌≡◌, ◌∙◌, ap, sym, ◌++◌, ◌+◌, ◌-◌, ◌∷◌, [], replicate, arith, subst, List, ℕ, Ok}
 use Rattle.std.proofs.lemmas.List.{replicate_more, replicate-append-replicate}
 use Rattle.yaml_base.specs.Characters.{space}
-use Rattle.yaml_base.specs.Cursor.{text_laid}
+use Rattle.yaml_base.specs.Cursor.{render_text}
 use Rattle.yaml_pen.specs.Wrote.{Wrote}
 use Rattle.yaml_pen.proofs.Composing.{wrote_exit, wrote_cut, wrote_text_then}
 use Rattle.yaml_pen.proofs.pen.Pen.write_many_spaces.Goals as goal
@@ -14,10 +14,10 @@ returns-in_err-write_character-clause-written g c =
     ∙ replicate-append-replicate (written + 1) (c.args.count - (written + 1)) space
     ∙ ap (λ n. replicate n space) (omega arith)) in
     wrote_exit c.from_residual-in_err-write_character.ensures
-    (wrote_cut (text_laid (replicate c.args.count space)) (replicate (c.args.count - (written + 1)) space) more
+    (wrote_cut (render_text (replicate c.args.count space)) (replicate (c.args.count - (written + 1)) space) more
     (wrote_text_then c.loop-written.invariant c.in_err-write_character.ensures.written))
 
 pub loop-written-preserved : goal.loop-written-preserved
 loop-written-preserved g c =
-    subst (λ (l : List ℕ). Wrote (text_laid l) c.args.self.now c.write_character.new.self (Ok tt)) (replicate_more c.loop-written.written space)
+    subst (λ (l : List ℕ). Wrote (render_text l) c.args.self.now c.write_character.new.self (Ok tt)) (replicate_more c.loop-written.written space)
     (wrote_text_then c.loop-written.invariant c.in_ok-write_character.ensures.written)

@@ -1,8 +1,8 @@
 use Rattle.std.proofs.Common.{Ok, replicate}
 use Rattle.yaml_base.specs.Characters.{space}
-use Rattle.yaml_base.specs.Cursor.{text_laid}
+use Rattle.yaml_base.specs.Cursor.{render_text}
 use Rattle.yaml_pen.specs.Wrote.{Wrote}
 use Rattle.yaml_pen.proofs.pen.Pen.write_many_spaces.Given as goal
 
 abbrev pub invariant-loop-written : goal.invariant-loop-written
-invariant-loop-written g l = Wrote (text_laid (replicate l.written space)) l.initial.self l.self (Ok tt)
+invariant-loop-written g l = Wrote (render_text (replicate l.written space)) l.initial.self l.self (Ok tt)

@@ -3,10 +3,10 @@ use Rattle.std.specs.List.{list_any}
 use Rattle.std.specs.Str.{chars}
 use Rattle.std.proofs.lemmas.Str.{IsUtf8-drop}
 use Rattle.yaml_base.specs.Characters.{is_break}
-use Rattle.yaml_pen.specs.Page.{buffer_size, has_mark}
+use Rattle.yaml_pen.specs.Page.{buffer_size, has_bom}
 use Rattle.yaml_pen.proofs.Composing.{wrote_exit}
 use Rattle.yaml_pen.proofs.Cuts.{chars-cut, cut-forward}
-use Rattle.yaml_pen.proofs.Fronts.{unbroken_parts, front_more, front_failed, front_last}
+use Rattle.yaml_pen.proofs.WrittenPrefixes.{unbroken_parts, prefix_more, prefix_failed, prefix_last}
 use Rattle.yaml_pen.proofs.pen.Pen.write_pieces.Goals as goal
 
 pub write_piece-requires-clause-no_break : goal.write_piece-requires-clause-no_break
@@ -20,10 +20,10 @@ loop-rest-preserved g c =
     let so_far = c.loop-rest.invariant in
     let step = chars-cut _ _ _ _ so_far.is_text c.floor_char_boundary.ensures.boundary c.split_at.ensures.front c.split_at.ensures.back in
     record {
-      front = front_more (chars c.split_at.result.0.now) (chars c.split_at.result.1.now) so_far.front step c.in_ok-write_piece.ensures.written;
+      prefix = prefix_more (chars c.split_at.result.0.now) (chars c.split_at.result.1.now) so_far.prefix step c.in_ok-write_piece.ensures.written;
       is_text = rw c.split_at.ensures.back (IsUtf8-drop _ _ so_far.is_text c.floor_char_boundary.ensures.boundary);
       no_break = (unbroken_parts (chars c.split_at.result.0.now) (chars c.split_at.result.1.now) (sym (ap (list_any is_break) step) ∙ so_far.no_break)).1;
-      unmarked = ap has_mark c.in_ok-write_piece.ensures.written.settings.encoding ∙ so_far.unmarked;
+      no_bom = ap has_bom c.in_ok-write_piece.ensures.written.settings.encoding ∙ so_far.no_bom;
     }
 
 pub loop-rest-smaller : goal.loop-rest-smaller
@@ -38,7 +38,7 @@ returns-in_err-write_piece-clause-written g c =
     let so_far = c.loop-rest.invariant in
     let step = chars-cut _ _ _ _ so_far.is_text c.floor_char_boundary.ensures.boundary c.split_at.ensures.front c.split_at.ensures.back in
     wrote_exit c.from_residual-in_err-write_piece.ensures
-    (front_failed (chars c.split_at.result.0.now) (chars c.split_at.result.1.now) so_far.front step c.in_err-write_piece.ensures.written)
+    (prefix_failed (chars c.split_at.result.0.now) (chars c.split_at.result.1.now) so_far.prefix step c.in_err-write_piece.ensures.written)
 
 pub returns-clause-written : goal.returns-clause-written
-returns-clause-written g c = front_last c.loop-rest.invariant.front c.write_piece-2.ensures.written
+returns-clause-written g c = prefix_last c.loop-rest.invariant.prefix c.write_piece-2.ensures.written

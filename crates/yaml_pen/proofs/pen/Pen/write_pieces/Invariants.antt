@@ -2,16 +2,16 @@ use Rattle.std.specs.List.{list_any}
 use Rattle.std.specs.Str.{chars, IsUtf8}
 use Rattle.std.proofs.Common.{◌≡◌, false, length}
 use Rattle.yaml_base.specs.Characters.{is_break}
-use Rattle.yaml_pen.proofs.Fronts.{WroteFront}
-use Rattle.yaml_pen.specs.Page.{has_mark}
+use Rattle.yaml_pen.proofs.WrittenPrefixes.{WrotePrefix}
+use Rattle.yaml_pen.specs.Page.{has_bom}
 use Rattle.yaml_pen.proofs.pen.Pen.write_pieces.Given as goal
 
 abbrev pub invariant-loop-rest : goal.invariant-loop-rest
 invariant-loop-rest g l = record {
-  front : WroteFront (chars l.fn.text) (chars l.rest) l.initial.self l.self;
+  prefix : WrotePrefix (chars l.fn.text) (chars l.rest) l.initial.self l.self;
   is_text : IsUtf8 l.rest;
   no_break : list_any is_break (chars l.rest) ≡ false;
-  unmarked : has_mark l.self.encoding ≡ false;
+  no_bom : has_bom l.self.encoding ≡ false;
 }
 
 abbrev pub decreases-loop-rest : goal.decreases-loop-rest

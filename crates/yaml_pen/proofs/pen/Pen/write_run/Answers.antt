@@ -3,7 +3,7 @@ use Rattle.std.proofs.lemmas.Bool.{eqb-true}
 use Rattle.std.proofs.lemmas.List.{nil_from_length}
 use Rattle.std.proofs.lemmas.Str.{chars-nil}
 use Rattle.std.specs.Str.{chars}
-use Rattle.yaml_base.specs.Cursor.{text_laid}
+use Rattle.yaml_base.specs.Cursor.{render_text}
 use Rattle.yaml_pen.proofs.Composing.{wrote_as}
 use Rattle.yaml_pen.proofs.pen.Pen.write_run.Goals as goal
 
@@ -11,4 +11,4 @@ pub returns-then-is_empty-clause-written : goal.returns-then-is_empty-clause-wri
 returns-then-is_empty-clause-written g c =
     let none : length c.args.text.now ≡ 0 = eqb-true _ 0 (sym c.is_empty.ensures ∙ c.if-is_empty.true) in
     let empty : chars c.args.text.now ≡ [] = ap chars (nil_from_length c.args.text.now none) ∙ chars-nil in
-    wrote_as (text_laid (chars c.args.text.now)) (ap (λ t. text_laid t c.args.self.now.cursor) (sym empty)) c.write_nothing.ensures
+    wrote_as (render_text (chars c.args.text.now)) (ap (λ t. render_text t c.args.self.now.cursor) (sym empty)) c.write_nothing.ensures

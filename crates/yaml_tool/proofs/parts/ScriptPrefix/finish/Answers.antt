@@ -1,7 +1,7 @@
 use Rattle.std.proofs.Common.{◌≡◌, map, sym, subst, ◌∙◌, append-nil}
 use Rattle.std.specs.Result.{IfOk, IfErr}
 use Rattle.yaml_base.specs.scripts.Script as notation
-use Rattle.yaml_tool.specs.Scripts.{seen_progress, seen_numbered, script_behind, IsFaultOf}
+use Rattle.yaml_tool.specs.Scripts.{seen_progress, seen_numbered, script_after_lines, IsFaultOf}
 use Rattle.yaml_tool.specs.Settings.{seen_settings}
 use Rattle.yaml_tool.proofs.parts.ScriptPrefix.finish.Goals as goal
 
@@ -9,12 +9,12 @@ pub returns-clause-understood : goal.returns-clause-understood
 returns-clause-understood g c =
     let prefix = c.args.self in
     subst (λ bytes. IfOk c.finish.result
-    (λ script. script_behind prefix.number (seen_progress prefix.progress) bytes
+    (λ script. script_after_lines prefix.number (seen_progress prefix.progress) bytes
     ≡ notation.understood (seen_settings script.settings) (map seen_numbered script.events.items)))
     (c.as_slice.ensures.value ∙ sym (append-nil prefix.line.items)) c.finish.ensures.understood
 
 pub returns-clause-fault : goal.returns-clause-fault
 returns-clause-fault g c =
     let prefix = c.args.self in
-    subst (λ bytes. IfErr c.finish.result (λ error. IsFaultOf error (script_behind prefix.number (seen_progress prefix.progress) bytes)))
+    subst (λ bytes. IfErr c.finish.result (λ error. IsFaultOf error (script_after_lines prefix.number (seen_progress prefix.progress) bytes)))
     (c.as_slice.ensures.value ∙ sym (append-nil prefix.line.items)) c.finish.ensures.fault

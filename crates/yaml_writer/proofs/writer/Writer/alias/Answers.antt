@@ -2,7 +2,7 @@ use Rattle.std.proofs.Common.{[], ◌∷◌, chars, inr, subst}
 use Rattle.yaml_base.specs.Characters.{Text}
 use Rattle.yaml_base.specs.Event.{alias}
 use Rattle.yaml_writer.specs.Inside.{state_of}
-use Rattle.yaml_writer.specs.Writing.{AddsAll}
+use Rattle.yaml_writer.specs.Writing.{AddsEvents}
 use Rattle.yaml_writer.proofs.Taken.{passed}
 use Rattle.yaml_writer.proofs.writer.Writer.alias.Goals as goal
 
@@ -11,5 +11,5 @@ returns-clause-passed g c none =
     let after = c.give_alias.new.emitter in
     inr
     (passed (state_of c.self.inside) c.args.self.now (alias (chars c.args.name.now) ∷ []) c.give_alias.result after c.self.view_is
-    (subst (λ (name : Text). AddsAll c.self.inside.emitter (alias name ∷ []) after) c.in_ok-name.ensures.text c.give_alias.ensures.adds)
+    (subst (λ (name : Text). AddsEvents c.self.inside.emitter (alias name ∷ []) after) c.in_ok-name.ensures.text c.give_alias.ensures.adds)
     c.give_alias.ensures.grows c.give_alias.ensures.answered)

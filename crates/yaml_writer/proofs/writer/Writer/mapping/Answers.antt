@@ -20,6 +20,7 @@ returns g c =
     let same : given ≡ event = search rules in
     let both =
     gave_either (state_of c.self.inside) c.args.self.now c.give_mapping.new.emitter (option_map seen_text c.take-anchor.new.self)
-    (option_map seen_text c.take-tag.new.self) given event c.give_mapping.result c.self.view_is same c.give_mapping.ensures.adds c.give_mapping.ensures.grows c.give_mapping.ensures.answered
+    (option_map seen_text c.take-tag.new.self) given event c.give_mapping.result c.self.view_is same c.give_mapping.ensures.adds
+    c.give_mapping.ensures.grows c.give_mapping.ensures.answered
     (ap (option_map seen_text) c.take-anchor.ensures.after) (ap (option_map seen_text) c.take-tag.ensures.after) in
     record { given = both.0; failed = both.1 }

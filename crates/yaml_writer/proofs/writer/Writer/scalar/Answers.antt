@@ -26,5 +26,6 @@ returns g c =
     let both =
     gave_either (state_of c.self.inside) c.args.self.now c.give_scalar.new.emitter (option_map seen_text c.take-anchor.new.self)
     (option_map seen_text c.take.new.self) given event c.give_scalar.result c.self.view_is same c.give_scalar.ensures.adds
-    c.give_scalar.ensures.grows c.give_scalar.ensures.answered (ap (option_map seen_text) c.take-anchor.ensures.after) (ap (option_map seen_text) c.take.ensures.after) in
+    c.give_scalar.ensures.grows c.give_scalar.ensures.answered (ap (option_map seen_text) c.take-anchor.ensures.after)
+    (ap (option_map seen_text) c.take.ensures.after) in
     record { given = both.0; failed = both.1 }

@@ -1,5 +1,0 @@
-use Rattle.yaml_base.proofs.laws.plain_holds_no_sign.Goals as goal
-use Rattle.yaml_base.proofs.CallerLaws as lemma
-
-pub returns : goal.returns
-returns c = lemma.plain_holds_no_sign

@@ -1,0 +1,6 @@
+-- Values where a test holds.
+use Rattle.std.specs.Prelude.{Bool, Option, None, Some, if◌then◌else◌}
+
+-- a value where the test holds
+abbrev pub some_if : {A : Type 0} → Bool → A → Option A
+some_if holds value = if holds then Some value else None

@@ -1,0 +1,103 @@
+-- Atoms that are written are what the definitions render.
+use Rattle.std.proofs.Common.{◌≡◌, ℕ, Bool, true, false, Option, None, Some, List, Result, refl, sym, ap, ◌∙◌, append-nil, if◌then◌else◌}
+use Rattle.std.specs.Prelude.{option_map, is_some, ◌++◌}
+use Rattle.yaml_base.specs.Characters.{Text}
+use Rattle.yaml_base.specs.Cursor.{Cursor, Rendered, render_nothing, render_then}
+use Rattle.yaml_base.specs.Event.{TagDirective}
+use Rattle.yaml_base.specs.Layout.{Place, Role, as_root, as_item, as_key, as_value, Brackets, render_flow_place, line_column, render_block_place, render_place}
+use Rattle.yaml_base.specs.Layout.{render_anchor, render_tag, render_properties, render_end, end_piece, tag_count}
+use Rattle.yaml_base.specs.Settings.{Effective}
+use Rattle.yaml_base.specs.Tags.{Spelling, spelling}
+use Rattle.yaml_base.specs.declared.errors.yaml_error_t.{yaml_error_t}
+use Rattle.yaml_pen.specs.Page.{Page}
+use Rattle.yaml_pen.specs.Wrote.{Wrote}
+use Rattle.yaml_pen.proofs.Composing.{wrote_as}
+use Rattle.yaml_emitter.specs.WrittenPieces.{piece_at}
+use Rattle.yaml_emitter.specs.WrittenAtoms.{seen_tag, render_spelled_tag, spelled_count}
+use Rattle.yaml_emitter.specs.declared.writing.spelling.SpelledTag.{SpelledTag}
+use Rattle.yaml_emitter.proofs.pieces.WritingPieces.{wrote_lead}
+
+-- a place in flow, and one in a block
+pub flow_here : (s : Effective) (place : Place) (simple : Bool) (cursor : Cursor) → place.in_flow ≡ true
+    → render_flow_place s place.role simple place.column cursor ≡ render_place s place simple cursor
+flow_here s place simple cursor is =
+    sym (ap (λ (b : Bool). if b then render_flow_place s place.role simple place.column cursor else render_block_place place.role simple place.column
+    cursor) is)
+
+-- a place by its line's column is as good
+pub flow_at_line : (s : Effective) (role : Role) (simple : Bool) (line column : Option ℕ) (cursor : Cursor) → line ≡ Some (line_column column)
+    → render_flow_place s role simple line cursor ≡ render_flow_place s role simple column cursor
+flow_at_line s role simple line column cursor is =
+    ap (λ (l : Option ℕ). render_flow_place s role simple l cursor) is ∙ by_line role
+  where
+    by_line : (role : Role) → render_flow_place s role simple (Some (line_column column)) cursor ≡ render_flow_place s role simple column cursor
+    by_line as_root = refl
+    by_line (as_item first) = refl
+    by_line (as_key first) = refl
+    by_line (as_value true) = refl
+    by_line (as_value false) = refl
+
+pub block_here : (s : Effective) (place : Place) (simple : Bool) (cursor : Cursor) → place.in_flow ≡ false
+    → render_block_place place.role simple place.column cursor ≡ render_place s place simple cursor
+block_here s place simple cursor is =
+    sym (ap (λ (b : Bool). if b then render_flow_place s place.role simple place.column cursor else render_block_place place.role simple place.column
+    cursor) is)
+
+-- the bytes of a tag are those of its spelling
+pub tag_count-spelled : (directives : List TagDirective) (tag : Option Text) → spelled_count (option_map (spelling directives) tag) ≡ tag_count directives tag
+tag_count-spelled directives None = refl
+tag_count-spelled directives (Some tag) = refl
+
+-- a tag is written where its spelling is
+pub written_is_some : (directives : List TagDirective) (text : Option Text) (tag : Option SpelledTag) → seen_tag tag ≡ option_map (spelling directives) text
+    → is_some tag ≡ is_some text
+written_is_some directives None None is = refl
+written_is_some directives None (Some tag) is = cc
+written_is_some directives (Some text) None is = cc
+written_is_some directives (Some text) (Some tag) is = refl
+
+tag-spelled : (portable : Bool) (directives : List TagDirective) (tag : Option Text) (bare : Bool) (cursor : Cursor)
+    → render_spelled_tag portable (option_map (spelling directives) tag) bare cursor ≡ render_tag portable directives tag bare cursor
+tag-spelled portable directives (Some tag) bare cursor = refl
+tag-spelled portable directives None true cursor = refl
+tag-spelled portable directives None false cursor = refl
+
+-- what stands before a node, with its tag as it is spelled
+pub lead-spelled : (s : Effective) (directives : List TagDirective) (place : Place) (simple : Bool) (anchor tag : Option Text) (spelled : Option Spelling)
+    (bare : Bool) (cursor : Cursor)
+    → spelled ≡ option_map (spelling directives) tag
+    → render_then (render_place s place simple cursor) (λ between. render_then (render_anchor anchor between) (render_spelled_tag s.portable spelled bare))
+    ≡ render_then (render_place s place simple cursor) (render_properties s.portable directives anchor tag bare)
+lead-spelled s directives place simple anchor tag spelled bare cursor is =
+    let here = render_place s place simple cursor in
+    let named = render_anchor anchor here.cursor in
+    ap (λ (o : Option Spelling). render_then here (λ between. render_then (render_anchor anchor between) (render_spelled_tag s.portable o bare))) is
+    ∙ ap (λ (last : Rendered). let l : Rendered = record { text = here.text ++ (named.text ++ last.text); cursor = last.cursor } in l)
+    (tag-spelled s.portable directives tag bare named.cursor)
+
+-- where nothing comes after it, what is rendered is all
+pub rendered_alone : (render next : Cursor → Rendered) (cursor : Cursor) → ((after : Cursor) → next after ≡ render_nothing after)
+    → render cursor ≡ render_then (render cursor) next
+rendered_alone render next cursor none =
+    let here = render cursor in
+    ap (λ (text : Text). let l : Rendered = record { text = text; cursor = here.cursor } in l) (sym (append-nil here.text))
+    ∙ ap (λ (last : Rendered). let l : Rendered = record { text = here.text ++ last.text; cursor = last.cursor } in l) (sym (none here.cursor))
+
+-- an end in flow, and one in a block
+pub end_in_flow : (s : Effective) (brackets : Brackets) (in_flow empty other : Bool) (column : Option ℕ) (open_ended : ℕ)
+    (render : Cursor → Rendered) {before after : Page} {answer : Result (Unit {0}) yaml_error_t}
+    → ((cursor : Cursor) → render cursor ≡ render_end s brackets true other column cursor) → other ≡ empty → in_flow ≡ true → Wrote render before after answer
+    → Wrote (piece_at (end_piece s brackets in_flow empty column) open_ended) before after answer
+end_in_flow s brackets in_flow empty other column open_ended render {before} same other_is flow wrote =
+    wrote_lead (render_end s brackets in_flow empty column) open_ended
+    (wrote_as (render_end s brackets in_flow empty column)
+    (same before.cursor ∙ ap (λ (b : Bool). render_end s brackets true b column before.cursor) other_is
+    ∙ ap (λ (b : Bool). render_end s brackets b empty column before.cursor) (sym flow)) wrote)
+
+pub end_in_block : (s : Effective) (brackets : Brackets) (in_flow empty : Bool) (column : Option ℕ)
+    (open_ended : ℕ) {before after : Page} {answer : Result (Unit {0}) yaml_error_t}
+    → in_flow ≡ false → Wrote render_nothing before after answer
+    → Wrote (piece_at (end_piece s brackets in_flow empty column) open_ended) before after answer
+end_in_block s brackets in_flow empty column open_ended {before} flow wrote =
+    wrote_lead (render_end s brackets in_flow empty column) open_ended
+    (wrote_as (render_end s brackets in_flow empty column) (ap (λ (b : Bool). render_end s brackets b empty column before.cursor) (sym flow)) wrote)

@@ -1,0 +1,134 @@
+//! Atoms: what stands before and around the texts of nodes, and in the lines of documents.
+
+ghost use Rattle.std.specs.Prelude.{◌≡◌, ◌≤ℤ◌, pos, false, ◌||◌};
+ghost use Rattle.yaml_base.specs.Cursor as layout;
+ghost use Rattle.yaml_base.specs.Cursor.{new_line};
+ghost use Rattle.yaml_base.specs.Layout.{flow_break, line_column};
+ghost use Rattle.yaml_pen.specs.Page.{IsReady};
+ghost use Rattle.yaml_pen.specs.Wrote.{Wrote};
+ghost use Rattle.yaml_emitter.specs.Given.{seen_effective, seen_width};
+ghost use Rattle.yaml_emitter.specs.Places.{seen_place};
+ghost use Rattle.yaml_emitter.specs.WrittenAtoms.{render_atom, render_atoms, atom_breaks, some_atom_breaks};
+
+use crate::effective::EffectiveSettings;
+use crate::place::Place;
+use crate::writing::indicators::{Indicator, write_indicator};
+use crate::writing::site::Site;
+use std::alloc::Allocator;
+use yaml_base::yaml_error_t;
+use yaml_mark::{
+    write_anchor, write_tag_content, write_tag_handle, write_tag_prefix, write_tag_suffix,
+};
+use yaml_pen::Pen;
+
+/// No space comes before a tag's text.
+const TIGHT: bool = false;
+
+/// What is written at a place.
+#[derive(Clone, Copy)]
+pub(crate) enum Atom<'a> {
+    Nothing,
+    Fixed(Indicator),
+    /// A new line at the place's column.
+    Line,
+    /// A new line at the place's column where the line is past the width, and always in canonical mode.
+    FlowLine,
+    Space,
+    /// Of an anchor or an alias.
+    Name(&'a str),
+    /// Of a tag, a space before it where one is needed.
+    Handle(&'a str),
+    /// Of a verbatim tag.
+    TagText(&'a str),
+    /// What stands after a tag's handle.
+    Suffix(&'a str),
+    /// Of a `%TAG` directive, a space before it where one is needed.
+    Prefix(&'a str),
+}
+
+/// Three atoms that are written together; the first is often `Nothing`.
+pub(crate) type Atoms<'a> = (Atom<'a>, Atom<'a>, Atom<'a>);
+
+/// Writes three atoms in order.
+pub(crate) fn write_atoms<A: Allocator>(
+    pen: &mut Pen<A>,
+    site: &Site,
+    atoms: Atoms,
+) -> Result<(), yaml_error_t>
+    requires ready { IsReady pen.old }
+    requires no_break { some_atom_breaks atoms ≡ false }
+    ensures { Wrote (render_atoms (seen_effective site.now.settings.now) (seen_place site.now.place) atoms.entry) pen.old pen.new result }
+{
+    write_atom(pen, site, atoms.0)?;
+    write_atom(pen, site, atoms.1)?;
+    write_atom(pen, site, atoms.2)
+}
+
+fn write_atom<A: Allocator>(pen: &mut Pen<A>, site: &Site, atom: Atom) -> Result<(), yaml_error_t>
+    requires ready { IsReady pen.old }
+    requires no_break { atom_breaks atom ≡ false }
+    ensures { Wrote (render_atom (seen_effective site.now.settings.now) (seen_place site.now.place) atom.entry) pen.old pen.new result }
+{
+    match atom {
+        Atom::Nothing => pen.write_nothing(),
+        Atom::Fixed(indicator) => write_indicator(pen, indicator),
+        Atom::Line => write_rare_new_line(pen, &site.place),
+        Atom::FlowLine => write_flow_line(pen, site.settings, &site.place),
+        Atom::Space => pen.put(b' '),
+        Atom::Name(name) => write_anchor(pen, name),
+        Atom::Handle(handle) => write_tag_handle(pen, handle),
+        Atom::TagText(content) => write_tag_content(pen, content, TIGHT),
+        Atom::Suffix(suffix) => write_tag_suffix(pen, suffix, site.settings.portable),
+        Atom::Prefix(prefix) => write_tag_prefix(pen, prefix, site.settings.portable),
+    }
+}
+
+/// A new line at the column of the entries around a place.
+#[inline(always)]
+pub(crate) fn write_new_line<A: Allocator>(
+    pen: &mut Pen<A>,
+    place: &Place,
+) -> Result<(), yaml_error_t>
+    requires { IsReady pen.old }
+    ensures { Wrote (new_line (line_column place.now.column)) pen.old pen.new result }
+{
+    pen.write_indent(place.line_column() as i32)
+}
+
+/// Begins a new line at the place's column. It isn't inlined, since new lines are rare where it is called.
+#[inline(never)]
+fn write_rare_new_line<A: Allocator>(pen: &mut Pen<A>, place: &Place) -> Result<(), yaml_error_t>
+    requires { IsReady pen.old }
+    ensures { Wrote (new_line (line_column place.now.column)) pen.old pen.new result }
+{
+    write_new_line(pen, place)
+}
+
+pub(crate) fn write_flow_line<A: Allocator>(
+    pen: &mut Pen<A>,
+    settings: &EffectiveSettings,
+    place: &Place,
+) -> Result<(), yaml_error_t>
+    requires { IsReady pen.old }
+    ensures { Wrote (flow_break (seen_effective settings.now) place.now.column) pen.old pen.new result }
+{
+    if needs_flow_line(pen, settings) {
+        write_rare_new_line(pen, place)
+    } else {
+        pen.write_nothing()
+    }
+}
+
+fn needs_flow_line<A: Allocator>(pen: &Pen<A>, settings: &EffectiveSettings) -> bool
+    ensures { result ≡ (settings.now.canonical || layout.is_past_width (seen_width settings.now.width) pen.now.cursor) }
+{
+    settings.canonical || is_line_full(pen, settings.width)
+}
+
+/// Whether the column is past the width, which isn't negative; `i32::MAX` is never passed.
+fn is_line_full<A: Allocator>(pen: &Pen<A>, width: i32) -> bool
+    requires { pos 0 ≤ℤ width }
+    ensures { result ≡ layout.is_past_width (seen_width width) pen.now.cursor }
+{
+    width != i32::MAX && pen.column() > width
+}

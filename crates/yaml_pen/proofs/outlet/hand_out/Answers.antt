@@ -1,6 +1,0 @@
-use Rattle.std.proofs.Common.{arith}
-use Rattle.std.proofs.lemmas.Grind.{elements}
-use Rattle.yaml_pen.proofs.outlet.hand_out.Goals as goal
-
-pub returns-in_ok-map_err : goal.returns-in_ok-map_err
-returns-in_ok-map_err g c = grind (arith, elements) steps 300000

@@ -1,0 +1,22 @@
+use Rattle.std.proofs.Common.{ap, subst, ◌∙◌}
+use Rattle.std.proofs.lemmas.Bool.{or_parts}
+use Rattle.std.specs.List.{list_any}
+use Rattle.std.specs.Str.{chars}
+use Rattle.yaml_base.specs.Characters.{Text, is_break}
+use Rattle.yaml_base.specs.Cursor.{render_text}
+use Rattle.yaml_pen.specs.Wrote.{Wrote}
+use Rattle.yaml_pen.proofs.AsciiRuns.{one_byte_ascii, one_byte_chars}
+use Rattle.yaml_pen.proofs.pen.Pen.write_indicator_text.Goals as goal
+
+pub put-requires-clause-ascii : goal.put-requires-clause-ascii
+put-requires-clause-ascii g c = one_byte_ascii c.as_bytes.result.now c.as_bytes.ensures.utf8 c.in-len1.len_at_least c.in-len1.len_below
+
+pub put-requires-clause-no_break : goal.put-requires-clause-no_break
+put-requires-clause-no_break g c =
+    let one = one_byte_chars c.as_bytes.result.now c.as_bytes.ensures.utf8 c.in-len1.len_at_least c.in-len1.len_below in
+    (or_parts _ _ (ap (list_any is_break) one ∙ ap (λ b. list_any is_break (chars b)) c.as_bytes.ensures.value ∙ c.requires.no_break)).0
+
+pub returns-in-len1-clause-written : goal.returns-in-len1-clause-written
+returns-in-len1-clause-written g c =
+    let one = one_byte_chars c.as_bytes.result.now c.as_bytes.ensures.utf8 c.in-len1.len_at_least c.in-len1.len_below in
+    subst (λ (t : Text). Wrote (render_text t) c.args.self.now c.put.new.self c.put.result) (one ∙ ap chars c.as_bytes.ensures.value) c.put.ensures.written

@@ -1,0 +1,160 @@
+-- Characters between double quotes whose texts are written at once: they are of ASCII, and none becomes a fold.
+use Rattle.std.proofs.Common.{◌≡◌, ◌∙◌, refl, ap, sym, subst, append_assoc, append-nil, arith, Result, Ok, Err, IsErr, IsErrAnd, chars}
+use Rattle.std.specs.Borrow.{Bor}
+use Rattle.std.proofs.lemmas.Bool.{and_from, and_parts, not-true}
+use Rattle.std.proofs.lemmas.Bool.Decides.{nat_tests}
+use Rattle.std.proofs.lemmas.List.Folds.{list_all-append}
+use Rattle.std.proofs.lemmas.Result.{err_from_is_err_and}
+use Rattle.std.specs.List.{list_all}
+use Rattle.std.specs.Prelude.{ℕ, Bool, true, false, Option, Some, List, [], ◌∷◌, ◌++◌, ◌||◌, ◌&&◌, not, nat_lt, if◌then◌else◌}
+use Rattle.yaml_base.specs.Characters.{Text, is_ascii, is_space}
+use Rattle.yaml_base.specs.Cursor.{Cursor, Rendered, column_after, is_past_width, render_text, render_then}
+use Rattle.yaml_base.specs.scalars.DoubleQuoted.{character_text, double_fold, double_inside, escape_text, may_fold, needs_escape}
+use Rattle.yaml_pen.proofs.Writing.{column_after-append}
+use Rattle.yaml_base.specs.declared.errors.yaml_error_t.{yaml_error_t}
+use Rattle.yaml_pen.specs.Page.{Page}
+use Rattle.yaml_pen.specs.Wrote.{Wrote}
+use Rattle.yaml_scalar.specs.EscapeBytes.{is_plain}
+use Rattle.yaml_scalar.specs.Batch.{AreBatched, WroteBatch, characters_text, is_batched}
+use Rattle.yaml_scalar.specs.WholeRuns.{last_from}
+use Rattle.yaml_scalar.proofs.EscapeBytes.{escape-plain}
+use Rattle.yaml_scalar.proofs.StillToWrite.{StillToWrite, still_as, still_failed, still_rest, still_same}
+use Rattle.yaml_scalar.proofs.Unbroken.{unescaped}
+use Rattle.yaml_scalar.proofs.WholeRuns.{last-more}
+
+-- the texts of one character more
+characters-more : (unicode : Bool) (prefix : Text) (c : ℕ)
+    → characters_text unicode (prefix ++ c ∷ []) ≡ characters_text unicode prefix ++ character_text unicode c
+characters-more unicode [] c = append-nil (character_text unicode c)
+characters-more unicode (d ∷ prefix) c =
+    ap (λ t. character_text unicode d ++ t) (characters-more unicode prefix c)
+    ∙ sym (append_assoc (character_text unicode d) (characters_text unicode prefix) (character_text unicode c))
+
+-- none is batched at first
+pub batched_none : (unicode : Bool) (before : ℕ) (text : Text) (bytes : List ℕ) → bytes ≡ [] → AreBatched unicode before text bytes before text
+batched_none unicode before text bytes e = record { prefix = []; parts = refl; bytes_are = e; all = refl; last_is = refl }
+
+-- and then one more
+pub batched_more : {unicode : Bool} {before last : ℕ} {text rest : Text} {bytes : List ℕ} (c : ℕ) (after : Text)
+    → AreBatched unicode before text bytes last rest → rest ≡ c ∷ after → is_batched unicode c ≡ true
+    → AreBatched unicode before text (bytes ++ character_text unicode c) c after
+batched_more {unicode} {before} c after are next passes =
+    record {
+      prefix = are.prefix ++ c ∷ [];
+      parts = are.parts ∙ ap (λ t. are.prefix ++ t) next ∙ sym (append_assoc are.prefix (c ∷ []) after);
+      bytes_are = ap (λ b. b ++ character_text unicode c) are.bytes_are ∙ sym (characters-more unicode are.prefix c);
+      all = list_all-append (is_batched unicode) are.prefix (c ∷ []) ∙ and_from _ _ are.all (and_from _ true passes refl);
+      last_is = sym (last-more before are.prefix c);
+    }
+
+left_of : (a b : Bool) → b ≡ false → (a || b) ≡ true → a ≡ true
+left_of true b e h = refl
+left_of false true e h = cc
+left_of false false e h = cc
+
+-- one that isn't escaped is of ASCII
+pub batched_ascii : (unicode : Bool) (c : ℕ) → needs_escape unicode c ≡ false → is_batched unicode c ≡ true → is_ascii c ≡ true
+batched_ascii unicode c is h =
+    left_of (is_ascii c) (needs_escape unicode c) is (and_parts (not (is_space c)) (is_ascii c || needs_escape unicode c) h).1
+
+low : (c : ℕ) → is_ascii c ≡ true → nat_lt c 128 ≡ true
+low c h = grind (arith, nat_tests)
+
+character-plain : (unicode : Bool) (c : ℕ) → is_batched unicode c ≡ true → list_all is_plain (character_text unicode c) ≡ true
+character-plain unicode c h = go (needs_escape unicode c) refl
+  where
+    go : (b : Bool) → needs_escape unicode c ≡ b → list_all is_plain (if b then escape_text c else c ∷ []) ≡ true
+    go true is = escape-plain c
+    go false is =
+        and_from _ true (and_from _ _ (low c (batched_ascii unicode c is h)) (ap not (unescaped unicode c is).no_break)) refl
+
+-- their texts are of ASCII
+characters-plain : (unicode : Bool) (prefix : Text) → list_all (is_batched unicode) prefix ≡ true → list_all is_plain (characters_text unicode prefix) ≡ true
+characters-plain unicode [] h = refl
+characters-plain unicode (c ∷ prefix) h =
+    let p = and_parts (is_batched unicode c) (list_all (is_batched unicode) prefix) h in
+    list_all-append is_plain (character_text unicode c) (characters_text unicode prefix)
+    ∙ and_from _ _ (character-plain unicode c p.0) (characters-plain unicode prefix p.1)
+
+pub batched_plain : {unicode : Bool} {before last : ℕ} {text rest : Text} {bytes : List ℕ}
+    → AreBatched unicode before text bytes last rest → list_all is_plain bytes ≡ true
+batched_plain {unicode} are = ap (list_all is_plain) are.bytes_are ∙ characters-plain unicode are.prefix are.all
+
+-- two texts before what follows
+then-joined : (xs ys : Text) (cursor : Cursor) (next : Cursor → Rendered)
+    → render_then (render_text xs cursor) (λ d. render_then (render_text ys d) next) ≡ render_then (render_text (xs ++ ys) cursor) next
+then-joined xs ys cursor next =
+    let last : Rendered = next (record cursor { column = column_after (xs ++ ys) cursor.column }) in
+    ap (λ (n : ℕ).
+    let l : Rendered = next (record cursor { column = n }) in
+    let m : Rendered = record { text = xs ++ (ys ++ l.text); cursor = l.cursor } in
+    m)
+    (sym (column_after-append xs ys cursor.column))
+    ∙ ap (λ (t : Text). let m : Rendered = record { text = t; cursor = last.cursor } in m) (sym (append_assoc xs ys last.text))
+
+-- none becomes a fold
+batched_at : (unicode : Bool) (limit : Option ℕ) (indent before : ℕ) (prefix rest : Text) (cursor : Cursor) → list_all (is_batched unicode) prefix ≡ true
+    → double_inside unicode limit indent (Some before) (prefix ++ rest) cursor
+    ≡ render_then (render_text (characters_text unicode prefix) cursor) (double_inside unicode limit indent (Some (last_from before prefix)) rest)
+batched_at unicode limit indent before [] rest cursor h = refl
+batched_at unicode limit indent before (c ∷ prefix) rest cursor h =
+    let p = and_parts (is_batched unicode c) (list_all (is_batched unicode) prefix) h in
+    let no_space : is_space c ≡ false = not-true _ (and_parts (not (is_space c)) (is_ascii c || needs_escape unicode c) p.0).0 in
+    let text : Text = character_text unicode c in
+    let next : Cursor = record cursor { column = column_after text cursor.column } in
+    ap (λ (b : Bool).
+    render_then
+    (if b && may_fold (Some before) (prefix ++ rest) && is_past_width limit cursor then double_fold indent (prefix ++ rest) cursor else render_text text cursor)
+    (double_inside unicode limit indent (Some c) (prefix ++ rest)))
+    no_space
+    ∙ ap (λ (l : Rendered). let m : Rendered = record { text = text ++ l.text; cursor = l.cursor } in m)
+    (batched_at unicode limit indent c prefix rest next p.1)
+    ∙ then-joined text (characters_text unicode prefix) cursor (double_inside unicode limit indent (Some (last_from c prefix)) rest)
+
+-- so what is still to be written is their texts, and what follows them
+pub batched_still : (unicode : Bool) (limit : Option ℕ) (indent : ℕ) {whole : Cursor → Rendered} {before last : ℕ} {text rest : Text} {bytes : List ℕ}
+    {start here : Page}
+    → AreBatched unicode before text bytes last rest
+    → StillToWrite (double_inside unicode limit indent (Some before) text) whole start here
+    → StillToWrite (λ cursor. render_then (render_text bytes cursor) (double_inside unicode limit indent (Some last) rest)) whole start here
+batched_still unicode limit indent {whole} {before} {last} {text} {rest} {bytes} {start} {here} are still =
+    still_as (λ cursor. render_then (render_text bytes cursor) (double_inside unicode limit indent (Some last) rest))
+    (ap (λ t. double_inside unicode limit indent (Some before) t here.cursor) are.parts
+    ∙ batched_at unicode limit indent before are.prefix rest here.cursor are.all
+    ∙ ap (λ b. render_then (render_text b here.cursor) (double_inside unicode limit indent (Some (last_from before are.prefix)) rest)) (sym are.bytes_are)
+    ∙ ap (λ l. render_then (render_text bytes here.cursor) (double_inside unicode limit indent (Some l) rest)) (sym are.last_is))
+    still
+
+-- what was batched is written, or the error returned
+pub wrote_batch : {unicode : Bool} {before last : ℕ} {text : Text} {bytes rest : List ℕ} {old new : Page} {next : ℕ × Bor (List ℕ)}
+    → AreBatched unicode before text bytes last (chars rest) → last ≡ next.0 → rest ≡ next.1.now → Wrote (render_text bytes) old new (Ok tt)
+    → WroteBatch unicode before text old new (Ok next)
+wrote_batch {unicode} {before} {last} {text} {bytes} {rest} are last_is rest_is wrote =
+    record { bytes = bytes; last = last; rest = chars rest; are = are; wrote = wrote; next = (sym last_is, ap chars (sym rest_is)) }
+
+pub failed_batched : {unicode : Bool} {before last : ℕ} {text rest : Text} {bytes : List ℕ} {old new : Page} {error : yaml_error_t}
+    (answer : Result (ℕ × Bor (List ℕ)) yaml_error_t) → IsErr answer × IsErrAnd answer (λ told. told ≡ error)
+    → AreBatched unicode before text bytes last rest → Wrote (render_text bytes) old new (Err error)
+    → WroteBatch unicode before text old new answer
+failed_batched {unicode} {before} {last} {text} {rest} {bytes} {old} {new} {error} answer is are wrote =
+    let p = err_from_is_err_and answer is.1 in
+    subst (λ (r : Result (ℕ × Bor (List ℕ)) yaml_error_t). WroteBatch unicode before text old new r)
+    (sym (p.1 ∙ ap (λ (e : yaml_error_t). let r : Result (ℕ × Bor (List ℕ)) yaml_error_t = Err e in r) p.2))
+    (record { bytes = bytes; last = last; rest = rest; are = are; wrote = wrote; next = tt })
+
+-- and what follows is still to be written
+pub batched_left : (unicode : Bool) (limit : Option ℕ) (indent : ℕ) {whole : Cursor → Rendered} {before : ℕ} {text : Text} {next : ℕ × Bor (List ℕ)}
+    {start here later : Page}
+    → WroteBatch unicode before text here later (Ok next) → StillToWrite (double_inside unicode limit indent (Some before) text) whole start here
+    → StillToWrite (double_inside unicode limit indent (Some next.0) (chars next.1.now)) whole start later
+batched_left unicode limit indent {whole} {before} {text} {next} {start} {here} {later} written still =
+    subst (λ (l : ℕ). StillToWrite (double_inside unicode limit indent (Some l) (chars next.1.now)) whole start later) (sym written.next.0)
+    (still_same (double_inside unicode limit indent (Some written.last)) (sym written.next.1)
+    (still_rest (batched_still unicode limit indent written.are still) written.wrote))
+
+pub batched_failed : (unicode : Bool) (limit : Option ℕ) (indent : ℕ) {whole : Cursor → Rendered} {before : ℕ} {text : Text} {start here later : Page}
+    {error : yaml_error_t}
+    → WroteBatch unicode before text here later (Err error) → StillToWrite (double_inside unicode limit indent (Some before) text) whole start here
+    → Wrote whole start later (Err error)
+batched_failed unicode limit indent written still =
+    still_failed (double_inside unicode limit indent (Some written.last) written.rest) (batched_still unicode limit indent written.are still) written.wrote

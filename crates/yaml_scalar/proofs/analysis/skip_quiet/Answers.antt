@@ -1,0 +1,34 @@
+use Rattle.std.proofs.Common.{◌≡◌, ℕ, List, sym, ap, subst, true, ◌∙◌, IsUtf8}
+use Rattle.std.proofs.lemmas.Str.{IsUtf8-drop}
+use Rattle.std.specs.List.{list_all}
+use Rattle.std.specs.Str.{chars}
+use Rattle.yaml_pen.proofs.Cuts.{chars-cut}
+use Rattle.yaml_scalar.specs.Barred.{Barred, barred_by_space, barred_in, either, is_quiet, seen_barred}
+use Rattle.yaml_scalar.specs.ScalarData.{seen_charset}
+use Rattle.yaml_scalar.specs.WholeRuns.{last_from}
+use Rattle.yaml_scalar.proofs.Barred.{either_more, quiet_run}
+use Rattle.yaml_scalar.proofs.ByteRuns.{free_passes, run_boundary}
+use Rattle.yaml_scalar.proofs.analysis.skip_quiet.Goals as goal
+
+pub split_at-requires : goal.split_at-requires
+split_at-requires c = run_boundary c.free_length.ensures
+
+pub returns-clause-same : goal.returns-clause-same
+returns-clause-same c =
+    let charset = seen_charset c.args.charset in
+    let found = seen_barred c.args.barred in
+    let quiet : List ℕ = c.split_at.result.0.now in
+    let rest : List ℕ = c.split_at.result.1.now in
+    let all : list_all (is_quiet charset) (chars quiet) ≡ true =
+    ap (λ l. list_all (is_quiet charset) (chars l)) c.split_at.ensures.front ∙ free_passes c.significant_classes.ensures c.utf8.text c.free_length.ensures in
+    ap (λ t. either found (barred_in charset t))
+    (chars-cut c.args.text.now quiet rest c.free_length.result c.utf8.text
+    (run_boundary c.free_length.ensures) c.split_at.ensures.front c.split_at.ensures.back)
+    ∙ ap (either found) (quiet_run charset (chars quiet) (chars rest) all)
+    ∙ either_more found (barred_by_space charset (last_from 0 (chars quiet)) (chars rest)) (barred_in charset (chars rest))
+    ∙ ap (λ l. either (either found (barred_by_space charset l (chars rest))) (barred_in charset (chars rest))) (sym c.last_of.ensures)
+    ∙ ap (λ (b : Barred). either b (barred_in charset (chars rest))) (sym c.with_space.ensures)
+
+pub returns-clause-is_text : goal.returns-clause-is_text
+returns-clause-is_text c =
+    subst IsUtf8 (sym c.split_at.ensures.back) (IsUtf8-drop c.args.text.now c.free_length.result c.utf8.text (run_boundary c.free_length.ensures))

@@ -1,0 +1,10 @@
+use Rattle.std.proofs.Common.{◌≡◌, ◌++◌, ap, sym, ◌∙◌}
+use Rattle.std.specs.Char.{encode_utf8}
+use Rattle.std.proofs.lemmas.Str.{chars_past_char}
+use Rattle.yaml_scalar.proofs.batched.next_batched.Goals as goal
+
+pub returns-in-Some-clause-characters : goal.returns-in-Some-clause-characters
+returns-in-Some-clause-characters c =
+    let split : c.args.text.now ≡ encode_utf8 c.in-Some.c ++ c.as_str.result.now = sym c.chars-characters.ensures.rest ∙ c.in-Some.ensures.steps.0
+    ∙ ap (λ rest. encode_utf8 c.in-Some.c ++ rest) (sym c.as_str.ensures) in
+    chars_past_char c.args.text.now c.as_str.result.now c.in-Some.c c.utf8.text split

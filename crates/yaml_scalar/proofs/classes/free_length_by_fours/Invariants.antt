@@ -1,0 +1,14 @@
+use Rattle.std.specs.List.{list_all}
+use Rattle.std.specs.Prelude.{◌≡◌, ◌≤◌, ◌-◌, true, length, take}
+use Rattle.yaml_scalar.specs.ByteClasses.{is_free}
+use Rattle.yaml_scalar.proofs.classes.free_length_by_fours.Given as goal
+
+abbrev pub invariant-loop-size : goal.invariant-loop-size
+invariant-loop-size l =
+    record {
+      within : l.size ≤ length l.bytes;
+      all : list_all (is_free l.classes) (take l.size l.bytes) ≡ true;
+    }
+
+abbrev pub decreases-loop-size : goal.decreases-loop-size
+decreases-loop-size l = length l.bytes - l.size

@@ -1,9 +1,0 @@
-use Rattle.std.proofs.Common.{ap, ◌∙◌}
-use Rattle.std.specs.List.{list_any}
-use Rattle.yaml_base.specs.Characters.{is_break}
-use Rattle.yaml_scalar.proofs.EscapeBytes.{plain-unbroken}
-use Rattle.yaml_scalar.proofs.double_quoted.write_gathered.Goals as goal
-
-pub write_ascii-requires-clause-no_break : goal.write_ascii-requires-clause-no_break
-write_ascii-requires-clause-no_break g c =
-    ap (list_any is_break) c.as_slice.ensures.value ∙ plain-unbroken c.args.bytes.now.items c.requires.plain

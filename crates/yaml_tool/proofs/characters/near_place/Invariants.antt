@@ -1,5 +1,0 @@
-use Rattle.memchr.specs.Find.{Nowhere, Passes, is_byte2}
-use Rattle.yaml_tool.proofs.characters.near_place.Given as goal
-
-abbrev pub invariant-loop-index : goal.invariant-loop-index
-invariant-loop-index l = Nowhere (Passes (is_byte2 l.first l.second) l.bytes) 0 l.index

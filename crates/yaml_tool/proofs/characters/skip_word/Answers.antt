@@ -1,0 +1,18 @@
+use Rattle.std.proofs.Common.{ℕ, List, length, subst, arith}
+use Rattle.memchr.specs.Find.{Nowhere, NoneBefore, Passes, is_byte2}
+use Rattle.yaml_tool.proofs.SearchLemmas.{delimiter_found, no_indicator}
+use Rattle.yaml_tool.proofs.characters.skip_word.Goals as goal
+
+pub returns-in-Some : goal.returns-in-Some
+returns-in-Some c =
+    let test = is_byte2 0x20 0x22 in
+    let place = c.in-Some.place in
+    delimiter_found 0x20 0x22 c.args.text.now c.range_from.result.now place c.utf8.text (omega arith) (omega arith)
+    (subst (λ (bytes : List ℕ). NoneBefore (Passes test bytes) 0 (length bytes) place × Passes test bytes place) c.as_bytes.ensures.value c.in-Some.ensures)
+    c.range_from.ensures.value
+
+pub returns-in-None : goal.returns-in-None
+returns-in-None c =
+    let test = is_byte2 0x20 0x22 in
+    no_indicator 0x20 0x22 c.args.text.now c.utf8.text (omega arith) (omega arith)
+    (subst (λ (bytes : List ℕ). Nowhere (Passes test bytes) 0 (length bytes)) c.as_bytes.ensures.value c.in-None.ensures)

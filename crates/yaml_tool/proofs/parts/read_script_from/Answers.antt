@@ -1,0 +1,54 @@
+use Rattle.std.proofs.Common.{map}
+use Rattle.std.specs.Prelude.{IfSome}
+use Rattle.yaml_base.specs.scripts.Script as notation
+use Rattle.yaml_tool.specs.Runs.{IsFault, ReadsAll}
+use Rattle.yaml_tool.specs.Scripts.{seen_numbered}
+use Rattle.yaml_tool.specs.Settings.{seen_settings}
+use Rattle.yaml_tool.proofs.ScriptLemmas.{exit_with}
+use Rattle.yaml_tool.proofs.PartLemmas.{says_first, says_more, says_all, bad_all, bad_prefix, reads_at_end}
+use Rattle.yaml_tool.proofs.parts.read_script_from.Goals as goal
+
+pub parts-init : goal.parts-init
+parts-init g c = says_first (g.R.Read.remaining c.args.reader.now) c.new-script.result c.new-script.ensures
+
+pub returns-in_err-read_part-clause-fault : goal.returns-in_err-read_part-clause-fault
+returns-in_err-read_part-clause-fault g c =
+    let given = g.R.Read.remaining c.args.reader.now in
+    exit_with (λ answer. IfSome given (λ left. IsFault answer (notation.script_of left))) c.in_err-read_part.field-0.0 c.from_residual.result
+    c.from_residual.ensures
+    (bad_prefix given (g.R.Read.remaining c.parts.reader) c.parts.script c.in_err-read_part.field-0.0 c.parts.invariant c.in_err-read_part.ensures.fault)
+
+pub returns-in_err-read_part-clause-read : goal.returns-in_err-read_part-clause-read
+returns-in_err-read_part-clause-read g c =
+    exit_with (λ answer. ReadsAll answer (g.R.Read.remaining c.read_part.new.reader)) c.in_err-read_part.field-0.0 c.from_residual.result
+    c.from_residual.ensures c.in_err-read_part.ensures.read
+
+pub returns-in-Ok-clause-understood : goal.returns-in-Ok-clause-understood
+returns-in-Ok-clause-understood g c =
+    let given = g.R.Read.remaining c.args.reader.now in
+    let left = g.R.Read.remaining c.read_part.new.reader in
+    let says = says_more given (g.R.Read.remaining c.parts.reader) left c.parts.script c.read_part.new.script c.parts.invariant
+    c.in_ok-read_part.ensures.goes_on in
+    says_all given left c.read_part.new.script (notation.understood (seen_settings c.in-Ok.script.settings) (map seen_numbered c.in-Ok.script.events.items))
+    says (c.in_ok-read_part.ensures.end c.if-not-branch.true) c.in-Ok.ensures.understood
+
+pub returns-in-Ok-clause-end : goal.returns-in-Ok-clause-end
+returns-in-Ok-clause-end g c = c.in_ok-read_part.ensures.end c.if-not-branch.true
+
+pub returns-in-Err-clause-fault : goal.returns-in-Err-clause-fault
+returns-in-Err-clause-fault g c =
+    let given = g.R.Read.remaining c.args.reader.now in
+    let left = g.R.Read.remaining c.read_part.new.reader in
+    let says = says_more given (g.R.Read.remaining c.parts.reader) left c.parts.script c.read_part.new.script c.parts.invariant
+    c.in_ok-read_part.ensures.goes_on in
+    bad_all given left c.read_part.new.script c.in-Err.error c.answer_of.result says (c.in_ok-read_part.ensures.end c.if-not-branch.true)
+    c.in-Err.ensures.fault c.answer_of.ensures
+
+pub returns-in-Err-clause-read : goal.returns-in-Err-clause-read
+returns-in-Err-clause-read g c =
+    reads_at_end c.answer_of.result (g.R.Read.remaining c.read_part.new.reader) (c.in_ok-read_part.ensures.end c.if-not-branch.true)
+
+pub parts-preserved : goal.parts-preserved
+parts-preserved g c =
+    says_more (g.R.Read.remaining c.args.reader.now) (g.R.Read.remaining c.parts.reader)
+    (g.R.Read.remaining c.read_part.new.reader) c.parts.script c.read_part.new.script c.parts.invariant c.in_ok-read_part.ensures.goes_on
