@@ -9,9 +9,9 @@ use std::alloc::Allocator;
 use yaml_base::yaml_error_t;
 use yaml_emitter::{
     yaml_emitter_initialize, yaml_emitter_set_break, yaml_emitter_set_canonical,
-    yaml_emitter_set_encoding, yaml_emitter_set_indent, yaml_emitter_set_line_breaks_1_2,
-    yaml_emitter_set_output_string, yaml_emitter_set_portable, yaml_emitter_set_unicode,
-    yaml_emitter_set_width, yaml_emitter_t,
+    yaml_emitter_set_encoding, yaml_emitter_set_indent, yaml_emitter_set_indented_sequences,
+    yaml_emitter_set_line_breaks_1_2, yaml_emitter_set_output_string, yaml_emitter_set_portable,
+    yaml_emitter_set_unicode, yaml_emitter_set_width, yaml_emitter_t,
 };
 use yaml_writer::Settings;
 
@@ -25,6 +25,7 @@ pub struct EmitterSettings {
     pub unicode: u32,
     pub line_breaks_1_2: u32,
     pub portable: u32,
+    pub indented_sequences: u32,
     pub indent: i32,
     pub width: i32,
     pub limit: usize,
@@ -43,6 +44,7 @@ pub(crate) fn settings_from(given: &EmitterSettings) -> Option<Settings>
 {
     Some(Settings {
         portable: given.portable != 0,
+        indented_sequences: given.indented_sequences != 0,
         canonical: given.canonical != 0,
         indent: given.indent,
         width: given.width,
@@ -76,5 +78,6 @@ pub(crate) fn emitter_by<A: Allocator + Copy>(
     yaml_emitter_set_break(&mut emitter, settings.line_break);
     yaml_emitter_set_line_breaks_1_2(&mut emitter, settings.line_breaks_1_2);
     yaml_emitter_set_portable(&mut emitter, settings.portable);
+    yaml_emitter_set_indented_sequences(&mut emitter, settings.indented_sequences);
     Ok(emitter)
 }

@@ -25,14 +25,17 @@ returns-clause-stands g c =
     let breaks = ap given c.yaml_emitter_set_break.ensures.set ∙ ap (λ (s : Settings). record s { line_break = seen_break settings.line_break }) unicode in
     let breaks12 = ap given c.yaml_emitter_set_line_breaks_1_2.ensures.set
     ∙ ap (λ (s : Settings). record s { breaks12 = settings.line_breaks_1_2 }) breaks in
-    let all = ap given c.yaml_emitter_set_portable.ensures.set ∙ ap (λ (s : Settings). record s { portable = settings.portable }) breaks12 in
+    let portable = ap given c.yaml_emitter_set_portable.ensures.set ∙ ap (λ (s : Settings). record s { portable = settings.portable }) breaks12 in
+    let all = ap given c.yaml_emitter_set_indented_sequences.ensures.set
+    ∙ ap (λ (s : Settings). record s { indented_sequences = settings.indented_sequences }) portable in
     let first = c.yaml_emitter_set_output_string.ensures.stands
     (subst (λ (s : Settings). StandsAfter s [] c.in_ok-emitter.emitter) (sym (ap given c.in_ok-emitter.ensures.made)) c.in_ok-emitter.ensures.stands) in
-    subst (λ (s : Settings). StandsAfter s [] c.yaml_emitter_set_portable.new.emitter) all
+    subst (λ (s : Settings). StandsAfter s [] c.yaml_emitter_set_indented_sequences.new.emitter) all
+    (c.yaml_emitter_set_indented_sequences.ensures.stands
     (c.yaml_emitter_set_portable.ensures.stands
     (c.yaml_emitter_set_line_breaks_1_2.ensures.stands
     (c.yaml_emitter_set_break.ensures.stands
     (c.yaml_emitter_set_unicode.ensures.stands
     (c.yaml_emitter_set_width.ensures.stands
     (c.yaml_emitter_set_indent.ensures.stands
-    (c.yaml_emitter_set_canonical.ensures.stands (c.yaml_emitter_set_encoding.ensures.stands first))))))))
+    (c.yaml_emitter_set_canonical.ensures.stands (c.yaml_emitter_set_encoding.ensures.stands first)))))))))
