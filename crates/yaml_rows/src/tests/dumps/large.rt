@@ -1,15 +1,15 @@
-//! Documents of many nodes dumped, with each growth refused in turn.
+//! Documents of many nodes dumped.
 use super::Given::{Sequence, Text};
 use super::events::events_of;
 use super::steps::Step::{Close, Dump, Output};
 use super::steps::check_steps;
-use super::{Given, document, dump, in_each_other, nodes};
+use super::{Given, add, document, dump, in_each_other, nodes};
 use crate::tests::emitters::{Setting, UNSET, made};
 use crate::tests::equal;
-use std::alloc::{Allocator, Global};
+use std::alloc::Global;
 use std::process::Abort;
-use yaml_base::{yaml_document_t, yaml_error_t};
-use yaml_test_allocator::Refusing;
+use yaml_base::{yaml_error_t, yaml_node_t};
+use yaml_emitter::yaml_emitter_t;
 
 // A dump of these nodes gives this text.
 fn check_text<'a>(rt: &impl Abort, alloc: Global, given: &'a [Given<'a>], text: &'a str) {
@@ -84,84 +84,70 @@ fn shared_nodes_in_each_other_are_written_once(rt: HostRuntime) {
     check_text(&rt, alloc, given.as_slice(), text.as_str());
 }
 
-/// The numbers from 2 to 1,001, twice.
-fn numbers(rt: &impl Abort, alloc: Global) -> Vec<i32> {
+/// The numbers from 2 to 1,001.
+fn add_numbers(rt: &impl Abort, numbers: &mut Vec<i32>) {
+    for number in 2..=1_001 {
+        numbers.push(number).expect(rt, "no memory");
+    }
+}
+
+type Nodes = Vec<yaml_node_t<Global>>;
+
+fn add_shares(rt: &impl Abort, alloc: Global, nodes: &mut Nodes) {
     let mut numbers = Vec::new(alloc);
-    for number in 0..2_000 {
-        numbers.push(number % 1_000 + 2).expect(rt, "no memory");
-    }
-    numbers
+    add_numbers(rt, &mut numbers);
+    add_numbers(rt, &mut numbers);
+    add(rt, alloc, nodes, &Sequence(numbers.as_slice()));
 }
 
-/// A sequence of these nodes, and a thousand texts.
-fn thousand_shared<'a>(rt: &impl Abort, alloc: Global, numbers: &'a [i32]) -> Vec<Given<'a>> {
-    let mut given = Vec::new(alloc);
-    given.push(Sequence(numbers)).expect(rt, "no memory");
+/// A sequence that holds each of a thousand texts twice.
+fn thousand_shared(rt: &impl Abort, alloc: Global) -> Nodes {
+    let mut nodes = Vec::new(alloc);
+    add_shares(rt, alloc, &mut nodes);
     for _ in 0..1_000 {
-        given.push(Text("x")).expect(rt, "no memory");
+        add(rt, alloc, &mut nodes, &Text("x"));
     }
-    given
+    nodes
 }
 
-fn shared_text(rt: &impl Abort, alloc: Global) -> String {
-    let mut text = String::new(alloc);
-    for number in 1..=1_000 {
-        add_item(rt, &mut text, (0, '&'), number, " x");
+// Lines, by their numbers from 0 on.
+fn check_lines(rt: &impl Abort, text: &str, count: usize, rows: &[(usize, &str)]) {
+    equal(rt, &text.lines().count(), &count);
+    for row in rows {
+        equal(rt, &text.lines().nth(row.0), &Some(row.1));
     }
-    for number in 1..=1_000 {
-        add_item(rt, &mut text, (0, '*'), number, "");
-    }
-    text
+}
+
+const LINES: &[(usize, &str)] = &[
+    (0, "- &id001 x"),
+    (11, "- &id012 x"),
+    (998, "- &id999 x"),
+    (999, "- &id1000 x"),
+    (1_999, "- *id1000"),
+];
+
+fn dump_shared(rt: &impl Abort, alloc: Global, emitter: &mut yaml_emitter_t<Global>) {
+    let shared = document(rt, alloc, thousand_shared(rt, alloc));
+    equal(rt, &dump(rt, alloc, emitter, shared), &Ok(()));
+    let text = str::from_utf8(emitter.output()).unwrap_or("");
+    check_lines(rt, text, 2_000, LINES);
 }
 
 #[test]
 fn anchors_past_999_have_four_digits(rt: HostRuntime) {
-    let alloc = rt.alloc();
-    let numbers = numbers(&rt, alloc);
-    let given = thousand_shared(&rt, alloc, numbers.as_slice());
-    let text = shared_text(&rt, alloc);
-    check_text(&rt, alloc, given.as_slice(), text.as_str());
+    dump_shared(&rt, rt.alloc(), &mut made(&rt, rt.alloc(), &UNSET));
 }
 
 const ENDLESS: Setting = Setting { width: -1, ..UNSET };
 
-/// A million and one sequences, each the one item of the one before: one more than may be open.
-fn too_deep<A: Allocator + Copy>(rt: &impl Abort, alloc: A) -> yaml_document_t<A> {
-    document(
-        rt,
-        alloc,
-        in_each_other(rt, alloc, 1_000_001, &Sequence(&[])),
-    )
+// A million and one sequences, each the one item of the one before.
+fn dump_too_deep(rt: &impl Abort, alloc: Global, emitter: &mut yaml_emitter_t<Global>) {
+    let nested = in_each_other(rt, alloc, 1_000_001, &Sequence(&[]));
+    let answer = dump(rt, alloc, emitter, document(rt, alloc, nested));
+    equal(rt, &answer, &Err(yaml_error_t::TooDeep));
 }
 
-// Dumps it, with this growth of the dump refused. Answers whether there is that growth.
-fn is_refused<A: Allocator + Copy>(
-    rt: &impl Abort,
-    heap: &Refusing<Global>,
-    alloc: A,
-    number: usize,
-) -> bool {
-    heap.refuse(0);
-    let mut emitter = made(rt, alloc, &ENDLESS);
-    let graph = too_deep(rt, alloc);
-    heap.refuse(number);
-    let answer = dump(rt, alloc, &mut emitter, graph);
-    let wanted = if heap.left() == 0 {
-        yaml_error_t::Memory
-    } else {
-        yaml_error_t::TooDeep
-    };
-    equal(rt, &(answer, emitter.held()), &(Err(wanted), 0));
-    heap.left() == 0
-}
-
-// Each tag that is copied is a growth, so the first is refused, the second, the fourth, and so on.
 #[test]
 fn too_many_nodes_in_each_other_are_refused(rt: HostRuntime) {
-    let heap = Refusing::new(rt.alloc());
-    for doublings in 0..32 {
-        if !is_refused(&rt, &heap, &heap, 1 << doublings) {
-            return;
-        }
-    }
+    dump_too_deep(&rt, rt.alloc(), &mut made(&rt, rt.alloc(), &ENDLESS));
 }

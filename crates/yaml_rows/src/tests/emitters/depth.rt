@@ -3,13 +3,12 @@ use super::streams::Given::{
     BlockSequence, Document, DocumentEnd, FlowSequence, SequenceEnd, Stream,
 };
 use super::streams::{Given, event};
-use super::{Setting, UNSET, begun, check_failed, check_refused, emit, emit_all, give, made};
+use super::{Setting, UNSET, check_failed, check_refused, emit, emit_all, made};
 use crate::tests::equal;
-use std::alloc::{Allocator, Global};
+use std::alloc::Global;
 use std::process::Abort;
 use yaml_base::yaml_error_t;
 use yaml_emitter::yaml_emitter_t;
-use yaml_test_allocator::Refusing;
 
 const ENDLESS: Setting = Setting { width: -1, ..UNSET };
 
@@ -17,6 +16,8 @@ const ENDLESS: Setting = Setting { width: -1, ..UNSET };
 const MOST: usize = 1_000_000;
 
 const STARTED: &[Given] = &[Stream, Document];
+
+const ENDED: &[Given] = &[DocumentEnd];
 
 fn emit_often(
     rt: &impl Abort,
@@ -45,33 +46,13 @@ fn a_million_collections_may_be_open(rt: HostRuntime) {
     open_too_many(&rt, rt.alloc(), &mut made(&rt, rt.alloc(), &ENDLESS));
 }
 
-/// A million brackets that open and as many that close, by events and how often each is emitted.
-const BRACKETS: &[(Given, usize)] = &[
-    (Stream, 1),
-    (Document, 1),
-    (FlowSequence, MOST),
-    (SequenceEnd, MOST),
-    (DocumentEnd, 1),
-];
-
-// Emits an event often. Answers whether a growth was refused; from then on each call answers so.
-fn is_refused_within<A: Allocator + Copy>(
-    rt: &impl Abort,
-    heap: &Refusing<Global>,
-    alloc: A,
-    emitter: &mut yaml_emitter_t<A>,
-    (given, times): (&Given, usize),
-) -> bool {
-    for _ in 0..times {
-        let answer = give(rt, emitter, event(rt, alloc, given));
-        if heap.left() == 0 {
-            equal(rt, &answer, &Err(yaml_error_t::Memory));
-            check_failed(rt, emitter, yaml_error_t::Memory);
-            return true;
-        }
-        equal(rt, &answer, &Ok(()));
-    }
-    false
+fn open_and_close(rt: &impl Abort, alloc: Global, emitter: &mut yaml_emitter_t<Global>) {
+    emit_all(rt, alloc, emitter, STARTED);
+    emit_often(rt, alloc, emitter, &FlowSequence, MOST);
+    emit_often(rt, alloc, emitter, &SequenceEnd, MOST);
+    emit_all(rt, alloc, emitter, ENDED);
+    equal(rt, &emitter.held(), &0);
+    check_brackets(rt, emitter.output());
 }
 
 fn bracket_at(place: usize) -> u8 {
@@ -82,55 +63,15 @@ fn bracket_at(place: usize) -> u8 {
     }
 }
 
-// The output begins the million brackets open, as many closed, and the line's end.
+// A million brackets open, as many close, and the line ends.
 fn check_brackets(rt: &impl Abort, output: &[u8]) {
+    equal(rt, &output.len(), &2_000_001);
     for (place, byte) in output.iter().enumerate() {
         equal(rt, byte, &bracket_at(place));
     }
 }
 
-// The brackets, up to the event of which a growth is refused.
-fn check_until_refused<A: Allocator + Copy>(
-    rt: &impl Abort,
-    heap: &Refusing<Global>,
-    alloc: A,
-    emitter: &mut yaml_emitter_t<A>,
-) {
-    for (given, times) in BRACKETS {
-        if is_refused_within(rt, heap, alloc, emitter, (given, *times)) {
-            check_brackets(rt, emitter.output());
-            return;
-        }
-    }
-    equal(
-        rt,
-        &(emitter.held(), emitter.output().len()),
-        &(0, 2_000_001),
-    );
-    check_brackets(rt, emitter.output());
-}
-
-// With the growth of this number refused. Answers whether there is that growth.
-fn is_refused<A: Allocator + Copy>(
-    rt: &impl Abort,
-    heap: &Refusing<Global>,
-    alloc: A,
-    number: usize,
-) -> bool {
-    heap.refuse(number);
-    match begun(alloc, &ENDLESS) {
-        Ok(mut emitter) => check_until_refused(rt, heap, alloc, &mut emitter),
-        Err(error) => equal(rt, &(heap.left(), error), &(0, yaml_error_t::Memory)),
-    }
-    heap.left() == 0
-}
-
 #[test]
 fn a_million_brackets_are_closed(rt: HostRuntime) {
-    let heap = Refusing::new(rt.alloc());
-    for number in 1..usize::MAX {
-        if !is_refused(&rt, &heap, &heap, number) {
-            return;
-        }
-    }
+    open_and_close(&rt, rt.alloc(), &mut made(&rt, rt.alloc(), &ENDLESS));
 }
