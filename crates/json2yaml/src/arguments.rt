@@ -25,12 +25,14 @@ fn settings_of(matches: &ArgMatches<'_>) -> JsonSettings
     ensures names { IsOff (value_of matches.now (codes "allow-duplicates")) result.unique_names }
     ensures canonical { IsOn (value_of matches.now (codes "canonical")) result.writer.canonical }
     ensures portable { IsOff (value_of matches.now (codes "no-portable")) result.writer.portable }
+    ensures sequences { IsOff (value_of matches.now (codes "no-indented-sequences")) result.writer.indented_sequences }
 {
     let mut settings = JsonSettings::default();
     settings.flow = matches.get_flag("flow");
     settings.unique_names = !matches.get_flag("allow-duplicates");
     settings.writer.canonical = matches.get_flag("canonical");
     settings.writer.portable = !matches.get_flag("no-portable");
+    settings.writer.indented_sequences = !matches.get_flag("no-indented-sequences");
     if let Some(columns) = matches.get_one::<i32>("indent") {
         settings.writer.indent = columns;
     }

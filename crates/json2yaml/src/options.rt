@@ -48,6 +48,11 @@ const PORTABLE_HELP: &str = "Leaves out the --- before the first document where 
 const PORTABLE_LONG: &str =
     "Writes as libyaml does, also what some readers read otherwise: no --- before the first document where none is needed.{n}Example: json2yaml --no-portable in.json";
 
+const SEQUENCES_HELP: &str = "Leaves a list's items in the column of the name that it belongs to";
+
+const SEQUENCES_LONG: &str =
+    "Leaves the items of a list in the column of the name that the list belongs to, as libyaml does, and doesn't indent them.{n}Example: json2yaml --no-indented-sequences in.json";
+
 const NAMES_HELP: &str = "Lets a name come several times in one object";
 
 const NAMES_LONG: &str =
@@ -99,6 +104,7 @@ fn with_flags<'a>(alloc: Global, command: Command<'a>) -> Result<Command<'a>, Al
         .arg(flag(alloc, "flow", FLOW_HELP, FLOW_LONG))?
         .arg(flag(alloc, "canonical", CANONICAL_HELP, CANONICAL_LONG))?
         .arg(flag(alloc, "no-portable", PORTABLE_HELP, PORTABLE_LONG))?
+        .arg(flag(alloc, "no-indented-sequences", SEQUENCES_HELP, SEQUENCES_LONG))?
         .arg(flag(alloc, "allow-duplicates", NAMES_HELP, NAMES_LONG))
 }
 

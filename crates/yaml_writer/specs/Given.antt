@@ -21,7 +21,7 @@ seen_settings settings =
       limit = settings.limit;
     }
 
--- portable, with characters past ASCII as themselves, and no limit
+-- portable, with sequences in mappings indented, characters past ASCII as themselves, and no limit
 abbrev pub default_settings : base.Settings
 default_settings =
     record {
@@ -33,6 +33,6 @@ default_settings =
       line_break = Some line_feed_break;
       breaks12 = false;
       portable = true;
-      indented_sequences = false;
+      indented_sequences = true;
       limit = largest_usize;
     }

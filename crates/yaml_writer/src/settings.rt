@@ -38,7 +38,8 @@ pub struct Settings {
     pub limit: usize,
 }
 
-/// Portable, in UTF-8 and with LF: an indent of 2, a width of 80, no limit; characters past ASCII as themselves.
+/// Portable, in UTF-8 and with LF: an indent of 2, sequences in mappings indented, too, a width of 80, no limit; characters past
+/// ASCII as themselves.
 impl Default for Settings {
     ghost is_default = { λ settings. seen_settings settings ≡ default_settings };
 
@@ -47,7 +48,7 @@ impl Default for Settings {
             portable: true,
             canonical: false,
             indent: 2,
-            indented_sequences: false,
+            indented_sequences: true,
             width: 80,
             unicode: true,
             line_break: YAML_LN_BREAK,

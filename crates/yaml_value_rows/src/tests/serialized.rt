@@ -85,7 +85,7 @@ fn alpha(alloc: Global) -> Result<Server<'static>, AllocError> {
 #[test]
 fn structs_are_mappings_in_the_order_of_their_fields(rt: HostRuntime) {
     let expected =
-        "---\nname: alpha\nports:\n- 80\n- 443\nlimit: null\nbackup: false\nweights:\n- -1\n- 'yes'\n";
+        "---\nname: alpha\nports:\n  - 80\n  - 443\nlimit: null\nbackup: false\nweights:\n  - -1\n  - 'yes'\n";
     check_made(&rt, rt.alloc(), alpha(rt.alloc()), expected);
 }
 

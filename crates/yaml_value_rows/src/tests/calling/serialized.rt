@@ -47,7 +47,7 @@ fn hosts(rt: &impl Abort, alloc: Global) -> Vec<Host<'static>> {
 #[test]
 fn hosts_are_written(rt: HostRuntime) {
     let expected =
-        "---\n- name: 'no'\n  ports:\n  - 80\n  - 443\n  rule: Open\n- name: alpha\n  ports: []\n  rule: !Limited\n    rate: 1000000000.0\n";
+        "---\n- name: 'no'\n  ports:\n    - 80\n    - 443\n  rule: Open\n- name: alpha\n  ports: []\n  rule: !Limited\n    rate: 1000000000.0\n";
     let hosts = hosts(&rt, rt.alloc());
     match hosts_yaml(rt.alloc(), &hosts) {
         Ok(yaml) => equal(&rt, &yaml.as_str(), &expected),

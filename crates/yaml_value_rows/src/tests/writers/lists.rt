@@ -1,10 +1,10 @@
 //! Lists in mappings, indented and undented.
-use super::{Call, check_written};
+use super::{Call, check_portable, check_written};
 use std::alloc::Global;
 use std::process::Abort;
 use yaml_writer::Settings;
 
-/// A list of a list and a word, as a value, then a list with an anchor.
+/// A list of a list and a word, as a value, a list with an anchor, and a list as the key of a list with a tag.
 const LISTS: &[Call] = &[
     Call::Mapping,
     Call::Text("a"),
@@ -19,6 +19,16 @@ const LISTS: &[Call] = &[
     Call::Sequence,
     Call::Text("e"),
     Call::End,
+    Call::Sequence,
+    Call::Text("f"),
+    Call::Sequence,
+    Call::Text("g"),
+    Call::End,
+    Call::End,
+    Call::Tagged("!t"),
+    Call::Sequence,
+    Call::Text("h"),
+    Call::End,
     Call::End,
 ];
 
@@ -32,11 +42,19 @@ fn check_lists(rt: &impl Abort, alloc: Global, indented: bool, indent: i32, want
 }
 
 #[test]
-fn lists_in_mappings_are_indented_where_asked(rt: HostRuntime) {
-    let indented = "---\na:\n  - - b\n  - c\nd: &x\n  - e\n";
-    check_lists(&rt, rt.alloc(), true, 2, indented);
-    let by_four = "---\na:\n    -   - b\n    - c\nd: &x\n    - e\n";
+fn lists_in_mappings_are_indented(rt: HostRuntime) {
+    let expected =
+        "---\na:\n  - - b\n  - c\nd: &x\n  - e\n? - f\n  - - g\n: !t\n  - h\n";
+    check_portable(&rt, rt.alloc(), LISTS, expected);
+    let by_four =
+        "---\na:\n    -   - b\n    - c\nd: &x\n    - e\n?   - f\n    -   - g\n: !t\n    - h\n";
     check_lists(&rt, rt.alloc(), true, 4, by_four);
-    let undented = "---\na:\n- - b\n- c\nd: &x\n- e\n";
-    check_lists(&rt, rt.alloc(), false, 2, undented);
+}
+
+#[test]
+fn lists_in_mappings_stand_in_the_column_of_the_keys_where_asked(rt: HostRuntime) {
+    let expected = "---\na:\n- - b\n- c\nd: &x\n- e\n? - f\n  - - g\n: !t\n- h\n";
+    check_lists(&rt, rt.alloc(), false, 2, expected);
+    let by_four = "---\na:\n-   - b\n- c\nd: &x\n- e\n?   - f\n    -   - g\n: !t\n- h\n";
+    check_lists(&rt, rt.alloc(), false, 4, by_four);
 }
