@@ -1,22 +1,17 @@
 -- The nodes that a walk meets again, one more step at a time.
-use Rattle.std.proofs.Common.{◌≡◌, ◌≢◌, ℕ, zero, suc, ◌+◌, ◌-◌, ◌==◌, ◌<◌, ◌≤◌, ◌&&◌, ◌||◌, nat_lt, Bool, true, false, cond, not, Option, None, Some}
-use Rattle.std.proofs.Common.{option_map, unwrap_or, List, [], ◌∷◌, ◌++◌, length, get_or, set, refl, sym, ap, ◌∙◌, arith, length-append, add-one, map, take}
-use Rattle.std.proofs.Common.{drop, nat_le, subst}
+use Rattle.yaml_dump.proofs.Common.{suc, ◌==◌, unwrap_or, option_map, Option, None, Some, nat_le, length, Bool, false, not, true, ◌&&◌, ◌||◌, List, []}
+use Rattle.yaml_dump.proofs.Common.{map, ◌++◌, ◌∷◌, zero, ℕ, ◌+◌, ◌-◌, ◌<◌, ◌≤◌, drop, get_or, length-append, set, take, cond, append-nil, ◌≢◌, ap}
+use Rattle.yaml_dump.proofs.Common.{refl, subst, sym, ◌∙◌, ◌≡◌, arith, nat_tests, get_or-map, length-map, length-set, get_or-set_other, get_or-set_same}
+use Rattle.yaml_dump.proofs.Common.{map-append, Step, enters, leaves, meets_again, numbered_name, IsNumbered, is_numbered, anchor_of_place, HasPlaces}
+use Rattle.yaml_dump.proofs.Common.{Places, number_in, seen_step, Enters}
+use Rattle.std.proofs.{Common.nat_lt, Common.add-one, Math.Seq.take-append_seam, lemmas.List.take_more, lemmas.List.Elements.filter-append}
+use Rattle.std.proofs.{lemmas.List.Elements.filter_map-append, lemmas.List.Folds.position_or_len_push, lemmas.List.Folds.list_all-map}
+use Rattle.std.proofs.{lemmas.List.Sums.prefix_len-le-length, lemmas.List.Sums.AllPass-from_list_all}
+use Rattle.yaml_dump.specs.{declared.steps.Step.TheVariants.Leaves, declared.steps.Step.TheVariants.MeetsAgain, Events.IsPlaced, Anchors.place_in}
 use Rattle.std.specs.List.{filter, filter_map, position, position_or_len, cons_option}
-use Rattle.std.proofs.lemmas.Bool.Decides.{nat_tests}
-use Rattle.std.proofs.Math.Seq.{take-append_seam}
-use Rattle.std.proofs.lemmas.List.{length-map, append-nil, get_or-set_same, get_or-set_other, length-set, take_more, map-append, get_or-map}
-use Rattle.std.proofs.lemmas.List.Elements.{filter-append, filter_map-append}
-use Rattle.std.proofs.lemmas.List.Folds.{position_or_len_push, list_all-map}
-use Rattle.std.proofs.lemmas.List.Sums.{prefix_len-le-length, AllPass-from_list_all}
-use Rattle.yaml_base.specs.graphs.Meetings.{Step, enters, leaves, meets_again, first_of_each, node_met_again, shared_nodes, anchor_of, numbered_name}
+use Rattle.yaml_base.specs.graphs.Meetings.{first_of_each, node_met_again, shared_nodes, anchor_of}
 use Rattle.yaml_base.proofs.SharedNodes.{has, has_first, has_position}
 use Rattle.yaml_dump.specs.declared.steps.Step as declared
-use Rattle.yaml_dump.specs.declared.steps.Step.TheVariants.{Enters, Leaves, MeetsAgain}
-use Rattle.yaml_dump.specs.WalkSteps.{seen_step}
-use Rattle.yaml_dump.specs.Events.{IsPlaced}
-use Rattle.yaml_dump.specs.Anchors.{HasPlaces, is_numbered, IsNumbered, place_in, anchor_of_place, Places}
-use Rattle.yaml_dump.specs.Named.{number_in}
 
 kept_once : (b c : Bool) (number : ℕ) → cond (not b) (number ∷ []) [] ≡ cond (b || false) [] (number ∷ [])
 kept_once true c number = refl

@@ -1,16 +1,11 @@
 -- Children by their places: pairs take two places each, and whole graphs name their nodes.
-use Rattle.std.proofs.Common.{◌≡◌, ℕ, zero, suc, ◌+◌, ◌<◌, ◌≤◌, ◌/◌, ◌%◌, Bool, true, Option, None, Some, List, [], ◌∷◌, map, length, get_or, refl, sym, ap}
-use Rattle.std.proofs.Common.{◌∙◌, arith}
-use Rattle.std.specs.Prelude.{IfSome, nat_le, ◌&&◌, ◌^◌}
-use Rattle.std.specs.List.{slice_get, list_all}
-use Rattle.std.proofs.lemmas.Bool.{leb-true}
-use Rattle.std.proofs.lemmas.Option.{slice_get_past, slice_get_within}
-use Rattle.yaml_base.specs.graphs.Meetings.{Graph, GraphNode, numbers_held, numbers_in, children, is_whole}
-use Rattle.yaml_base.specs.graphs.SeenNodes.{seen_number, seen_pair}
-use Rattle.yaml_base.specs.declared.nodes.yaml_node_pair_t.{yaml_node_pair_t}
-use Rattle.yaml_base.proofs.UnfoldTrees.{both_true}
+use Rattle.yaml_dump.proofs.Common.{suc, ◌^◌, IfSome, Option, None, Some, nat_le, length, Bool, true, ◌&&◌, List, [], map, ◌∷◌, zero, ℕ, ◌%◌, ◌+◌, ◌/◌}
+use Rattle.yaml_dump.proofs.Common.{◌<◌, ◌≤◌, get_or, ap, refl, sym, ◌∙◌, ◌≡◌, arith, list_all, slice_get, GraphNode, Graph, children, is_whole}
+use Rattle.yaml_dump.proofs.Common.{seen_number, IsNamed}
+use Rattle.yaml_base.{specs.graphs.Meetings.numbers_held, specs.graphs.Meetings.numbers_in, specs.graphs.SeenNodes.seen_pair}
+use Rattle.yaml_base.{specs.declared.nodes.yaml_node_pair_t.yaml_node_pair_t, proofs.UnfoldTrees.both_true}
+use Rattle.std.proofs.lemmas.{Bool.leb-true, Option.slice_get_past, Option.slice_get_within}
 use Rattle.yaml_dump.specs.WalkState.{pair_numbers}
-use Rattle.yaml_dump.specs.Named.{IsNamed}
 
 -- the numbers that are seen in pairs
 numbers_seen : List yaml_node_pair_t → List ℕ

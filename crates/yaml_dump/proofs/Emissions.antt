@@ -1,22 +1,12 @@
 -- Events emitted one after another.
-use Rattle.std.proofs.Common.{◌≡◌, ◌≤◌, inl, inr, refl, sym, ap, ◌∙◌, subst, append_assoc, append-nil, length, length-append, arith}
-use Rattle.std.proofs.Math.Bool.{or-true}
-use Rattle.std.proofs.lemmas.Bool.{false≢true}
-use Rattle.std.proofs.lemmas.List.{map-append}
-use Rattle.std.specs.Prelude.{Bool, true, false, Option, None, Some, Result, Ok, Err, IsErr, IsErrAnd, OnOk, OnErr, ◌||◌, List, [], ◌∷◌, ◌++◌, map}
-use Rattle.std.specs.Prelude.{if◌then◌else◌}
-use Rattle.yaml_base.specs.Settings.{Settings}
-use Rattle.yaml_base.specs.Event.{Event}
-use Rattle.yaml_base.specs.Seen.{seen_event}
-use Rattle.yaml_base.specs.declared.errors.yaml_error_t.{yaml_error_t}
-use Rattle.yaml_base.specs.declared.events.yaml_event_t.{yaml_event_t}
+use Rattle.yaml_dump.proofs.Common.{if◌then◌else◌, OnOk, Option, None, Some, Result, Err, Ok, length, Bool, false, true, ◌||◌, List, [], map, ◌++◌, ◌∷◌}
+use Rattle.yaml_dump.proofs.Common.{◌≤◌, length-append, append-nil, append_assoc, inl, inr, ap, refl, subst, sym, ◌∙◌, ◌≡◌, arith, false≢true}
+use Rattle.yaml_dump.proofs.Common.{map-append, Event, seen_event, Settings, yaml_error_t, yaml_event_t, EmitsAll, FailsAt, IsBegun, EmitsEach, opening}
+use Rattle.yaml_dump.proofs.Common.{closing, Promised, StandsAfter, State, none_from_result, Grows}
+use Rattle.std.{proofs.Math.Bool.or-true, specs.Prelude.IsErr, specs.Prelude.IsErrAnd, specs.Prelude.OnErr}
 use Rattle.yaml_pen.specs.Page.{result_of_error}
-use Rattle.yaml_pen.specs.Wrote.{Grows}
-use Rattle.yaml_pen.proofs.Writing.{none_from_result}
-use Rattle.yaml_emitter.specs.State.{State, KeepsSet}
-use Rattle.yaml_emitter.specs.StandsAfter.{StandsAfter}
-use Rattle.yaml_emitter.specs.Promises.{Promised}
-use Rattle.yaml_dump.specs.Dumps.{EmitsAll, EmitsEach, FailsAt, EmitsDump, FailsDump, IsBegun, has_some, opening, closing}
+use Rattle.yaml_emitter.specs.State.{KeepsSet}
+use Rattle.yaml_dump.specs.Dumps.{EmitsDump, FailsDump, has_some}
 
 -- what the caller set stays, but for whether the stream was begun
 abbrev pub KeepsButStart : State → State → Type 0

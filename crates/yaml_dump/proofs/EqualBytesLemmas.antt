@@ -1,18 +1,9 @@
 -- Documents that were read of the same bytes say the same.
-use Rattle.std.proofs.Common.{◌≡◌, sym, ◌∙◌, subst, List, [], ◌∷◌}
-use Rattle.std.specs.Prelude.{Some}
-use Rattle.yaml_base.specs.reading.Content.{DocumentContent}
-use Rattle.yaml_base.specs.streams.StreamContent.{DocumentTree}
-use Rattle.yaml_base.specs.graphs.Meetings.{Graph}
-use Rattle.yaml_base.specs.graphs.Unfolding.{content_shape}
-use Rattle.yaml_base.specs.graphs.Dumped.{ContentsUnfold}
-use Rattle.yaml_base.specs.graphs.Isomorphic.{AllAreEquivalent}
-use Rattle.yaml_base.proofs.ContentsUnfold.{dumped_stream}
-use Rattle.yaml_base.proofs.SameShapes.{same_shape}
-use Rattle.yaml_base.proofs.SameEvents.{same_canonical_output}
-use Rattle.yaml_emitter.proofs.canonical.CanonicalOutput.{output_tells}
-use Rattle.yaml_emitter.proofs.layouts.StreamOutput.{output_tells_content}
-use Rattle.yaml_dump.specs.GraphTrees.{tree_shape, TreesUnfold}
+use Rattle.yaml_dump.proofs.Common.{Some, List, [], ◌∷◌, subst, sym, ◌∙◌, ◌≡◌, dumped_stream, ContentsUnfold, Graph, content_shape, DocumentTree}
+use Rattle.yaml_dump.proofs.Common.{tree_shape, TreesUnfold}
+use Rattle.yaml_base.{specs.reading.Content.DocumentContent, specs.graphs.Isomorphic.AllAreEquivalent, proofs.SameShapes.same_shape}
+use Rattle.yaml_base.{proofs.SameEvents.same_canonical_output}
+use Rattle.yaml_emitter.proofs.{canonical.CanonicalOutput.output_tells, layouts.StreamOutput.output_tells_content}
 use Rattle.yaml_dump.specs.EqualBytes.{OneReading, OneReadingBack, EqualBytes, EqualReadableBytes, EqualDocuments}
 use Rattle.yaml_dump.proofs.GraphTreeLemmas.{dumped_trees_unfold}
 

@@ -1,21 +1,12 @@
 -- The events of a walk, one more step at a time.
-use Rattle.std.proofs.Common.{◌≡◌, ℕ, ◌+◌, ◌-◌, ◌<◌, ◌&&◌, Bool, true, false, nat_le, Option, Some, List, [], ◌∷◌, ◌++◌, length, get_or, map, take, flat_map}
-use Rattle.std.proofs.Common.{arith, refl, ap, sym, ◌∙◌}
-use Rattle.std.specs.Prelude.{suc}
-use Rattle.std.proofs.lemmas.Bool.Decides.{nat_tests}
+use Rattle.yaml_dump.proofs.Common.{suc, flat_map, Option, Some, nat_le, length, Bool, false, true, ◌&&◌, List, [], map, ◌++◌, ◌∷◌, ℕ, ◌+◌, ◌-◌, ◌<◌}
+use Rattle.yaml_dump.proofs.Common.{get_or, take, append-nil, ap, refl, sym, ◌∙◌, ◌≡◌, arith, nat_tests, map-append, Text, Event, seen_event}
+use Rattle.yaml_dump.proofs.Common.{seen_events, yaml_event_t, Graph, Step, enters, opening_events, step_events, IsNumbered, is_numbered}
+use Rattle.yaml_dump.proofs.Common.{anchor_of_place, HasPlaces, seen_events_of, number_in, AreNamed, seen_step}
 use Rattle.std.proofs.lemmas.Grind.{flat_map-append}
-use Rattle.std.proofs.lemmas.List.{append-nil, map-append}
-use Rattle.yaml_base.specs.Characters.{Text}
-use Rattle.yaml_base.specs.Event.{Event}
-use Rattle.yaml_base.specs.graphs.Meetings.{Graph, Step, enters, node_numbered, opening_events, step_events}
-use Rattle.yaml_base.specs.Seen.{seen_event, seen_events}
-use Rattle.yaml_base.specs.declared.events.yaml_event_t.{yaml_event_t}
-use Rattle.yaml_dump.specs.Anchors.{IsNumbered, HasPlaces, anchor_of_place, is_numbered}
-use Rattle.yaml_dump.specs.Named.{AreNamed, number_in}
-use Rattle.yaml_dump.specs.declared.steps.Step as declared
-use Rattle.yaml_dump.specs.Events.{seen_events_of}
-use Rattle.yaml_dump.specs.WalkSteps.{seen_step}
+use Rattle.yaml_base.specs.graphs.Meetings.{node_numbered}
 use Rattle.yaml_dump.proofs.AnchorLemmas.{anchor_placed, seen_more}
+use Rattle.yaml_dump.specs.declared.steps.Step as declared
 
 -- a node begins with the anchor of its place
 pub entered : (graph : Graph) (walk : List Step) (places : List ℕ) (number : ℕ) (events : List Event) → IsNumbered (length places) (enters number)

@@ -1,30 +1,14 @@
 -- A document's events unfold its graph, and so does what is read back of them.
-use Rattle.std.proofs.Common.{◌≡◌, refl, sym, ap, ◌∙◌, subst, ℕ, Bool, true, false, Option, None, Some, List, [], ◌∷◌, ◌++◌, length, drop, map}
-use Rattle.std.specs.Prelude.{Result, Ok, Err, IfOk, OnOk, Vec, if◌then◌else◌}
-use Rattle.std.proofs.Math.Seq.{drop-length}
-use Rattle.std.proofs.lemmas.Bool.{false≢true}
-use Rattle.yaml_base.specs.Settings.{Settings}
-use Rattle.yaml_base.specs.Event.{Event, stream_end}
-use Rattle.yaml_base.specs.Ready.{written}
-use Rattle.yaml_base.specs.Seen.{seen_event, seen_events}
-use Rattle.yaml_base.specs.graphs.Meetings.{Graph, Step, steps, document_event_list}
-use Rattle.yaml_base.specs.graphs.Unfolding.{IsDocument, EventsUnfold}
-use Rattle.yaml_base.specs.graphs.Dumped.{AreDumped, GraphsRead}
-use Rattle.yaml_base.specs.declared.errors.yaml_error_t.{yaml_error_t}
-use Rattle.yaml_base.specs.declared.events.yaml_event_t.{yaml_event_t}
-use Rattle.yaml_base.proofs.QueueLaws.{stream_written}
-use Rattle.yaml_base.proofs.DocumentsUnfold.{document_unfolds}
-use Rattle.yaml_base.specs.streams.StreamContent.{DocumentTree, agrees}
-use Rattle.yaml_base.specs.streams.StreamReader.{stream_trees}
-use Rattle.yaml_base.proofs.ContentsUnfold.{dumped_stream}
-use Rattle.yaml_dump.specs.Dumps.{EmitsAll, EmitsEach, ReadsGraphs, opening, closing}
-use Rattle.yaml_dump.specs.Events.{walk_events}
-use Rattle.yaml_dump.specs.GraphTrees.{GraphsReadBack, ReadsTrees}
+use Rattle.yaml_dump.proofs.Common.{if◌then◌else◌, OnOk, Option, None, Some, Result, Err, Ok, Vec, length, Bool, false, true, List, [], map, ◌++◌, ◌∷◌}
+use Rattle.yaml_dump.proofs.Common.{ℕ, drop, ap, refl, subst, sym, ◌∙◌, ◌≡◌, false≢true, dumped_stream, document_unfolds, Event, stream_end, seen_event}
+use Rattle.yaml_dump.proofs.Common.{seen_events, Settings, yaml_error_t, yaml_event_t, AreDumped, Graph, Step, steps, document_event_list, DocumentTree}
+use Rattle.yaml_dump.proofs.Common.{EmitsAll, EmitsEach, opening, closing, Promised, StandsAfter, State}
+use Rattle.yaml_base.{specs.Ready.written, specs.graphs.Unfolding.IsDocument, specs.graphs.Unfolding.EventsUnfold, specs.graphs.Dumped.GraphsRead}
+use Rattle.yaml_base.{proofs.QueueLaws.stream_written, specs.streams.StreamContent.agrees, specs.streams.StreamReader.stream_trees}
+use Rattle.yaml_dump.specs.{Dumps.ReadsGraphs, Events.walk_events, GraphTrees.GraphsReadBack, GraphTrees.ReadsTrees}
+use Rattle.yaml_emitter.{specs.Promises.HasRoom, specs.Promises.IsWritten, proofs.EndedStreams.ends_last}
+use Rattle.std.{specs.Prelude.IfOk, proofs.Math.Seq.drop-length}
 use Rattle.yaml_dump.proofs.GraphTreeLemmas.{dumped_trees_unfold}
-use Rattle.yaml_emitter.specs.State.{State}
-use Rattle.yaml_emitter.specs.StandsAfter.{StandsAfter}
-use Rattle.yaml_emitter.specs.Promises.{HasRoom, IsWritten, Promised}
-use Rattle.yaml_emitter.proofs.EndedStreams.{ends_last}
 
 -- the events of a document's walk
 pub walk_unfolds : {A E : Type 0} (graph : Graph) (answer : Result (Vec (yaml_event_t A) A) E) (walk : List Step) → IsDocument graph → walk ≡ steps graph

@@ -1,36 +1,27 @@
 -- Documents that agree with the events of dumped graphs unfold the graphs.
-use Rattle.std.proofs.Common.{◌≡◌, refl, sym, ap, ◌∙◌, subst}
-use Rattle.std.proofs.lemmas.Bool.{false≢true, and_parts, and_from}
-use Rattle.std.proofs.lemmas.Bool.Decides.{Decides-int_eq}
-use Rattle.std.proofs.lemmas.List.{map-append}
-use Rattle.std.proofs.lemmas.List.Folds.{list_all-append}
-use Rattle.std.proofs.lemmas.Slice.Eq.{bytes_eq-Decides}
-use Rattle.std.specs.List.{list_all}
-use Rattle.std.specs.Ordering.{int_eq}
-use Rattle.std.specs.Prelude.{ℤ, ⊤, ◌==◌, length, Bool, true, false, Option, None, Some, option_map, unwrap_or, List, [], ◌∷◌, ◌++◌, ◌||◌, ◌&&◌, not, map}
-use Rattle.std.specs.Prelude.{flat_map, bytes_eq, if◌then◌else◌}
-use Rattle.yaml_base.specs.Characters.{Text}
-use Rattle.yaml_base.specs.Event.{Version, TagDirective, Scalar, Event, stream_end, document_start, document_end, scalar, sequence_start, sequence_end}
-use Rattle.yaml_base.specs.Event.{mapping_start, mapping_end}
+use Rattle.yaml_dump.proofs.Common.{if◌then◌else◌, ◌==◌, flat_map, unwrap_or, option_map, Option, None, Some, length, Bool, false, not, true, ◌&&◌}
+use Rattle.yaml_dump.proofs.Common.{◌||◌, List, [], map, ◌++◌, ◌∷◌, ap, refl, subst, sym, ◌∙◌, ◌≡◌, false≢true, map-append, list_all, dumped_stream}
+use Rattle.yaml_dump.proofs.Common.{Text, Event, stream_end, document_start, AreDumped, ContentsUnfold, GraphNode, Graph, Step, enters, leaves}
+use Rattle.yaml_dump.proofs.Common.{meets_again, steps, opening_events, step_events, document_event_list, content_shape, DocumentTree, tree_shape}
+use Rattle.yaml_dump.proofs.Common.{TreesUnfold}
+use Rattle.std.proofs.lemmas.{Bool.and_parts, Bool.and_from, Bool.Decides.Decides-int_eq, List.Folds.list_all-append, Slice.Eq.bytes_eq-Decides}
+use Rattle.std.specs.{Ordering.int_eq, Prelude.ℤ, Prelude.⊤, Prelude.bytes_eq}
+use Rattle.yaml_base.specs.Event.{Version, TagDirective, Scalar, document_end, scalar, sequence_start, sequence_end, mapping_start, mapping_end}
+use Rattle.yaml_base.specs.Event.{scalar_tag, collection_tag}
 use Rattle.yaml_base.specs.Grammar.{Node, alias_node, scalar_node, sequence_node, mapping_node, Nodes, no_nodes, nodes_and, Pairs, no_pairs, pairs_and}
 use Rattle.yaml_base.specs.Grammar.{Document, Documents, no_documents, documents_and, Stream, node_events, nodes_events, pairs_events, document_events}
 use Rattle.yaml_base.specs.Grammar.{documents_events, tree_of}
-use Rattle.yaml_base.specs.Event.{scalar_tag, collection_tag}
 use Rattle.yaml_base.specs.reading.Content.{content_tag, node_content, nodes_content, pairs_content, document_content, documents_content}
-use Rattle.yaml_base.specs.graphs.Meetings.{Graph, GraphNode, Held, scalar_held, sequence_held, mapping_held, Step, enters, leaves, meets_again, steps}
-use Rattle.yaml_base.specs.graphs.Meetings.{string_tag, sequence_tag, mapping_tag, opening_event_of, opening_events, closing_event_of, closing_events}
-use Rattle.yaml_base.specs.graphs.Meetings.{step_events}
-use Rattle.yaml_base.specs.graphs.Meetings.{document_event_list}
-use Rattle.yaml_base.specs.graphs.Unfolding.{NodeKind, scalar_kind, sequence_kind, mapping_kind, Shape, alias_shape, node_shape, Shapes, no_shapes, shapes_and}
-use Rattle.yaml_base.specs.graphs.Unfolding.{Unfolds, content_shape, contents_shapes, content_pairs_shapes, explicit_tag}
-use Rattle.yaml_base.specs.graphs.Dumped.{AreDumped, ContentsUnfold}
-use Rattle.yaml_base.specs.streams.StreamContent.{Tagging, with_tag, without_tag, Tree, alias_tree, scalar_tree, sequence_tree, mapping_tree, Trees, no_trees}
-use Rattle.yaml_base.specs.streams.StreamContent.{trees_and, TreePairs, no_tree_pairs, tree_pairs_and, DocumentTree, is_same_text, tagging_agrees, tree_agrees}
-use Rattle.yaml_base.specs.streams.StreamContent.{trees_agree, tree_pairs_agree, is_same_version, are_same_directives, document_agrees, documents_in_order}
-use Rattle.yaml_base.specs.streams.StreamContent.{documents_agree}
+use Rattle.yaml_base.specs.graphs.Meetings.{Held, scalar_held, sequence_held, mapping_held, string_tag, sequence_tag, mapping_tag, opening_event_of}
+use Rattle.yaml_base.specs.graphs.Meetings.{closing_event_of, closing_events}
+use Rattle.yaml_base.specs.graphs.Unfolding.{NodeKind, scalar_kind, sequence_kind, mapping_kind, Shape, alias_shape, node_shape, Shapes, no_shapes}
+use Rattle.yaml_base.specs.graphs.Unfolding.{shapes_and, Unfolds, contents_shapes, content_pairs_shapes, explicit_tag}
+use Rattle.yaml_base.specs.streams.StreamContent.{Tagging, with_tag, without_tag, Tree, alias_tree, scalar_tree, sequence_tree, mapping_tree, Trees}
+use Rattle.yaml_base.specs.streams.StreamContent.{no_trees, trees_and, TreePairs, no_tree_pairs, tree_pairs_and, is_same_text, tagging_agrees}
+use Rattle.yaml_base.specs.streams.StreamContent.{tree_agrees, trees_agree, tree_pairs_agree, is_same_version, are_same_directives, document_agrees}
+use Rattle.yaml_base.specs.streams.StreamContent.{documents_in_order, documents_agree}
 use Rattle.yaml_base.proofs.Trees.{tree_of-stream_events}
-use Rattle.yaml_base.proofs.ContentsUnfold.{dumped_stream}
-use Rattle.yaml_dump.specs.GraphTrees.{scalar_tag_read, tree_shape, trees_shapes, tree_pairs_shapes, TreesUnfold, DumpedTreesUnfold}
+use Rattle.yaml_dump.specs.GraphTrees.{scalar_tag_read, trees_shapes, tree_pairs_shapes, DumpedTreesUnfold}
 
 -- ---- a dumped node has its tag, or that of its kind where none is written
 

@@ -1,3 +1,4 @@
+pub mod Common
 pub mod AnchorLemmas
 pub mod ChildLemmas
 pub mod Emissions

@@ -1,16 +1,11 @@
 -- A name is `id` and its number, which is padded to three digits.
-use Rattle.std.proofs.Common.{◌≡◌, ℕ, zero, suc, ◌-◌, ◌*◌, ◌/◌, ◌%◌, ◌==◌, ◌<◌, ◌^◌, List, [], ◌∷◌, ◌++◌, length, Bool, true, false, cond, refl, sym, ap, subst}
-use Rattle.std.proofs.Common.{◌∙◌, arith, replicate, eq-eqb}
-use Rattle.std.proofs.Math.Nat.{pow-suc}
-use Rattle.std.proofs.lemmas.Bool.Decides.{nat_tests}
-use Rattle.std.proofs.lemmas.List.{append-nil}
-use Rattle.std.proofs.lemmas.Fmt.{IsAscii-decimal}
-use Rattle.std.proofs.lemmas.Str.{chars-IsAscii, IsAscii-append}
-use Rattle.std.proofs.lemmas.Str.Ascii.{IsAscii-nil, IsAscii-cons}
-use Rattle.std.specs.Fmt.{decimal, digits, digits_onto, digit_glyph, format_spec, padded_integral, styled_decimal, char_count}
+use Rattle.yaml_dump.proofs.Common.{suc, ◌^◌, ◌==◌, length, Bool, false, true, List, [], ◌++◌, ◌∷◌, zero, ℕ, ◌%◌, ◌-◌, ◌/◌, ◌<◌, eq-eqb, replicate}
+use Rattle.yaml_dump.proofs.Common.{cond, append-nil, ap, refl, subst, sym, ◌∙◌, ◌≡◌, arith, nat_tests, styled_decimal, numbered_name}
+use Rattle.std.proofs.{Common.◌*◌, Math.Nat.pow-suc, lemmas.Fmt.IsAscii-decimal, lemmas.Str.chars-IsAscii, lemmas.Str.IsAscii-append}
+use Rattle.std.proofs.{lemmas.Str.Ascii.IsAscii-nil, lemmas.Str.Ascii.IsAscii-cons}
+use Rattle.yaml_base.specs.{graphs.Meetings.decimal_digits, Settings.largest_usize}
+use Rattle.std.specs.Fmt.{decimal, digits, digits_onto, digit_glyph, format_spec, padded_integral, char_count}
 use Rattle.std.specs.Str.{IsAscii, chars}
-use Rattle.yaml_base.specs.graphs.Meetings.{decimal_digits, numbered_name}
-use Rattle.yaml_base.specs.Settings.{largest_usize}
 
 ascii_zeros : (count : ℕ) → IsAscii (replicate count 0x30)
 ascii_zeros zero = IsAscii-nil

@@ -1,10 +1,9 @@
 -- The visits that a walk still has to end make of its steps those of the whole walk.
-use Rattle.std.proofs.Common.{◌≡◌, ℕ, zero, suc, ◌≤◌, Bool, true, false, None, Some, List, [], ◌∷◌, ◌++◌, length, drop, refl, ap, ◌∙◌, arith, length-append}
-use Rattle.std.specs.List.{list_any, fold, slice_get}
-use Rattle.yaml_base.specs.graphs.Meetings as meetings
-use Rattle.yaml_base.specs.graphs.Meetings.{Graph, children, enters, leaves, meets_again, is_entry_of, steps_from}
+use Rattle.yaml_dump.proofs.Common.{suc, None, Some, length, Bool, false, true, List, [], ◌++◌, ◌∷◌, zero, ℕ, ◌≤◌, drop, length-append, ap, refl, ◌∙◌}
+use Rattle.yaml_dump.proofs.Common.{◌≡◌, arith, list_any, slice_get, Graph, children, enters, leaves, meets_again, is_entry_of, steps_from, Visit}
+use Rattle.std.specs.List.{fold}
 use Rattle.yaml_base.proofs.UnfoldSteps.{from_node}
-use Rattle.yaml_dump.specs.declared.walk.Visit.{Visit}
+use Rattle.yaml_base.specs.graphs.Meetings as meetings
 
 -- steps, and then those of visits that are gone on with to their ends, the innermost first; its children are met at most so many nodes deep
 unfoldable pub finish : ℕ → Graph → List Visit → List meetings.Step → List meetings.Step

@@ -1,25 +1,17 @@
 -- What holds of a standing of a walk, and that each turn keeps it.
-use Rattle.std.proofs.Common.{◌≡◌, ◌≢◌, ℕ, suc, ◌+◌, ◌-◌, ◌<◌, ◌≤◌, Bool, true, false, cond, Option, None, Some, List, [], ◌∷◌, ◌++◌, All, length, set, get_or}
-use Rattle.std.proofs.Common.{replicate, ◌⊎◌, inl, inr, refl, sym, ap, ◌∙◌, arith, eq-eqb, ne_eqb, subst, reverse, map}
-use Rattle.std.specs.Prelude.{IfSome, Vec}
-use Rattle.std.specs.List.{list_any, sum_by}
-use Rattle.std.proofs.lemmas.Bool.{cases_eq}
-use Rattle.std.proofs.lemmas.List.{get_or-map, length-map, reverse-append, length_push, length-set, get_or-set_same, get_or-set_other, get_or-replicate}
-use Rattle.std.proofs.lemmas.List.{length-replicate}
+use Rattle.yaml_dump.proofs.Common.{suc, IfSome, Option, None, Some, Vec, length, Bool, false, true, List, [], map, ◌++◌, ◌∷◌, ℕ, ◌+◌, ◌-◌, ◌<◌, ◌≤◌}
+use Rattle.yaml_dump.proofs.Common.{eq-eqb, get_or, replicate, set, cond, reverse, inl, inr, ◌≢◌, ap, refl, subst, sym, ◌∙◌, ◌≡◌, arith, get_or-map}
+use Rattle.yaml_dump.proofs.Common.{length-map, length-set, get_or-set_other, get_or-set_same, list_any, Graph, is_whole, enters, leaves, meets_again}
+use Rattle.yaml_dump.proofs.Common.{is_entry_of, steps_from, steps, IsNamed, number_in, AreNamed, seen_walker, seen_step, Visit}
+use Rattle.std.proofs.{Common.All, Common.◌⊎◌, Common.ne_eqb, lemmas.Bool.cases_eq, lemmas.List.Folds.sum_by-replicate, lemmas.List.Sums.sum_by-set}
+use Rattle.yaml_dump.{specs.declared.steps.Step.Step, proofs.ChildLemmas.child_named, specs.declared.walk.Walker.Walker}
+use Rattle.std.specs.List.{sum_by}
+use Rattle.std.proofs.lemmas.List.{reverse-append, length_push, get_or-replicate, length-replicate}
 use Rattle.std.proofs.lemmas.List.Elements.{All-nil, All-cons, All-head, All-tail, All-push}
-use Rattle.std.proofs.lemmas.List.Folds.{sum_by-replicate}
-use Rattle.std.proofs.lemmas.List.Sums.{sum_by-set}
-use Rattle.yaml_base.specs.graphs.Meetings as meetings
-use Rattle.yaml_base.specs.graphs.Meetings.{Graph, enters, leaves, meets_again, is_entry_of, steps_from, steps, is_whole}
-use Rattle.yaml_dump.specs.WalkState.{WalkState, seen_walker, at_start, with_step, push_visit, with_node, with_meeting, with_child, child_of, with_turn}
-use Rattle.yaml_dump.specs.Named.{IsNamed, AreNamed, number_in}
-use Rattle.yaml_dump.specs.WalkSteps.{seen_step}
-use Rattle.yaml_dump.specs.declared.steps.Step.{Step}
+use Rattle.yaml_dump.specs.WalkState.{WalkState, at_start, with_step, push_visit, with_node, with_meeting, with_child, child_of, with_turn}
 use Rattle.yaml_base.proofs.UnfoldSteps.{none_added, one_added}
-use Rattle.yaml_dump.proofs.ChildLemmas.{child_named}
-use Rattle.yaml_dump.specs.declared.walk.Visit.{Visit}
-use Rattle.yaml_dump.specs.declared.walk.Walker.{Walker}
 use Rattle.yaml_dump.proofs.WalkLemmas.{finish, finish_left, finish_met, finish_again, finish_entered, finish_longer}
+use Rattle.yaml_base.specs.graphs.Meetings as meetings
 
 -- how many nodes were not entered yet
 pub unentered : List Bool → ℕ

@@ -1,16 +1,11 @@
 -- A text goes on from character to character; what was passed over is its prefix.
-use Rattle.std.proofs.Common.{◌≡◌, ℕ, ◌-◌, List, [], ◌∷◌, ◌++◌, length, take, drop, length-append, append_assoc, append-nil, refl, sym, subst, ap, ◌∙◌, arith}
-use Rattle.std.specs.Char.{encode_utf8}
-use Rattle.std.specs.Str.{chars, IsUtf8, IsCharBoundary, encode_utf8_all}
-use Rattle.std.proofs.lemmas.List.{take-append-drop, take_at, drop_at}
-use Rattle.std.proofs.Math.Nat.{sub_self}
-use Rattle.std.proofs.lemmas.Str.{encodes-append, encodes-chars, chars_from_encodes, IsUtf8-take, IsUtf8-past_char, chars_past_char, chars-append, chars-nil}
-use Rattle.std.proofs.lemmas.Str.{IsCharBoundary-at_seam}
-use Rattle.std.specs.Prelude.{◌==◌}
-use Rattle.std.specs.List.{list_any}
-use Rattle.std.proofs.lemmas.List.Folds.{list_any-append}
-use Rattle.std.proofs.lemmas.Bool.Decides.{nat_tests}
-use Rattle.yaml_tool.specs.Cuts.{EndsIn, prefix_of, IsFree}
+use Rattle.yaml_tool.proofs.Common.{ℕ, ◌==◌, List, [], ◌++◌, ◌∷◌, ◌-◌, drop, length, length-append, take, append-nil, append_assoc, ap, refl, subst}
+use Rattle.yaml_tool.proofs.Common.{sym, ◌∙◌, ◌≡◌, arith, nat_tests, take-append-drop, list_any-append, chars-nil, encodes-append, IsUtf8-take}
+use Rattle.yaml_tool.proofs.Common.{IsUtf8-past_char, chars_from_encodes, encodes-chars, chars-append, chars_past_char, encode_utf8, list_any, IsUtf8}
+use Rattle.yaml_tool.proofs.Common.{chars, encode_utf8_all, IsFree, prefix_of}
+use Rattle.std.proofs.{lemmas.List.take_at, lemmas.List.drop_at, Math.Nat.sub_self, lemmas.Str.IsCharBoundary-at_seam}
+use Rattle.std.specs.Str.{IsCharBoundary}
+use Rattle.yaml_tool.specs.Cuts.{EndsIn}
 
 -- a text is its prefix and its end
 pub prefix_and_end : (text end : List ℕ) → EndsIn text end → text ≡ prefix_of text end ++ end

@@ -1,10 +1,7 @@
 -- A text that is cut at the first of a character is cut at each of them, piece by piece.
-use Rattle.std.proofs.Common.{◌≡◌, ℕ, Bool, true, false, cond, ◌||◌, ◌==◌, None, List, [], ◌∷◌, ◌++◌, refl, ap, ◌∙◌, arith}
-use Rattle.std.specs.List.{onto_first}
-use Rattle.std.proofs.lemmas.Bool.Decides.{nat_tests}
-use Rattle.yaml_base.specs.Characters.{Text}
-use Rattle.yaml_base.specs.scripts.Script.{version_of}
-use Rattle.yaml_tool.specs.Cuts.{IsFree, IsCut, cut_at}
+use Rattle.yaml_tool.proofs.Common.{ℕ, ◌==◌, None, List, [], ◌++◌, ◌∷◌, Bool, false, true, ◌||◌, ap, refl, ◌∙◌, ◌≡◌, arith, nat_tests, onto_first, Text}
+use Rattle.yaml_tool.proofs.Common.{version_of, IsFree, IsCut, cut_at}
+use Rattle.std.proofs.Common.{cond}
 
 -- neither of two tests
 pub neither : (a b : Bool) → (a || b) ≡ false → (a ≡ false) × (b ≡ false)

@@ -1,16 +1,11 @@
 -- A line's fields, read one after another, are those that the notation asks for.
-use Rattle.std.proofs.Common.{◌≡◌, ◌++◌, append_assoc, Bool, Option, None, Some, option_map, option_and_then, List, [], ◌∷◌, map, refl, sym, ap, ◌∙◌}
-use Rattle.std.proofs.lemmas.List.{map-append}
-use Rattle.yaml_base.specs.Characters.{Text}
-use Rattle.yaml_base.specs.Event.{Event, TagDirective, ScalarStyle, CollectionStyle}
-use Rattle.yaml_base.specs.scripts.Script.{Field, bare, quoted, flags, scalar_styles, text_or_none, scalar_of, scalar_with, collection_of, collection_with}
-use Rattle.yaml_base.specs.Words.{named}
+use Rattle.yaml_tool.proofs.Common.{Option, None, Some, List, [], map, ◌++◌, ◌∷◌, option_map, option_and_then, Bool, append_assoc, ap, refl, sym, ◌∙◌}
+use Rattle.yaml_tool.proofs.Common.{◌≡◌, map-append, Text, Event, seen_directive, Field, bare, quoted, prepend_field, HasField}
+use Rattle.yaml_tool.specs.{declared.events.CollectionKind.CollectionKind, Events.start_of, Fields.field_of}
+use Rattle.yaml_base.specs.{Event.TagDirective, Event.ScalarStyle, Event.CollectionStyle, Words.named}
+use Rattle.yaml_base.specs.{declared.directives.yaml_tag_directive_t.yaml_tag_directive_t}
+use Rattle.yaml_base.specs.scripts.Script.{flags, scalar_styles, text_or_none, scalar_of, scalar_with, collection_of, collection_with}
 use Rattle.yaml_base.specs.scripts.Script.{collection_styles, directives_of}
-use Rattle.yaml_base.specs.declared.directives.yaml_tag_directive_t.{yaml_tag_directive_t}
-use Rattle.yaml_base.specs.Seen.{seen_directive}
-use Rattle.yaml_tool.specs.declared.events.CollectionKind.{CollectionKind}
-use Rattle.yaml_tool.specs.Events.{start_of}
-use Rattle.yaml_tool.specs.Fields.{prepend_field, field_of, HasField}
 
 -- the field that stands for a choice is read as it
 choice_read : (choice : Option Text) → text_or_none (field_of choice) ≡ Some choice

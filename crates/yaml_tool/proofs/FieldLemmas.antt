@@ -1,20 +1,13 @@
 -- A line is cut at its first separator, character by character, and read field by field.
-use Rattle.std.proofs.Common.{◌≡◌, ℕ, Bool, true, false, if◌then◌else◌, ◌==◌, ◌≤◌, length, Option, None, Some, option_map, append-nil, List, [], ◌∷◌, ◌++◌}
-use Rattle.std.proofs.Common.{refl, sym, subst, ap, ◌∙◌, arith}
-use Rattle.std.proofs.lemmas.Bool.Decides.{nat_tests}
-use Rattle.std.specs.Borrow.{Bor}
-use Rattle.std.specs.List.{onto_first}
-use Rattle.std.specs.Option.{is_some}
-use Rattle.std.specs.Str.{chars, IsUtf8}
-use Rattle.yaml_base.specs.Characters.{Text, space}
-use Rattle.yaml_base.specs.scripts.Script as notation
-use Rattle.yaml_base.specs.scripts.Script.{outside, inside, escaped, separates, state_after, cut_before, pieces_from, bare, quoted, text_from, at_character}
-use Rattle.yaml_base.specs.scripts.Script.{field_read, field_and, read_fields, fields_read, quotation_mark, backslash}
-use Rattle.yaml_tool.specs.Cuts.{IsFree, SkipsTo, prefix_of}
-use Rattle.yaml_tool.specs.Fields.{prepend_to_first_piece, SkipsRunTo, later_fields, prepend_field, HasField}
+use Rattle.yaml_tool.proofs.Common.{ℕ, ◌==◌, Option, None, Some, List, [], ◌++◌, ◌∷◌, ◌≤◌, if◌then◌else◌, length, Bool, false, true, ap, refl, subst}
+use Rattle.yaml_tool.proofs.Common.{sym, ◌∙◌, ◌≡◌, arith, nat_tests, onto_first, IsUtf8, chars, Text, outside, separates, pieces_from}
+use Rattle.yaml_tool.proofs.Common.{field_read, field_and, fields_read, IsFree, prefix_of, SkipsTo, prepend_to_first_piece, SkipsRunTo, later_fields}
+use Rattle.yaml_tool.proofs.Common.{prepend_field, HasField}
+use Rattle.std.specs.{Borrow.Bor, Option.is_some}
+use Rattle.yaml_base.specs.scripts.Script.{inside, escaped, state_after, cut_before, read_fields}
 use Rattle.yaml_tool.proofs.CutLemmas.{neither}
-use Rattle.yaml_tool.proofs.TextLemmas.{reads_prefix}
 use Rattle.yaml_tool.proofs.CharacterLemmas.{PassedEvents, passed_to, ends_in_itself, empty_prefix, run_prefix, run_passed}
+use Rattle.yaml_base.specs.scripts.Script as notation
 
 attached_one : (prefix : Text) (c : ℕ) (pieces : List Text)
     → prepend_to_first_piece (prefix ++ c ∷ []) pieces ≡ prepend_to_first_piece prefix (onto_first c pieces)

@@ -1,3 +1,4 @@
+pub mod Common
 pub mod NumberLemmas
 pub mod TextLemmas
 pub mod FieldLemmas

@@ -1,21 +1,13 @@
 -- What lines say, by their first field and by their bytes.
-use Rattle.std.proofs.Common.{◌≡◌, ℕ, Bool, true, false, ◌==◌, Option, None, Some, option_map, option_and_then, List, [], ◌∷◌, refl, ap, sym}
-use Rattle.std.proofs.Common.{◌∙◌, if◌then◌else◌, arith}
-use Rattle.std.proofs.lemmas.Bool.Decides.{nat_tests}
-use Rattle.std.specs.List.{list_any}
-use Rattle.std.specs.Option.{option_or}
-use Rattle.std.specs.Str.{chars, IsUtf8, is_utf8}
-use Rattle.std.proofs.lemmas.Str.{is_utf8-from_IsUtf8, IsUtf8-from_is_utf8}
-use Rattle.yaml_base.specs.Event.{Event}
-use Rattle.yaml_base.specs.scripts.Script.{Setting, Field, Line, bare, quoted, says_nothing, sets, gives, setting_of, setting_line, event_of, line_of}
-use Rattle.yaml_base.specs.scripts.Script.{line_read}
-use Rattle.yaml_base.specs.scripts.Script.{line_understood, fields_read, number_sign}
-use Rattle.yaml_tool.specs.Cuts.{IsFree}
-use Rattle.yaml_tool.specs.Events.{event_word, event_by}
-use Rattle.yaml_tool.specs.Fields.{prepend_field}
-use Rattle.yaml_tool.specs.declared.words.EventName.{EventName}
+use Rattle.yaml_tool.proofs.Common.{ℕ, ◌==◌, Option, None, Some, List, [], ◌∷◌, if◌then◌else◌, option_map, option_and_then, Bool, false, true, ap, refl}
+use Rattle.yaml_tool.proofs.Common.{sym, ◌∙◌, ◌≡◌, arith, nat_tests, list_any, IsUtf8, chars, Text, Event, line_read, Field, bare, quoted, fields_read}
+use Rattle.yaml_tool.proofs.Common.{IsFree, prepend_field}
+use Rattle.std.{specs.Option.option_or, specs.Str.is_utf8, proofs.lemmas.Str.is_utf8-from_IsUtf8, proofs.lemmas.Str.IsUtf8-from_is_utf8}
+use Rattle.yaml_tool.specs.{Events.event_word, Events.event_by, declared.words.EventName.EventName}
+use Rattle.yaml_base.specs.scripts.Script.{Setting, Line, says_nothing, sets, gives, setting_of, setting_line, event_of, line_of, line_understood}
+use Rattle.yaml_base.specs.scripts.Script.{number_sign}
+use Rattle.yaml_base.specs.Characters.{carriage_return}
 use Rattle.yaml_tool.specs.declared.words.EventName.TheVariants as name
-use Rattle.yaml_base.specs.Characters.{Text, carriage_return}
 
 -- the name of an event sets nothing
 no_setting : (name : EventName) (value : Text) → setting_of (event_word name) value ≡ None

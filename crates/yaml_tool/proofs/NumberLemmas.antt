@@ -1,12 +1,8 @@
 -- A number is read digit by digit, and no further than its greatest value.
-use Rattle.std.proofs.Common.{◌≡◌, ℕ, ◌+◌, ◌*◌, ◌<◌, ◌≤◌, Bool, true, false, ◌&&◌, nat_le, nat_lt, Option, None, Some, List, [], ◌∷◌, refl, sym, subst, arith}
-use Rattle.std.proofs.Common.{if◌then◌else◌}
-use Rattle.std.proofs.Math.Nat.{mul-le-mul_left}
-use Rattle.std.proofs.lemmas.Bool.Decides.{nat_tests}
-use Rattle.std.specs.List.{list_all}
-use Rattle.std.specs.Char.{is_digit, digit_value}
-use Rattle.std.specs.Str.Parse.{digits_value_after}
-use Rattle.yaml_tool.specs.Numbers.{number_after}
+use Rattle.yaml_tool.proofs.Common.{ℕ, Option, None, Some, List, [], ◌∷◌, ◌*◌, ◌+◌, ◌<◌, ◌≤◌, if◌then◌else◌, Bool, false, true, refl, subst, sym, ◌≡◌}
+use Rattle.yaml_tool.proofs.Common.{arith, nat_tests, digit_value, number_after}
+use Rattle.std.{proofs.Common.◌&&◌, proofs.Common.nat_le, proofs.Common.nat_lt, proofs.Math.Nat.mul-le-mul_left, specs.List.list_all}
+use Rattle.std.{specs.Char.is_digit, specs.Str.Parse.digits_value_after}
 
 lt_true : (a b : ℕ) → a < b → nat_lt a b ≡ true
 lt_true a b h = grind (arith, nat_tests)

@@ -1,14 +1,8 @@
 -- A script that is read part by part: what is left with what was read is the whole.
-use Rattle.std.proofs.Common.{◌≡◌, ℕ, Option, None, Some, List, [], ◌++◌, ap, sym, subst, ◌∙◌}
-use Rattle.std.specs.Prelude.{⊤, IfSome}
-use Rattle.std.specs.Io.KnownBytes.{Consumes, Keeps, IsAtEnd}
-use Rattle.yaml_base.specs.scripts.Script.{Script, script_of}
-use Rattle.yaml_tool.specs.declared.answers.run_answer_t.{run_answer_t}
-use Rattle.yaml_tool.specs.declared.answers.run_answer_t.TheVariants.{Done, Refused, BadLine, ReadFailed, WriteFailed, NoMemory}
-use Rattle.yaml_tool.specs.declared.parts.ScriptPrefix.{ScriptPrefix}
-use Rattle.yaml_tool.specs.declared.scripts.ScriptError.{ScriptError}
-use Rattle.yaml_tool.specs.Runs.{IsFault, ReadsAll}
-use Rattle.yaml_tool.specs.Scripts.{seen_progress, nothing_parsed, script_after_lines, script_with, ContinuesScript, IsFaultOf}
+use Rattle.yaml_tool.proofs.Common.{ℕ, IfSome, Option, None, Some, List, [], ◌++◌, ap, subst, sym, ◌∙◌, ◌≡◌, Script, script_of, ReadsAll, IsFault}
+use Rattle.yaml_tool.proofs.Common.{IsFaultOf, run_answer_t, BadLine, Done, NoMemory, ReadFailed, Refused, WriteFailed, ScriptError}
+use Rattle.yaml_tool.specs.{declared.parts.ScriptPrefix.ScriptPrefix, Scripts.script_with, Scripts.ContinuesScript}
+use Rattle.std.specs.{Prelude.⊤, Io.KnownBytes.Consumes, Io.KnownBytes.Keeps, Io.KnownBytes.IsAtEnd}
 
 -- at the end of the input the whole script was read
 pub reads_at_end : (answer : run_answer_t) (left : Option (List ℕ)) → IsAtEnd left → ReadsAll answer left

@@ -1,23 +1,13 @@
 -- The events of a script given to an emitter, one after another.
-use Rattle.std.proofs.Common.{◌≡◌, sym, ap, ◌∙◌, subst, append_assoc, inl, inr}
-use Rattle.std.proofs.lemmas.List.{map-append}
-use Rattle.std.specs.Prelude.{◌⊎◌, ℕ, Option, None, Some, IfSome, Err, List, [], ◌∷◌, ◌++◌, map}
-use Rattle.std.specs.Io.KnownBytes.{Appends}
-use Rattle.yaml_base.specs.Settings.{Settings}
-use Rattle.yaml_base.specs.Seen.{seen_event}
-use Rattle.yaml_base.specs.scripts.Script.{Numbered, understood, script_of}
-use Rattle.yaml_base.specs.declared.errors.yaml_error_t.{yaml_error_t}
-use Rattle.yaml_pen.specs.Page.{result_of_error}
-use Rattle.yaml_pen.specs.Wrote.{Grows}
+use Rattle.yaml_tool.proofs.Common.{ℕ, IfSome, Option, None, Some, Err, List, [], map, ◌++◌, ◌∷◌, append_assoc, ap, subst, sym, ◌∙◌, ◌≡◌, map-append}
+use Rattle.yaml_tool.proofs.Common.{Appends, seen_event, Settings, yaml_error_t, Numbered, understood, script_of, StandsAfter, State, events_in}
+use Rattle.yaml_tool.proofs.Common.{RefusesAt, LastLine, seen_numbered, run_answer_t, BadLine, Done, NoMemory, ReadFailed, Refused, WriteFailed}
+use Rattle.yaml_pen.specs.{Page.result_of_error, Wrote.Grows}
+use Rattle.std.proofs.Common.{inr}
 use Rattle.yaml_emitter.proofs.standing.KeptDocuments.{documents_kept, documents_stay}
-use Rattle.yaml_emitter.specs.State.{State}
-use Rattle.yaml_emitter.specs.StandsAfter.{StandsAfter}
 use Rattle.yaml_emitter.specs.Promises.{HasAllBytes, Promised}
-use Rattle.yaml_tool.specs.declared.answers.run_answer_t.{run_answer_t}
-use Rattle.yaml_tool.specs.declared.answers.run_answer_t.TheVariants.{Done, Refused, BadLine, ReadFailed, WriteFailed, NoMemory}
 use Rattle.yaml_tool.specs.declared.scripts.NumberedEvent.{NumberedEvent}
-use Rattle.yaml_tool.specs.Scripts.{seen_numbered}
-use Rattle.yaml_tool.specs.Runs.{events_in, EmitsAll, RefusesAt, Emits, EndsAt, LastLine, FlushesLast, AnswersEvents, AnswersScript, WritesNothing}
+use Rattle.yaml_tool.specs.Runs.{EmitsAll, Emits, EndsAt, FlushesLast, AnswersEvents, AnswersScript, WritesNothing}
 
 -- what an answer says of a script's events it says of the bytes that were left
 pub tells_all : (left : Option (List ℕ)) (given : Settings) (all : List Numbered) (answer : run_answer_t) (old new : Option (List ℕ))

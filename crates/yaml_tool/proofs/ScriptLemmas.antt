@@ -1,13 +1,11 @@
 -- A script is understood line by line.
-use Rattle.std.specs.Result.{IfErr, IsErr, IsErrAnd}
-use Rattle.std.proofs.Common.{◌≡◌, Result, Ok, Err, ℕ, suc, ◌+◌, ◌<◌, add-one, Option, None, Some, List, [], ◌∷◌, ◌++◌, length, length-append, append-nil}
-use Rattle.std.proofs.Common.{append_assoc, refl, ap, sym, subst, ◌∙◌, arith}
-use Rattle.yaml_base.specs.Characters.{line_feed}
-use Rattle.yaml_base.specs.scripts.Script.{Script, ScriptState, bad_line, understood, unset, settings_of, script_from}
-use Rattle.yaml_tool.specs.declared.scripts.ScriptError.{ScriptError}
+use Rattle.yaml_tool.proofs.Common.{ℕ, Option, None, Some, Err, List, [], ◌++◌, ◌∷◌, suc, ◌+◌, ◌<◌, Result, length, length-append, append-nil}
+use Rattle.yaml_tool.proofs.Common.{append_assoc, ap, refl, subst, sym, ◌∙◌, ◌≡◌, add-one, arith, IfErr, line_feed, Script, understood, IsFree, IsCut}
+use Rattle.yaml_tool.proofs.Common.{cut_at, IsFaultOf, script_after_lines, ScriptError}
+use Rattle.std.{specs.Result.IsErr, specs.Result.IsErrAnd, proofs.Common.Ok}
+use Rattle.yaml_base.specs.scripts.Script.{ScriptState, bad_line, unset, settings_of, script_from}
 use Rattle.yaml_tool.specs.declared.scripts.ScriptError.TheVariants.{BadLine, OutOfMemory}
-use Rattle.yaml_tool.specs.Cuts.{IsFree, IsCut, cut_at}
-use Rattle.yaml_tool.specs.Scripts.{after_line, script_after_lines, LeavesLastLine, IsFaultOf, IsFaultAt}
+use Rattle.yaml_tool.specs.Scripts.{after_line, LeavesLastLine, IsFaultAt}
 use Rattle.yaml_tool.proofs.CutLemmas.{cut_free, cut_cut}
 
 -- what a script's line and those behind it come to

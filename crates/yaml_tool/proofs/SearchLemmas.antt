@@ -1,21 +1,13 @@
 -- What a search of bytes tells of the prefix before the byte that it found.
-use Rattle.std.proofs.Common.{◌≡◌, ℕ, zero, suc, ◌+◌, ◌-◌, ◌<◌, ◌≤◌, ◌==◌, Bool, true, false, ◌||◌, List, [], ◌∷◌, ◌++◌, length, take, drop, add-one, take_all}
-use Rattle.std.proofs.Common.{le_refl, append-nil, refl, sym, subst, ap, ◌∙◌, arith}
-use Rattle.std.specs.Prelude.{slice_index}
-use Rattle.std.specs.List.{list_any}
-use Rattle.std.specs.Char.{encode_utf8}
-use Rattle.std.specs.Str.{chars, IsUtf8, encode_utf8_all}
-use Rattle.std.proofs.lemmas.Str.{encode_ascii, encodes-chars, IsUtf8-take, IsUtf8-drop, IsUtf8-nil, IsCharBoundary-before_ascii}
-use Rattle.std.proofs.Math.Seq.{drop-cons}
-use Rattle.std.proofs.lemmas.Bool.Decides.{nat_tests}
-use Rattle.std.proofs.lemmas.Bool.{eqb-true, false≢true}
-use Rattle.std.proofs.lemmas.List.{take-append-drop, take_rest}
-use Rattle.std.proofs.lemmas.List.Folds.{list_any_more, list_any-append}
-use Rattle.memchr.specs.Find.{Nowhere, NoneBefore, Passes, is_byte, is_byte2}
-use Rattle.yaml_base.specs.Characters.{line_feed}
-use Rattle.yaml_tool.specs.Cuts.{IsFree, IsCut, SkipsTo}
-use Rattle.yaml_tool.proofs.CutLemmas.{neither}
-use Rattle.yaml_tool.proofs.CharacterLemmas.{take_seam, ends_at_seam}
+use Rattle.yaml_tool.proofs.Common.{ℕ, ◌==◌, List, [], ◌++◌, ◌∷◌, suc, ◌+◌, ◌-◌, ◌<◌, ◌≤◌, drop, length, take, Bool, false, true, ◌||◌, append-nil, ap}
+use Rattle.yaml_tool.proofs.Common.{refl, subst, sym, ◌∙◌, ◌≡◌, add-one, arith, nat_tests, take-append-drop, list_any-append, IsUtf8-take}
+use Rattle.yaml_tool.proofs.Common.{encodes-chars, encode_utf8, list_any, IsUtf8, chars, encode_utf8_all, Nowhere, NoneBefore, Passes, is_byte2}
+use Rattle.yaml_tool.proofs.Common.{line_feed, IsFree, IsCut, SkipsTo}
+use Rattle.std.{proofs.Common.zero, proofs.Common.take_all, proofs.Common.le_refl, specs.Prelude.slice_index, proofs.Math.Seq.drop-cons}
+use Rattle.std.{proofs.lemmas.Bool.eqb-true, proofs.lemmas.Bool.false≢true, proofs.lemmas.List.take_rest, proofs.lemmas.List.Folds.list_any_more}
+use Rattle.yaml_tool.proofs.{CutLemmas.neither, CharacterLemmas.take_seam, CharacterLemmas.ends_at_seam}
+use Rattle.std.proofs.lemmas.Str.{encode_ascii, IsUtf8-drop, IsUtf8-nil, IsCharBoundary-before_ascii}
+use Rattle.memchr.specs.Find.{is_byte}
 
 not_true : (b : Bool) → ¬ (b ≡ true) → b ≡ false
 not_true true h = absurd (h refl)

@@ -1,20 +1,12 @@
 -- A text is read turn by turn: `\u{..}` is cut at its closing brace.
-use Rattle.std.proofs.Common.{◌≡◌, ℕ, Bool, false, ◌==◌, Option, None, Some, option_map, List, [], ◌∷◌, ◌++◌, length, append_assoc, append-nil, refl, sym}
-use Rattle.std.proofs.Common.{subst, ap, ◌∙◌, if◌then◌else◌}
+use Rattle.yaml_tool.proofs.Common.{ℕ, ◌==◌, Option, None, Some, List, [], ◌++◌, ◌∷◌, if◌then◌else◌, option_map, length, Bool, false, append-nil}
+use Rattle.yaml_tool.proofs.Common.{append_assoc, ap, refl, subst, sym, ◌∙◌, ◌≡◌, chars-nil, encodes-append, chars_from_encodes, encodes-chars}
+use Rattle.yaml_tool.proofs.Common.{chars-append, IsUtf8-string_bytes, encode_utf8, IsUtf8, chars, encode_utf8_all, string_bytes, Text, seen_text}
+use Rattle.yaml_tool.proofs.Common.{backslash, at_character, text_from, IsFree, IsCut, prefix_of, SkipsTo}
+use Rattle.yaml_tool.{specs.Texts.ReadsOn, proofs.CutLemmas.neither, proofs.CharacterLemmas.passed_to}
 use Rattle.std.specs.Prelude.{String}
-use Rattle.std.specs.String.{string_bytes}
-use Rattle.std.specs.Char.{encode_utf8}
-use Rattle.std.specs.Str.{IsUtf8, chars, encode_utf8_all}
-use Rattle.std.proofs.lemmas.Str.{chars-append, chars-nil, encodes-append, encodes-chars, IsUtf8-string_bytes, chars_from_encodes}
-use Rattle.yaml_base.specs.Seen.{seen_text}
-use Rattle.yaml_base.specs.Characters.{Text}
+use Rattle.yaml_base.specs.scripts.Script.{goes_on, stands_for, ends, fails, at_escape, at_digits, at_brace, numbered_step, quotation_mark, text_step}
 use Rattle.yaml_base.specs.scripts.Script as notation
-use Rattle.yaml_base.specs.scripts.Script.{goes_on, stands_for, ends, fails, at_character, at_escape, at_digits, at_brace, text_from, numbered_step}
-use Rattle.yaml_base.specs.scripts.Script.{quotation_mark, backslash, text_step}
-use Rattle.yaml_tool.specs.Cuts.{IsFree, IsCut, SkipsTo, prefix_of}
-use Rattle.yaml_tool.specs.Texts.{ReadsOn}
-use Rattle.yaml_tool.proofs.CutLemmas.{neither}
-use Rattle.yaml_tool.proofs.CharacterLemmas.{passed_to}
 
 -- what a turn and the characters behind it are read as
 abbrev pub read_turn : notation.TextStep → Text → Option Text

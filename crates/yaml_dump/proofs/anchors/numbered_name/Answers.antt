@@ -1,6 +1,4 @@
-use Rattle.std.proofs.Common.{arith, ap}
-use Rattle.std.proofs.lemmas.Result.{IfOk-weaker}
-use Rattle.std.specs.Fmt.{styled_decimal}
+use Rattle.yaml_dump.proofs.Common.{ap, arith, IfOk-weaker, styled_decimal}
 use Rattle.yaml_dump.proofs.NameLemmas.{printed_name}
 use Rattle.yaml_dump.proofs.anchors.numbered_name.Goals as goal
 

@@ -1,6 +1,4 @@
-use Rattle.std.proofs.Common.{◌++◌, ◌∷◌, [], ◌+◌, ◌-◌, length, set, subst, sym, arith}
-use Rattle.yaml_dump.specs.Anchors.{Places, IsNumbered}
-use Rattle.yaml_dump.specs.WalkSteps.{seen_step}
+use Rattle.yaml_dump.proofs.Common.{length, [], ◌++◌, ◌∷◌, ◌+◌, ◌-◌, set, subst, sym, arith, IsNumbered, Places, seen_step}
 use Rattle.yaml_dump.proofs.AnchorLemmas.{meets_none, other_step, met_before, met_first}
 use Rattle.yaml_dump.proofs.anchors.place_met.Goals as goal
 

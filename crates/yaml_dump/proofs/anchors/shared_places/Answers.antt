@@ -1,7 +1,4 @@
-use Rattle.std.proofs.Common.{◌≡◌, ◌++◌, length, take, drop, subst, sym, ap, ◌∙◌, arith, map, get_or, [], ◌∷◌}
-use Rattle.yaml_dump.specs.declared.steps.Step.TheVariants.{Enters}
-use Rattle.yaml_dump.specs.Anchors.{Places}
-use Rattle.yaml_dump.specs.WalkSteps.{seen_step}
+use Rattle.yaml_dump.proofs.Common.{length, [], map, ◌++◌, ◌∷◌, drop, get_or, take, ap, subst, sym, ◌∙◌, ◌≡◌, arith, Places, seen_step, Enters}
 use Rattle.yaml_dump.proofs.AnchorLemmas.{step_numbered, seen_more, whole_slice}
 use Rattle.yaml_dump.proofs.anchors.shared_places.Goals as goal
 

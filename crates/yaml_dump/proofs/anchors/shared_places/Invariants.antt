@@ -1,6 +1,4 @@
-use Rattle.std.proofs.Common.{◌≡◌, ◌≤◌, map, length, take}
-use Rattle.yaml_dump.specs.Anchors.{Places}
-use Rattle.yaml_dump.specs.WalkSteps.{seen_step}
+use Rattle.yaml_dump.proofs.Common.{length, map, ◌≤◌, take, ◌≡◌, Places, seen_step}
 use Rattle.yaml_dump.proofs.anchors.shared_places.Given as goal
 
 abbrev pub invariant-loop-step : goal.invariant-loop-step

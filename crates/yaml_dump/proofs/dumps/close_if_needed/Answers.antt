@@ -1,6 +1,4 @@
-use Rattle.std.proofs.Common.{refl, inl, inr, sym, subst, ◌∙◌, Bool}
-use Rattle.yaml_base.specs.Event.{stream_end}
-use Rattle.yaml_dump.specs.Dumps.{EmitsAll, EmitsEach, closing}
+use Rattle.yaml_dump.proofs.Common.{Bool, inl, inr, refl, subst, sym, ◌∙◌, stream_end, EmitsAll, EmitsEach, closing}
 use Rattle.yaml_dump.proofs.Emissions.{emits_nothing, emits_one}
 use Rattle.yaml_dump.proofs.dumps.close_if_needed.Goals as goal
 

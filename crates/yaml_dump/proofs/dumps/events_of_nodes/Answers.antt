@@ -1,9 +1,5 @@
-use Rattle.std.proofs.Common.{◌≡◌, ◌∙◌, true, length, map, sym, ap, subst}
-use Rattle.yaml_base.specs.graphs.Documents.{graph_of}
-use Rattle.yaml_dump.specs.Anchors.{is_numbered}
-use Rattle.yaml_dump.specs.WalkSteps.{seen_step}
-use Rattle.yaml_dump.proofs.EventLemmas.{named_numbered}
-use Rattle.yaml_dump.proofs.GraphLemmas.{walk_unfolds}
+use Rattle.yaml_dump.proofs.Common.{length, true, map, ap, subst, sym, ◌∙◌, ◌≡◌, graph_of, is_numbered, seen_step}
+use Rattle.yaml_dump.proofs.{EventLemmas.named_numbered, GraphLemmas.walk_unfolds}
 use Rattle.yaml_dump.proofs.dumps.events_of_nodes.Goals as goal
 
 pub events_of_walk-requires : goal.events_of_walk-requires

@@ -1,7 +1,5 @@
-use Rattle.std.proofs.Common.{refl, inl, inr, sym, subst, ◌∙◌, Bool}
-use Rattle.std.proofs.Common.{None}
+use Rattle.yaml_dump.proofs.Common.{None, Bool, inl, inr, refl, subst, sym, ◌∙◌, EmitsAll, EmitsEach, opening}
 use Rattle.yaml_base.specs.Event.{stream_start}
-use Rattle.yaml_dump.specs.Dumps.{EmitsAll, EmitsEach, opening}
 use Rattle.yaml_dump.proofs.Emissions.{emits_nothing, emits_one}
 use Rattle.yaml_dump.proofs.dumps.open_if_needed.Goals as goal
 

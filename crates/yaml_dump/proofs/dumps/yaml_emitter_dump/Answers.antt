@@ -1,13 +1,6 @@
-use Rattle.std.proofs.Common.{◌==◌, ◌||◌, ◌++◌, sym, ap, inr, length, map, ◌∙◌}
+use Rattle.yaml_dump.proofs.Common.{◌==◌, length, ◌||◌, map, ◌++◌, inr, ap, sym, ◌∙◌, false≢true, document_unfolds, seen_event, graph_of}
+use Rattle.yaml_dump.proofs.Common.{document_event_list, opening, closing, grows_then, none_from_result}
 use Rattle.std.proofs.Math.Bool.{or-false}
-use Rattle.std.proofs.lemmas.Bool.{false≢true}
-use Rattle.yaml_base.specs.graphs.Documents.{graph_of}
-use Rattle.yaml_base.specs.graphs.Meetings.{document_event_list}
-use Rattle.yaml_base.specs.Seen.{seen_event}
-use Rattle.yaml_base.proofs.DocumentsUnfold.{document_unfolds}
-use Rattle.yaml_pen.proofs.Composing.{grows_then}
-use Rattle.yaml_pen.proofs.Writing.{none_from_result}
-use Rattle.yaml_dump.specs.Dumps.{closing, opening}
 use Rattle.yaml_dump.proofs.GraphLemmas.{closing_reads, closing_trees}
 use Rattle.yaml_dump.proofs.Emissions.{begun_then, on_ok, on_err, closed_by, exit_dumps, dumps_closing, dumps_events}
 use Rattle.yaml_dump.proofs.dumps.yaml_emitter_dump.Goals as goal

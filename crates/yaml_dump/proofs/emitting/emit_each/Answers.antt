@@ -1,12 +1,7 @@
-use Rattle.std.proofs.Common.{◌++◌, refl, inl, inr, map, sym, ap, ◌∙◌, subst, append-nil, rules}
-use Rattle.std.proofs.lemmas.Iterator.Adapters.{YieldsList-from_vec}
-use Rattle.std.proofs.lemmas.Iterator.Consumers.{YieldsList-end}
-use Rattle.std.proofs.lemmas.List.{map-id}
-use Rattle.std.specs.Vec.Iter.{into_iter_items}
-use Rattle.yaml_base.specs.Seen.{seen_event}
-use Rattle.yaml_pen.proofs.Composing.{grows_itself, grows_then}
-use Rattle.yaml_pen.proofs.Writing.{none_from_result}
-use Rattle.yaml_emitter.specs.StandsAfter.{StandsAfter}
+use Rattle.yaml_dump.proofs.Common.{map, ◌++◌, rules, append-nil, inl, inr, ap, refl, subst, sym, ◌∙◌, into_iter_items, seen_event, StandsAfter}
+use Rattle.yaml_dump.proofs.Common.{grows_then, none_from_result}
+use Rattle.std.proofs.lemmas.{Iterator.Adapters.YieldsList-from_vec, Iterator.Consumers.YieldsList-end, List.map-id}
+use Rattle.yaml_pen.proofs.Composing.{grows_itself}
 use Rattle.yaml_dump.proofs.Emissions.{keeps_same, keeps_more, some_told, events_more, parts_more, failed_at}
 use Rattle.yaml_dump.proofs.emitting.emit_each.Goals as goal
 

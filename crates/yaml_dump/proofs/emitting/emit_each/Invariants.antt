@@ -1,12 +1,5 @@
-use Rattle.std.proofs.Common.{◌≡◌, None, List, true, ◌++◌, map}
-use Rattle.std.specs.Vec.Iter.{into_iter_items}
-use Rattle.yaml_base.specs.Event.{Event}
-use Rattle.yaml_base.specs.Seen.{seen_event}
-use Rattle.yaml_base.specs.Settings.{Settings}
-use Rattle.yaml_dump.specs.Dumps.{IsBegun}
+use Rattle.yaml_dump.proofs.Common.{None, true, List, map, ◌++◌, ◌≡◌, into_iter_items, Event, seen_event, Settings, IsBegun, StandsAfter, Grows}
 use Rattle.yaml_dump.proofs.Emissions.{KeepsButStart}
-use Rattle.yaml_pen.specs.Wrote.{Grows}
-use Rattle.yaml_emitter.specs.StandsAfter.{StandsAfter}
 use Rattle.yaml_dump.proofs.emitting.emit_each.Given as goal
 
 abbrev pub invariant-loop-event : goal.invariant-loop-event

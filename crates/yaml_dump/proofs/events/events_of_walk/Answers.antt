@@ -1,13 +1,5 @@
-use Rattle.std.proofs.Common.{map, length, sym, ap, ◌∙◌, subst}
-use Rattle.yaml_base.specs.graphs.Documents.{graph_of}
-use Rattle.yaml_base.specs.Event.{document_start}
-use Rattle.yaml_base.specs.graphs.Meetings.{step_events}
-use Rattle.yaml_base.specs.Seen.{seen_events}
-use Rattle.yaml_dump.specs.declared.steps.Step.TheVariants.{Enters}
-use Rattle.yaml_dump.specs.Anchors.{HasPlaces}
-use Rattle.yaml_dump.specs.WalkSteps.{seen_step}
-use Rattle.yaml_dump.proofs.AnchorLemmas.{step_placed}
-use Rattle.yaml_dump.proofs.EventLemmas.{events_more}
+use Rattle.yaml_dump.proofs.Common.{length, map, ap, subst, sym, ◌∙◌, document_start, seen_events, graph_of, step_events, HasPlaces, seen_step, Enters}
+use Rattle.yaml_dump.proofs.{AnchorLemmas.step_placed, EventLemmas.events_more}
 use Rattle.yaml_dump.proofs.events.events_of_walk.Goals as goal
 
 pub push_event-requires-clause-placed : goal.push_event-requires-clause-placed

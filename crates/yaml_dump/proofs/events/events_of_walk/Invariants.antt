@@ -1,10 +1,5 @@
-use Rattle.std.proofs.Common.{◌≡◌, ◌∷◌, map, take}
+use Rattle.yaml_dump.proofs.Common.{map, ◌∷◌, take, ◌≡◌, document_start, seen_events, graph_of, step_events, seen_step}
 use Rattle.std.specs.List.{flat_map}
-use Rattle.yaml_base.specs.graphs.Documents.{graph_of}
-use Rattle.yaml_base.specs.Event.{document_start}
-use Rattle.yaml_base.specs.graphs.Meetings.{step_events}
-use Rattle.yaml_base.specs.Seen.{seen_events}
-use Rattle.yaml_dump.specs.WalkSteps.{seen_step}
 use Rattle.yaml_dump.proofs.events.events_of_walk.Given as goal
 
 abbrev pub invariant-loop-step : goal.invariant-loop-step

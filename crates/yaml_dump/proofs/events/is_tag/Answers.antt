@@ -1,4 +1,4 @@
-use Rattle.std.proofs.Common.{◌∙◌}
+use Rattle.yaml_dump.proofs.Common.{◌∙◌}
 use Rattle.yaml_base.proofs.AsciiWords.{ascii_of, same_word}
 use Rattle.yaml_dump.proofs.events.is_tag.Goals as goal
 

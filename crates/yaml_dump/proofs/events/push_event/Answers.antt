@@ -1,6 +1,4 @@
-use Rattle.yaml_base.specs.graphs.Documents.{graph_of}
-use Rattle.yaml_base.specs.graphs.Meetings.{step_events}
-use Rattle.yaml_dump.specs.WalkSteps.{seen_step}
+use Rattle.yaml_dump.proofs.Common.{graph_of, step_events, seen_step}
 use Rattle.yaml_dump.proofs.EventLemmas.{pushed}
 use Rattle.yaml_dump.proofs.events.push_event.Goals as goal
 

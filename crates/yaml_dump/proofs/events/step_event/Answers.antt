@@ -1,10 +1,4 @@
-use Rattle.std.proofs.Common.{◌≡◌, length, subst, sym}
-use Rattle.std.proofs.lemmas.Result.{IfOk-weaker}
-use Rattle.yaml_base.specs.graphs.Documents.{graph_of}
-use Rattle.yaml_base.specs.graphs.Meetings.{step_events}
-use Rattle.yaml_dump.specs.Anchors.{IsNumbered}
-use Rattle.yaml_dump.specs.Events.{seen_events_of}
-use Rattle.yaml_dump.specs.WalkSteps.{seen_step}
+use Rattle.yaml_dump.proofs.Common.{length, subst, sym, ◌≡◌, IfOk-weaker, graph_of, step_events, IsNumbered, seen_events_of, seen_step}
 use Rattle.yaml_dump.proofs.EventLemmas.{entered}
 use Rattle.yaml_dump.proofs.events.step_event.Goals as goal
 

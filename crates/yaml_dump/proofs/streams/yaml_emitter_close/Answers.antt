@@ -1,8 +1,5 @@
-use Rattle.std.proofs.Common.{ap, ◌∙◌, sym, subst}
-use Rattle.yaml_pen.proofs.Writing.{none_from_result}
-use Rattle.yaml_emitter.specs.State.{State}
+use Rattle.yaml_dump.proofs.Common.{ap, subst, sym, ◌∙◌, State, none_from_result, Grows}
 use Rattle.yaml_dump.proofs.GraphLemmas.{graphs_read, trees_read}
-use Rattle.yaml_pen.specs.Wrote.{Grows}
 use Rattle.yaml_dump.proofs.streams.yaml_emitter_close.Goals as goal
 
 pub returns-clause-promised : goal.returns-clause-promised

@@ -1,6 +1,4 @@
-use Rattle.std.proofs.Common.{sym, subst}
-use Rattle.yaml_pen.specs.Wrote.{Grows}
-use Rattle.yaml_emitter.specs.State.{State}
+use Rattle.yaml_dump.proofs.Common.{subst, sym, State, Grows}
 use Rattle.yaml_dump.proofs.streams.yaml_emitter_open.Goals as goal
 
 pub returns-clause-promised : goal.returns-clause-promised

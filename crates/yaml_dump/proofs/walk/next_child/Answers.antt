@@ -1,6 +1,5 @@
-use Rattle.std.proofs.Common.{arith}
+use Rattle.yaml_dump.proofs.Common.{arith, graph_of}
 use Rattle.std.proofs.lemmas.Grind.{common_steps}
-use Rattle.yaml_base.specs.graphs.Documents.{graph_of}
 use Rattle.yaml_dump.proofs.ChildLemmas.{child_named}
 use Rattle.yaml_dump.proofs.walk.next_child.Goals as goal
 

@@ -1,4 +1,4 @@
-use Rattle.std.proofs.Common.{arith}
+use Rattle.yaml_dump.proofs.Common.{arith}
 use Rattle.yaml_dump.proofs.ChildLemmas.{pairs_countable}
 use Rattle.yaml_dump.proofs.walk.number_at.Goals as goal
 

@@ -1,10 +1,5 @@
-use Rattle.std.proofs.Common.{length, reverse, ap, arith, rules, FitsSigned, w32}
-use Rattle.std.proofs.Math.IntN.{nat_abs}
-use Rattle.std.proofs.lemmas.Bool.{eqb-false}
-use Rattle.std.proofs.lemmas.Int.{to_z-of_z}
-use Rattle.std.proofs.lemmas.List.{nil_from_length}
-use Rattle.yaml_base.specs.graphs.Documents.{graph_of}
-use Rattle.yaml_dump.specs.WalkState.{seen_walker}
+use Rattle.yaml_dump.proofs.Common.{length, rules, reverse, ap, w32, FitsSigned, arith, to_z-of_z, graph_of, seen_walker}
+use Rattle.std.proofs.{Math.IntN.nat_abs, lemmas.Bool.eqb-false, lemmas.List.nil_from_length}
 use Rattle.yaml_dump.proofs.WalkStateLemmas.{stands_first, stands_popped, stands_behind, steps_fewer, steps_whole, innermost_named, walk_named}
 use Rattle.yaml_dump.proofs.walk.walk.Goals as goal
 

@@ -1,8 +1,6 @@
-use Rattle.std.proofs.Common.{◌-◌, length}
-use Rattle.yaml_base.specs.graphs.Meetings as meetings
-use Rattle.yaml_base.specs.graphs.Documents.{graph_of}
-use Rattle.yaml_dump.specs.WalkState.{seen_walker}
+use Rattle.yaml_dump.proofs.Common.{length, ◌-◌, graph_of, seen_walker}
 use Rattle.yaml_dump.proofs.WalkStateLemmas.{Stands}
+use Rattle.yaml_base.specs.graphs.Meetings as meetings
 use Rattle.yaml_dump.proofs.walk.walk.Given as goal
 
 abbrev pub invariant-loop-visit : goal.invariant-loop-visit

@@ -1,7 +1,4 @@
-use Rattle.std.proofs.Common.{◌==◌, ap, arith}
-use Rattle.std.specs.List.{list_any}
-use Rattle.std.specs.Str.{chars}
-use Rattle.yaml_tool.specs.Cuts.{prefix_of}
+use Rattle.yaml_tool.proofs.Common.{◌==◌, ap, arith, list_any, chars, prefix_of}
 use Rattle.yaml_tool.proofs.CharacterLemmas.{nothing_passed, empty_prefix, one_passed, prefix_passed, still_free}
 use Rattle.yaml_tool.proofs.characters.cut_once.Goals as goal
 

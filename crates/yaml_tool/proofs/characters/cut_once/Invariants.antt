@@ -1,6 +1,4 @@
-use Rattle.std.proofs.Common.{◌≤◌, length}
-use Rattle.std.specs.Str.{chars}
-use Rattle.yaml_tool.specs.Cuts.{IsFree, prefix_of}
+use Rattle.yaml_tool.proofs.Common.{◌≤◌, length, chars, IsFree, prefix_of}
 use Rattle.yaml_tool.proofs.CharacterLemmas.{PassedEvents}
 use Rattle.yaml_tool.proofs.characters.cut_once.Given as goal
 

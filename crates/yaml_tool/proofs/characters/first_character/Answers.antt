@@ -1,8 +1,5 @@
-use Rattle.std.proofs.Common.{◌≡◌, ◌++◌, ap, sym, ◌∙◌}
-use Rattle.std.specs.Char.{encode_utf8}
-use Rattle.std.specs.Str.{chars}
+use Rattle.yaml_tool.proofs.Common.{◌++◌, ap, sym, ◌∙◌, ◌≡◌, chars-nil, chars_past_char, encode_utf8, chars}
 use Rattle.std.proofs.lemmas.List.{nil_from_length}
-use Rattle.std.proofs.lemmas.Str.{chars_past_char, chars-nil}
 use Rattle.yaml_tool.proofs.characters.first_character.Goals as goal
 
 pub returns-in-Some-clause-characters : goal.returns-in-Some-clause-characters

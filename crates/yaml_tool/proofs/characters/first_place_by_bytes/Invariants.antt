@@ -1,4 +1,4 @@
-use Rattle.memchr.specs.Find.{Nowhere, Passes, is_byte2}
+use Rattle.yaml_tool.proofs.Common.{Nowhere, Passes, is_byte2}
 use Rattle.yaml_tool.proofs.characters.first_place_by_bytes.Given as goal
 
 abbrev pub invariant-loop-index : goal.invariant-loop-index

@@ -1,5 +1,4 @@
-use Rattle.std.proofs.Common.{ℕ, List, length, subst, arith}
-use Rattle.memchr.specs.Find.{Nowhere, NoneBefore, Passes, is_byte2}
+use Rattle.yaml_tool.proofs.Common.{ℕ, List, length, subst, arith, Nowhere, NoneBefore, Passes, is_byte2}
 use Rattle.yaml_tool.proofs.SearchLemmas.{delimiter_found, no_indicator}
 use Rattle.yaml_tool.proofs.characters.skip_word.Goals as goal
 

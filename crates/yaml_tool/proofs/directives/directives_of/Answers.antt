@@ -1,8 +1,6 @@
-use Rattle.std.proofs.Common.{option_and_then}
-use Rattle.std.proofs.lemmas.Option.{MatchOption-at_some}
-use Rattle.yaml_base.specs.scripts.Script as notation
-use Rattle.yaml_tool.specs.Fields.{later_fields}
+use Rattle.yaml_tool.proofs.Common.{option_and_then, MatchOption-at_some, later_fields}
 use Rattle.yaml_tool.proofs.EventLemmas.{directive_read}
+use Rattle.yaml_base.specs.scripts.Script as notation
 use Rattle.yaml_tool.proofs.directives.directives_of.Goals as goal
 
 pub loop-left-preserved : goal.loop-left-preserved

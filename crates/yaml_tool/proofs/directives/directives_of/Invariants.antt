@@ -1,7 +1,6 @@
-use Rattle.std.proofs.Common.{◌≡◌, ◌++◌, map, option_map, option_and_then}
+use Rattle.yaml_tool.proofs.Common.{map, ◌++◌, option_map, option_and_then, ◌≡◌, seen_directive, later_fields}
+use Rattle.yaml_tool.specs.Fields.{left_length}
 use Rattle.yaml_base.specs.scripts.Script as notation
-use Rattle.yaml_base.specs.Seen.{seen_directive}
-use Rattle.yaml_tool.specs.Fields.{later_fields, left_length}
 use Rattle.yaml_tool.proofs.directives.directives_of.Given as goal
 
 abbrev pub invariant-loop-left : goal.invariant-loop-left

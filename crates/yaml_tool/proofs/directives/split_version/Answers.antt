@@ -1,6 +1,4 @@
-use Rattle.std.proofs.Common.{◌∷◌, ap, ◌∙◌}
-use Rattle.std.specs.Str.{chars}
-use Rattle.yaml_base.specs.scripts.Script.{version_of}
+use Rattle.yaml_tool.proofs.Common.{◌∷◌, ap, ◌∙◌, chars, version_of}
 use Rattle.yaml_tool.proofs.CutLemmas.{cut_free, cut_cut, no_version}
 use Rattle.yaml_tool.proofs.directives.split_version.Goals as goal
 

@@ -1,8 +1,5 @@
-use Rattle.std.proofs.Common.{option_map}
-use Rattle.std.proofs.lemmas.Option.{MatchOption-at_some}
-use Rattle.std.specs.Str.{chars}
-use Rattle.yaml_base.specs.Seen.{seen_text, seen_event, seen_scalar_style}
-use Rattle.yaml_tool.specs.Fields.{later_fields}
+use Rattle.yaml_tool.proofs.Common.{option_map, MatchOption-at_some, chars, seen_text, seen_event, later_fields}
+use Rattle.yaml_base.specs.Seen.{seen_scalar_style}
 use Rattle.yaml_tool.proofs.EventLemmas.{scalar_joined, no_scalar}
 use Rattle.yaml_tool.proofs.events.scalar_of.Goals as goal
 

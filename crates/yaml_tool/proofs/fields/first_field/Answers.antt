@@ -1,8 +1,5 @@
-use Rattle.std.proofs.Common.{◌≡◌, ℕ, List, [], ◌∷◌, true, false, ap, sym, ◌∙◌, arith}
-use Rattle.std.specs.Str.{chars}
-use Rattle.yaml_base.specs.scripts.Script.{outside, pieces_from, separates, field_and, field_read, fields_read}
-use Rattle.yaml_tool.specs.Cuts.{prefix_of}
-use Rattle.yaml_tool.specs.Fields.{seen_field_state, prepend_to_first_piece}
+use Rattle.yaml_tool.proofs.Common.{ℕ, List, [], ◌∷◌, false, true, ap, sym, ◌∙◌, ◌≡◌, arith, chars, outside, separates, pieces_from, field_read}
+use Rattle.yaml_tool.proofs.Common.{field_and, fields_read, prefix_of, seen_field_state, prepend_to_first_piece}
 use Rattle.yaml_tool.proofs.CharacterLemmas.{nothing_passed, empty_prefix, one_passed, prefix_passed, all_passed}
 use Rattle.yaml_tool.proofs.FieldLemmas.{stops_first, goes_first, skip_run, further_on, run_within, whole_line, field_before, field_alone}
 use Rattle.yaml_tool.proofs.fields.first_field.Goals as goal

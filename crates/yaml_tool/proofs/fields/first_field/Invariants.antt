@@ -1,8 +1,4 @@
-use Rattle.std.proofs.Common.{◌≡◌, ◌≤◌, length}
-use Rattle.std.specs.Str.{chars}
-use Rattle.yaml_base.specs.scripts.Script.{outside, pieces_from}
-use Rattle.yaml_tool.specs.Cuts.{prefix_of}
-use Rattle.yaml_tool.specs.Fields.{seen_field_state, prepend_to_first_piece}
+use Rattle.yaml_tool.proofs.Common.{◌≤◌, length, ◌≡◌, chars, outside, pieces_from, prefix_of, seen_field_state, prepend_to_first_piece}
 use Rattle.yaml_tool.proofs.CharacterLemmas.{PassedEvents}
 use Rattle.yaml_tool.proofs.fields.first_field.Given as goal
 

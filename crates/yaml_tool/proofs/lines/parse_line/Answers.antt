@@ -1,9 +1,4 @@
-use Rattle.std.proofs.Common.{◌≡◌, ◌∷◌, Some, None, option_map, ap, sym, ◌∙◌}
-use Rattle.std.specs.Str.{chars}
-use Rattle.yaml_base.specs.Seen.{seen_event}
-use Rattle.yaml_base.specs.scripts.Script.{line_read, fields_read}
-use Rattle.yaml_tool.specs.Fields.{later_fields}
-use Rattle.yaml_tool.specs.Settings.{seen_setting}
+use Rattle.yaml_tool.proofs.Common.{None, Some, ◌∷◌, option_map, ap, sym, ◌∙◌, chars, seen_event, line_read, fields_read, later_fields, seen_setting}
 use Rattle.yaml_tool.proofs.LineLemmas.{bytes_parsed, bytes_parsed_nothing, comment_parsed, fields_parsed, event_parsed, setting_parsed}
 use Rattle.yaml_tool.proofs.lines.parse_line.Goals as goal
 

@@ -1,7 +1,4 @@
-use Rattle.std.proofs.Common.{◌≤◌, ◌+◌, ◌*◌, arith, ◌∙◌, sym}
-use Rattle.std.specs.Char.{digit_value}
-use Rattle.std.specs.Str.{chars}
-use Rattle.std.proofs.lemmas.Str.{IsUtf8-past_char}
+use Rattle.yaml_tool.proofs.Common.{◌*◌, ◌+◌, ◌≤◌, sym, ◌∙◌, arith, IsUtf8-past_char, digit_value, chars}
 use Rattle.yaml_tool.proofs.NumberLemmas.{digit_first, no_digit_first, too_great}
 use Rattle.yaml_tool.proofs.numbers.parse_number.Goals as goal
 

@@ -1,6 +1,4 @@
-use Rattle.std.proofs.Common.{◌≡◌, ◌≤◌, length}
-use Rattle.std.specs.Str.{chars, IsUtf8}
-use Rattle.yaml_tool.specs.Numbers.{number_after}
+use Rattle.yaml_tool.proofs.Common.{◌≤◌, length, ◌≡◌, IsUtf8, chars, number_after}
 use Rattle.yaml_tool.proofs.numbers.parse_number.Given as goal
 
 abbrev pub invariant-loop-digit : goal.invariant-loop-digit

@@ -1,11 +1,7 @@
-use Rattle.std.proofs.Common.{map}
-use Rattle.std.specs.Prelude.{IfSome}
-use Rattle.yaml_base.specs.scripts.Script as notation
-use Rattle.yaml_tool.specs.Runs.{IsFault, ReadsAll}
-use Rattle.yaml_tool.specs.Scripts.{seen_numbered}
-use Rattle.yaml_tool.specs.Settings.{seen_settings}
+use Rattle.yaml_tool.proofs.Common.{IfSome, map, ReadsAll, IsFault, seen_numbered, seen_settings}
 use Rattle.yaml_tool.proofs.ScriptLemmas.{exit_with}
 use Rattle.yaml_tool.proofs.PartLemmas.{says_first, says_more, says_all, bad_all, bad_prefix, reads_at_end}
+use Rattle.yaml_base.specs.scripts.Script as notation
 use Rattle.yaml_tool.proofs.parts.read_script_from.Goals as goal
 
 pub parts-init : goal.parts-init

@@ -1,12 +1,6 @@
-use Rattle.std.proofs.Common.{map, sym, ap, ◌∙◌, subst, inl}
-use Rattle.std.proofs.lemmas.Iterator.Adapters.{YieldsList-from_vec}
-use Rattle.std.proofs.lemmas.Iterator.Consumers.{YieldsList-end}
-use Rattle.std.proofs.lemmas.List.{map-id}
-use Rattle.std.specs.Vec.Iter.{into_iter_items}
+use Rattle.yaml_tool.proofs.Common.{map, ap, subst, sym, ◌∙◌, into_iter_items, StandsAfter, events_in, LastLine, seen_numbered}
+use Rattle.std.proofs.{Common.inl, lemmas.Iterator.Adapters.YieldsList-from_vec, lemmas.Iterator.Consumers.YieldsList-end, lemmas.List.map-id}
 use Rattle.yaml_pen.proofs.Writing.{none_from_result}
-use Rattle.yaml_emitter.specs.StandsAfter.{StandsAfter}
-use Rattle.yaml_tool.specs.Scripts.{seen_numbered}
-use Rattle.yaml_tool.specs.Runs.{events_in, LastLine}
 use Rattle.yaml_tool.proofs.RunLemmas.{some_told, events_more, parts_more, ends_more, refused_at, ended_with, ended_without}
 use Rattle.yaml_tool.proofs.runs.emit_all.Goals as goal
 

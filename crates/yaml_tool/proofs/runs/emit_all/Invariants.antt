@@ -1,9 +1,4 @@
-use Rattle.std.proofs.Common.{◌≡◌, None, true, [], ◌++◌, map}
-use Rattle.std.specs.Vec.Iter.{into_iter_items}
-use Rattle.yaml_base.specs.Settings.{Settings}
-use Rattle.yaml_emitter.specs.StandsAfter.{StandsAfter}
-use Rattle.yaml_tool.specs.Runs.{events_in, LastLine}
-use Rattle.yaml_tool.specs.Scripts.{seen_numbered}
+use Rattle.yaml_tool.proofs.Common.{None, [], map, ◌++◌, true, ◌≡◌, into_iter_items, Settings, StandsAfter, events_in, LastLine, seen_numbered}
 use Rattle.yaml_tool.proofs.runs.emit_all.Given as goal
 
 abbrev pub invariant-loop-numbered : goal.invariant-loop-numbered

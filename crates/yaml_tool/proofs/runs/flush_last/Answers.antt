@@ -1,5 +1,4 @@
-use Rattle.std.proofs.Common.{refl, ap, Result, Err}
-use Rattle.yaml_base.specs.declared.errors.yaml_error_t.{yaml_error_t}
+use Rattle.yaml_tool.proofs.Common.{Err, Result, ap, refl, yaml_error_t}
 use Rattle.yaml_tool.proofs.RunLemmas.{some_told}
 use Rattle.yaml_tool.proofs.runs.flush_last.Goals as goal
 

@@ -1,8 +1,4 @@
-use Rattle.std.proofs.Common.{[], map, subst, ◌∙◌}
-use Rattle.std.specs.Io.KnownBytes.{Appends}
-use Rattle.yaml_emitter.specs.StandsAfter.{StandsAfter}
-use Rattle.yaml_tool.specs.Scripts.{seen_numbered}
-use Rattle.yaml_tool.specs.Settings.{seen_settings}
+use Rattle.yaml_tool.proofs.Common.{[], map, subst, ◌∙◌, Appends, StandsAfter, seen_numbered, seen_settings}
 use Rattle.yaml_tool.proofs.RunLemmas.{tells_all, told_answer, silent_only}
 use Rattle.yaml_tool.proofs.runs.run.Goals as goal
 

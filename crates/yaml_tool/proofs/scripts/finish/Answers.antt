@@ -1,8 +1,6 @@
-use Rattle.std.proofs.Common.{[], map, ap, sym, subst, ◌∙◌}
-use Rattle.yaml_base.specs.scripts.Script as notation
-use Rattle.yaml_tool.specs.Scripts.{seen_progress, seen_numbered, script_after_lines, IsFaultOf}
-use Rattle.yaml_tool.specs.Settings.{seen_setting}
+use Rattle.yaml_tool.proofs.Common.{[], map, ap, subst, sym, ◌∙◌, seen_numbered, seen_progress, IsFaultOf, script_after_lines, seen_setting}
 use Rattle.yaml_tool.proofs.ScriptLemmas.{left_alone, fault_last, good_last, fault_alone, exit_with}
+use Rattle.yaml_base.specs.scripts.Script as notation
 use Rattle.yaml_tool.proofs.scripts.finish.Goals as goal
 
 pub returns-in_err-number-clause-fault : goal.returns-in_err-number-clause-fault

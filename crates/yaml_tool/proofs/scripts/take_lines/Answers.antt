@@ -1,5 +1,4 @@
-use Rattle.std.proofs.Common.{ℕ, List, ◌++◌, ◌∙◌, sym, subst, arith}
-use Rattle.yaml_tool.specs.Scripts.{seen_progress, script_after_lines, IsFaultOf}
+use Rattle.yaml_tool.proofs.Common.{ℕ, List, ◌++◌, subst, sym, ◌∙◌, arith, seen_progress, IsFaultOf, script_after_lines}
 use Rattle.yaml_tool.proofs.ScriptLemmas.{fault_first, good_first, shorter, exit_with}
 use Rattle.yaml_tool.proofs.SearchLemmas.{line_ends, one_line}
 use Rattle.yaml_tool.proofs.scripts.take_lines.Goals as goal

@@ -1,5 +1,4 @@
-use Rattle.std.proofs.Common.{◌≡◌, ◌≤◌, ◌+◌, ℕ, List, ◌++◌, length}
-use Rattle.yaml_tool.specs.Scripts.{seen_progress, script_after_lines}
+use Rattle.yaml_tool.proofs.Common.{ℕ, List, ◌++◌, ◌+◌, ◌≤◌, length, ◌≡◌, seen_progress, script_after_lines}
 use Rattle.yaml_tool.proofs.scripts.take_lines.Given as goal
 
 abbrev pub invariant-loop-end : goal.invariant-loop-end

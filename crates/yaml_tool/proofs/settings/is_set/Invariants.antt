@@ -1,6 +1,5 @@
-use Rattle.std.proofs.Common.{◌≡◌, map, drop}
-use Rattle.std.specs.List.{list_any}
-use Rattle.yaml_tool.specs.Settings.{seen_setting, sets_same}
+use Rattle.yaml_tool.proofs.Common.{map, drop, ◌≡◌, list_any, seen_setting}
+use Rattle.yaml_tool.specs.Settings.{sets_same}
 use Rattle.yaml_tool.proofs.settings.is_set.Given as goal
 
 abbrev pub invariant-loop-line : goal.invariant-loop-line

@@ -1,6 +1,5 @@
-use Rattle.std.proofs.Common.{◌≡◌, map, drop}
+use Rattle.yaml_tool.proofs.Common.{map, drop, ◌≡◌, seen_setting, seen_settings}
 use Rattle.yaml_base.specs.scripts.Script as notation
-use Rattle.yaml_tool.specs.Settings.{seen_setting, seen_settings}
 use Rattle.yaml_tool.proofs.settings.settings_of.Given as goal
 
 abbrev pub invariant-loop-line : goal.invariant-loop-line

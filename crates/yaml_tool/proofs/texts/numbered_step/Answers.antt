@@ -1,5 +1,4 @@
-use Rattle.std.proofs.Common.{◌≡◌, ◌∷◌, sym, ap, ◌∙◌, arith}
-use Rattle.std.specs.Str.{chars}
+use Rattle.yaml_tool.proofs.Common.{◌∷◌, ap, sym, ◌∙◌, ◌≡◌, arith, chars}
 use Rattle.yaml_tool.proofs.TextLemmas.{read_turn, braced, unbraced}
 use Rattle.yaml_tool.proofs.texts.numbered_step.Goals as goal
 

@@ -1,6 +1,4 @@
-use Rattle.std.proofs.lemmas.Str.{IsUtf8-string_bytes}
-use Rattle.std.specs.Str.{chars}
-use Rattle.std.specs.String.{string_bytes}
+use Rattle.yaml_tool.proofs.Common.{IsUtf8-string_bytes, chars, string_bytes}
 use Rattle.yaml_tool.proofs.TextLemmas.{prefix_taken}
 use Rattle.yaml_tool.proofs.texts.push_prefix.Goals as goal
 

@@ -1,7 +1,4 @@
-use Rattle.std.proofs.Common.{◌++◌, option_map, ap, ◌∙◌}
-use Rattle.std.specs.Str.{chars}
-use Rattle.yaml_base.specs.Seen.{seen_text}
-use Rattle.yaml_base.specs.scripts.Script.{text_from, at_character}
+use Rattle.yaml_tool.proofs.Common.{◌++◌, option_map, ap, ◌∙◌, chars, seen_text, at_character, text_from}
 use Rattle.yaml_tool.proofs.TextLemmas.{nothing_before, one_more}
 use Rattle.yaml_tool.proofs.texts.text_after_quote.Goals as goal
 

@@ -1,7 +1,5 @@
-use Rattle.std.proofs.Common.{◌≡◌, ◌++◌, option_map, length}
-use Rattle.std.specs.Str.{chars, IsUtf8}
+use Rattle.yaml_tool.proofs.Common.{◌++◌, option_map, length, ◌≡◌, IsUtf8, chars, seen_text}
 use Rattle.yaml_base.specs.scripts.Script as notation
-use Rattle.yaml_base.specs.Seen.{seen_text}
 use Rattle.yaml_tool.proofs.texts.text_after_quote.Given as goal
 
 abbrev pub invariant-loop-text : goal.invariant-loop-text

@@ -1,5 +1,4 @@
-use Rattle.std.proofs.Common.{arith}
-use Rattle.std.proofs.lemmas.Grind.{common_steps}
+use Rattle.std.proofs.{Common.arith, lemmas.Grind.common_steps}
 use Rattle.yaml_tool.proofs.words.is_same.Goals as goal
 
 pub returns-in-empty-empty : goal.returns-in-empty-empty

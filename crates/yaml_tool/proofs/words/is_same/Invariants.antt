@@ -1,5 +1,4 @@
-use Rattle.std.proofs.Common.{◌≡◌, length}
-use Rattle.std.specs.Str.{bytes_eq}
+use Rattle.yaml_tool.proofs.Common.{length, ◌≡◌, bytes_eq}
 use Rattle.yaml_tool.proofs.words.is_same.Given as goal
 
 abbrev pub invariant-loop-left : goal.invariant-loop-left

@@ -1,5 +1,4 @@
-use Rattle.std.proofs.Common.{ap, ◌∙◌, List, ℕ}
-use Rattle.std.specs.Str.{bytes_eq}
+use Rattle.yaml_tool.proofs.Common.{ℕ, List, ap, ◌∙◌, bytes_eq}
 use Rattle.yaml_base.proofs.AsciiWords.{ascii_of, same_word}
 use Rattle.yaml_tool.proofs.words.is_word.Goals as goal
 

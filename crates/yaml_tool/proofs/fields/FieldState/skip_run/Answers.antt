@@ -1,5 +1,4 @@
-use Rattle.std.proofs.Common.{sym, subst}
-use Rattle.yaml_tool.specs.Fields.{seen_field_state, SkipsRunTo}
+use Rattle.yaml_tool.proofs.Common.{subst, sym, seen_field_state, SkipsRunTo}
 use Rattle.yaml_tool.proofs.FieldLemmas.{runs_outside, runs_inside, runs_nowhere}
 use Rattle.yaml_tool.proofs.fields.FieldState.skip_run.Goals as goal
 

@@ -1,8 +1,7 @@
-use Rattle.std.proofs.Common.{◌≡◌, map, sym, subst, ◌∙◌, append-nil}
-use Rattle.std.specs.Result.{IfOk, IfErr}
+use Rattle.yaml_tool.proofs.Common.{map, append-nil, subst, sym, ◌∙◌, ◌≡◌, IfErr, seen_numbered, seen_progress, IsFaultOf, script_after_lines}
+use Rattle.yaml_tool.proofs.Common.{seen_settings}
+use Rattle.std.specs.Result.{IfOk}
 use Rattle.yaml_base.specs.scripts.Script as notation
-use Rattle.yaml_tool.specs.Scripts.{seen_progress, seen_numbered, script_after_lines, IsFaultOf}
-use Rattle.yaml_tool.specs.Settings.{seen_settings}
 use Rattle.yaml_tool.proofs.parts.ScriptPrefix.finish.Goals as goal
 
 pub returns-clause-understood : goal.returns-clause-understood

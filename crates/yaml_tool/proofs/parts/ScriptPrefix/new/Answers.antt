@@ -1,5 +1,5 @@
-use Rattle.std.proofs.Common.{ℕ, List, ◌++◌, ap, ◌∙◌}
-use Rattle.yaml_tool.specs.Scripts.{nothing_parsed, script_after_lines}
+use Rattle.yaml_tool.proofs.Common.{ℕ, List, ◌++◌, ap, ◌∙◌, script_after_lines}
+use Rattle.yaml_tool.specs.Scripts.{nothing_parsed}
 use Rattle.yaml_tool.proofs.parts.ScriptPrefix.new.Goals as goal
 
 pub returns : goal.returns
