@@ -5,10 +5,10 @@ use Rattle.std.proofs.lemmas.List.{nil_from_length}
 use Rattle.std.proofs.lemmas.Str.{chars-nil, chars_past_char}
 use Rattle.std.specs.Char.{encode_utf8}
 use Rattle.std.specs.List.{list_all}
-use Rattle.std.specs.Prelude.{ℕ, Bool, true, false, List, [], ◌∷◌, ◌++◌, ◌==◌, ◌||◌, ◌&&◌, codes, length, if◌then◌else◌}
-use Rattle.yaml_base.specs.scalars.Analysis.{Charset, begins_with, ends_word, is_empty, is_key_or_comment, is_special, is_trailing_space}
-use Rattle.yaml_base.specs.Characters.{Text, is_among, is_break, is_space, space, tab}
-use Rattle.yaml_scalar.specs.Barred.{Barred, barred_by, barred_by_space, barred_in, either, is_quiet, none_barred}
+use Rattle.std.specs.Prelude.{ℕ, Bool, true, false, List, [], ◌∷◌, ◌++◌, ◌==◌, ◌||◌, ◌&&◌, codes, length, not, if◌then◌else◌}
+use Rattle.yaml_base.specs.scalars.Analysis.{Charset, begins_with, ends_word, is_empty, is_gap, is_key_or_comment, is_special, is_trailing_space}
+use Rattle.yaml_base.specs.Characters.{Text, is_among, is_ascii, is_break, is_printable, is_space, line_separator, paragraph_separator, space, tab}
+use Rattle.yaml_scalar.specs.Barred.{Barred, barred_by, barred_by_space, barred_in, either, is_quiet, none_barred, with_indicator}
 use Rattle.yaml_scalar.specs.WholeRuns.{last_from}
 
 pub or_none : (b : Bool) → (b || false) ≡ b
@@ -124,6 +124,45 @@ quiet_run charset (c ∷ d ∷ prefix) rest h =
     ap (λ (b : Barred). either b (barred_in charset (d ∷ (prefix ++ rest))))
     (quiet_next charset c d (prefix ++ rest) (quiet_parts charset c p.0) (quiet_parts charset d q.0))
     ∙ quiet_run charset (d ∷ prefix) rest p.1
+
+-- What characters bar that no plain text in flow holds.
+each_member : (set : Text) (test : ℕ → Bool) (c : ℕ) → list_all test set ≡ true → is_among set c ≡ true → test c ≡ true
+each_member [] test c all is = cc
+each_member (k ∷ set) test c all is = by (c == k) refl (λ rest. each_member set test c (and_parts (test k) (list_all test set) all).1 rest)
+  where
+    by : (same : Bool) → (c == k) ≡ same → (is_among set c ≡ true → test c ≡ true) → test c ≡ true
+    by true e later = ap test (eqb-true c k e) ∙ (and_parts (test k) (list_all test set) all).0
+    by false e later = later (sym (ap (λ b. b || is_among set c) e) ∙ is)
+
+or_last : (a b : Bool) → b ≡ true → (a || b) ≡ true
+or_last true b h = refl
+or_last false b h = h
+
+indicator_bars : (charset : Charset) (c : ℕ) (rest : Text) → is_among (codes ",?:[]{}") c ≡ true
+    → barred_by charset c rest ≡ with_indicator none_barred c rest
+indicator_bars charset c rest is =
+    let every : (test : ℕ → Bool) → list_all test (codes ",?:[]{}") ≡ true → test c ≡ true = λ test all. each_member (codes ",?:[]{}") test c all is in
+    let none : (test : ℕ → Bool) → list_all (λ d. not (test d)) (codes ",?:[]{}") ≡ true → test c ≡ false =
+    λ test all. not-true _ (every (λ d. not (test d)) all) in
+    let broken : is_break c ≡ false = none is_break refl in
+    let spaced : is_space c ≡ false = none is_space refl in
+    let gap : is_gap c ≡ false = none is_gap refl in
+    let special : is_special charset c ≡ false =
+    or_from _ _ (or_from _ _ (ap not (every is_printable refl)) (and_right (not charset.unicode) (not (is_ascii c)) (ap not (every is_ascii refl))))
+    (and_right charset.breaks12 (c == line_separator || c == paragraph_separator) (none (λ d. d == line_separator || d == paragraph_separator) refl)) in
+    let key : is_key_or_comment c rest ≡ (c == 58 && ends_word rest) =
+    ap (λ b. (c == 58 && ends_word rest) || b) (and_left _ (begins_with (λ d. d == 35) rest) gap) ∙ or_none _ in
+    let ends : (is_space c && is_empty rest) ≡ false = and_left _ (is_empty rest) spaced in
+    let plain : (is_special charset c || is_break c || (is_space c && is_empty rest) || is_key_or_comment c rest) ≡ (c == 58 && ends_word rest) =
+    ap (λ b. b || is_key_or_comment c rest) (or_from _ _ (or_from _ _ special broken) ends) ∙ key in
+    let trailing : (is_special charset c || is_trailing_space c rest) ≡ false = or_from _ _ special (and_left _ (begins_with is_break rest) spaced) in
+    same broken (or_last _ _ is) (or_none _ ∙ plain) (or_from _ _ trailing (and_left _ (begins_with is_space rest) broken)) (or_from _ _ trailing ends)
+
+pub indicator_seen : (charset : Charset) (found : Barred) (c : ℕ) (rest : Text) → is_among (codes ",?:[]{}") c ≡ true
+    → with_indicator found c rest ≡ either found (barred_by charset c rest)
+indicator_seen charset found c rest is =
+    sym (ap (either found) (indicator_bars charset c rest is)
+    ∙ same (or_none found.multiline) (or_last found.flow_plain true refl) refl (or_none found.single_quoted) (or_none found.block))
 
 -- where all styles are barred only breaks matter
 pub all_barred : (found more : Barred) → found.flow_plain ≡ true → found.block_plain ≡ true → found.single_quoted ≡ true → found.block ≡ true

@@ -1,7 +1,7 @@
 -- What the characters of a value bar, all styles seen at once.
 use Rattle.std.specs.Prelude.{ℕ, Bool, true, false, ◌==◌, ◌||◌, ◌&&◌, not, codes, if◌then◌else◌}
 use Rattle.std.specs.List.{list_any}
-use Rattle.yaml_base.specs.scalars.Analysis.{Allowances, Charset, bars_block, bars_plain, bars_single_quoted, begins_unlike_plain, is_empty, is_special}
+use Rattle.yaml_base.specs.scalars.Analysis.{Allowances, Charset, bars_block, bars_plain, bars_single_quoted, begins_unlike_plain, ends_word, is_empty, is_special}
 use Rattle.yaml_base.specs.scalars.Analysis.{somewhere}
 use Rattle.yaml_base.specs.Characters.{Text, is_among, is_between, is_break, is_space, space, tab}
 use Rattle.yaml_scalar.specs.declared.analysis.BarredStyles.{BarredStyles}
@@ -61,6 +61,10 @@ either a b =
       single_quoted = a.single_quoted || b.single_quoted;
       block = a.block || b.block;
     }
+
+-- what was found, and one of the characters that no plain text in flow holds; nor in a block a `:` that ends a word
+abbrev pub with_indicator : Barred → ℕ → Text → Barred
+with_indicator found c rest = record found { flow_plain = true; block_plain = found.block_plain || (c == 58 && ends_word rest) }
 
 -- a letter or a digit of ASCII
 abbrev pub is_ordinary : ℕ → Bool

@@ -4,7 +4,7 @@ ghost use Rattle.std.specs.Prelude.{◌≡◌, ◌≤◌, ◌==◌, ◌||◌, �
 ghost use Rattle.std.specs.Str.{IsUtf8, chars};
 ghost use Rattle.yaml_base.specs.scalars.Analysis as spec;
 ghost use Rattle.yaml_base.specs.Characters as class;
-ghost use Rattle.yaml_scalar.specs.Barred.{all_styles, allowed_by, barred_by, barred_by_space, barred_in, either, is_ordinary, is_quiet, seen_barred};
+ghost use Rattle.yaml_scalar.specs.Barred.{all_styles, allowed_by, barred_by, barred_by_space, barred_in, either, is_ordinary, is_quiet, seen_barred, with_indicator};
 ghost use Rattle.yaml_scalar.specs.ByteClasses.{ImpliesTest};
 ghost use Rattle.yaml_scalar.specs.ScalarData.{ChooseAlike, is_flow, seen_charset, seen_data};
 
@@ -202,11 +202,18 @@ fn begins_unlike_plain(value: &str) -> bool
     }
 }
 
+/// Whether `:` stands before a gap or the end.
+fn is_key(c: char, rest: &str) -> bool
+    ensures { result ≡ c == 58 && spec.ends_word (chars rest.now) }
+{
+    c == ':' && ends_word(rest)
+}
+
 /// Whether `:` stands before a gap or the end, or a gap before `#`.
 fn is_key_or_comment(c: char, rest: &str) -> bool
     ensures { result ≡ spec.is_key_or_comment c (chars rest.now) }
 {
-    (c == ':' && ends_word(rest)) || (is_gap(c) && begins_with_hash(rest))
+    is_key(c, rest) || (is_gap(c) && begins_with_hash(rest))
 }
 
 /// Whether `#` comes next.
@@ -229,6 +236,13 @@ pub(crate) fn begins_with_space(rest: &str) -> bool
     }
 }
 
+/// Whether a character is one of those that no plain text in flow holds.
+fn is_flow_indicator(c: char) -> bool
+    ensures { result ≡ class.is_among (codes ",?:[]{}") c }
+{
+    matches!(c, ',' | '?' | ':' | '[' | ']' | '{' | '}')
+}
+
 /// Whether no plain text holds this character before what follows it.
 fn bars_plain(c: char, rest: &str, charset: CharacterSet, context: Context) -> bool
     ensures { result ≡ spec.bars_plain (seen_charset charset) (is_flow context) c (chars rest.now) }
@@ -237,8 +251,7 @@ fn bars_plain(c: char, rest: &str, charset: CharacterSet, context: Context) -> b
         || is_break(c)
         || (is_space(c) && is_at_end(rest))
         || is_key_or_comment(c, rest)
-        || (matches!(context, Context::Flow)
-            && matches!(c, ',' | '?' | ':' | '[' | ']' | '{' | '}'))
+        || (matches!(context, Context::Flow) && is_flow_indicator(c))
 }
 
 /// Whether a space stands before a break.
@@ -269,6 +282,17 @@ fn is_ordinary(c: char) -> bool
     matches!(c, 'a'..='z' | 'A'..='Z' | '0'..='9')
 }
 
+/// What was read, and an indicator of flow collections, which only plain text may not hold.
+fn with_flow_indicator(barred: BarredStyles, c: char, rest: &str) -> BarredStyles
+    ensures { seen_barred result ≡ with_indicator (seen_barred barred) c (chars rest.now) }
+{
+    BarredStyles {
+        flow_plain: true,
+        block_plain: barred.block_plain || is_key(c, rest),
+        ..barred
+    }
+}
+
 /// What was read, and the next character, seen with what follows it.
 #[inline(always)]
 fn with_next(barred: BarredStyles, c: char, rest: &str, charset: CharacterSet) -> BarredStyles
@@ -276,6 +300,9 @@ fn with_next(barred: BarredStyles, c: char, rest: &str, charset: CharacterSet) -
 {
     if is_ordinary(c) {
         return barred;
+    }
+    if is_flow_indicator(c) {
+        return with_flow_indicator(barred, c, rest);
     }
     BarredStyles {
         multiline: barred.multiline || is_break(c),
