@@ -4,7 +4,7 @@ ghost use Rattle.std.specs.Prelude.{◌≡◌, None, chars, option_map, option_a
 ghost use Rattle.yaml_base.specs.Errors.{refused};
 ghost use Rattle.yaml_base.specs.Refusal.{name_or_tag_fault, properties_fault};
 ghost use Rattle.yaml_base.specs.Seen.{seen_event, seen_text};
-ghost use Rattle.yaml_base.specs.Tags.{anchor_fault, tag_fault};
+ghost use Rattle.yaml_base.specs.Tags.{alias_fault, anchor_fault, tag_fault};
 
 use crate::writing::{writes_collection_tag, writes_scalar_tag};
 use std::alloc::Allocator;
@@ -13,11 +13,6 @@ use yaml_base::{
     yaml_error_t, yaml_event_t,
 };
 use yaml_mark::analyze_anchor;
-
-/// The name is an alias's.
-const OF_ALIAS: bool = true;
-/// It is an anchor's.
-const OF_ANCHOR: bool = false;
 
 /// Refuses a faulty anchor or alias, and an empty tag where the tag is written.
 #[inline(always)]
@@ -28,7 +23,7 @@ pub(crate) fn check_names<A: Allocator>(
     ensures { refused result ≡ name_or_tag_fault canonical (seen_event event.now) }
 {
     match event {
-        YAML_ALIAS_EVENT { anchor } => analyze_anchor(anchor.as_str(), OF_ALIAS),
+        YAML_ALIAS_EVENT { anchor } => check_alias(anchor.as_str()),
         YAML_SCALAR_EVENT {
             anchor,
             tag,
@@ -73,9 +68,25 @@ fn check_anchor<A: Allocator>(anchor: &Option<String<A>>) -> Result<(), yaml_err
     ensures { refused result ≡ option_and_then anchor_fault (option_map seen_text anchor.now) }
 {
     match anchor {
-        Some(name) => analyze_anchor(name.as_str(), OF_ANCHOR),
+        Some(name) => check_anchor_name(name.as_str()),
         None => Ok(()),
     }
+}
+
+#[inline(always)]
+fn check_anchor_name(name: &str) -> Result<(), yaml_error_t>
+    ensures { refused result ≡ anchor_fault (chars name.now) }
+{
+    let alias = false;
+    analyze_anchor(name, alias)
+}
+
+#[inline(always)]
+fn check_alias(name: &str) -> Result<(), yaml_error_t>
+    ensures { refused result ≡ alias_fault (chars name.now) }
+{
+    let alias = true;
+    analyze_anchor(name, alias)
 }
 
 fn check_tag<A: Allocator>(tag: &Option<String<A>>) -> Result<(), yaml_error_t>

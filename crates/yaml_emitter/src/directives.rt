@@ -11,11 +11,6 @@ use std::alloc::Allocator;
 use yaml_base::{yaml_error_t, yaml_tag_directive_t, yaml_version_directive_t};
 use yaml_mark::{Directives, analyze_tag_directive, analyze_version};
 
-/// A directive whose handle is there already is left out.
-const DUPLICATES_ALLOWED: bool = true;
-/// It is refused.
-const DUPLICATES_REFUSED: bool = false;
-
 /// The default for local tags: handle and prefix.
 const LOCAL: &str = "!";
 /// The default handle of YAML's own types.
@@ -47,7 +42,8 @@ fn read_directive<A: Allocator + Copy>(
     ensures read { OnOk result (directives.new ≡ directives.old ++ seen_directive directive.now ∷ []) }
 {
     analyze_tag_directive(directive)?;
-    directives.append(directive, DUPLICATES_REFUSED)
+    let allow_duplicates = false;
+    directives.append(directive, allow_duplicates)
 }
 
 /// Adds the defaults whose handles a document didn't give.
@@ -75,7 +71,8 @@ fn add_default<A: Allocator + Copy>(
         handle: String::from_str(alloc, handle).map_err(|_| yaml_error_t::Memory)?,
         prefix: String::from_str(alloc, prefix).map_err(|_| yaml_error_t::Memory)?,
     };
-    directives.append(&directive, DUPLICATES_ALLOWED)
+    let allow_duplicates = true;
+    directives.append(&directive, allow_duplicates)
 }
 
 /// The directives in force in a document with this version and these directives of its own, each checked in its

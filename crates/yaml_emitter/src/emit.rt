@@ -14,7 +14,6 @@ ghost use Rattle.yaml_emitter.specs.StandsAfter.{FailedReady, Reached, StandsAft
 
 use crate::emitter::yaml_emitter_t;
 use crate::machine::Machine;
-use crate::process::NOT_EMPTY;
 use crate::queue::{closes_at_once, drop_written, first_and_rest, is_next_ready, is_ready_alone};
 use std::alloc::Allocator;
 use yaml_base::{yaml_error_t, yaml_event_t};
@@ -128,7 +127,8 @@ impl<A: Allocator + Copy> Machine<A> {
         ensures set { KeepsGiven self.old self.new }
         ensures answered { result ≡ result_of_error self.new.error }
     {
-        match self.process(event, NOT_EMPTY) {
+        let empty = false;
+        match self.process(event, empty) {
             Ok(()) => Ok(()),
             Err(error) => {
                 self.fail(error);

@@ -32,9 +32,6 @@ use yaml_base::{
 use yaml_mark::Directives;
 use yaml_pen::Pen;
 
-/// An event starts no collection that the next one ends.
-pub(crate) const NOT_EMPTY: bool = false;
-
 impl<A: Allocator + Copy> Machine<A> {
     /// One event. The most frequent, a usual scalar in a collection, has a copy of the work, in which no test of its
     /// names and flags is left; and where it is called, so that no call is left either.

@@ -21,9 +21,6 @@ use yaml_mark::{
 };
 use yaml_pen::Pen;
 
-/// No space comes before a tag's text.
-const TIGHT: bool = false;
-
 /// What is written at a place.
 #[derive(Clone, Copy)]
 pub(crate) enum Atom<'a> {
@@ -77,7 +74,10 @@ fn write_atom<A: Allocator>(pen: &mut Pen<A>, site: &Site, atom: Atom) -> Result
         Atom::Space => pen.put(b' '),
         Atom::Name(name) => write_anchor(pen, name),
         Atom::Handle(handle) => write_tag_handle(pen, handle),
-        Atom::TagText(content) => write_tag_content(pen, content, TIGHT),
+        Atom::TagText(content) => {
+            let need_whitespace = false;
+            write_tag_content(pen, content, need_whitespace)
+        }
         Atom::Suffix(suffix) => write_tag_suffix(pen, suffix, site.settings.portable),
         Atom::Prefix(prefix) => write_tag_prefix(pen, prefix, site.settings.portable),
     }

@@ -32,9 +32,6 @@ use std::alloc::Allocator;
 use yaml_base::yaml_error_t;
 use yaml_pen::Pen;
 
-/// No bare tag stands before a node.
-pub(crate) const NO_BARE_TAG: bool = false;
-
 /// Writes an alias at its place.
 pub(crate) fn write_alias<A: Allocator>(
     pen: &mut Pen<A>,
@@ -96,7 +93,8 @@ pub(crate) fn write_collection_start<A: Allocator>(
         pen.old pen.new result }
     ensures ready { IsReady pen.new }
 {
-    write_lead(pen, site, content.anchor, tag, NO_BARE_TAG)
+    let bare = false;
+    write_lead(pen, site, content.anchor, tag, bare)
 }
 
 /// Whether a collection is written in flow: within flow, in canonical mode, by its style, or where it is empty.

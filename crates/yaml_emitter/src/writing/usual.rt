@@ -16,7 +16,7 @@ ghost use Rattle.yaml_emitter.specs.WrittenPieces.{piece_at};
 
 use crate::effective::EffectiveSettings;
 use crate::writing::contents::ScalarContent;
-use crate::writing::nodes::{NO_BARE_TAG, write_lead};
+use crate::writing::nodes::write_lead;
 use crate::writing::site::Site;
 use crate::writing::styles::line_indent;
 use std::alloc::Allocator;
@@ -77,7 +77,8 @@ pub(crate) fn write_usual<A: Allocator>(
         pen.old pen.new result }
     ensures ready { IsReady pen.new }
 {
-    write_lead(pen, site, None, None, NO_BARE_TAG)?;
+    let bare = false;
+    write_lead(pen, site, None, None, bare)?;
     write_usual_text(pen, site, value)
 }
 
