@@ -1,6 +1,7 @@
 //! Values written where memory is refused.
 use super::{Example, Heap, canonical, made, refusal};
 use crate::tests::{answers, equal};
+use std::alloc::Global;
 use std::process::Abort;
 use yaml_base::yaml_error_t;
 use yaml_test_allocator::Refusing;
@@ -38,6 +39,21 @@ fn writes<'a>(rt: &impl Abort, heap: Heap<'a>, value: &Value<Heap<'a>>, expected
     }
 }
 
+// A value gives this text, and these growths are refused, until there is none of that number.
+fn writes_at<'a>(
+    rt: &impl Abort,
+    heap: Heap<'a>,
+    value: &Value<Heap<'a>>,
+    expected: &[u8],
+    numbers: &[usize],
+) {
+    for number in numbers {
+        if !is_reported(rt, heap, value, expected, *number) {
+            return;
+        }
+    }
+}
+
 /// A value, and what is written.
 pub(super) type Row<'a> = (Example, &'a str);
 
@@ -51,6 +67,54 @@ pub(super) fn check_rows(rt: &impl Abort, heap: Heap<'_>, rows: &[Row]) {
     for row in rows {
         check_row(rt, heap, row);
     }
+}
+
+/// A line of a list within so many others.
+fn add_line(rt: &impl Abort, text: &mut String, depth: u32, line: &str) {
+    for _ in 0..depth {
+        text.push_str("  ").expect(rt, "no memory");
+    }
+    text.push_str(line).expect(rt, "no memory");
+}
+
+/// The canonical form of so many lists, each the only item of the one around it, and of an empty list in the innermost.
+fn nested_text(rt: &impl Abort, alloc: Global, count: u32) -> String {
+    let mut text = String::from_str(alloc, "---\n").expect(rt, "no memory");
+    for depth in 0..count {
+        add_line(rt, &mut text, depth, "!!seq [\n");
+    }
+    add_line(rt, &mut text, count, "!!seq [],\n");
+    for depth in (1..count).rev() {
+        add_line(rt, &mut text, depth, "],\n");
+    }
+    add_line(rt, &mut text, 0, "]\n");
+    text
+}
+
+fn check_nested(rt: &impl Abort, alloc: Global, count: u32) {
+    let text = nested_text(rt, alloc, count.saturating_sub(1));
+    let heap = Refusing::new(alloc);
+    check_row(rt, &heap, &(Example::Nested(count), text.as_str()));
+}
+
+#[test]
+fn thirty_lists_are_written(rt: HostRuntime) {
+    check_nested(&rt, rt.alloc(), 30);
+}
+
+/// The growths that are refused where there are many; the last stands for none.
+const REFUSED: &[usize] = &[1, 32, 1_024, usize::MAX];
+
+fn check_deep(rt: &impl Abort, heap: Heap<'_>, expected: &[u8]) {
+    let value = made(rt, heap, &Example::Nested(1_000));
+    writes_at(rt, heap, &value, expected, REFUSED);
+    drop(value);
+}
+
+#[test]
+fn a_thousand_lists_are_written(rt: HostRuntime) {
+    let text = nested_text(&rt, rt.alloc(), 999);
+    check_deep(&rt, &Refusing::new(rt.alloc()), text.as_str().as_bytes());
 }
 
 fn check_too_deep<'a>(rt: &impl Abort, heap: Heap<'a>, value: &Value<Heap<'a>>) {
