@@ -104,7 +104,12 @@ fn with_flags<'a>(alloc: Global, command: Command<'a>) -> Result<Command<'a>, Al
         .arg(flag(alloc, "flow", FLOW_HELP, FLOW_LONG))?
         .arg(flag(alloc, "canonical", CANONICAL_HELP, CANONICAL_LONG))?
         .arg(flag(alloc, "no-portable", PORTABLE_HELP, PORTABLE_LONG))?
-        .arg(flag(alloc, "no-indented-sequences", SEQUENCES_HELP, SEQUENCES_LONG))?
+        .arg(flag(
+            alloc,
+            "no-indented-sequences",
+            SEQUENCES_HELP,
+            SEQUENCES_LONG,
+        ))?
         .arg(flag(alloc, "allow-duplicates", NAMES_HELP, NAMES_LONG))
 }
 

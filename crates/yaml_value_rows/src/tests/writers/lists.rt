@@ -43,8 +43,7 @@ fn check_lists(rt: &impl Abort, alloc: Global, indented: bool, indent: i32, want
 
 #[test]
 fn lists_in_mappings_are_indented(rt: HostRuntime) {
-    let expected =
-        "---\na:\n  - - b\n  - c\nd: &x\n  - e\n? - f\n  - - g\n: !t\n  - h\n";
+    let expected = "---\na:\n  - - b\n  - c\nd: &x\n  - e\n? - f\n  - - g\n: !t\n  - h\n";
     check_portable(&rt, rt.alloc(), LISTS, expected);
     let by_four =
         "---\na:\n    -   - b\n    - c\nd: &x\n    - e\n?   - f\n    -   - g\n: !t\n    - h\n";
