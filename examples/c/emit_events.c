@@ -46,5 +46,6 @@ int main(void) {
     int32_t status = yaml_emit(wrong, 2, none, 0, texts, 0, &settings, small, sizeof small, &result);
     if (status != YAML_REFUSED) return 1;
     printf("%s: event %" PRIu64 ", %s\n", yaml_status_text(status), result.event, yaml_error_text(result.error));
+    if (yaml_c_version() != YAML_C_VERSION) return 1;
     return 0;
 }

@@ -1,26 +1,30 @@
-/* Writes a JSON text as YAML: a call that tells how much room it needs, then one that writes. */
+/* Writes a JSON text as YAML: a call that tells how much room it needs, then one that writes; and a text that isn't JSON. */
+#include <inttypes.h>
 #include <stdio.h>
 #include <stdlib.h>
 #include <string.h>
 
 #include "yaml_c.h"
 
-static int32_t from_json(const char *text, uint8_t *out, size_t capacity, size_t *len, struct yaml_place *place) {
-    return yaml_from_json((const uint8_t *)text, strlen(text), out, capacity, len, place);
+static int32_t from_json(const char *text, uint8_t *out, size_t capacity, struct yaml_c_result *result) {
+    static const struct yaml_c_json_settings settings; /* zeros: the defaults */
+    return yaml_from_json((const uint8_t *)text, strlen(text), &settings, out, capacity, result);
 }
 
 int main(void) {
     static const char text[] = "{\"country\": \"no\", \"ports\": [80, 1e9], \"proxy\": null}";
-    uint8_t small[8];
-    size_t len;
-    struct yaml_place place;
-    if (from_json(text, small, sizeof small, &len, &place) != YAML_TOO_SMALL) return 1;
-    uint8_t *yaml = malloc(len);
+    static const struct yaml_c_json_settings in_flow = {.flow = 1, .width = -1};
+    uint8_t small[8], line[80];
+    struct yaml_c_result result;
+    if (from_json(text, small, sizeof small, &result) != YAML_TOO_SMALL) return 1;
+    uint8_t *yaml = malloc(result.length);
     if (yaml == NULL) return 1;
-    if (from_json(text, yaml, len, &len, &place) != YAML_DONE) return 1;
-    fwrite(yaml, 1, len, stdout);
+    if (from_json(text, yaml, result.length, &result) != YAML_DONE) return 1;
+    fwrite(yaml, 1, result.length, stdout);
     free(yaml);
-    if (from_json("{\n  \"a\": nul\n}", small, sizeof small, &len, &place) != YAML_NOT_JSON) return 1;
-    printf("line %zu, column %zu: not JSON\n", place.line, place.column);
+    if (yaml_from_json((const uint8_t *)text, strlen(text), &in_flow, line, sizeof line, &result) != YAML_DONE) return 1;
+    fwrite(line, 1, result.length, stdout);
+    int32_t status = from_json("{\n  \"a\": nul\n}", small, sizeof small, &result);
+    printf("line %" PRIu64 ", column %" PRIu64 ": %s\n", result.line, result.column, yaml_status_text(status));
     return 0;
 }

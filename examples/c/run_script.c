@@ -17,24 +17,23 @@ static const char script[] =
     "-DOC 1\n"
     "-STR\n";
 
-static int32_t run(const char *text, uint8_t *out, size_t capacity, size_t *len, uint64_t *line) {
-    return yaml_run((const uint8_t *)text, strlen(text), out, capacity, len, line);
+static int32_t run(const char *text, uint8_t *out, size_t capacity, struct yaml_c_result *result) {
+    return yaml_run((const uint8_t *)text, strlen(text), out, capacity, result);
 }
 
 int main(void) {
     uint8_t small[8];
-    size_t len;
-    uint64_t line;
-    if (run(script, small, sizeof small, &len, &line) != YAML_TOO_SMALL) return 1;
-    printf("%zu bytes\n", len);
-    uint8_t *yaml = malloc(len);
+    struct yaml_c_result result;
+    if (run(script, small, sizeof small, &result) != YAML_TOO_SMALL) return 1;
+    printf("%zu bytes\n", result.length);
+    uint8_t *yaml = malloc(result.length);
     if (yaml == NULL) return 1;
-    if (run(script, yaml, len, &len, &line) != YAML_DONE) return 1;
-    fwrite(yaml, 1, len, stdout);
+    if (run(script, yaml, result.length, &result) != YAML_DONE) return 1;
+    fwrite(yaml, 1, result.length, stdout);
     free(yaml);
-    if (run("+STR any\n+STR\n", small, sizeof small, &len, &line) != YAML_BAD_LINE) return 1;
-    printf("line %" PRIu64 " can't be read\n", line);
-    if (run("+STR any\n-DOC 1\n", small, sizeof small, &len, &line) != YAML_REFUSED) return 1;
-    printf("the event of line %" PRIu64 " is refused\n", line);
+    if (run("+STR any\n+STR\n", small, sizeof small, &result) != YAML_BAD_LINE) return 1;
+    printf("line %" PRIu64 " can't be read\n", result.line);
+    if (run("+STR any\n-DOC 1\n", small, sizeof small, &result) != YAML_REFUSED) return 1;
+    printf("the event of line %" PRIu64 " is refused\n", result.line);
     return 0;
 }

@@ -1,51 +1,70 @@
 //! Writes a JSON text as YAML through the static library `yaml_c`, from Rust without the toolchain.
 use std::io::Write;
 
-/// A line and a column, both counted from 1.
+/// How JSON is written: `struct yaml_c_json_settings`.
 #[repr(C)]
 #[derive(Default)]
-struct Place {
-    line: usize,
-    column: usize,
+struct Settings {
+    flow: u32,
+    no_indented_sequences: u32,
+    no_portable: u32,
+    allow_duplicates: u32,
+    indent: i32,
+    width: i32,
+    depth: usize,
+}
+
+/// What a call came to: `struct yaml_c_result`.
+#[repr(C)]
+#[derive(Default)]
+struct Report {
+    length: usize,
+    event: u64,
+    line: u64,
+    column: u64,
+    error: u32,
 }
 
 extern "C" {
     fn yaml_from_json(
         text: *const u8,
         text_len: usize,
+        settings: *const Settings,
         out: *mut u8,
         out_capacity: usize,
-        out_len: *mut usize,
-        place: *mut Place,
+        result: *mut Report,
     ) -> i32;
 }
 
-/// One call: its status, the length of the YAML, and the place of an error.
-fn from_json_into(text: &str, out: &mut [u8]) -> (i32, usize, Place) {
-    let (mut len, mut place) = (0, Place::default());
-    // SAFETY: the pointers and lengths are those of slices that are borrowed for the call, and `len` and `place` are written.
+/// One call: its status, and what it came to.
+fn from_json_into(text: &str, settings: &Settings, out: &mut [u8]) -> (i32, Report) {
+    let mut report = Report::default();
+    // SAFETY: the pointers and lengths are those of slices that are borrowed for the call, and `report` is written.
     let status = unsafe {
-        yaml_from_json(text.as_ptr(), text.len(), out.as_mut_ptr(), out.len(), &mut len, &mut place)
+        yaml_from_json(text.as_ptr(), text.len(), settings, out.as_mut_ptr(), out.len(), &mut report)
     };
-    (status, len, place)
+    (status, report)
 }
 
-/// The YAML of a JSON text, or the place of its error.
-fn from_json(text: &str) -> Result<Vec<u8>, Place> {
-    let (_, needed, _) = from_json_into(text, &mut [0; 8]);
-    let mut yaml = vec![0; needed];
-    match from_json_into(text, &mut yaml) {
-        (0, _, _) => Ok(yaml),
-        (_, _, place) => Err(place),
+/// The YAML of a JSON text, or where its error is.
+fn from_json(text: &str, settings: &Settings) -> Result<Vec<u8>, Report> {
+    let (_, needed) = from_json_into(text, settings, &mut [0; 8]);
+    let mut yaml = vec![0; needed.length];
+    match from_json_into(text, settings, &mut yaml) {
+        (0, _) => Ok(yaml),
+        (_, report) => Err(report),
     }
 }
 
 fn main() {
     let text = r#"{"country": "no", "ports": [80, 1e9], "proxy": null}"#;
-    if let Ok(yaml) = from_json(text) {
-        std::io::stdout().write_all(&yaml).expect("standard output is open");
+    let in_flow = Settings { flow: 1, width: -1, ..Settings::default() };
+    for settings in [Settings::default(), in_flow] {
+        if let Ok(yaml) = from_json(text, &settings) {
+            std::io::stdout().write_all(&yaml).expect("standard output is open");
+        }
     }
-    if let Err(place) = from_json("{\n  \"a\": nul\n}") {
-        println!("line {}, column {}: not JSON", place.line, place.column);
+    if let Err(report) = from_json("{\n  \"a\": nul\n}", &Settings::default()) {
+        println!("line {}, column {}: not JSON", report.line, report.column);
     }
 }

@@ -1,14 +1,24 @@
 //! Writes the YAML of a script of events through the static library `yaml_c`, from Rust without the toolchain.
 use std::io::Write;
 
+/// What a call came to: `struct yaml_c_result`.
+#[repr(C)]
+#[derive(Default)]
+struct Report {
+    length: usize,
+    event: u64,
+    line: u64,
+    column: u64,
+    error: u32,
+}
+
 extern "C" {
     fn yaml_run(
         script: *const u8,
         script_len: usize,
         out: *mut u8,
         out_capacity: usize,
-        out_len: *mut usize,
-        line: *mut u64,
+        result: *mut Report,
     ) -> i32;
 }
 
@@ -24,16 +34,16 @@ enum RunError {
 
 /// One call; `Ok(Err(needed))` where the buffer has less room than is needed.
 fn run_into(script: &str, out: &mut [u8]) -> Result<Result<usize, usize>, RunError> {
-    let (mut len, mut line) = (0, 0);
-    // SAFETY: the pointers and lengths are those of slices that are borrowed for the call, and `len` and `line` are written.
+    let mut report = Report::default();
+    // SAFETY: the pointers and lengths are those of slices that are borrowed for the call, and `report` is written.
     let status = unsafe {
-        yaml_run(script.as_ptr(), script.len(), out.as_mut_ptr(), out.len(), &mut len, &mut line)
+        yaml_run(script.as_ptr(), script.len(), out.as_mut_ptr(), out.len(), &mut report)
     };
     match status {
-        0 => Ok(Ok(len)),
-        1 => Err(RunError::Refused(line)),
-        2 => Err(RunError::BadLine(line)),
-        4 => Ok(Err(len)),
+        0 => Ok(Ok(report.length)),
+        1 => Err(RunError::Refused(report.line)),
+        2 => Err(RunError::BadLine(report.line)),
+        4 => Ok(Err(report.length)),
         _ => Err(RunError::NoMemory),
     }
 }

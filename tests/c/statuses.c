@@ -1,4 +1,5 @@
-/* Calls of yaml_emit, one for each status and for each kind of event that has no reading; a line for each that isn't as written. */
+/* Calls of yaml_emit, one for each status and for each kind of event that has no reading, and of yaml_from_json, one for each setting
+ * and status; a line for each that isn't as written. */
 #include <stdio.h>
 #include <stdlib.h>
 #include <string.h>
@@ -122,42 +123,30 @@ static void bad_numbers(void) {
     }
 }
 
+/* The stream with this span in place of one of its own. */
+static void expect_bad_span(const char *name, struct yaml_c_span *span, size_t start, size_t length, uint64_t event) {
+    begin();
+    span->start = start;
+    span->length = length;
+    expect_bad(name, event);
+}
+
 static void bad_spans(void) {
+    struct yaml_c_span *value = &events[2].value;
     begin();
-    events[2].value.length++;
-    expect_bad("one byte past the arena", 2);
-    begin();
-    events[2].value.start = SIZE_MAX;
-    events[2].value.length = SIZE_MAX;
-    expect_bad("a sum that overflows", 2);
-    begin();
-    events[2].value.start = 1;
-    events[2].value.length = SIZE_MAX;
-    expect_bad("a sum that comes to 0", 2);
-    begin();
-    events[2].anchor.start = texts_len + 1;
-    events[2].anchor.length = 0;
-    expect_bad("nothing, behind the arena", 2);
-    begin();
-    events[2].tag.length = 1000;
-    expect_bad("a tag past the arena", 2);
+    expect_bad_span("one byte past the arena", value, texts_len - 4, 5, 2);
+    expect_bad_span("a sum that overflows", value, SIZE_MAX, SIZE_MAX, 2);
+    expect_bad_span("a sum that comes to 0", value, 1, SIZE_MAX, 2);
+    expect_bad_span("nothing, behind the arena", &events[2].anchor, texts_len + 1, 0, 2);
+    expect_bad_span("a tag past the arena", &events[2].tag, 0, 1000, 2);
+    expect_bad_span("more directives than there are", &events[1].directives, 0, COUNT(directives) + 1, 1);
+    expect_bad_span("directives whose sum overflows", &events[1].directives, SIZE_MAX, SIZE_MAX, 1);
+    expect_bad_span("a handle past the arena", &directives[0].handle, SIZE_MAX, 3, 1);
+    expect_bad_span("a prefix past the arena", &directives[0].prefix, 3, SIZE_MAX, 1);
     begin();
     events[2].kind = 5;
     events[2].anchor.length = 1000;
     expect_bad("an alias past the arena", 2);
-    begin();
-    events[1].directives.length = 5;
-    expect_bad("more directives than there are", 1);
-    begin();
-    events[1].directives.start = SIZE_MAX;
-    events[1].directives.length = SIZE_MAX;
-    expect_bad("directives whose sum overflows", 1);
-    begin();
-    directives[0].handle.start = SIZE_MAX;
-    expect_bad("a handle past the arena", 1);
-    begin();
-    directives[0].prefix.length = SIZE_MAX;
-    expect_bad("a prefix past the arena", 1);
 }
 
 static void bad_texts(void) {
@@ -225,14 +214,78 @@ static void refused(void) {
     expect_bad("a bad event before a refusal", 1);
 }
 
+/* What a call of yaml_from_json with a buffer of `capacity` bytes comes to; nothing is reported but what stands here. */
+static void expect_json(const char *name, const char *text, struct yaml_c_json_settings given, int32_t status, uint64_t line, uint64_t column,
+                        const char *written) {
+    size_t i, size = strlen(written);
+    int32_t got;
+    memset(out, 0xa5, sizeof out);
+    memset(&result, 0xff, sizeof result);
+    got = yaml_from_json((const uint8_t *)text, strlen(text), &given, out, sizeof out, &result);
+    calls++;
+    int good = got == status && result.length == size && result.line == line && result.column == column && result.event == 0
+        && result.error == 0 && memcmp(out, written, size) == 0;
+    for (i = size; i < sizeof out; i++) good = good && out[i] == 0xa5;
+    if (good) return;
+    failures++;
+    printf("%s: status %d, length %lu, line %lu, column %lu\n%.*s\n", name, (int)got, (unsigned long)result.length, (unsigned long)result.line,
+           (unsigned long)result.column, (int)result.length, (const char *)out);
+}
+
+static void json_settings(void) {
+    static const char text[] = "{\"a\": [1, {\"b\": 2}]}", words[] = "\"aaaa bbbb cccc dddd eeee ffff\"";
+    struct yaml_c_json_settings given;
+    memset(&given, 0, sizeof given);
+    expect_json("the defaults", text, given, YAML_DONE, 0, 0, "---\na:\n  - 1\n  - b: 2\n");
+    expect_json("a width of 80", words, given, YAML_DONE, 0, 0, "--- aaaa bbbb cccc dddd eeee ffff\n");
+    given.indent = 4;
+    expect_json("an indent of 4", text, given, YAML_DONE, 0, 0, "---\na:\n    - 1\n    -   b: 2\n");
+    given.no_indented_sequences = 1;
+    expect_json("and sequences that aren't indented", text, given, YAML_DONE, 0, 0, "---\na:\n- 1\n-   b: 2\n");
+    given.no_portable = 1;
+    expect_json("and not portable", text, given, YAML_DONE, 0, 0, "a:\n- 1\n-   b: 2\n");
+    given.flow = 1;
+    expect_json("and in flow", text, given, YAML_DONE, 0, 0, "{a: [1, {b: 2}]}\n");
+    memset(&given, 0, sizeof given);
+    given.width = 20;
+    expect_json("a width of 20", words, given, YAML_DONE, 0, 0, "--- aaaa bbbb cccc dddd\n  eeee ffff\n");
+    given.allow_duplicates = 1;
+    expect_json("a name twice, where it may be", "{\"a\":1,\"a\":2}", given, YAML_DONE, 0, 0, "---\na: 1\na: 2\n");
+    given.depth = 2;
+    expect_json("as deep as may be", "[[1]]", given, YAML_DONE, 0, 0, "---\n- - 1\n");
+}
+
+static void json_refused(void) {
+    struct yaml_c_json_settings given;
+    memset(&given, 0, sizeof given);
+    expect_json("a name twice", "{\"a\":1,\n\"a\":2}", given, YAML_DUPLICATE_NAME, 2, 1, "");
+    expect_json("no JSON", "[1,]", given, YAML_NOT_JSON, 1, 4, "");
+    expect_json("no UTF-8", "\"\xff\"", given, YAML_NOT_JSON, 0, 0, "");
+    given.depth = 1;
+    expect_json("too deep", "[[1]]", given, YAML_TOO_DEEP, 0, 0, "");
+}
+
+/* Arrays in arrays, 100,000 deep, by yaml_from_json, over a text and a buffer of so many bytes, and 5 more. */
+static int is_deep_json(size_t levels, uint8_t *text, uint8_t *brackets) {
+    struct yaml_c_json_settings given;
+    memset(&given, 0, sizeof given);
+    given.flow = 1;
+    given.width = -1;
+    given.depth = levels;
+    memset(text, '[', levels);
+    memset(text + levels, ']', levels);
+    return yaml_from_json(text, 2 * levels, &given, brackets, 2 * levels + 5, &result) == YAML_DONE && memcmp(brackets, "--- [[", 6) == 0
+        && result.length == 2 * levels + 5 && brackets[2 * levels + 4] == '\n';
+}
+
 /* Sequences in sequences, 100,000 deep, which take no stack. */
 static void deep(void) {
     const size_t levels = 100000, count = 2 * levels + 4;
     struct yaml_c_event *nested = (struct yaml_c_event *)calloc(count, sizeof *nested);
-    uint8_t *brackets = (uint8_t *)calloc(count, 1);
+    uint8_t *brackets = (uint8_t *)calloc(count + 1, 1), *text = (uint8_t *)calloc(count, 1);
     size_t i;
-    int good = nested != NULL && brackets != NULL;
-    calls++;
+    int good = nested != NULL && brackets != NULL && text != NULL;
+    calls += 2;
     begin();
     settings.width = -1;
     if (good) {
@@ -251,8 +304,10 @@ static void deep(void) {
         good = yaml_emit(nested, count, directives, 0, texts, 0, &settings, brackets, count, &result) == YAML_DONE
             && result.length == 2 * levels + 1 && brackets[levels - 1] == '[' && brackets[levels] == ']' && brackets[2 * levels] == '\n';
     }
+    good = good && is_deep_json(levels, text, brackets);
     free(nested);
     free(brackets);
+    free(text);
     if (good) return;
     failures++;
     printf("sequences in sequences: length %lu, event %lu\n", (unsigned long)result.length, (unsigned long)result.event);
@@ -267,6 +322,8 @@ int main(void) {
     bad_texts();
     unread();
     refused();
+    json_settings();
+    json_refused();
     deep();
     printf("%d calls, %d not as written\n", calls, failures);
     return failures != 0;

@@ -1,4 +1,5 @@
 pub mod Utf8
 pub mod DirectiveLemmas
 pub mod EmissionLemmas
+pub mod JsonLemmas
 pub mod rows

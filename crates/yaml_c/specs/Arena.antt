@@ -5,8 +5,11 @@ use Rattle.yaml_base.specs.Characters.{Text}
 use Rattle.yaml_c.specs.declared.arena.Span.{Span}
 
 -- a number as a flag: each but 0 is on
+abbrev pub is_off : ℕ → Bool
+is_off flag = flag == 0
+
 abbrev pub is_on : ℕ → Bool
-is_on flag = not (flag == 0)
+is_on flag = not (is_off flag)
 
 -- the elements of a span, where it ends within the array
 abbrev pub part_of : {A : Type 0} → List A → Span → Option (List A)

@@ -1,4 +1,4 @@
--- What the function over events hands to its caller.
+-- What the function over events returns to its caller.
 use Rattle.std.specs.Prelude.{◌≡◌, ◌⊎◌, ⊤, ◌<◌, ℕ, ℤ, pos, Option, None, Some, List, drop, length, nat_le, if◌then◌else◌}
 use Rattle.yaml_base.specs.Settings.{Settings}
 use Rattle.yaml_base.specs.scripts.Script.{Numbered}
@@ -8,13 +8,13 @@ use Rattle.yaml_emitter.specs.State.{State}
 use Rattle.yaml_emitter.specs.StandsAfter.{StandsAfter}
 use Rattle.yaml_tool.specs.Runs.{EmitsAll, FlushFails, FlushesLast, RefusesAt, events_in}
 use Rattle.yaml_tool.specs.declared.answers.run_answer_t.TheVariants as run
-use Rattle.yaml_c.specs.Answers.{overwritten}
+use Rattle.yaml_c.specs.Answers.{CallResults, CopiesToCaller, nothing_reported, results_done, results_failed}
 use Rattle.yaml_c.specs.EventRecords.{events_from}
 use Rattle.yaml_c.specs.GivenSettings.{settings_given}
 use Rattle.yaml_c.specs.declared.records.DirectiveRecord.{DirectiveRecord}
 use Rattle.yaml_c.specs.declared.records.EventRecord.{EventRecord}
+use Rattle.yaml_c.specs.declared.results.CallResult.{CallResult}
 use Rattle.yaml_c.specs.declared.settings.EmitterSettings.{EmitterSettings}
-use Rattle.yaml_c.specs.declared.events.EmitResult.{EmitResult}
 use Rattle.yaml_c.specs.declared.events.Emission.{Emission}
 use Rattle.yaml_c.specs.declared.events.Emission.TheVariants.{Done, Refused, BadEvent, NoMemory}
 
@@ -71,49 +71,29 @@ error_number errors.TooDeep = 19
 error_number errors.WriteError = 20
 error_number errors.Memory = 21
 
--- a call's results: the buffer, a status, and what it tells beside it
-pub record EmitResults : Type 0 where
-  pub out : List ℕ
-  pub status : ℤ
-  pub report : EmitResult
-
--- the YAML's length, and behind the bytes that the caller has those that fit into the buffer, all or none
-abbrev pub emit_done : (yaml : List ℕ) → (skip : ℕ) → (out : List ℕ) → EmitResults
-emit_done yaml skip out =
-    let report : EmitResult = record { length = length yaml; event = 0; error = 0 } in
-    let fresh = drop skip yaml in
-    if nat_le (length fresh) (length out) then record { out = overwritten fresh out; status = pos 0; report = report }
-    else record { out = out; status = pos 4; report = report }
-
--- a failure, with the number of an event and of an error where there are any; the buffer stays
-abbrev pub emit_failed : (status event error : ℕ) → (out : List ℕ) → EmitResults
-emit_failed status event error out =
-    record { out = out; status = pos status; report = record { length = 0; event = event; error = error } }
+-- an event's number, and why it was refused
+abbrev pub at_event : (event error : ℕ) → CallResult
+at_event event error = record nothing_reported { event = event; error = error }
 
 -- what is returned of an emission: 0 where it is done, 4 where its YAML doesn't fit; 1 where an event was refused, 8 where one has
 -- no reading, 3 where memory ran out
-abbrev pub emit_results : Emission → (yaml : List ℕ) → (skip : ℕ) → (out : List ℕ) → EmitResults
-emit_results Done yaml skip out = emit_done yaml skip out
-emit_results (Refused number errors.Memory) yaml skip out = emit_failed 3 0 0 out
-emit_results (Refused number error) yaml skip out = emit_failed 1 number (error_number error) out
-emit_results (BadEvent number) yaml skip out = emit_failed 8 number 0 out
-emit_results NoMemory yaml skip out = emit_failed 3 0 0 out
-
--- these results are those of an emission that ended so, with this YAML
-abbrev pub HandsOutEvents : Emission → (yaml : List ℕ) → (skip : ℕ) → (old : List ℕ) → (status : ℤ) → (new : List ℕ) → EmitResult → Type 0
-HandsOutEvents emission yaml skip old status new report =
-    record { out = new; status = status; report = report } ≡ emit_results emission yaml skip old
+abbrev pub emit_results : Emission → (yaml : List ℕ) → (skip : ℕ) → (out : List ℕ) → CallResults
+emit_results Done yaml skip out = results_done yaml skip out
+emit_results (Refused number errors.Memory) yaml skip out = results_failed 3 nothing_reported out
+emit_results (Refused number error) yaml skip out = results_failed 1 (at_event number (error_number error)) out
+emit_results (BadEvent number) yaml skip out = results_failed 8 (at_event number 0) out
+emit_results NoMemory yaml skip out = results_failed 3 nothing_reported out
 
 -- these results are those of an emitter with these settings that was given the array's events, 9 where there are no such settings
 abbrev pub IsEmissionBy : Option Settings → (all : List Numbered) → (records : List EventRecord) → (skip : ℕ) → (old : List ℕ) → (status : ℤ)
-    → (new : List ℕ) → EmitResult → Type 0
-IsEmissionBy None all records skip old status new report = record { out = new; status = status; report = report } ≡ emit_failed 9 0 0 old
+    → (new : List ℕ) → CallResult → Type 0
+IsEmissionBy None all records skip old status new report = CopiesToCaller (results_failed 9 nothing_reported old) status new report
 IsEmissionBy (Some given) all records skip old status new report =
     (emission : Emission) × (state : State) × EmitsRecords given all records emission state
-    × HandsOutEvents emission state.page.output skip old status new report
+    × CopiesToCaller (emit_results emission state.page.output skip old) status new report
 
 -- these results are those of the array's events, by the settings that are given
 abbrev pub IsEmission : List EventRecord → List DirectiveRecord → (arena : List ℕ) → EmitterSettings → (old : List ℕ) → (status : ℤ)
-    → (new : List ℕ) → EmitResult → Type 0
+    → (new : List ℕ) → CallResult → Type 0
 IsEmission records directives arena given old status new report =
     IsEmissionBy (settings_given given) (events_from 0 arena directives records) records given.skip old status new report

@@ -1,26 +1,18 @@
 //! Events of a C program, emitted from memory to memory.
-ghost use Rattle.std.specs.Prelude.{◌≡◌, [], None, drop, true};
+ghost use Rattle.std.specs.Prelude.{◌≡◌, [], None, true};
 ghost use Rattle.yaml_base.specs.Settings as given;
 ghost use Rattle.yaml_emitter.specs.StandsAfter.{StandsAfter};
-ghost use Rattle.yaml_c.specs.Emission.{EmitsRecords, FlushesAfter, HandsOutEvents, IsEmission, error_number};
+ghost use Rattle.yaml_c.specs.Answers.{CopiesToCaller};
+ghost use Rattle.yaml_c.specs.Emission.{EmitsRecords, FlushesAfter, IsEmission, emit_results, error_number};
 ghost use Rattle.yaml_c.specs.EventRecords.{events_from};
 
-use crate::buffers::copy_out;
 use crate::records::{DirectiveRecord, EventRecord, event_of};
+use crate::results::{CallResult, copy_to_caller};
 use crate::settings::{EmitterSettings, emitter_by, settings_from};
-use crate::statuses::{BAD_EVENT, BAD_SETTINGS, DONE, NO_MEMORY, REFUSED, TOO_SMALL};
+use crate::statuses::{BAD_EVENT, BAD_SETTINGS, NO_MEMORY, REFUSED};
 use std::alloc::{Allocator, Global};
 use yaml_base::yaml_error_t;
 use yaml_emitter::{standing_is_promised, yaml_emitter_emit, yaml_emitter_flush, yaml_emitter_t};
-
-/// What a call over events came to, beside its status. See the header.
-#[repr(C)]
-#[derive(Clone, Copy)]
-pub struct EmitResult {
-    pub length: usize,
-    pub event: u64,
-    pub error: u32,
-}
 
 /// How the events of an array were emitted.
 #[derive(Clone, Copy)]
@@ -91,41 +83,19 @@ fn number_of(error: yaml_error_t) -> u32
     error as u32 + 1
 }
 
-/// The bytes behind the first so many.
-fn bytes_after(bytes: &[u8], skip: usize) -> &[u8]
-    ensures { result.now ≡ drop skip bytes.now }
-{
-    if skip < bytes.len() {
-        &bytes[skip..]
-    } else {
-        &[]
-    }
-}
-
 /// Returns how an emission ended, and of its output what the caller doesn't have.
-fn hand_out(
+fn copy_emission(
     emission: Emission,
     yaml: &[u8],
     skip: usize,
     out: &mut [u8],
-    report: &mut EmitResult,
+    report: &mut CallResult,
 ) -> i32
-    ensures { HandsOutEvents emission yaml.now skip out.old result out.new report.new }
+    ensures { CopiesToCaller (emit_results emission yaml.now skip out.old) result out.new report.new }
 {
-    *report = EmitResult {
-        length: 0,
-        event: 0,
-        error: 0,
-    };
+    *report = CallResult::nothing();
     match emission {
-        Emission::Done => {
-            report.length = yaml.len();
-            if copy_out(bytes_after(yaml, skip), out) {
-                DONE
-            } else {
-                TOO_SMALL
-            }
-        }
+        Emission::Done => copy_to_caller(yaml, skip, out, report),
         Emission::Refused(_, yaml_error_t::Memory) => NO_MEMORY,
         Emission::Refused(number, error) => {
             report.event = number;
@@ -149,15 +119,11 @@ pub extern "C" fn yaml_emit(
     texts: &[u8],
     settings: &EmitterSettings,
     out: &mut [u8],
-    report: &mut EmitResult,
+    report: &mut CallResult,
 ) -> i32
     ensures { IsEmission events.now directives.now texts.now settings.now out.old result out.new report.new }
 {
-    *report = EmitResult {
-        length: 0,
-        event: 0,
-        error: 0,
-    };
+    *report = CallResult::nothing();
     let Some(given) = settings_from(settings) else {
         return BAD_SETTINGS;
     };
@@ -165,5 +131,5 @@ pub extern "C" fn yaml_emit(
         return NO_MEMORY;
     };
     let emission = emit_records(alloc, &mut emitter, texts, directives, events);
-    hand_out(emission, emitter.output(), settings.skip, out, report)
+    copy_emission(emission, emitter.output(), settings.skip, out, report)
 }

@@ -6,6 +6,7 @@ mod buffers;
 mod events;
 mod json_texts;
 mod records;
+mod results;
 mod scripts;
 mod settings;
 mod statuses;

@@ -2,16 +2,20 @@ use Rattle.std.proofs.Common.{◌≡◌, pos, Option, Some, refl, ap, sym, subst
 use Rattle.yaml_emitter.specs.State.{new_state}
 use Rattle.yaml_writer.specs.Given.{seen_settings}
 use Rattle.yaml_base.specs.Settings.{Settings}
+use Rattle.yaml_c.specs.Answers.{nothing_reported}
 use Rattle.yaml_c.specs.Emission.{IsEmissionBy}
 use Rattle.yaml_c.specs.EventRecords.{events_from}
 use Rattle.yaml_c.specs.GivenSettings.{settings_given}
 use Rattle.yaml_c.specs.declared.events.Emission.TheVariants.{NoMemory}
+use Rattle.yaml_c.specs.declared.results.CallResult.{CallResult}
 use Rattle.yaml_c.proofs.events.yaml_emit.Goals as goal
 
 pub returns-in_default-emitter_by : goal.returns-in_default-emitter_by
 returns-in_default-emitter_by c =
     let read : Some (seen_settings c.in-Some.given) ≡ settings_given c.args.settings.now =
     ap (option_map seen_settings) (sym c.in-Some.is) ∙ c.settings_from.ensures in
-    subst (λ (set : Option Settings). IsEmissionBy set (events_from 0 c.args.texts.now c.args.directives.now c.args.events.now) c.args.events.now
-    c.args.settings.now.skip c.args.out.now (pos 3) c.args.out.now (record { length = 0; event = 0; error = 0 })) read
-    (NoMemory, new_state, tt, refl)
+    let all = events_from 0 c.args.texts.now c.args.directives.now c.args.events.now in
+    subst (λ (report : CallResult). IsEmissionBy (settings_given c.args.settings.now) all c.args.events.now c.args.settings.now.skip c.args.out.now (pos 3)
+    c.args.out.now report) (sym c.nothing.ensures)
+    (subst (λ (set : Option Settings). IsEmissionBy set all c.args.events.now c.args.settings.now.skip c.args.out.now (pos 3) c.args.out.now nothing_reported)
+    read (NoMemory, new_state, tt, refl))

@@ -1,0 +1,60 @@
+//! What a call returns beside its status.
+ghost use Rattle.std.specs.Prelude.{◌≡◌, drop};
+ghost use Rattle.yaml_c.specs.Answers.{CopiesToCaller, nothing_reported, results_done};
+
+use crate::buffers::copy_out;
+use crate::statuses::{DONE, TOO_SMALL};
+
+/// What a call came to, beside its status. See the header.
+#[repr(C)]
+#[derive(Clone, Copy)]
+pub struct CallResult {
+    pub length: usize,
+    pub event: u64,
+    pub line: u64,
+    pub column: u64,
+    pub error: u32,
+}
+
+impl CallResult {
+    pub(crate) fn nothing() -> CallResult
+        ensures { result ≡ nothing_reported }
+    {
+        CallResult {
+            length: 0,
+            event: 0,
+            line: 0,
+            column: 0,
+            error: 0,
+        }
+    }
+}
+
+/// The bytes behind the first so many.
+fn bytes_after(bytes: &[u8], skip: usize) -> &[u8]
+    ensures { result.now ≡ drop skip bytes.now }
+{
+    if skip < bytes.len() {
+        &bytes[skip..]
+    } else {
+        &[]
+    }
+}
+
+/// Copies the YAML to the caller's buffer, but for its first `skip` bytes, which the caller has.
+pub(crate) fn copy_to_caller(
+    yaml: &[u8],
+    skip: usize,
+    out: &mut [u8],
+    report: &mut CallResult,
+) -> i32
+    ensures { CopiesToCaller (results_done yaml.now skip out.old) result out.new report.new }
+{
+    *report = CallResult::nothing();
+    report.length = yaml.len();
+    if copy_out(bytes_after(yaml, skip), out) {
+        DONE
+    } else {
+        TOO_SMALL
+    }
+}
