@@ -99,7 +99,7 @@ abbrev pub render_anchor : Option Text → Cursor → Rendered
 render_anchor None cursor = render_nothing cursor
 render_anchor (Some name) cursor = render_then (indicators.render_indicator indicators.anchor cursor) (render_name name)
 
--- a tag handle, a space before it where one is needed
+-- a tag handle, a space before it where one is needed (YAML 1.1, section 7.1.2.2 Tag Handles, c-tag-handle)
 abbrev pub render_handle : Text → Cursor → Rendered
 render_handle handle cursor = render_name (space_if true cursor ++ handle) cursor
 
@@ -112,13 +112,13 @@ render_spelling portable (verbatim tag) cursor =
     (render_then (indicators.render_indicator indicators.verbatim_start cursor) (render_name (percent_escaped tag)))
     (indicators.render_indicator indicators.verbatim_end)
 
--- the tag that is written, or the bare tag
+-- the tag that is written, or the bare tag (YAML 1.1, section 8.2 Node Tags, c-ns-tag-property)
 abbrev pub render_tag : (portable : Bool) → List TagDirective → Option Text → (bare : Bool) → Cursor → Rendered
 render_tag portable directives (Some tag) bare cursor = render_spelling portable (spelling directives tag) cursor
 render_tag portable directives None true cursor = render_handle (codes "!") cursor
 render_tag portable directives None false cursor = render_nothing cursor
 
--- the anchor, and then the tag (YAML 1.1, chapter 8 Nodes; this order is libyaml's)
+-- the anchor, and then the tag (YAML 1.1, chapter 8 Nodes, c-ns-properties(n,c); this order is libyaml's)
 abbrev pub render_properties :
     (portable : Bool) → List TagDirective → Option Text → Option Text → (bare : Bool) → Cursor → Rendered
 render_properties portable directives anchor tag bare cursor =
@@ -133,11 +133,13 @@ render_alias name simple cursor =
     (render_text (if simple then codes " " else []))
 
 -- the space before a scalar's body: an empty plain scalar in a block needs none
+-- (YAML 1.1, section 6.3 Separation Spaces, s-separate(n,c); where is libyaml's)
 abbrev pub render_separation : ScalarStyle → (in_flow : Bool) → Text → Cursor → Rendered
 render_separation plain in_flow value cursor = render_text (space_if (in_flow || not (is_empty value)) cursor) cursor
 render_separation style in_flow value cursor = render_text (space_if true cursor) cursor
 
 -- a scalar's body by its style, with the limit of its lines and its indentation
+-- (YAML 1.1, chapter 9 Scalar Styles, c-double-quoted(n,c), c-single-quoted(n,c), ns-plain(n,c), c-l+literal(n), c-l+folded(n))
 abbrev pub render_body : ScalarStyle → Effective → Option ℕ → ℕ → Text → Cursor → Rendered
 render_body plain s limit indent value cursor = plain_body limit indent value cursor
 render_body single_quoted s limit indent value cursor = single_quoted_body limit indent value cursor
@@ -207,7 +209,7 @@ asks_flow _ = false
 abbrev pub is_written_in_flow : Effective → Place → Collection → (empty : Bool) → Bool
 is_written_in_flow s place start empty = place.in_flow || s.canonical || asks_flow start.style || empty
 
--- the brackets of a sequence or of a mapping
+-- the brackets of a sequence or of a mapping (YAML 1.1, sections 10.1.1 Flow Sequences and 10.2.1 Flow Mappings, c-flow-sequence(n,c), c-flow-mapping(n,c))
 pub record Brackets : Type 0 where
   pub opening : Text
   pub closing : Text
@@ -221,7 +223,7 @@ abbrev pub curly : Brackets
 curly = record { opening = codes "{"; closing = codes "}" }
 
 -- before the closing bracket stands the opening one where nothing is between them; in canonical mode a comma
--- after the last entry, and a new line
+-- after the last entry, and a new line (YAML 1.1, section 5.3 Indicator Characters, c-sequence-start, c-mapping-start, c-collect-entry; where is libyaml's)
 abbrev pub empty_or_comma : Effective → Text → (empty : Bool) → Option ℕ → Cursor → Rendered
 empty_or_comma s bracket true column cursor = indicators.render_indicator (indicators.opening bracket) cursor
 empty_or_comma s bracket false column cursor =
@@ -229,7 +231,7 @@ empty_or_comma s bracket false column cursor =
     then render_then (indicators.render_indicator indicators.flow_entry cursor) (new_line (line_column column))
     else render_nothing cursor
 
--- a collection's end: a block collection's writes nothing
+-- a collection's end: a block collection's writes nothing (YAML 1.1, section 5.3 Indicator Characters, c-sequence-end, c-mapping-end)
 abbrev pub render_end : Effective → Brackets → (in_flow empty : Bool) → Option ℕ → Cursor → Rendered
 render_end s brackets false empty column cursor = render_nothing cursor
 render_end s brackets true empty column cursor =
@@ -255,6 +257,7 @@ render_collection s brackets in_flow undented empty column start entries =
     (λ standing. one_piece (end_piece s brackets in_flow empty column standing))
 
 -- a node at its place: its events' pieces, in order; with it, the items of a sequence and the pairs of a mapping
+-- (YAML 1.1, section 8.5 Complete Nodes, ns-flow-node(n,c), s-l+block-node(n,c); which is libyaml's choice)
 abbrev mutual
   pub render_node : Node → Effective → List TagDirective → Place → Standing → RenderedPieces
   render_node (alias_node name) s directives place standing =

@@ -134,16 +134,18 @@ flow_break s column cursor =
     if s.canonical || is_past_width s.width cursor then new_line (line_column column) cursor else render_nothing cursor
 
 -- the opening bracket before the first entry, a comma before another
+-- (YAML 1.1, section 5.3 Indicator Characters, c-sequence-start, c-mapping-start, c-collect-entry)
 abbrev pub opening_or_comma : Text → Bool → Cursor → Rendered
 opening_or_comma bracket true cursor = render_indicator (opening bracket) cursor
 opening_or_comma bracket false cursor = render_indicator flow_entry cursor
 
--- the indicator of a key that isn't simple
+-- the indicator of a key that isn't simple (YAML 1.1, section 5.3 Indicator Characters, c-mapping-key)
 abbrev pub key_indicator : (simple in_block : Bool) → Cursor → Rendered
 key_indicator true in_block cursor = render_nothing cursor
 key_indicator false in_block cursor = render_indicator (key in_block) cursor
 
--- what a place in flow puts before its node (YAML 1.1, sections 10.1.1 Flow Sequences and 10.2.1 Flow Mappings; new lines are libyaml's rule)
+-- what a place in flow puts before its node
+-- (YAML 1.1, sections 10.1.1 Flow Sequences and 10.2.1 Flow Mappings, c-flow-sequence(n,c), c-flow-mapping(n,c); new lines are libyaml's)
 abbrev pub render_flow_place : Effective → Role → (simple : Bool) → Option ℕ → Cursor → Rendered
 render_flow_place s as_root simple column cursor = render_nothing cursor
 render_flow_place s (as_item first) simple column cursor =
@@ -155,7 +157,7 @@ render_flow_place s (as_value false) simple column cursor =
     render_then (flow_break s column cursor) (render_indicator flow_value)
 
 -- what a place in a block puts before its node
--- (YAML 1.1, sections 10.1.2 Block Sequences and 10.2.2 Block Mappings; new lines are libyaml's rule)
+-- (YAML 1.1, sections 10.1.2 Block Sequences and 10.2.2 Block Mappings, c-l-block-sequence(n,c), c-l-block-mapping(n); new lines are libyaml's)
 abbrev pub render_block_place : Role → (simple : Bool) → Option ℕ → Cursor → Rendered
 render_block_place as_root simple column cursor = render_nothing cursor
 render_block_place (as_item first) simple column cursor =

@@ -1,8 +1,7 @@
 -- Reading canonical bytes back, without any word of what writes them: bytes to characters (`ReadBytes`), characters to tokens
 -- (`CanonicalTokens`), and here tokens to contents, in flow style and double quotes alone.
 --     canonical_content breaks12 bytes      the documents' contents, or nothing
--- Source, unless a definition names its own: this project's steps, for YAML 1.1, chapters 7 YAML Character Stream, 8 Nodes, 9 Scalar Styles and
--- 10 Collection Styles.
+-- Source, unless a definition names its own: helpers of this project's reader for l-yaml-stream (YAML 1.1, section 7.4 Complete Stream).
 use Rattle.std.specs.Prelude.{ℕ, Bool, true, false, Option, None, Some, List, [], ◌∷◌, ◌++◌, ◌==◌, not, fold, option_map, option_and_then, is_some}
 use Rattle.std.specs.Prelude.{if◌then◌else◌}
 use Rattle.yaml_base.specs.Characters.{Text, space}
@@ -29,7 +28,8 @@ shorthand_read own text = name_joined (prefix_among (own ++ directives_assumed) 
 abbrev pub verbatim_read : Option Text → Option ParsedTag
 verbatim_read text = option_map name_parsed (option_and_then percent_read text)
 
--- a written tag, from its `!` to its last character; since a space ends it, it may hold the flow indicators (YAML 1.1, section 8.2 Node Tags)
+-- a written tag, from its `!` to its last character; since a space ends it, it may hold the flow indicators
+-- (YAML 1.1, section 8.2 Node Tags, c-ns-tag-property)
 abbrev pub tag_read : List TagDirective → Text → Option ParsedTag
 tag_read own [] = None
 tag_read own (c ∷ []) = if c == 0x21 then Some bare_parsed else None
@@ -52,7 +52,7 @@ pub data Awaited : Type 0 where
   comma_awaited : Awaited
   value_awaited : Awaited
 
--- a document's directives (YAML 1.1, section 7.1 Directives)
+-- a document's directives (YAML 1.1, section 7.1 Directives, l-directive)
 pub record Head : Type 0 where
   pub version : Option Version
   pub directives : List TagDirective
@@ -64,7 +64,7 @@ pub data Reading : Type 0 where
   outside : List DocumentContent → Head → (may_end : Bool) → Reading
   within : List DocumentContent → Head → List OpenContent → Awaited → Reading
 
--- nothing said before `---` (YAML 1.1, section 7.1 Directives)
+-- nothing said before `---` (YAML 1.1, section 7.1 Directives, l-directive)
 abbrev pub no_head : Head
 no_head = record { version = None; directives = [] }
 
@@ -79,25 +79,26 @@ with_content documents head (open_mapping anchor tag pairs None ∷ levels) cont
 with_content documents head (open_mapping anchor tag pairs (Some key) ∷ levels) content =
     within documents head (open_mapping anchor tag (content_pairs_and pairs key content) None ∷ levels) comma_awaited
 
--- a scalar without a tag may go without one where it isn't plain, unless it has the bare tag (this project)
+-- a scalar without a tag may go without one where it isn't plain, unless it has the bare tag
+-- (this project, for YAML 1.1, section 8.2 Node Tags, c-ns-non-specific-tag)
 abbrev pub scalar_tag_read : Option ParsedTag → ScalarTag
 scalar_tag_read None = untagged true
 scalar_tag_read (Some bare_parsed) = untagged false
 scalar_tag_read (Some (name_parsed name)) = tagged name
 
--- a tag after an anchor or none, read with the document's directives (YAML 1.1, section 8.2 Node Tags)
+-- a tag after an anchor or none, read with the document's directives (YAML 1.1, chapter 8 Nodes, c-ns-properties(n,c))
 abbrev pub with_tag : List DocumentContent → Head → List OpenContent → Option Text → Option ParsedTag → Reading
 with_tag documents head levels given None = failed
 with_tag documents head levels given (Some read) = within documents head levels (node_awaited given (Some read))
 
--- a collection begins; the bare tag isn't one of its own (YAML 1.1, section 8.2 Node Tags; the refusal of the bare tag is this project's)
+-- a collection begins; the bare tag isn't one of its own (YAML 1.1, section 8.2 Node Tags, c-ns-tag-property; the refusal of the bare tag is this project's)
 abbrev pub with_open : List DocumentContent → Head → List OpenContent → (Option Text → OpenContent) → Option ParsedTag → Reading
 with_open documents head levels opened None = within documents head (opened None ∷ levels) entry_awaited
 with_open documents head levels opened (Some (name_parsed name)) = within documents head (opened (Some name) ∷ levels) entry_awaited
 with_open documents head levels opened (Some bare_parsed) = failed
 
 -- where a node is awaited: an anchor, then a tag, then the node; an alias has neither
--- (YAML 1.1, sections 8.4 Alias Nodes and 8.5 Complete Nodes, c-ns-alias-node)
+-- (YAML 1.1, sections 8.4 Alias Nodes and 8.5.1 Flow Nodes, c-ns-alias-node, ns-flow-node(n,c))
 abbrev pub node_read : List DocumentContent → Head → List OpenContent → Option Text → Option ParsedTag → Token → Reading
 node_read documents head levels None None (anchor_token name) = within documents head levels (node_awaited (Some name) None)
 node_read documents head levels given None (tag_token text) = with_tag documents head levels given (tag_read head.directives text)
@@ -126,7 +127,7 @@ within_read documents head levels value_awaited value_token = within documents h
 within_read documents head levels _ _ = failed
 
 -- a token outside documents: a version once, directives, `---`, and once after a document `...`
--- (YAML 1.1, sections 7.1 Directives and 7.2 Document Boundary Markers)
+-- (YAML 1.1, sections 7.1 Directives and 7.2 Document Boundary Markers, l-directive, c-document-start, c-document-end)
 abbrev pub outside_read : List DocumentContent → Head → Bool → Token → Reading
 outside_read documents head may_end (version_line version) =
     if is_some head.version then failed else outside documents (record head { version = Some version }) false
@@ -142,12 +143,12 @@ token_read failed token = failed
 token_read (outside documents head may_end) token = outside_read documents head may_end token
 token_read (within documents head levels awaited) token = within_read documents head levels awaited token
 
--- the documents read, where no directive waits for a document (YAML 1.1, section 7.3 Documents)
+-- the documents read, where no directive waits for a document (YAML 1.1, section 7.3 Documents, l-explicit-document)
 abbrev pub without_head : List DocumentContent → Option Version → List TagDirective → Option (List DocumentContent)
 without_head documents None [] = Some documents
 without_head documents _ _ = None
 
--- the stream may end outside documents, where no directives await one (YAML 1.1, section 7.4 Complete Stream)
+-- the stream may end outside documents, where no directives await one (YAML 1.1, section 7.4 Complete Stream, l-yaml-stream)
 abbrev pub documents_at_end : Reading → Option (List DocumentContent)
 documents_at_end (outside documents head may_end) = without_head documents head.version head.directives
 documents_at_end _ = None
@@ -158,7 +159,7 @@ documents_read tokens = documents_at_end (fold token_read (outside [] no_head fa
 
 -- ---- the whole
 
--- the contents of the documents in canonical bytes (YAML 1.1, sections 5.2 Character Encoding and 7.4 Complete Stream, l-yaml-stream)
+-- the contents of the documents in canonical bytes (YAML 1.1, sections 5.2 Character Encoding and 7.4 Complete Stream, c-byte-order-mark, l-yaml-stream)
 abbrev pub canonical_content : Bool → List ℕ → Option (List DocumentContent)
 canonical_content breaks12 bytes =
     option_and_then (λ text. documents_read (tokens_from breaks12 free (with_line_breaks_read text))) (characters_read bytes)

@@ -1,6 +1,5 @@
 -- Characters to the tokens of a canonical stream, in flow style and double quotes alone, without any word of what writes them.
--- Source, unless a definition names its own: this project's steps, for YAML 1.1, chapters 7 YAML Character Stream, 8 Nodes, 9 Scalar Styles and
--- 10 Collection Styles.
+-- Source, unless a definition names its own: helpers of this project's reader for l-yaml-stream (YAML 1.1, section 7.4 Complete Stream).
 use Rattle.std.specs.Prelude.{ℕ, zero, suc, pos, Bool, Option, None, Some, List, [], ◌∷◌, ◌++◌, ◌==◌, ◌||◌, not, length, filter, codes, bytes_eq, if◌then◌else◌}
 use Rattle.std.specs.List.{slice_split}
 use Rattle.yaml_base.specs.Characters.{Text, is_alpha, is_blank, space}
@@ -68,11 +67,11 @@ abbrev pub alias_named : Text → Token
 alias_named [] = bad
 alias_named (c ∷ rest) = alias_token (c ∷ rest)
 
--- the words of a directive's line (YAML 1.1, section 7.1 Directives)
+-- the words of a directive's line (YAML 1.1, section 7.1 Directives, l-directive)
 abbrev pub words : Text → List Text
 words line = filter (λ word. not (length word == 0)) (slice_split is_blank line)
 
--- `%YAML 1.1` and `%YAML 1.2` (YAML 1.1, section 7.1.1 "YAML" Directive; 1.2 is libyaml's)
+-- `%YAML 1.1` and `%YAML 1.2` (YAML 1.1, section 7.1.1 "YAML" Directive, ns-yaml-version; 1.2 is libyaml's)
 abbrev pub version_named : Text → Token
 version_named word =
     if bytes_eq word (codes "1.1") then version_line (record { major = pos 1; minor = pos 1 })
@@ -90,11 +89,11 @@ directive_token (name ∷ handle ∷ prefix ∷ []) =
     if bytes_eq name (codes "%TAG") then tag_line_of handle (percent_read prefix) else bad
 directive_token _ = bad
 
--- the document marker of three `-` or of three `.` (YAML 1.1, section 7.2 Document Boundary Markers)
+-- the document marker of three `-` or of three `.` (YAML 1.1, section 7.2 Document Boundary Markers, c-document-start, c-document-end)
 abbrev pub marker_token : ℕ → Token
 marker_token symbol = if symbol == 0x2D then document_begins else document_ends
 
--- an indicator that is a token by itself (YAML 1.1, section 5.3 Indicator Characters)
+-- an indicator that is a token by itself (YAML 1.1, section 5.3 Indicator Characters, c-mapping-key to c-mapping-end)
 abbrev pub indicator_token : ℕ → Token
 indicator_token c =
     if c == 0x5B then opens_sequence else (if c == 0x5D then closes_sequence
@@ -102,6 +101,7 @@ indicator_token c =
     else (if c == 0x3F then key_token else (if c == 0x3A then value_token else (if c == 0x2C then comma else bad))))))
 
 -- between tokens: blanks and breaks are free, and a first character tells what begins
+-- (YAML 1.1, section 6.3 Separation Spaces, s-separate(n,c), in canonical streams)
 abbrev pub step_between_tokens : Bool → ℕ → TokenStep
 step_between_tokens breaks12 c =
     if is_blank c || is_read_break breaks12 c then goes_to free
@@ -119,7 +119,8 @@ quotes_step units (gives unit) = goes_to (in_quotes between (units ++ unit ∷ [
 quotes_step units ends_quotes = completes (scalar_token (folding_read units))
 quotes_step units has_no_reading = completes bad
 
--- one more `-` or `.` of a document marker, of which so many are still to come (YAML 1.1, section 7.2 Document Boundary Markers)
+-- one more `-` or `.` of a document marker, of which so many are still to come
+-- (YAML 1.1, section 7.2 Document Boundary Markers, c-document-start, c-document-end)
 abbrev pub marker_step : (symbol more : ℕ) → TokenStep
 marker_step symbol zero = completes (marker_token symbol)
 marker_step symbol (suc more) = goes_to (in_marker symbol more)

@@ -1,6 +1,6 @@
 -- What canonical bytes keep of a list of events: versions, directives, and the trees of kinds, anchors, tags, values and aliases.
 -- Styles, other flags and document markers are dropped.
--- Source, unless a definition names its own: YAML 1.1, section 3.2.2 Serialization Tree.
+-- Source, unless a definition names its own: YAML 1.1, section 3.2.2 Serialization Tree, no production.
 use Rattle.std.specs.Prelude.{Bool, Option, None, Some, List, [], ◌∷◌, ◌++◌, option_map}
 use Rattle.yaml_base.specs.Characters.{Text}
 use Rattle.yaml_base.specs.Event.{Version, TagDirective, Event}
@@ -28,7 +28,7 @@ mutual
     no_content_pairs : ContentPairs
     content_pairs_and : ContentPairs → Content → Content → ContentPairs
 
--- a document's version, directives and tree (YAML 1.1, section 7.3 Documents)
+-- a document's version, directives and tree (YAML 1.1, section 7.3 Documents, l-explicit-document)
 pub record DocumentContent : Type 0 where
   pub version : Option Version
   pub directives : List TagDirective
@@ -55,7 +55,7 @@ abbrev mutual
   pairs_content no_pairs = no_content_pairs
   pairs_content (pairs_and pairs key value) = content_pairs_and (pairs_content pairs) (node_content key) (node_content value)
 
--- the content of a document (YAML 1.1, section 7.3 Documents)
+-- the content of a document (YAML 1.1, section 7.3 Documents, l-explicit-document)
 abbrev pub document_content : Document → DocumentContent
 document_content document =
     record { version = document.start.version; directives = document.start.directives; root = node_content document.root }

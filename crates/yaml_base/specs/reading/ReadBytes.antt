@@ -1,5 +1,5 @@
 -- Bytes to characters: UTF-16 by the byte order mark that a stream begins with, else UTF-8.
--- Source, unless a definition names its own: YAML 1.1, section 5.2 Character Encoding.
+-- Source, unless a definition names its own: YAML 1.1, section 5.2 Character Encoding, c-byte-order-mark.
 use Rattle.std.specs.Prelude.{ℕ, Bool, true, false, Option, None, Some, List, [], ◌∷◌, ◌==◌, ◌&&◌, ◌+◌, ◌*◌, chars, option_map, option_and_then, if◌then◌else◌}
 use Rattle.std.specs.Str.{is_utf8}
 use Rattle.std.specs.Char.Utf16.{is_high_surrogate, is_low_surrogate, surrogate_pair_char}

@@ -1,5 +1,5 @@
 -- Reading a double-quoted scalar, one character after another.
--- Source, unless a definition names its own: YAML 1.1, section 9.1.1 Double Quoted, in this project's steps.
+-- Source, unless a definition names its own: helpers of this project's reader for c-double-quoted(n,c) (YAML 1.1, section 9.1.1 Double Quoted).
 use Rattle.std.specs.Prelude.{ℕ, zero, suc, Bool, Option, None, Some, List, [], ◌∷◌, ◌==◌, ◌||◌, ◌+◌, ◌-◌, ◌*◌, nat_lt, codes, if◌then◌else◌}
 use Rattle.yaml_base.specs.Characters.{Text, is_between}
 use Rattle.yaml_base.specs.reading.ReadFolding.{FoldUnit, itself, unit_of, folding_read}
@@ -46,23 +46,24 @@ digit_meaning c =
 abbrev pub is_scalar_number : ℕ → Bool
 is_scalar_number n = nat_lt n 0xD800 || is_between 0xE000 0x10FFFF n
 
--- an escape's number is given where it is a character's (YAML 1.1, section 5.6 Escape Sequences)
+-- an escape's number is given where it is a character's (YAML 1.1, section 5.6 Escape Sequences, ns-esc-8-bit, ns-esc-16-bit, ns-esc-32-bit)
 abbrev pub number_step : ℕ → QuoteStep
 number_step n = if is_scalar_number n then gives (itself n) else has_no_reading
 
--- one digit more: the number grows, and is complete where no digit follows (YAML 1.1, section 5.6 Escape Sequences)
+-- one digit more: the number grows, and is complete where no digit follows
+-- (YAML 1.1, section 5.6 Escape Sequences, ns-esc-8-bit, ns-esc-16-bit, ns-esc-32-bit)
 abbrev pub digit_step : (more number : ℕ) → Option ℕ → QuoteStep
 digit_step more number None = has_no_reading
 digit_step zero number (Some digit) = number_step (number * 16 + digit)
 digit_step (suc more) number (Some digit) = goes_on (within_digits more (number * 16 + digit))
 
--- after a backslash: a letter's meaning, or the digits that its letter asks for (YAML 1.1, section 5.6 Escape Sequences)
+-- after a backslash: a letter's meaning, or the digits that its letter asks for (YAML 1.1, section 5.6 Escape Sequences, ns-esc-char)
 abbrev pub escape_step : (meaning digits : Option ℕ) → QuoteStep
 escape_step (Some meaning) digits = gives (itself meaning)
 escape_step None (Some more) = goes_on (within_digits more 0)
 escape_step None None = has_no_reading
 
--- at each place one character decides
+-- at each place one character decides (YAML 1.1, section 9.1.1 Double Quoted, nb-double-char)
 abbrev pub quote_step : Bool → QuotePlace → ℕ → QuoteStep
 quote_step breaks12 between c =
     if c == 0x22 then ends_quotes else (if c == 0x5C then goes_on after_backslash else gives (unit_of breaks12 c))
@@ -91,13 +92,13 @@ after_step (gives unit) read rest = with_unit unit (read between)
 after_step ends_quotes read rest = Some (record { units = []; rest = rest })
 after_step has_no_reading read rest = None
 
--- from a place between the quotes on; without a closing quote there is no reading
+-- from a place between the quotes on; without a closing quote there is no reading (YAML 1.1, section 9.1.1 Double Quoted, nb-double-text(n,c))
 abbrev pub quoted_from : Bool → QuotePlace → Text → Option Quoted
 quoted_from breaks12 place [] = None
 quoted_from breaks12 place (c ∷ rest) =
     after_step (quote_step breaks12 place c) (λ next. quoted_from breaks12 next rest) rest
 
--- the units fold to a value (YAML 1.1, section 6.5 Line Folding)
+-- the units fold to a value (YAML 1.1, section 6.5 Line Folding, b-l-folded-any(n,s))
 abbrev pub quoted_reading : Option Quoted → Option QuotedReading
 quoted_reading None = None
 quoted_reading (Some quoted) = Some (record { value = folding_read quoted.units; rest = quoted.rest })

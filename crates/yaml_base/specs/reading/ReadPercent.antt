@@ -1,6 +1,6 @@
 -- Reading percent forms, in tags and prefixes, without any word of what writes them.
--- Source, unless a definition names its own: YAML 1.1, section 5.5 Miscellaneous Characters, after RFC 2396, section 2.4, over the bytes of
--- UTF-8, in this project's steps.
+-- Source, unless a definition names its own: helpers of this project's reader for ns-uri-char (YAML 1.1, section 5.5 Miscellaneous Characters), after
+-- RFC 2396, section 2.4, over the bytes of UTF-8.
 use Rattle.std.specs.Prelude.{ℕ, Bool, Option, None, Some, List, [], ◌∷◌, ◌++◌, ◌==◌, ◌||◌, ◌+◌, ◌-◌, ◌*◌, codes, chars, encode_utf8, if◌then◌else◌}
 use Rattle.std.specs.Str.{is_utf8}
 use Rattle.yaml_base.specs.Characters.{Text, is_alpha, is_among, is_between}
@@ -27,7 +27,7 @@ abbrev pub byte_given : Option ℕ → Option ℕ → ℕ
 byte_given (Some high) (Some low) = high * 16 + low
 byte_given _ _ = 255
 
--- the bytes of a text from a place on; a form that is cut short gives the byte 255
+-- the bytes of a text from a place on; a form that is cut short gives the byte 255 (YAML 1.1, section 5.5 Miscellaneous Characters, ns-uri-char)
 abbrev pub form_bytes : PercentPlace → Text → List ℕ
 form_bytes between_forms [] = []
 form_bytes _ [] = 255 ∷ []
@@ -37,5 +37,6 @@ form_bytes after_percent (c ∷ rest) = form_bytes (after_high (digit_given c)) 
 form_bytes (after_high high) (c ∷ rest) = byte_given high (digit_given c) ∷ form_bytes between_forms rest
 
 -- the text that a text of percent forms stands for; none where a form is broken or the bytes aren't UTF-8
+-- (YAML 1.1, section 5.5 Miscellaneous Characters, ns-uri-char)
 abbrev pub percent_read : Text → Option Text
 percent_read text = let bytes = form_bytes between_forms text in if is_utf8 bytes then Some (chars bytes) else None

@@ -1,11 +1,12 @@
 -- Reading a plain scalar.
--- Source, unless a definition names its own: YAML 1.1, section 9.1.3 Plain, narrowed by this project.
+-- Source, unless a definition names its own: helpers of this project's reader for ns-plain(n,c) (YAML 1.1, section 9.1.3 Plain), which it narrows.
 use Rattle.std.specs.Prelude.{ℕ, Bool, true, false, Option, None, Some, [], ◌∷◌, ◌==◌, ◌||◌, ◌&&◌, map, codes, if◌then◌else◌}
 use Rattle.yaml_base.specs.Characters.{Text, is_among, is_blank}
 use Rattle.yaml_base.specs.LineBreaks.{is_read_break}
 use Rattle.yaml_base.specs.reading.ReadFolding.{unit_of, folding_read}
 
--- a blank or a break of a text whose line breaks are read (YAML 1.1, sections 5.4 Line Break Characters and 5.5 Miscellaneous Characters)
+-- a blank or a break of a text whose line breaks are read
+-- (YAML 1.1, sections 5.4 Line Break Characters and 5.5 Miscellaneous Characters, b-normalized, s-char)
 abbrev pub is_read_white : Bool → ℕ → Bool
 is_read_white breaks12 c = is_blank c || is_read_break breaks12 c
 
@@ -14,13 +15,14 @@ abbrev pub begins_white : Bool → Text → Bool
 begins_white breaks12 [] = true
 begins_white breaks12 (c ∷ rest) = is_read_white breaks12 c
 
--- a text begins with three of this character
+-- a text begins with three of this character (YAML 1.1, section 7.2 Document Boundary Markers, c-document-start, c-document-end)
 abbrev pub begins_with_three : ℕ → Text → Bool
 begins_with_three marker (a ∷ b ∷ c ∷ rest) = a == marker && b == marker && c == marker
 begins_with_three marker _ = false
 
 -- what no plain text begins with: `---` or `...`, an indicator, or `-`, `?`, `:` before a blank, a break or the end
--- (YAML 1.1, sections 5.3 Indicator Characters, 7.2 Document Boundary Markers and 9.1.3 Plain, c-indicator)
+-- (YAML 1.1, sections 5.3 Indicator Characters, 7.2 Document Boundary Markers and 9.1.3 Plain, c-indicator, c-document-start, c-document-end,
+-- ns-plain-first-char(c))
 abbrev pub begins_no_plain : Bool → Text → Bool
 begins_no_plain breaks12 [] = false
 begins_no_plain breaks12 (c ∷ rest) =
@@ -29,12 +31,13 @@ begins_no_plain breaks12 (c ∷ rest) =
     || is_among (codes "#,[]{}&*!|>'\"%@`") c
     || (is_among (codes "?:-") c && begins_white breaks12 rest)
 
--- a `#` comes next
+-- a `#` comes next (YAML 1.1, section 5.3 Indicator Characters, c-comment)
 abbrev pub begins_with_hash : Text → Bool
 begins_with_hash [] = false
 begins_with_hash (c ∷ rest) = c == 35
 
 -- what no plain text holds: `:` before a blank, a break or the end, `#` after a blank or break, and in flow any of `,?:[]{}`
+-- (YAML 1.1, section 9.1.3 Plain, ns-plain-char(c))
 abbrev pub holds_no_plain : (breaks12 flow : Bool) → Text → Bool
 holds_no_plain breaks12 flow [] = false
 holds_no_plain breaks12 flow (c ∷ rest) =

@@ -1,5 +1,5 @@
 -- Reading a single-quoted scalar.
--- Source, unless a definition names its own: YAML 1.1, section 9.1.2 Single Quoted.
+-- Source, unless a definition names its own: YAML 1.1, section 9.1.2 Single Quoted, c-single-quoted(n,c).
 use Rattle.std.specs.Prelude.{Bool, Option, None, Some, [], ◌∷◌, ◌==◌, map, option_map, if◌then◌else◌}
 use Rattle.yaml_base.specs.Characters.{Text}
 use Rattle.yaml_base.specs.reading.ReadFolding.{unit_of, folding_read}

@@ -1,12 +1,12 @@
 -- Reading written tags and handles, without any word of what writes them.
--- Source, unless a definition names its own: YAML 1.1, section 8.2 Node Tags, in this project's steps.
+-- Source, unless a definition names its own: helpers of this project's reader for c-ns-tag-property (YAML 1.1, section 8.2 Node Tags).
 use Rattle.std.specs.Prelude.{ℕ, Bool, false, Option, None, Some, List, [], ◌∷◌, ◌++◌, ◌==◌, ◌||◌, ◌&&◌, not, codes, bytes_eq, option_map, if◌then◌else◌}
 use Rattle.std.specs.List.{list_all, list_any}
 use Rattle.yaml_base.specs.Characters.{Text, is_alpha, is_among}
 use Rattle.yaml_base.specs.Event.{TagDirective}
 use Rattle.yaml_base.specs.reading.ReadPercent.{is_uri_character, percent_read}
 
--- what a written tag says: the bare tag `!`, or a tag by its name
+-- what a written tag says: the bare tag `!`, or a tag by its name (YAML 1.1, section 8.2 Node Tags, c-ns-tag-property)
 pub data ParsedTag : Type 0 where
   bare_parsed : ParsedTag
   name_parsed : Text → ParsedTag
@@ -45,7 +45,7 @@ abbrev pub prepend_to_cut : ℕ → Text → Text → CutText
 prepend_to_cut c [] rest = if c == 0x21 then record { prefix = c ∷ []; rest = rest } else record { prefix = []; rest = c ∷ rest }
 prepend_to_cut c (d ∷ prefix) rest = record { prefix = c ∷ d ∷ prefix; rest = rest }
 
--- a text cut after its last `!`
+-- a text cut after its last `!` (YAML 1.1, section 7.1.2.2 Tag Handles, c-tag-handle)
 abbrev pub cut_after_exclamation : Text → CutText
 cut_after_exclamation [] = record { prefix = []; rest = [] }
 cut_after_exclamation (c ∷ text) = let cut = cut_after_exclamation text in prepend_to_cut c cut.prefix cut.rest
@@ -54,7 +54,7 @@ cut_after_exclamation (c ∷ text) = let cut = cut_after_exclamation text in pre
 abbrev pub may_follow_handle : ℕ → Bool
 may_follow_handle c = is_uri_character c && not (is_among (codes ",[]") c)
 
--- a prefix, and the text that stands after it
+-- a prefix, and the text that stands after it (YAML 1.1, section 8.2 Node Tags, c-ns-shorthand-tag)
 abbrev pub name_joined : Option Text → Option Text → Option ParsedTag
 name_joined (Some prefix) (Some suffix) = Some (name_parsed (prefix ++ suffix))
 name_joined _ _ = None
@@ -78,7 +78,7 @@ verbatim_parsed None = None
 verbatim_parsed (Some []) = None
 verbatim_parsed (Some (c ∷ name)) = if list_all is_uri_character (c ∷ name) then option_map name_parsed (percent_read (c ∷ name)) else None
 
--- a written tag, from its `!` to its last character, by a document's own directives and those assumed (YAML 1.1, section 8.2 Node Tags)
+-- a written tag, from its `!` to its last character, by a document's own directives and those assumed (YAML 1.1, section 8.2 Node Tags, c-ns-tag-property)
 abbrev pub tag_parsed : List TagDirective → Text → Option ParsedTag
 tag_parsed own [] = None
 tag_parsed own (c ∷ []) = if c == 0x21 then Some bare_parsed else None
@@ -87,12 +87,12 @@ tag_parsed own (c ∷ d ∷ rest) =
     else (if d == 0x3C then verbatim_parsed (without_closing_angle rest)
     else (let cut = cut_after_exclamation (c ∷ d ∷ rest) in shorthand_parsed own cut.prefix cut.rest))
 
--- a prefix of a directive: percent forms and characters of a URI, at least one; a `!` may begin it (YAML 1.1, section 7.1.2.1 Tag Prefixes)
+-- a prefix of a directive: percent forms and characters of a URI, at least one; a `!` may begin it (YAML 1.1, section 7.1.2.1 Tag Prefixes, ns-tag-prefix)
 abbrev pub prefix_parsed : Text → Option Text
 prefix_parsed [] = None
 prefix_parsed (c ∷ rest) =
     if (c == 0x21 || is_uri_character c) && list_all is_uri_character rest then percent_read (c ∷ rest) else None
 
--- some directive gives this handle (YAML 1.1, section 7.1.2 "TAG" Directive)
+-- some directive gives this handle (YAML 1.1, section 7.1.2 "TAG" Directive, ns-tag-directive)
 abbrev pub is_handle_given : Text → List TagDirective → Bool
 is_handle_given handle directives = list_any (λ directive. bytes_eq directive.handle handle) directives

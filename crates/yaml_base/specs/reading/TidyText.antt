@@ -13,13 +13,13 @@ abbrev pub ends_line : Bool → Text → Bool
 ends_line breaks12 [] = true
 ends_line breaks12 (c ∷ rest) = is_read_break breaks12 c
 
--- a text begins with so many spaces
+-- a text begins with so many spaces (YAML 1.1, section 6.1 Indentation Spaces, s-indent(n))
 abbrev pub begins_with_spaces : ℕ → Text → Bool
 begins_with_spaces zero text = true
 begins_with_spaces (suc count) [] = false
 begins_with_spaces (suc count) (c ∷ rest) = c == space && begins_with_spaces count rest
 
--- up to the end of its line a text is of spaces alone
+-- up to the end of its line a text is of spaces alone (YAML 1.1, section 6.4 Ignored Line Prefix, l-empty(n,s))
 abbrev pub begins_with_blank_line : Bool → Text → Bool
 begins_with_blank_line breaks12 [] = true
 begins_with_blank_line breaks12 (c ∷ rest) = is_read_break breaks12 c || (c == space && begins_with_blank_line breaks12 rest)

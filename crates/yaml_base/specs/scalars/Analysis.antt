@@ -49,7 +49,7 @@ is_special charset c =
     || (not charset.unicode && not (is_ascii c))
     || (charset.breaks12 && (c == line_separator || c == paragraph_separator))
 
--- `---` or `...` (libyaml's emitter, for YAML 1.1, section 7.2 Document Boundary Markers)
+-- `---` or `...` (libyaml's emitter, for YAML 1.1, section 7.2 Document Boundary Markers, c-document-start, c-document-end)
 abbrev pub begins_like_marker : Text → Bool
 begins_like_marker (a ∷ b ∷ c ∷ rest) = (a == 45 || a == 46) && b == a && c == a
 begins_like_marker _ = false
@@ -60,6 +60,7 @@ abbrev pub is_indicator : ℕ → Bool
 is_indicator c = is_among (codes "#,[]{}&*!|>'\"%@`") c
 
 -- the value begins as no plain text may: with a space, a mark, an indicator, or `?`, `:`, `-` by itself
+-- (libyaml's emitter, for YAML 1.1, section 9.1.3 Plain, ns-plain-first-char(c))
 abbrev pub begins_unlike_plain : Text → Bool
 begins_unlike_plain [] = false
 begins_unlike_plain (c ∷ rest) =
@@ -68,12 +69,12 @@ begins_unlike_plain (c ∷ rest) =
     || is_indicator c
     || (is_among (codes "?:-") c && ends_word rest)
 
--- `:` before a gap or the end, or a gap before `#`
+-- `:` before a gap or the end, or a gap before `#` (libyaml's emitter, for YAML 1.1, section 9.1.3 Plain, ns-plain-char(c))
 abbrev pub is_key_or_comment : ℕ → Text → Bool
 is_key_or_comment c rest = (c == 58 && ends_word rest) || (is_gap c && begins_with (λ d. d == 35) rest)
 
 -- no plain text holds a special character, a break, a last space, a key or comment indicator; in flow also
--- none of the flow indicators
+-- none of the flow indicators (libyaml's emitter, for YAML 1.1, section 9.1.3 Plain, ns-plain(n,c))
 abbrev pub bars_plain : Charset → Bool → ℕ → Text → Bool
 bars_plain charset flow c rest =
     is_special charset c

@@ -43,7 +43,7 @@ abbrev pub render_hints : (best_indent : ℕ) (value : Text) → Cursor → Rend
 render_hints best_indent value cursor =
     render_then (render_hint (indentation_hint best_indent value) cursor) (render_hint (ending_hint (ending value)))
 
--- the style's indicator, the hints and a break (YAML 1.1, section 9.2 Block Scalar Header)
+-- the style's indicator, the hints and a break (YAML 1.1, section 9.2 Block Scalar Header, c-b-block-header)
 abbrev pub render_header : (symbol best_indent : ℕ) (value : Text) → Cursor → Rendered
 render_header symbol best_indent value cursor =
     render_then (indicator (symbol ∷ []) false false false cursor)
@@ -71,7 +71,7 @@ ends_in_break more_breaks = true
 abbrev pub render_lines : (value lines : Text) → Cursor → Rendered
 render_lines value lines cursor = with_flags true (ends_in_break (ending value)) (render_text lines cursor)
 
--- a block scalar's text: its header, and then its lines (YAML 1.1, section 9.3 Block Scalar Styles)
+-- a block scalar's text: its header, and then its lines (YAML 1.1, section 9.3 Block Scalar Styles, c-l+literal(n), c-l+folded(n))
 abbrev pub block_body : (symbol best_indent : ℕ) (value lines : Text) → Cursor → Rendered
 block_body symbol best_indent value lines cursor =
     render_then (render_header symbol best_indent value cursor) (render_lines value lines)

@@ -4,15 +4,15 @@ use Rattle.std.specs.Prelude.{ℕ, Bool, true, false, Option, None, Some, List, 
 use Rattle.yaml_base.specs.Characters.{Text, hex_digits, is_ascii, is_break, is_printable, is_space}
 use Rattle.yaml_base.specs.Cursor.{Cursor, Rendered, indicator, is_past_width, new_line, render_nothing, space_if, render_text, render_then}
 
--- U+0022 (YAML 1.1, section 9.1.1 Double Quoted)
+-- U+0022 (YAML 1.1, section 5.3 Indicator Characters, c-double-quote)
 abbrev pub quote : ℕ
 quote = 0x22
 
--- U+005C (YAML 1.1, section 5.6 Escape Sequences)
+-- U+005C (YAML 1.1, section 5.6 Escape Sequences, ns-esc-char)
 abbrev pub backslash : ℕ
 backslash = 0x5C
 
--- a character that has an escape of one letter (YAML 1.1, section 5.6 Escape Sequences)
+-- a character that has an escape of one letter (YAML 1.1, section 5.6 Escape Sequences, ns-esc-null to ns-esc-paragraph-separator)
 pub record ShortEscape : Type 0 where
   pub character : ℕ
   pub letter : ℕ
@@ -41,7 +41,7 @@ escape_after_backslash (Some letter) c = letter ∷ []
 escape_after_backslash None c =
     if nat_le c 0xFF then 120 ∷ hex_digits 2 c else (if nat_le c 0xFFFF then 117 ∷ hex_digits 4 c else 85 ∷ hex_digits 8 c)
 
--- a backslash and what follows it (YAML 1.1, section 5.6 Escape Sequences)
+-- a backslash and what follows it (YAML 1.1, section 5.6 Escape Sequences, ns-esc-char)
 abbrev pub escape_text : ℕ → Text
 escape_text c = backslash ∷ escape_after_backslash (letter_among short_escapes c) c
 
@@ -50,7 +50,7 @@ abbrev pub needs_escape : Bool → ℕ → Bool
 needs_escape unicode c =
     not (is_printable c) || (not unicode && not (is_ascii c)) || is_break c || c == quote || c == backslash
 
--- a character as an escape, or as itself
+-- a character as an escape, or as itself (YAML 1.1, section 9.1.1 Double Quoted, nb-double-char)
 abbrev pub character_text : Bool → ℕ → Text
 character_text unicode c = if needs_escape unicode c then escape_text c else c ∷ []
 
@@ -90,7 +90,7 @@ double_inside unicode limit indent before (c ∷ rest) cursor =
     (double_character unicode limit indent before c rest cursor)
     (double_inside unicode limit indent (Some c) rest)
 
--- a quote, from which the cursor's flags are off
+-- a quote, from which the cursor's flags are off (YAML 1.1, section 5.3 Indicator Characters, c-double-quote)
 abbrev pub render_quote : Cursor → Rendered
 render_quote cursor = indicator (quote ∷ []) false false false cursor
 

@@ -25,18 +25,19 @@ cut_from limit indent column (c ∷ rest) =
     let further = cut_from limit indent (if fold then indent else column + 1) rest in
     if fold then line [] ∷ line_break line_feed ∷ further else begun c further
 
--- a line that begins with a space is never folded (YAML 1.1, section 9.3.2 Folded; libyaml folds it, which is a fault)
+-- a line that begins with a space is never folded (YAML 1.1, section 9.3.2 Folded, l-nb-spaced-lines(n); libyaml folds it, which is a fault)
 abbrev pub cut_line : (limit : Option ℕ) (indent : ℕ) → Text → List Part
 cut_line limit indent text = if begins_with is_space text then line text ∷ [] else cut_from limit indent indent text
 
--- a next line exists and doesn't begin with a space
+-- a next line exists and doesn't begin with a space (YAML 1.1, section 9.3.2 Folded, l-nb-folded-lines(n))
 abbrev pub next_line_unindented : List Part → Bool
 next_line_unindented [] = false
 next_line_unindented (line text ∷ rest) = not (begins_with is_space text)
 next_line_unindented (line_break b ∷ rest) = next_line_unindented rest
 
 -- the value's parts as they are written, after a line that doesn't begin with a space or not: a LF between
--- two lines that don't is doubled, since alone it would read as a space (YAML 1.1, sections 6.5 Line Folding and 9.3.2 Folded)
+-- two lines that don't is doubled, since alone it would read as a space
+-- (YAML 1.1, sections 6.5 Line Folding and 9.3.2 Folded, b-l-folded-as-space, l-nb-folded-lines(n))
 abbrev pub folded_parts : (limit : Option ℕ) (indent : ℕ) (after_even : Bool) → List Part → List Part
 folded_parts limit indent after_even [] = []
 folded_parts limit indent after_even (line text ∷ rest) =

@@ -1,5 +1,5 @@
 -- A value as its nonempty lines and its breaks, in their order.
--- Source: YAML 1.1, section 5.4 Line Break Characters, in this project's steps.
+-- Source: helpers of this project's layout for b-char (YAML 1.1, section 5.4 Line Break Characters).
 use Rattle.std.specs.Prelude.{ℕ, List, [], ◌∷◌, if◌then◌else◌}
 use Rattle.yaml_base.specs.Characters.{Text, is_break}
 

@@ -50,7 +50,7 @@ indentation indent = replicate indent space
 
 -- a run's text: a lone space past the limit, neither first nor last, becomes a break and the indentation;
 -- the first break of a run is written twice if it is LF, and the indentation follows; others stand as they are written
--- (YAML 1.1, section 6.5 Line Folding; which space folds is libyaml's rule)
+-- (YAML 1.1, section 6.5 Line Folding, b-l-folded-any(n,s); which space folds is libyaml's rule)
 abbrev pub run_text : (written : Text → Text) (folds : Bool) (indent : ℕ) → Kind → Text → Text
 run_text written folds indent spaces text =
     if folds && is_single_character text then line_feed ∷ indentation indent else text

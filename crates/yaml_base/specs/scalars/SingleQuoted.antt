@@ -10,7 +10,7 @@ abbrev pub quotes_doubled : Text → Text
 quotes_doubled [] = []
 quotes_doubled (c ∷ rest) = (if c == 39 then 39 ∷ 39 ∷ [] else c ∷ []) ++ quotes_doubled rest
 
--- an opening or closing quote (YAML 1.1, section 9.1.2 Single Quoted)
+-- an opening or closing quote (YAML 1.1, section 5.3 Indicator Characters, c-single-quote)
 abbrev pub single_quote : Cursor → Rendered
 single_quote cursor = indicator (codes "'") false false false cursor
 

@@ -20,7 +20,7 @@ pub data Tagging : Type 0 where
   with_tag : Text → Tagging
   without_tag : Stood → Tagging
 
--- a node's tree: its kind, anchor, tag, and value or entries; lists grow at their end (YAML 1.1, section 3.2.2 Serialization Tree)
+-- a node's tree: its kind, anchor, tag, and value or entries; lists grow at their end (YAML 1.1, section 3.2.2 Serialization Tree, no production)
 mutual
   pub data Tree : Type 0 where
     alias_tree : Text → Tree
@@ -36,7 +36,7 @@ mutual
     no_tree_pairs : TreePairs
     tree_pairs_and : TreePairs → Tree → Tree → TreePairs
 
--- a document's version, directives and tree (YAML 1.1, section 7.3 Documents)
+-- a document's version, directives and tree (YAML 1.1, section 7.3 Documents, l-explicit-document)
 pub record DocumentTree : Type 0 where
   pub version : Option Version
   pub directives : List TagDirective

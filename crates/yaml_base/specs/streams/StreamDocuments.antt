@@ -1,6 +1,6 @@
 -- The documents of a stream: its lines are cut at the markers `---` and `...`, and what stands before the first of them is the first
 -- document or its directives.
--- Source, unless a definition names its own: that of its part, in this project's steps.
+-- Source, unless a definition names its own: that of its part.
 use Rattle.std.specs.Prelude.{ℕ, suc, pos, Bool, true, false, Option, None, Some, List, [], ◌∷◌, ◌++◌, ◌==◌, ◌&&◌, not, length, fold, codes, bytes_eq}
 use Rattle.std.specs.Prelude.{option_map, option_and_then, is_some, if◌then◌else◌}
 use Rattle.std.specs.List.{slice_split}
@@ -12,9 +12,9 @@ use Rattle.yaml_base.specs.streams.StreamLines.{Line, lines_of, is_spaces, witho
 use Rattle.yaml_base.specs.streams.StreamScalars.{Rules}
 use Rattle.yaml_base.specs.streams.StreamNodes.{node_read}
 
--- Marks. Source: YAML 1.1, section 7.2 Document Boundary Markers.
+-- Markers. Source: helpers of this project's reader for c-document-start, c-document-end (YAML 1.1, section 7.2 Document Boundary Markers).
 
--- a line begins with three of an indicator, before a space or its end
+-- a line begins with three of an indicator, before a space or its end (YAML 1.1, section 7.2 Document Boundary Markers, c-document-start, c-document-end)
 abbrev pub begins_with_marker : ℕ → Text → Bool
 begins_with_marker symbol (a ∷ b ∷ c ∷ rest) = a == symbol && b == symbol && c == symbol && ends_indicator rest
 begins_with_marker symbol _ = false
@@ -25,7 +25,7 @@ pub data MarkerKind : Type 0 where
   end_marker : MarkerKind
   no_exclamation : MarkerKind
 
--- `---`, `...`, or neither
+-- `---`, `...`, or neither (YAML 1.1, section 7.2 Document Boundary Markers, c-document-start, c-document-end)
 abbrev pub marker_of : Text → MarkerKind
 marker_of text =
     if begins_with_marker 0x2D text then start_marker else (if begins_with_marker 0x2E text then end_marker else no_exclamation)
@@ -52,7 +52,7 @@ abbrev pub sections_of : List Line → Sections
 sections_of [] = record { before = []; sections = [] }
 sections_of (line ∷ rest) = prepend_section (marker_of line.text) line (sections_of rest)
 
--- Directives. Source: YAML 1.1, section 7.1 Directives.
+-- Directives. Source: helpers of this project's reader for l-directive (YAML 1.1, section 7.1 Directives).
 
 -- what is said before `---`
 pub record Heading : Type 0 where
@@ -67,13 +67,13 @@ no_heading = record { version = None; directives = [] }
 abbrev pub is_no_heading : Heading → Bool
 is_no_heading heading = not (is_some heading.version) && length heading.directives == 0
 
--- 1.1 and 1.2 (YAML 1.1, section 7.1.1 "YAML" Directive; 1.2 is libyaml's)
+-- 1.1 and 1.2 (YAML 1.1, section 7.1.1 "YAML" Directive, ns-yaml-version; 1.2 is libyaml's)
 abbrev pub version_parsed : Text → Option Version
 version_parsed word =
     if bytes_eq word (codes "1.1") then Some (record { major = pos 1; minor = pos 1 })
     else (if bytes_eq word (codes "1.2") then Some (record { major = pos 1; minor = pos 2 }) else None)
 
--- a version stands first (this project; YAML 1.1, section 7.1.1 "YAML" Directive, asks for one at most)
+-- a version stands first (this project; YAML 1.1, section 7.1.1 "YAML" Directive, ns-yaml-directive, asks for one at most)
 abbrev pub with_version : Heading → Option Version → Option Heading
 with_version heading version =
     if is_no_heading heading then option_map (λ parsed. record { version = Some parsed; directives = [] }) version else None
@@ -93,42 +93,43 @@ directive_by_words heading (name ∷ handle ∷ prefix ∷ []) =
     if bytes_eq name (codes "%TAG") then with_directive heading handle (prefix_parsed prefix) else None
 directive_by_words heading _ = None
 
--- one line more of directives, whose words stand one space apart (this project; YAML 1.1, section 7.1 Directives, allows more white space)
+-- one line more of directives, whose words stand one space apart (this project; YAML 1.1, section 7.1 Directives, l-directive, allows more white space)
 abbrev pub directive_line : Option Heading → Line → Option Heading
 directive_line None line = None
 directive_line (Some heading) line = directive_by_words heading (slice_split is_space line.text)
 
--- the directives of some lines
+-- the directives of some lines (YAML 1.1, section 7.1 Directives, l-directive)
 abbrev pub heading_of : List Line → Option Heading
 heading_of lines = fold directive_line (Some no_heading) lines
 
--- Documents. Source: YAML 1.1, section 7.3 Documents.
+-- Documents. Source: YAML 1.1, section 7.3 Documents, l-explicit-document.
 
 -- a line begins with a character that is no space (this project)
 abbrev pub stands_at_margin : List Line → Bool
 stands_at_margin [] = true
 stands_at_margin (line ∷ rest) = not (ends_indicator line.text)
 
--- a root on lines of its own, the first of which stands at column 0; nothing is the empty scalar (this project)
+-- a root on lines of its own, the first of which stands at column 0; nothing is the empty scalar
+-- (this project, for YAML 1.1, section 7.3 Documents, l-implicit-document)
 abbrev pub root_below : ℕ → Rules → List Line → Option Tree
 root_below depth rules lines = if stands_at_margin lines then node_read depth rules true None lines else None
 
--- a root on the line of `---` or below it; no block begins on that line (libyaml's scanner)
+-- a root on the line of `---` or below it; no block begins on that line (libyaml's scanner, for YAML 1.1, section 7.3 Documents, l-explicit-document)
 abbrev pub root_after_marker : (exclamation_alone : Bool) → ℕ → Rules → Line → List Line → Option Tree
 root_after_marker true depth rules line rest = root_below depth rules (without_blank_lines rest)
 root_after_marker false depth rules line rest = node_read depth rules false None (line ∷ rest)
 
--- the text after a marker
+-- the text after a marker (YAML 1.1, section 7.2 Document Boundary Markers, c-document-start)
 abbrev pub after_marker : Text → Text
 after_marker (a ∷ b ∷ c ∷ rest) = rest
 after_marker _ = []
 
--- the root of a document that begins with `---`
+-- the root of a document that begins with `---` (YAML 1.1, section 7.3 Documents, l-explicit-document)
 abbrev pub root_marked : ℕ → Rules → Line → List Line → Option Tree
 root_marked depth rules line rest =
     root_after_marker (is_spaces (after_marker line.text)) depth rules (blanked 3 (after_marker line.text) line.ending) rest
 
--- Streams. Source: YAML 1.1, section 7.4 Complete Stream.
+-- Streams. Source: helpers of this project's reader for l-yaml-stream (YAML 1.1, section 7.4 Complete Stream).
 
 -- what may come after the documents so far: a marker of either kind, or after directives and `...` only `---`
 pub data StreamPlace : Type 0 where
@@ -140,7 +141,7 @@ pub record StreamRead : Type 0 where
   pub documents : List DocumentTree
   pub place : StreamPlace
 
--- one document more (YAML 1.1, section 7.3 Documents)
+-- one document more (YAML 1.1, section 7.3 Documents, l-implicit-document, l-explicit-document)
 abbrev pub with_read_document : List DocumentTree → Heading → Option Tree → Option StreamRead
 with_read_document documents heading root =
     option_map
@@ -150,18 +151,18 @@ with_read_document documents heading root =
     })
     root
 
--- the document of `---`, with the directives before it (YAML 1.1, section 7.3 Documents)
+-- the document of `---`, with the directives before it (YAML 1.1, section 7.3 Documents, l-explicit-document)
 abbrev pub document_read : ℕ → Bool → List DocumentTree → Heading → Section → Option StreamRead
 document_read depth breaks12 documents heading section =
     with_read_document documents heading
     (root_marked depth (record { breaks12 = breaks12; directives = heading.directives }) section.line section.rest)
 
--- directives before a `---`
+-- directives before a `---` (YAML 1.1, section 7.1 Directives, l-directive)
 abbrev pub with_heading : List DocumentTree → Option Heading → Option StreamRead
 with_heading documents heading = option_map (λ parsed. record { documents = documents; place = after_heading parsed }) heading
 
 -- one section more: `...` stands alone on its line, blank lines may follow it, and then directives
--- (YAML 1.1, sections 7.2 Document Boundary Markers and 7.3 Documents; `...` alone on its line is this project's rule)
+-- (YAML 1.1, sections 7.2 Document Boundary Markers and 7.3 Documents, l-document-suffix, l-explicit-document; `...` alone on its line is this project's rule)
 abbrev pub section_by_kind : MarkerKind → ℕ → Bool → List DocumentTree → StreamPlace → Section → Option StreamRead
 section_by_kind start_marker depth breaks12 documents after_root section = document_read depth breaks12 documents no_heading section
 section_by_kind start_marker depth breaks12 documents (after_heading heading) section = document_read depth breaks12 documents heading section
@@ -180,7 +181,7 @@ pub data PrefixKind : Type 0 where
   directive_lines : PrefixKind
   document_lines : PrefixKind
 
--- a line begins with `%` (YAML 1.1, section 7.1 Directives)
+-- a line begins with `%` (YAML 1.1, section 5.3 Indicator Characters, c-directive)
 abbrev pub begins_with_percent : Text → Bool
 begins_with_percent [] = false
 begins_with_percent (c ∷ rest) = c == 0x25
@@ -190,7 +191,8 @@ abbrev pub prefix_kind : List Line → PrefixKind
 prefix_kind [] = no_lines
 prefix_kind (line ∷ rest) = if begins_with_percent line.text then directive_lines else document_lines
 
--- the lines before the first marker: none, directives, or a document that has no `---` (YAML 1.1, section 7.3 Documents)
+-- the lines before the first marker: none, directives, or a document that has no `---`
+-- (YAML 1.1, sections 7.1 Directives and 7.3 Documents, l-directive, l-implicit-document)
 abbrev pub lines_before_marker_read : PrefixKind → ℕ → Bool → List Line → Option StreamRead
 lines_before_marker_read no_lines depth breaks12 lines = Some (record { documents = []; place = after_heading no_heading })
 lines_before_marker_read directive_lines depth breaks12 lines = with_heading [] (heading_of lines)

@@ -1,6 +1,7 @@
 -- Flow collections, from tokens to a tree. White space stands after `[`, `{` and `,`, blanks after `?` and `:`, a blank after an
 -- alias that is a key, and anything white after a key with a `?`; that these are needed is this project's rule.
--- Source, unless a definition names its own: YAML 1.1, sections 10.1.1 Flow Sequences and 10.2.1 Flow Mappings, in this project's steps.
+-- Source, unless a definition names its own: helpers of this project's reader for c-flow-sequence(n,c) and c-flow-mapping(n,c)
+-- (YAML 1.1, sections 10.1.1 Flow Sequences and 10.2.1 Flow Mappings).
 use Rattle.std.specs.Prelude.{ℕ, suc, Bool, true, false, Option, None, Some, List, [], ◌∷◌, ◌==◌, ◌&&◌, not, nat_le, length, fold, if◌then◌else◌}
 use Rattle.std.specs.List.{list_any}
 use Rattle.yaml_base.specs.Characters.{Text}
@@ -13,12 +14,12 @@ use Rattle.yaml_base.specs.streams.StreamTokens.{FlowToken, word, opens, symbol,
 
 -- Simple keys
 
--- what is read is an alias
+-- what is read is an alias (YAML 1.1, section 8.4 Alias Nodes, c-ns-alias-node)
 abbrev pub is_alias : Tree → Bool
 is_alias (alias_tree name) = true
 is_alias _ = false
 
--- the maximum length of a simple key up to its `:`, in characters (YAML 1.1, section 10.2 Mapping Styles)
+-- the maximum length of a simple key up to its `:`, in characters (YAML 1.1, section 10.2 Mapping Styles, no production)
 abbrev pub longest_key : ℕ
 longest_key = 1024
 
@@ -26,7 +27,7 @@ longest_key = 1024
 abbrev pub key_length : Tree → Text → ℕ
 key_length key text = if is_alias key then suc (length text) else length text
 
--- the text of a simple key stands on one line and isn't longer than it may be (YAML 1.1, section 10.2 Mapping Styles)
+-- the text of a simple key stands on one line and isn't longer than it may be (YAML 1.1, section 10.2 Mapping Styles, no production)
 abbrev pub is_key_text : Bool → Tree → Text → Bool
 is_key_text breaks12 key text = nat_le (key_length key text) longest_key && not (list_any (is_read_break breaks12) text)
 
@@ -92,7 +93,7 @@ abbrev pub word_step : Bool → List OpenFlow → Text → Option Tree → FlowR
 word_step breaks12 levels text None = failed
 word_step breaks12 levels text (Some tree) = with_word breaks12 levels text tree
 
--- an open collection that holds nothing yet
+-- an open collection that holds nothing yet (YAML 1.1, section 5.3 Indicator Characters, c-sequence-start, c-mapping-start)
 abbrev pub level_opened : ℕ → Option Text → Option Text → OpenFlow
 level_opened bracket anchor tag =
     if bracket == 0x5B then in_sequence anchor tag no_trees else in_mapping anchor tag no_tree_pairs no_key
@@ -114,19 +115,19 @@ opened_with levels bracket (Some read) =
     if may_open levels && is_spaces read.text
     then opened levels bracket read.properties.anchor (collection_tag_parsed read.properties.tag) else failed
 
--- where a node may begin
+-- where a node may begin (YAML 1.1, section 8.5.1 Flow Nodes, ns-flow-node(n,c))
 abbrev pub node_step : Rules → List OpenFlow → FlowToken → FlowReading
 node_step rules levels (word text) = word_step rules.breaks12 levels text (word_read rules true text)
 node_step rules levels (opens properties bracket) = opened_with levels bracket (properties_read rules.directives properties)
 node_step rules levels _ = failed
 
--- the innermost collection ends
+-- the innermost collection ends (YAML 1.1, section 5.3 Indicator Characters, c-sequence-end, c-mapping-end)
 abbrev pub closed : List OpenFlow → ℕ → FlowReading
 closed (in_sequence anchor tag trees ∷ levels) c = if c == 0x5D then with_tree levels (sequence_tree anchor tag trees) else failed
 closed (in_mapping anchor tag pairs no_key ∷ levels) c = if c == 0x7D then with_tree levels (mapping_tree anchor tag pairs) else failed
 closed _ c = failed
 
--- a `?` asks for a key
+-- a `?` asks for a key (YAML 1.1, section 5.3 Indicator Characters, c-mapping-key)
 abbrev pub key_asked : List OpenFlow → FlowReading
 key_asked (in_mapping anchor tag pairs no_key ∷ levels) = within (in_mapping anchor tag pairs key_due ∷ levels) (node_awaited false)
 key_asked levels = failed
@@ -139,18 +140,18 @@ entry_step rules levels (symbol c) = if c == 0x3F then key_asked levels else clo
 entry_step rules levels token = node_step rules levels token
 
 -- where a node stands on the line of the `?` or `:` before it, after a blank
--- (this project, stricter than YAML 1.1, section 6.3 Separation Spaces)
+-- (this project, stricter than YAML 1.1, section 6.3 Separation Spaces, s-separate(n,c))
 abbrev pub spaced_step : Rules → List OpenFlow → (blank_came : Bool) → FlowToken → FlowReading
 spaced_step rules levels came blank = within levels (node_awaited true)
 spaced_step rules levels true token = node_step rules levels token
 spaced_step rules levels false token = failed
 
--- where an entry has ended
+-- where an entry has ended (YAML 1.1, section 5.3 Indicator Characters, c-collect-entry)
 abbrev pub comma_step : List OpenFlow → FlowToken → FlowReading
 comma_step levels (symbol c) = if c == 0x2C then within levels entry_awaited else closed levels c
 comma_step levels token = failed
 
--- the `:` itself
+-- the `:` itself (YAML 1.1, section 5.3 Indicator Characters, c-mapping-value)
 abbrev pub colon_indicator : List OpenFlow → ℕ → FlowReading
 colon_indicator levels c = if c == 0x3A then within levels (node_awaited false) else failed
 

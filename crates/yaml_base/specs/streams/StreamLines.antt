@@ -1,11 +1,11 @@
 -- A text by lines and columns: which lines belong to an entry above them, and a block's lines cut into its entries. What a
 -- collection has read of a line becomes spaces, so that each entry is again a text of its own, with the columns it had.
--- Source, unless a definition names its own: this project's steps, for YAML 1.1, section 6.1 Indentation Spaces.
+-- Source, unless a definition names its own: helpers of this project's reader for s-indent(n) (YAML 1.1, section 6.1 Indentation Spaces).
 use Rattle.std.specs.Prelude.{ℕ, zero, suc, Bool, true, false, Option, None, Some, List, [], ◌∷◌, ◌++◌, ◌==◌, ◌||◌, ◌&&◌, not, replicate, if◌then◌else◌}
 use Rattle.yaml_base.specs.Characters.{Text, space}
 use Rattle.yaml_base.specs.LineBreaks.{is_read_break}
 
--- a line and the break that ends it; the last line of a text may have none (YAML 1.1, section 5.4 Line Break Characters)
+-- a line and the break that ends it; the last line of a text may have none (YAML 1.1, section 5.4 Line Break Characters, b-normalized)
 pub record Line : Type 0 where
   pub text : Text
   pub ending : Text
@@ -20,7 +20,7 @@ abbrev pub prepend_character : (is_break : Bool) → ℕ → List Line → List 
 prepend_character true c rest = record { text = []; ending = c ∷ [] } ∷ rest
 prepend_character false c rest = prepend_to_first_line c rest
 
--- the lines of a text, whose line breaks are read (YAML 1.1, section 5.4 Line Break Characters)
+-- the lines of a text, whose line breaks are read (YAML 1.1, section 5.4 Line Break Characters, b-normalized)
 abbrev pub lines_of : Bool → Text → List Line
 lines_of breaks12 [] = []
 lines_of breaks12 (c ∷ rest) = prepend_character (is_read_break breaks12 c) c (lines_of breaks12 rest)
@@ -30,27 +30,27 @@ abbrev pub text_of_lines : List Line → Text
 text_of_lines [] = []
 text_of_lines (line ∷ rest) = line.text ++ (line.ending ++ text_of_lines rest)
 
--- nothing but spaces, or nothing
+-- nothing but spaces, or nothing (YAML 1.1, section 6.1 Indentation Spaces, s-indent(n))
 abbrev pub is_spaces : Text → Bool
 is_spaces [] = true
 is_spaces (c ∷ rest) = c == space && is_spaces rest
 
--- the lines after blank ones
+-- the lines after blank ones (YAML 1.1, section 6.4 Ignored Line Prefix, l-empty(n,s))
 abbrev pub without_blank_lines : List Line → List Line
 without_blank_lines [] = []
 without_blank_lines (line ∷ rest) = if is_spaces line.text then without_blank_lines rest else line ∷ rest
 
--- the first of some lines is blank
+-- the first of some lines is blank (YAML 1.1, section 6.4 Ignored Line Prefix, l-empty(n,s))
 abbrev pub begins_blank : List Line → Bool
 begins_blank [] = false
 begins_blank (line ∷ rest) = is_spaces line.text
 
--- all lines are blank
+-- all lines are blank (YAML 1.1, section 6.4 Ignored Line Prefix, l-empty(n,s))
 abbrev pub all_blank : List Line → Bool
 all_blank [] = true
 all_blank (line ∷ rest) = is_spaces line.text && all_blank rest
 
--- an indicator stands before a space or the end of its line (this project, stricter than YAML 1.1, section 6.3 Separation Spaces)
+-- an indicator stands before a space or the end of its line (this project, stricter than YAML 1.1, section 6.3 Separation Spaces, s-separate(n,c))
 abbrev pub ends_indicator : Text → Bool
 ends_indicator [] = true
 ends_indicator (c ∷ rest) = c == space
@@ -61,7 +61,7 @@ begins_with_indicator symbol [] = false
 begins_with_indicator symbol (c ∷ rest) = c == symbol && ends_indicator rest
 
 -- a line belongs to the entry above it at a column: it is blank or deeper; a `-` at the column of a mapping is too
--- (YAML 1.1, section 6.1 Indentation Spaces)
+-- (YAML 1.1, section 6.1 Indentation Spaces, s-indent(n))
 abbrev pub belongs_to_entry : (in_sequence : Bool) → ℕ → Text → Bool
 belongs_to_entry in_sequence column [] = true
 belongs_to_entry in_sequence zero (c ∷ rest) = c == space || (not in_sequence && begins_with_indicator 0x2D (c ∷ rest))
@@ -77,7 +77,8 @@ abbrev pub prepend_line : (inside : Bool) → Line → Entries → Entries
 prepend_line true line after = record { before = line ∷ after.before; entries = after.entries }
 prepend_line false line after = record { before = []; entries = (line ∷ after.before) ∷ after.entries }
 
--- the lines of a collection at a column, cut into its entries (YAML 1.1, sections 10.1.2 Block Sequences and 10.2.2 Block Mappings)
+-- the lines of a collection at a column, cut into its entries
+-- (YAML 1.1, sections 10.1.2 Block Sequences and 10.2.2 Block Mappings, c-l-block-sequence(n,c), c-l-block-mapping(n))
 abbrev pub entries_at : (in_sequence : Bool) → ℕ → List Line → Entries
 entries_at in_sequence column [] = record { before = []; entries = [] }
 entries_at in_sequence column (line ∷ rest) =
@@ -99,18 +100,18 @@ abbrev pub indented_step : (is_space : Bool) → Text → Indented → Indented
 indented_step true text after = record { column = suc after.column; text = after.text }
 indented_step false text after = record { column = 0; text = text }
 
--- where a line's first character that is no space stands, and the line from there on
+-- where a line's first character that is no space stands, and the line from there on (YAML 1.1, section 6.1 Indentation Spaces, s-indent(n))
 abbrev pub indented : Text → Indented
 indented [] = record { column = 0; text = [] }
 indented (c ∷ rest) = indented_step (c == space) (c ∷ rest) (indented rest)
 
--- what stands at a column, after spaces alone
+-- what stands at a column, after spaces alone (YAML 1.1, section 6.1 Indentation Spaces, s-indent(n))
 abbrev pub past_column : ℕ → Text → Option Text
 past_column zero text = Some text
 past_column (suc column) [] = None
 past_column (suc column) (c ∷ rest) = if c == space then past_column column rest else None
 
--- some spaces
+-- some spaces (YAML 1.1, section 6.1 Indentation Spaces, s-indent(n))
 abbrev pub spaces : ℕ → Text
 spaces count = replicate count space
 

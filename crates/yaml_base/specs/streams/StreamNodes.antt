@@ -1,6 +1,6 @@
 -- Nodes in block, by lines and columns: the lines inside a column are a node, and each entry of a collection is read as lines of
 -- its own. The depth of reading is bounded by a number that the text's length gives.
--- Source, unless a definition names its own: that of its part, in this project's steps.
+-- Source, unless a definition names its own: that of its part.
 use Rattle.std.specs.Prelude.{ℕ, zero, suc, Bool, true, false, Option, None, Some, List, [], ◌∷◌, ◌++◌, ◌==◌, ◌||◌, ◌&&◌, ◌+◌, not, nat_le, length, fold}
 use Rattle.std.specs.Prelude.{option_map, option_and_then, is_some, if◌then◌else◌}
 use Rattle.std.specs.Option.{option_or}
@@ -15,7 +15,7 @@ use Rattle.yaml_base.specs.streams.StreamScalars.{style_of_first_character}
 use Rattle.yaml_base.specs.streams.StreamScalars.{scalar_of_style, nothing_parsed, word_after, word_read}
 use Rattle.yaml_base.specs.streams.StreamFlow.{is_alias, longest_key, flow_read}
 
--- Simple keys. Source: YAML 1.1, section 10.2 Mapping Styles.
+-- Simple keys. Source: YAML 1.1, section 10.2 Mapping Styles, no production, in this project's steps.
 
 -- a simple key, the length of its text, and what follows its `:`
 pub record SimpleKey : Type 0 where
@@ -38,7 +38,7 @@ abbrev pub word_of_alias : Rules → Text → Option Tree
 word_of_alias rules text = option_and_then (λ tree. if is_alias tree then Some tree else None) (word_read rules false text)
 
 -- a text before a `:` that is a simple key: a node's own text, with a space after it where that is an alias; it isn't
--- longer than it may be (YAML 1.1, section 10.2 Mapping Styles; the space after an alias is this project's)
+-- longer than it may be (YAML 1.1, section 10.2 Mapping Styles, no production; the space after an alias is this project's)
 abbrev pub key_of_text : Rules → Text → Option Tree
 key_of_text rules text =
     if nat_le (length text) longest_key
@@ -59,19 +59,20 @@ key_from rules before (c ∷ rest) =
 abbrev pub key_of_line : Rules → Text → Option SimpleKey
 key_of_line rules text = key_from rules [] text
 
--- Collections. Source: YAML 1.1, sections 10.1.2 Block Sequences and 10.2.2 Block Mappings.
+-- Collections. Source: helpers of this project's reader for c-l-block-sequence(n,c), c-l-block-mapping(n)
+-- (YAML 1.1, sections 10.1.2 Block Sequences and 10.2.2 Block Mappings).
 
 -- how the lines inside a column are read (none: those of a document), where a block may begin on the first of them or not
 abbrev pub Reads : Type 0
 Reads = (here : Bool) → Option ℕ → List Line → Option Tree
 
--- an item whose indicator stands at the column (YAML 1.1, section 10.1.2 Block Sequences)
+-- an item whose indicator stands at the column (YAML 1.1, section 10.1.2 Block Sequences, c-l-block-sequence(n,c))
 abbrev pub item_by_indicator : Reads → ℕ → Text → List Line → Option Text → Option Tree
 item_by_indicator reads column ending rest (Some (c ∷ text)) =
     if begins_with_indicator 0x2D (c ∷ text) then reads true (Some column) (blanked (suc column) text ending ∷ rest) else None
 item_by_indicator reads column ending rest _ = None
 
--- an item of a sequence at a column (YAML 1.1, section 10.1.2 Block Sequences)
+-- an item of a sequence at a column (YAML 1.1, section 10.1.2 Block Sequences, c-l-block-sequence(n,c))
 abbrev pub item_read : Reads → ℕ → List Line → Option Tree
 item_read reads column [] = None
 item_read reads column (line ∷ rest) = item_by_indicator reads column line.ending rest (past_column column line.text)
@@ -81,7 +82,7 @@ abbrev pub with_item : Option Trees → Option Tree → Option Trees
 with_item (Some trees) (Some tree) = Some (trees_and trees tree)
 with_item _ _ = None
 
--- the items of a sequence at a column (YAML 1.1, section 10.1.2 Block Sequences)
+-- the items of a sequence at a column (YAML 1.1, section 10.1.2 Block Sequences, c-l-block-sequence(n,c))
 abbrev pub items_read : Reads → ℕ → List (List Line) → Option Trees
 items_read reads column entries = fold (λ before entry. with_item before (item_read reads column entry)) (Some no_trees) entries
 
@@ -90,16 +91,16 @@ pub record HeldPairs : Type 0 where
   pub pairs : TreePairs
   pub key : Option Tree
 
--- a key after pairs whose last has its value (YAML 1.1, section 10.2.2 Block Mappings)
+-- a key after pairs whose last has its value (YAML 1.1, section 10.2.2 Block Mappings, c-l-block-mapping(n))
 abbrev pub with_key : HeldPairs → Option Tree → Option HeldPairs
 with_key held read = if is_some held.key then None else option_map (λ key. record { pairs = held.pairs; key = Some key }) read
 
--- the value of the key that is held (YAML 1.1, section 10.2.2 Block Mappings)
+-- the value of the key that is held (YAML 1.1, section 10.2.2 Block Mappings, c-l-block-mapping(n))
 abbrev pub with_value : TreePairs → Option Tree → Option Tree → Option HeldPairs
 with_value pairs (Some key) (Some value) = Some (record { pairs = tree_pairs_and pairs key value; key = None })
 with_value pairs _ _ = None
 
--- a simple key and its value, on the line after the key's `:` or below it (YAML 1.1, section 10.2.2 Block Mappings)
+-- a simple key and its value, on the line after the key's `:` or below it (YAML 1.1, section 10.2.2 Block Mappings, c-l-block-mapping(n))
 abbrev pub simple_pair : Reads → ℕ → Text → List Line → Option HeldPairs → Option SimpleKey → Option HeldPairs
 simple_pair reads column ending rest (Some held) (Some found) =
     with_value held.pairs held.key (reads false (Some column) (blanked (suc (column + found.length)) found.after ending ∷ rest))
@@ -111,12 +112,12 @@ pub data EntryKind : Type 0 where
   value_entry : EntryKind
   simple_entry : EntryKind
 
--- `?`, `:`, or a simple key (YAML 1.1, section 10.2.2 Block Mappings)
+-- `?`, `:`, or a simple key (YAML 1.1, sections 5.3 Indicator Characters and 10.2.2 Block Mappings, c-mapping-key, c-mapping-value, c-l-block-mapping(n))
 abbrev pub kind_of_entry : Text → EntryKind
 kind_of_entry text =
     if begins_with_indicator 0x3F text then key_entry else (if begins_with_indicator 0x3A text then value_entry else simple_entry)
 
--- an entry of a mapping at a column, by its kind (YAML 1.1, section 10.2.2 Block Mappings)
+-- an entry of a mapping at a column, by its kind (YAML 1.1, section 10.2.2 Block Mappings, c-l-block-mapping(n))
 abbrev pub entry_by_kind : EntryKind → Rules → Reads → ℕ → Text → List Line → HeldPairs → Text → Option HeldPairs
 entry_by_kind key_entry rules reads column ending rest held [] = None
 entry_by_kind key_entry rules reads column ending rest held (c ∷ text) =
@@ -134,7 +135,7 @@ abbrev pub entry_at : Rules → Reads → ℕ → Text → List Line → HeldPai
 entry_at rules reads column ending rest held None = None
 entry_at rules reads column ending rest held (Some text) = entry_by_kind (kind_of_entry text) rules reads column ending rest held text
 
--- an entry of a mapping at a column
+-- an entry of a mapping at a column (YAML 1.1, section 10.2.2 Block Mappings, c-l-block-mapping(n))
 abbrev pub entry_read : Rules → Reads → ℕ → Option HeldPairs → List Line → Option HeldPairs
 entry_read rules reads column (Some held) (line ∷ rest) = entry_at rules reads column line.ending rest held (past_column column line.text)
 entry_read rules reads column _ _ = None
@@ -147,7 +148,7 @@ no_pairs_held = record { pairs = no_tree_pairs; key = None }
 abbrev pub pairs_held : HeldPairs → Option TreePairs
 pairs_held held = if is_some held.key then None else Some held.pairs
 
--- the pairs of a mapping at a column
+-- the pairs of a mapping at a column (YAML 1.1, section 10.2.2 Block Mappings, c-l-block-mapping(n))
 abbrev pub pairs_read : Rules → Reads → ℕ → List (List Line) → Option TreePairs
 pairs_read rules reads column entries = option_and_then pairs_held (fold (entry_read rules reads column) (Some no_pairs_held) entries)
 
@@ -155,7 +156,7 @@ pairs_read rules reads column entries = option_and_then pairs_held (fold (entry_
 abbrev pub entries_whole : Entries → Option (List (List Line))
 entries_whole all = if length all.before == 0 then Some all.entries else None
 
--- a sequence at a column, whose tag is one of its own (YAML 1.1, section 10.1.2 Block Sequences)
+-- a sequence at a column, whose tag is one of its own (YAML 1.1, section 10.1.2 Block Sequences, c-l-block-sequence(n,c))
 abbrev pub sequence_read : Reads → Properties → ℕ → List Line → Option Tree
 sequence_read reads properties column lines =
     option_and_then
@@ -163,7 +164,7 @@ sequence_read reads properties column lines =
     (option_and_then (items_read reads column) (entries_whole (entries_at true column lines))))
     (collection_tag_parsed properties.tag)
 
--- a mapping at a column, whose tag is one of its own (YAML 1.1, section 10.2.2 Block Mappings)
+-- a mapping at a column, whose tag is one of its own (YAML 1.1, section 10.2.2 Block Mappings, c-l-block-mapping(n))
 abbrev pub mapping_read : Rules → Reads → Properties → ℕ → List Line → Option Tree
 mapping_read rules reads properties column lines =
     option_and_then
@@ -171,7 +172,7 @@ mapping_read rules reads properties column lines =
     (option_and_then (pairs_read rules reads column) (entries_whole (entries_at false column lines))))
     (collection_tag_parsed properties.tag)
 
--- Texts. Source: YAML 1.1, section 8.5 Complete Nodes.
+-- Texts. Source: helpers of this project's reader for s-l+block-node(n,c) (YAML 1.1, section 8.5.2 Block Nodes).
 
 -- a white character before a text that has none at its end
 abbrev pub prepend_to_trimmed : (is_white : Bool) → ℕ → Text → Text
@@ -189,7 +190,7 @@ pub data TextKind : Type 0 where
   flow_text : TextKind
   word_text : TextKind
 
--- `|` or `>`; `[` or `{`; any other (YAML 1.1, section 5.3 Indicator Characters)
+-- `|` or `>`; `[` or `{`; any other (YAML 1.1, section 5.3 Indicator Characters, c-literal, c-folded, c-sequence-start, c-mapping-start)
 abbrev pub kind_of_text : Text → TextKind
 kind_of_text [] = word_text
 kind_of_text (c ∷ rest) =
@@ -207,7 +208,7 @@ text_read rules column properties text ending rest =
     if all_deeper column rest then text_by_kind (kind_of_text text) rules column properties (text ++ (ending ++ text_of_lines rest))
     else None
 
--- Nodes. Source: YAML 1.1, section 8.5 Complete Nodes.
+-- Nodes. Source: helpers of this project's reader for s-l+block-node(n,c) (YAML 1.1, section 8.5.2 Block Nodes).
 
 -- what a node's first line that isn't blank begins
 pub data NodeKind : Type 0 where
@@ -215,7 +216,7 @@ pub data NodeKind : Type 0 where
   begins_mapping : NodeKind
   begins_text : NodeKind
 
--- `-`; `?` or a simple key; a text
+-- `-`; `?` or a simple key; a text (YAML 1.1, section 5.3 Indicator Characters, c-sequence-entry, c-mapping-key)
 abbrev pub kind_of_node : Rules → Text → NodeKind
 kind_of_node rules text =
     if begins_with_indicator 0x2D text then begins_sequence
@@ -252,12 +253,12 @@ abbrev pub node_lines : Rules → Reads → ReadsText → Properties → (here :
 node_lines rules reads reads_text properties here lines =
     node_at rules reads reads_text properties (here || begins_blank lines) (not (begins_blank lines)) (without_blank_lines lines)
 
--- a text begins with an anchor or a tag (YAML 1.1, sections 8.1 Node Anchors and 8.2 Node Tags)
+-- a text begins with an anchor or a tag (YAML 1.1, section 5.3 Indicator Characters, c-anchor, c-tag)
 abbrev pub begins_properties : Text → Bool
 begins_properties [] = false
 begins_properties (c ∷ rest) = c == 0x26 || c == 0x21
 
--- properties that were read of a line: what follows them is a node without more of them
+-- properties that were read of a line: what follows them is a node without more of them (YAML 1.1, chapter 8 Nodes, c-ns-properties(n,c))
 abbrev pub after_properties : Rules → Reads → Option ℕ → ℕ → Text → List Line → Option PropertiesRead → Option Tree
 after_properties rules reads column at ending rest None = None
 after_properties rules reads column at ending rest (Some read) =
@@ -269,7 +270,7 @@ text_or_properties true rules reads column at text ending rest =
     after_properties rules reads column at ending rest (properties_read rules.directives text)
 text_or_properties false rules reads column at text ending rest = text_read rules column no_properties text ending rest
 
--- the lines of a node inside a column, to a depth
+-- the lines of a node inside a column, to a depth (YAML 1.1, section 8.5.2 Block Nodes, s-l+block-node(n,c))
 abbrev pub node_read : ℕ → Rules → Reads
 node_read zero rules here column lines = None
 node_read (suc depth) rules here column lines =

@@ -2,7 +2,7 @@
 -- reader is strict: it refuses what readers of YAML 1.1 disagree on, tabs, comments and characters that aren't printable
 -- among it, so that a text that it reads means the same to all of them.
 --     stream_trees breaks12 bytes      the documents in some bytes, or nothing
--- Source, unless a definition names its own: this project's profile of YAML 1.1, section 7.4 Complete Stream.
+-- Source, unless a definition names its own: YAML 1.1, section 7.4 Complete Stream, l-yaml-stream, as this project narrows it.
 use Rattle.std.specs.Prelude.{ℕ, Bool, Option, None, List, ◌==◌, ◌||◌, option_and_then, if◌then◌else◌}
 use Rattle.std.specs.List.{list_all}
 use Rattle.yaml_base.specs.Characters.{Text, carriage_return, is_printable}
@@ -21,6 +21,6 @@ abbrev pub text_trees : Bool → Text → Option (List DocumentTree)
 text_trees breaks12 text =
     if list_all may_stand_raw text then documents_of breaks12 (with_line_breaks_read text) else None
 
--- the documents in some bytes (YAML 1.1, sections 5.2 Character Encoding and 7.4 Complete Stream, l-yaml-stream)
+-- the documents in some bytes (YAML 1.1, sections 5.2 Character Encoding and 7.4 Complete Stream, c-byte-order-mark, l-yaml-stream)
 abbrev pub stream_trees : Bool → List ℕ → Option (List DocumentTree)
 stream_trees breaks12 bytes = option_and_then (text_trees breaks12) (characters_read bytes)

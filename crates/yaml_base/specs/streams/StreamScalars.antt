@@ -1,6 +1,7 @@
 -- One node's own text on the stretch that is cut out for it: an alias, an empty collection or a scalar, after its anchor and its
 -- tag. The scalars' readers are called on tidy text alone.
--- Source, unless a definition names its own: this project's steps, for YAML 1.1, chapters 8 Nodes and 9 Scalar Styles.
+-- Source, unless a definition names its own: helpers of this project's reader for ns-flow-node(n,c), s-l+block-node(n,c)
+-- (YAML 1.1, section 8.5 Complete Nodes).
 use Rattle.std.specs.Prelude.{ℕ, suc, Bool, true, false, Option, None, Some, List, [], ◌∷◌, ◌++◌, ◌==◌, ◌&&◌, ◌+◌, length, option_map, option_and_then}
 use Rattle.std.specs.Prelude.{if◌then◌else◌}
 use Rattle.std.specs.List.{list_all}
@@ -23,12 +24,12 @@ pub record Rules : Type 0 where
 
 -- Properties
 
--- a node's anchor and what its tag says
+-- a node's anchor and what its tag says (YAML 1.1, chapter 8 Nodes, c-ns-properties(n,c))
 pub record Properties : Type 0 where
   pub anchor : Option Text
   pub tag : Option ParsedTag
 
--- neither anchor nor tag
+-- neither anchor nor tag (YAML 1.1, chapter 8 Nodes, c-ns-properties(n,c))
 abbrev pub no_properties : Properties
 no_properties = record { anchor = None; tag = None }
 
@@ -47,7 +48,7 @@ abbrev pub cut_before_space : Text → CutText
 cut_before_space [] = record { prefix = []; rest = [] }
 cut_before_space (c ∷ rest) = word_step (c == space) c rest (cut_before_space rest)
 
--- a name: at least one character, all of the anchor alphabet (libyaml's scanner; YAML 1.1, section 8.1 Node Anchors, allows more)
+-- a name: at least one character, all of the anchor alphabet (libyaml's scanner; YAML 1.1, section 8.1 Node Anchors, ns-anchor-name, allows more)
 abbrev pub name_read : Text → Option Text
 name_read [] = None
 name_read (c ∷ rest) = if list_all is_alpha (c ∷ rest) then Some (c ∷ rest) else None
@@ -65,21 +66,21 @@ anchor_first [] = Some (record { properties = no_properties; text = [] })
 anchor_first (c ∷ rest) =
     if c == 0x26 then anchor_of_word (cut_before_space rest) else Some (record { properties = no_properties; text = c ∷ rest })
 
--- a tag's word, at a column (YAML 1.1, section 8.2 Node Tags)
+-- a tag's word, at a column (YAML 1.1, section 8.2 Node Tags, c-ns-tag-property)
 abbrev pub tag_of_word : List TagDirective → Option Text → ℕ → CutText → Option PropertiesRead
 tag_of_word directives anchor column word =
     option_map
     (λ parsed. record { properties = record { anchor = anchor; tag = Some parsed }; text = spaces (column + length word.prefix) ++ word.rest })
     (tag_parsed directives word.prefix)
 
--- the tag that a text begins with at a column, if it begins with one (YAML 1.1, section 8.2 Node Tags)
+-- the tag that a text begins with at a column, if it begins with one (YAML 1.1, section 8.2 Node Tags, c-ns-tag-property)
 abbrev pub tag_first : List TagDirective → Option Text → ℕ → Text → Option PropertiesRead
 tag_first directives anchor column [] = Some (record { properties = record { anchor = anchor; tag = None }; text = spaces column })
 tag_first directives anchor column (c ∷ rest) =
     if c == 0x21 then tag_of_word directives anchor column (cut_before_space (c ∷ rest))
     else Some (record { properties = record { anchor = anchor; tag = None }; text = spaces column ++ c ∷ rest })
 
--- the anchor, and then the tag (this project; YAML 1.1, chapter 8 Nodes, allows either order)
+-- the anchor, and then the tag (this project; YAML 1.1, chapter 8 Nodes, c-ns-properties(n,c), allows either order)
 abbrev pub properties_read : List TagDirective → Text → Option PropertiesRead
 properties_read directives text =
     option_and_then
@@ -101,7 +102,7 @@ tagging_parsed (Some bare_parsed) _ = None
 
 -- Scalars
 
--- the style that a text's first character tells (YAML 1.1, section 5.3 Indicator Characters)
+-- the style that a text's first character tells (YAML 1.1, section 5.3 Indicator Characters, c-literal to c-double-quote)
 abbrev pub style_of_first_character : Text → ScalarStyle
 style_of_first_character [] = plain
 style_of_first_character (c ∷ rest) =
@@ -109,6 +110,7 @@ style_of_first_character (c ∷ rest) =
     else (if c == 0x22 then double_quoted else (if c == 0x7C then literal else (if c == 0x3E then folded else plain)))
 
 -- what a text of a style reads as; in flow none is of a block style
+-- (YAML 1.1, chapter 9 Scalar Styles, ns-plain(n,c), c-single-quoted(n,c), c-double-quoted(n,c), c-l+literal(n), c-l+folded(n))
 abbrev pub value_read : ScalarStyle → (breaks12 flow : Bool) → Option ℕ → Text → Option Text
 value_read plain breaks12 flow column text = read_plain breaks12 flow text
 value_read single_quoted breaks12 flow column text = read_single breaks12 text
@@ -150,7 +152,8 @@ pub data WordKind : Type 0 where
   empty_mapping : WordKind
   a_scalar : WordKind
 
--- `*`, `[]` whole, `{}` whole, or a scalar (YAML 1.1, sections 8.4 Alias Nodes, 10.1.1 Flow Sequences and 10.2.1 Flow Mappings)
+-- `*`, `[]` whole, `{}` whole, or a scalar
+-- (YAML 1.1, sections 8.4 Alias Nodes, 10.1.1 Flow Sequences and 10.2.1 Flow Mappings, c-ns-alias-node, c-flow-sequence(n,c), c-flow-mapping(n,c))
 abbrev pub kind_of_word : Text → WordKind
 kind_of_word [] = a_scalar
 kind_of_word (c ∷ []) = if c == 0x2A then an_alias else a_scalar
@@ -171,10 +174,11 @@ word_by_kind a_scalar rules flow column properties [] = None
 word_by_kind a_scalar rules flow column properties (c ∷ rest) = scalar_of_style (style_of_first_character (c ∷ rest)) rules flow column properties (c ∷ rest)
 
 -- a node's own text after its properties: an alias, an empty collection, or a scalar of at least one character
+-- (YAML 1.1, section 8.5 Complete Nodes, ns-flow-node(n,c), s-l+block-node(n,c))
 abbrev pub word_after : Rules → (flow : Bool) → Option ℕ → Properties → Text → Option Tree
 word_after rules flow column properties text = word_by_kind (kind_of_word text) rules flow column properties text
 
--- a node's own text with its properties
+-- a node's own text with its properties (YAML 1.1, section 8.5 Complete Nodes, ns-flow-node(n,c), s-l+block-node(n,c))
 abbrev pub word_read : Rules → (flow : Bool) → Text → Option Tree
 word_read rules flow text =
     option_and_then

@@ -1,7 +1,7 @@
 -- The tokens of a flow collection's text, one character after another: words, each the whole text of a scalar, an alias or an empty
 -- collection with its properties, and indicators, blanks and breaks.
--- Source, unless a definition names its own: YAML 1.1, sections 9.1 Flow Scalar Styles, 10.1.1 Flow Sequences and 10.2.1 Flow Mappings, in this
--- project's steps.
+-- Source, unless a definition names its own: helpers of this project's reader for c-flow-sequence(n,c) and c-flow-mapping(n,c)
+-- (YAML 1.1, sections 10.1.1 Flow Sequences and 10.2.1 Flow Mappings).
 use Rattle.std.specs.Prelude.{ℕ, Bool, true, false, List, [], ◌∷◌, ◌++◌, ◌==◌, ◌||◌, ◌&&◌, map, codes, if◌then◌else◌}
 use Rattle.yaml_base.specs.Characters.{Text, is_among, is_blank}
 use Rattle.yaml_base.specs.LineBreaks.{is_read_break}
@@ -58,7 +58,7 @@ pub data FlowClass : Type 0 where
   begins_plain : FlowClass
 
 -- the class of a character: a blank, a break, one of `]},:?`, one of `&!`, a quote, a bracket, or any other
--- (YAML 1.1, sections 5.3 Indicator Characters, 5.4 Line Break Characters and 5.5 Miscellaneous Characters)
+-- (YAML 1.1, sections 5.3 Indicator Characters, 5.4 Line Break Characters and 5.5 Miscellaneous Characters, c-indicator, b-normalized, s-char)
 abbrev pub class_of : Bool → ℕ → FlowClass
 class_of breaks12 c =
     if is_blank c then is_white_blank
@@ -80,14 +80,15 @@ begun begins_single properties c = goes_to (in_single (properties ++ c ∷ []))
 begun begins_bracket properties c = goes_to (after_bracket properties c)
 begun begins_plain properties c = goes_to (in_plain (properties ++ c ∷ []) [])
 
--- after properties: more blanks, or what they belong to on the same line (this project, stricter than YAML 1.1, section 6.3 Separation Spaces)
+-- after properties: more blanks, or what they belong to on the same line
+-- (this project, stricter than YAML 1.1, section 6.3 Separation Spaces, s-separate(n,c))
 abbrev pub begun_after_property : FlowClass → Text → ℕ → FlowStep
 begun_after_property is_white_blank text c = goes_to (after_property (text ++ c ∷ []))
 begun_after_property is_white_break text c = completes bad
 begun_after_property is_flow_indicator text c = completes bad
 begun_after_property class text c = begun class text c
 
--- an anchor or a tag goes on to a blank (YAML 1.1, sections 8.1 Node Anchors and 8.2 Node Tags)
+-- an anchor or a tag goes on to a blank (YAML 1.1, sections 8.1 Node Anchors and 8.2 Node Tags, c-ns-anchor-property, c-ns-tag-property)
 abbrev pub property_step : FlowClass → Text → ℕ → FlowStep
 property_step is_white_blank text c = goes_to (after_property (text ++ c ∷ []))
 property_step is_white_break text c = completes bad
@@ -106,7 +107,7 @@ white_token breaks12 c = white_of_class (class_of breaks12 c)
 abbrev pub word_ends : Bool → Text → Text → FlowStep → FlowStep
 word_ends breaks12 text white turn = prepend_tokens (word text ∷ map (white_token breaks12) white) turn
 
--- plain text goes on, also over white space, to a flow indicator (YAML 1.1, section 9.1.3 Plain)
+-- plain text goes on, also over white space, to a flow indicator (YAML 1.1, section 9.1.3 Plain, ns-plain(n,c))
 abbrev pub plain_step : FlowClass → Bool → Text → Text → ℕ → FlowStep
 plain_step is_white_blank breaks12 text white c = goes_to (in_plain text (white ++ c ∷ []))
 plain_step is_white_break breaks12 text white c = goes_to (in_plain text (white ++ c ∷ []))
@@ -119,7 +120,7 @@ abbrev pub bracket_step : (closes : Bool) → FlowClass → Text → ℕ → ℕ
 bracket_step true class properties bracket c = completes (word (properties ++ (bracket ∷ c ∷ [])))
 bracket_step false class properties bracket c = prepend_tokens (opens properties bracket ∷ []) (begun class [] c)
 
--- a closing bracket matches an opening one
+-- a closing bracket matches an opening one (YAML 1.1, section 5.3 Indicator Characters, c-sequence-start to c-mapping-end)
 abbrev pub is_pair : ℕ → ℕ → Bool
 is_pair bracket c = (bracket == 0x5B && c == 0x5D) || (bracket == 0x7B && c == 0x7D)
 
