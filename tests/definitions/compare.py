@@ -59,10 +59,11 @@ def settings(s):
                   line_break=named(s["line_break"], BREAKS), breaks12=flag(s["breaks12"]), portable=flag(s["portable"]),
                   indented_sequences=flag(s.get("indented_sequences")), limit=str(s["limit"]))
 
-def effective(s):
+def effective(s, breaks12):
+    """The settings in force. The model's line breaks say what is special; the definitions keep those of the option beside it."""
     return record(encoding=ENCODINGS[s["encoding"]], canonical=flag(s["canonical"]), unicode=flag(s["unicode"]),
                   indent=str(s["indent"]), width=optional(s["width"], str), line_break=BREAKS[s["line_break"]],
-                  breaks12=flag(s["breaks12"]), portable=flag(s["portable"]), indented_sequences=flag(s.get("indented_sequences")), limit=str(s["limit"]))
+                  breaks12=flag(breaks12), portable=flag(s["portable"]), indented_sequences=flag(s.get("indented_sequences")), limit=str(s["limit"]))
 
 def version(v):
     return record(major=integer(v[0]), minor=integer(v[1]))
@@ -132,7 +133,8 @@ def body(b):
 
 def lemmas_of_list(case, n):
     given, events, s = "given_%d" % n, "events_%d" % n, "settings_for given_%d events_%d" % (n, n)
-    yield "settings", s, effective(case["effective"])
+    yield "settings", s, effective(case["effective"], case["settings"]["breaks12"])
+    yield "special", "escapes_separators (%s)" % s, flag(case["effective"]["breaks12"])
     yield "written", "written_after_each " + events, several(map(str, case["written"]))
     canonical = flag(case["settings"]["canonical"])
     if "refused" in case:
@@ -151,6 +153,9 @@ def lemmas_of_list(case, n):
     yield "tidy", "tidy_bodies (%s) (list_layout (%s) (completion %s))" % (s, s, events), several(map(flag, case["tidy"]))
     if "output" in case:
         yield "agrees", "agrees %s %s (stream_trees %s (output_of %s %s))" % (canonical, events, flag(case["settings"]["breaks12"]), given, events), flag(case["agrees"])
+        if "agrees_otherwise" in case:
+            other = flag(not case["settings"]["breaks12"])
+            yield "agrees_otherwise", "agrees %s %s (stream_trees %s (output_of %s %s))" % (canonical, events, other, given, events), flag(case["agrees_otherwise"])
         yield "output", "output_of %s %s" % (given, events), octets(case["output"])
     if "content" in case:
         yield "content", "content_of " + events, contents(case["content"])
@@ -198,7 +203,7 @@ use Rattle.std.specs.Char.{encode_utf8}
 use Rattle.std.specs.Str.{chars, is_utf8}
 use Rattle.std.specs.Fmt.{digits}
 use Rattle.yaml_base.specs.Characters.{Text}
-use Rattle.yaml_base.specs.Settings.{Settings, Effective, utf8, utf16_little, utf16_big, carriage_return_break, line_feed_break, both_break}
+use Rattle.yaml_base.specs.Settings.{Settings, Effective, escapes_separators, utf8, utf16_little, utf16_big, carriage_return_break, line_feed_break, both_break}
 use Rattle.yaml_base.specs.Event.{Event, any_style, plain, single_quoted, double_quoted, literal, folded, any_layout, block, flow, stream_start, stream_end, document_start, document_end, alias, scalar, sequence_start, sequence_end, mapping_start, mapping_end}
 use Rattle.yaml_base.specs.Layout.{Body}
 use Rattle.yaml_base.specs.Pieces.{completion, list_layout, pieces}
@@ -261,7 +266,7 @@ def main():
     p.add_argument("--kind", choices=list(LEMMAS))
     p.add_argument("--check", default=os.environ.get("CHECK", "rt check"))
     o = p.parse_args()
-    beside = ROOT.parent / "shared" / "oracle"
+    beside = ROOT.parent / "shared" / "oracle_next"
     model = o.model or (beside if beside.is_dir() else None)
     if not model: cases = stored()[:o.count + o.count // 3]
     else: cases = modelled(model, o.first, o.count, o.kind) + (modelled(model, o.first, o.count // 3, "resolved") if o.kind is None else [])

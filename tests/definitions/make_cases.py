@@ -25,8 +25,8 @@ KINDS = ["list"] * 5 + ["text"] * 2 + ["bytes", "script", "document"] + ["stream
 
 def half_portable(drawn):
     """Settings as they are drawn, about every second in portable mode."""
-    def settings(r):
-        s = drawn(r)
+    def settings(r, *seed):
+        s = drawn(r, *seed)
         s.portable = random.Random(repr(s)).random() < 0.5
         return s
     return settings
@@ -41,9 +41,12 @@ def of_list(seed):
         ks = sorted({r.randrange(len(events) + 1), r.randrange(len(events) + 1)})
         case["fronts"] = [dict(k=k, pieces=layout.pieces(eff, events, k)) for k in ks]
         whole = layout.layout_of(eff, layout.completion(events)).bodies
-        case["tidy"] = [is_tidy(eff.breaks12, *body) for body in whole]
+        breaks12 = case["settings"]["breaks12"]
+        case["tidy"] = [is_tidy(breaks12, *body) for body in whole]
         if "output" in case:
-            case["agrees"] = content.agrees(eff, events, stream_read(bytes.fromhex(case["output"]), eff.breaks12))
+            output = bytes.fromhex(case["output"])
+            case["agrees"] = content.agrees(eff, events, stream_read(output, breaks12))
+            if eff.portable: case["agrees_otherwise"] = content.agrees(eff, events, stream_read(output, not breaks12))
     return case
 
 
@@ -154,7 +157,7 @@ SIGNS = ["- ", "-", "? ", ": ", ":", ",", "[", "]", "{", "}", "&a ", "*a", "!t "
 
 def of_stream(seed):
     r = random.Random(seed)
-    s, events = gen.settings(r), gen.events(r)
+    s, events = gen.settings(r, seed), gen.events(r)
     s.breaks12, s.portable = r.random() < 0.2, r.random() < 0.5
     if r.random() < 0.8: s.canonical = False
     eff = layout.effective(s, first_encoding(events))

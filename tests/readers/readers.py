@@ -58,7 +58,7 @@ def scripts(model, count):
     import gen
     for seed in range(count):
         r = random.Random(seed)
-        settings = gen.settings(r)
+        settings = gen.settings(r, seed)
         settings.breaks12, settings.portable = r.random() < 0.15, True
         yield gen.script(settings, gen.events(r))
 

@@ -2,9 +2,10 @@
 use Rattle.std.proofs.Common.{◌≡◌, refl, sym, ap, ◌∙◌}
 use Rattle.std.proofs.lemmas.Bool.{or_parts}
 use Rattle.std.proofs.lemmas.List.{take-take}
-use Rattle.std.specs.Prelude.{ℕ, Bool, true, false, ◌&&◌, ◌||◌, ◌==◌, not, Option, None, Some, List, [], ◌∷◌, ◌++◌, option_map, unwrap_or, codes, if◌then◌else◌}
+use Rattle.std.specs.Prelude.{ℕ, Bool, true, false, ◌&&◌, ◌||◌, ◌==◌, not, Option, None, Some, List, [], ◌∷◌, ◌++◌, option_map, unwrap_or, is_some}
+use Rattle.std.specs.Prelude.{codes, if◌then◌else◌}
 use Rattle.yaml_base.specs.Characters.{Text, is_among}
-use Rattle.yaml_base.specs.Settings.{Encoding, Effective}
+use Rattle.yaml_base.specs.Settings.{Encoding, Effective, effective, escapes_separators}
 use Rattle.yaml_base.specs.Encoding.{encode, cut}
 use Rattle.yaml_base.specs.Decode.{decode}
 use Rattle.yaml_base.specs.Cursor.{Cursor, Rendered, render_then}
@@ -12,7 +13,8 @@ use Rattle.yaml_base.specs.Event.{ScalarStyle, any_style, plain, single_quoted, 
 use Rattle.yaml_base.specs.Event.{stream_start, stream_end, document_start, document_end, alias, scalar, sequence_start, sequence_end, mapping_start}
 use Rattle.yaml_base.specs.Event.{mapping_end}
 use Rattle.yaml_base.specs.Event.{scalar_tag, collection_tag}
-use Rattle.yaml_base.specs.scalars.Style.{Choice}
+use Rattle.yaml_base.specs.scalars.Analysis.{allowances, is_empty}
+use Rattle.yaml_base.specs.scalars.Style.{Choice, chosen}
 use Rattle.yaml_base.specs.Grammar.{Stream, stream_events, tree_of}
 use Rattle.yaml_base.specs.reading.ReadPlain.{is_read_white, begins_white, begins_no_plain, begins_with_hash, holds_no_plain, read_plain}
 use Rattle.yaml_base.specs.Layout.{Role, as_root, as_item, as_key, as_value, Place, is_key, is_undented, deeper, is_simple_alias, is_simple_scalar}
@@ -25,7 +27,7 @@ use Rattle.yaml_base.specs.Steps.{Frame, Stage, at_stream, at_document, at_node,
 use Rattle.yaml_base.specs.Steps.{frame_opened, start_step, end_step, node_step, step, ends_next, Steps, then_steps, steps}
 use Rattle.yaml_base.specs.Pieces.{list_layout}
 use Rattle.yaml_base.specs.Output.{settings_for, text_written, bytes_written}
-use Rattle.yaml_base.specs.Laws.{TreeIsFound, IsPlainInside, PlainHoldsNoIndicator, LimitCuts, EncodingsAgree}
+use Rattle.yaml_base.specs.Laws.{TreeIsFound, IsPlainInside, PlainHoldsNoIndicator, LimitCuts, EncodingsAgree, BreaksAgree}
 use Rattle.yaml_base.proofs.Decoding.{decode-encode}
 use Rattle.yaml_base.proofs.StepLaws.{stream_steps}
 use Rattle.yaml_base.proofs.Trees.{tree_of-stream_events}
@@ -64,33 +66,6 @@ plain_holds_no_indicator breaks12 flow [] c rest value h = inside_here breaks12 
 plain_holds_no_indicator breaks12 flow (x ∷ before) c rest value h =
     inside_here breaks12 flow (x ∷ before) c rest (read_holds breaks12 flow x (before ++ c ∷ rest) value h)
 
--- No layout goes by the encoding or the limit.
-abbrev other : Effective → Encoding → ℕ → Effective
-other s e limit = record s { encoding = e; limit = limit }
-
-flow_place_other : (s : Effective) (e : Encoding) (limit : ℕ) (role : Role) (simple : Bool) (column : Option ℕ) (cursor : Cursor)
-    → render_flow_place (other s e limit) role simple column cursor ≡ render_flow_place s role simple column cursor
-flow_place_other s e limit as_root simple column cursor = refl
-flow_place_other s e limit (as_item first) simple column cursor = refl
-flow_place_other s e limit (as_key first) simple column cursor = refl
-flow_place_other s e limit (as_value true) simple column cursor = refl
-flow_place_other s e limit (as_value false) simple column cursor = refl
-
-place_other : (s : Effective) (e : Encoding) (limit : ℕ) (place : Place) (simple : Bool) (cursor : Cursor)
-    → render_place (other s e limit) place simple cursor ≡ render_place s place simple cursor
-place_other s e limit place simple cursor =
-    ap (λ (rendered : Rendered). if place.in_flow then rendered else render_block_place place.role simple place.column cursor)
-    (flow_place_other s e limit place.role simple place.column cursor)
-
-body_other : (style : ScalarStyle) (s : Effective) (e : Encoding) (limit : ℕ) (width : Option ℕ) (indent : ℕ) (value : Text) (cursor : Cursor)
-    → render_body style (other s e limit) width indent value cursor ≡ render_body style s width indent value cursor
-body_other any_style s e limit width indent value cursor = refl
-body_other plain s e limit width indent value cursor = refl
-body_other single_quoted s e limit width indent value cursor = refl
-body_other double_quoted s e limit width indent value cursor = refl
-body_other literal s e limit width indent value cursor = refl
-body_other folded s e limit width indent value cursor = refl
-
 -- a scalar's piece after what its place puts, with its body
 abbrev lead_after : Effective → List TagDirective → Place → Choice → Scalar → Rendered → Rendered
 lead_after s directives place choice content placed =
@@ -105,115 +80,163 @@ scalar_made place choice content open_ended lead body =
       standing = record { cursor = body.cursor; open_ended = open_ended_after choice.style content.value open_ended };
     }
 
-scalar_other : (s : Effective) (e : Encoding) (limit : ℕ) (directives : List TagDirective) (place : Place) (simple : Bool) (content : Scalar)
-    (standing : Standing)
-    → scalar_piece (other s e limit) directives place simple content standing ≡ scalar_piece s directives place simple content standing
-scalar_other s e limit directives place simple content standing =
-    let choice = choice_of s place simple content in
-    let width : Option ℕ = if simple then None else s.width in
-    let indent = deeper s.indent place.column in
-    let lead = λ (placed : Rendered). lead_after s directives place choice content placed in
-    let placed = render_place s place simple standing.cursor in
-    ap (λ (placed : Rendered). scalar_made place choice content standing.open_ended (lead placed)
-    (render_body choice.style (other s e limit) width indent content.value (lead placed).cursor))
-    (place_other s e limit place simple standing.cursor)
-    ∙ ap (λ (body : Rendered). scalar_made place choice content standing.open_ended (lead placed) body)
-    (body_other choice.style s e limit width indent content.value (lead placed).cursor)
+-- No layout goes by the encoding or the limit, and none by the line breaks but for which characters they make special.
+module _ (s : Effective) (e : Encoding) (limit : ℕ) (breaks12 : Bool) (same : (breaks12 || s.portable) ≡ escapes_separators s) where
+  abbrev other : Effective
+  other = record s { encoding = e; limit = limit; breaks12 = breaks12 }
 
-end_other : (s : Effective) (e : Encoding) (limit : ℕ) (brackets : Brackets) (in_flow empty : Bool) (column : Option ℕ) (cursor : Cursor)
-    → render_end (other s e limit) brackets in_flow empty column cursor ≡ render_end s brackets in_flow empty column cursor
-end_other s e limit brackets false empty column cursor = refl
-end_other s e limit brackets true true column cursor = refl
-end_other s e limit brackets true false column cursor = refl
+  flow_place_other : (role : Role) (simple : Bool) (column : Option ℕ) (cursor : Cursor)
+      → render_flow_place other role simple column cursor ≡ render_flow_place s role simple column cursor
+  flow_place_other as_root simple column cursor = refl
+  flow_place_other (as_item first) simple column cursor = refl
+  flow_place_other (as_key first) simple column cursor = refl
+  flow_place_other (as_value true) simple column cursor = refl
+  flow_place_other (as_value false) simple column cursor = refl
 
-start_other : (s : Effective) (e : Encoding) (limit : ℕ) (directives : List TagDirective) (frames : List Frame) (undented simple empty : Bool) (role : Role)
-    (start : Collection) (standing : Standing)
-    → start_step (other s e limit) directives frames undented simple empty role start standing
-    ≡ start_step s directives frames undented simple empty role start standing
-start_other s e limit directives frames undented simple empty role start standing =
-    let place = next_place frames in
-    ap (λ (placed : Rendered).
-    let rendered : RenderedPiece = piece_without_body standing.open_ended
-    (render_then placed (render_properties s.portable directives start.anchor (collection_tag s.canonical start) false)) in
-    let made : Stepped = record {
-      rendered = rendered;
-      stage = at_node directives (frame_opened s place (is_written_in_flow s place start empty) undented simple role rendered ∷ frames);
-    } in
-    made)
-    (place_other s e limit place simple standing.cursor)
+  place_other : (place : Place) (simple : Bool) (cursor : Cursor)
+      → render_place other place simple cursor ≡ render_place s place simple cursor
+  place_other place simple cursor =
+      ap (λ (rendered : Rendered). if place.in_flow then rendered else render_block_place place.role simple place.column cursor)
+      (flow_place_other place.role simple place.column cursor)
 
-end_step_other : (s : Effective) (e : Encoding) (limit : ℕ) (brackets : Brackets) (directives : List TagDirective) (frames : List Frame) (standing : Standing)
-    → end_step (other s e limit) brackets directives frames standing ≡ end_step s brackets directives frames standing
-end_step_other s e limit brackets directives [] standing = refl
-end_step_other s e limit brackets directives (frame ∷ outer) standing =
-    ap (λ (rendered : Rendered).
-    let made : Stepped = record { rendered = piece_without_body standing.open_ended rendered; stage = stage_after directives outer frame.simple } in
-    made)
-    (end_other s e limit brackets frame.place.in_flow (is_first frame.place.role) (next_place outer).column standing.cursor)
+  body_other : (style : ScalarStyle) (width : Option ℕ) (indent : ℕ) (value : Text) (cursor : Cursor)
+      → render_body style other width indent value cursor ≡ render_body style s width indent value cursor
+  body_other any_style width indent value cursor = refl
+  body_other plain width indent value cursor = refl
+  body_other single_quoted width indent value cursor = refl
+  body_other double_quoted width indent value cursor = refl
+  body_other literal width indent value cursor = refl
+  body_other folded width indent value cursor = refl
 
-node_other : (s : Effective) (e : Encoding) (limit : ℕ) (directives : List TagDirective) (frames : List Frame) (event : Event) (empty : Bool)
-    (standing : Standing)
-    → node_step (other s e limit) directives frames event empty standing ≡ node_step s directives frames event empty standing
-node_other s e limit directives frames (alias name) empty standing =
-    let simple = is_key (next_place frames).role && (not s.canonical && is_simple_alias name) in
-    ap (λ (placed : Rendered). leaf_step directives frames simple (piece_without_body standing.open_ended (render_then placed (render_alias name simple))))
-    (place_other s e limit (next_place frames) simple standing.cursor)
-node_other s e limit directives frames (scalar content) empty standing =
-    let simple = is_key (next_place frames).role && (not s.canonical && is_simple_scalar s.canonical directives content) in
-    ap (λ (rendered : RenderedPiece). leaf_step directives frames simple rendered)
-    (scalar_other s e limit directives (next_place frames) simple content standing)
-node_other s e limit directives frames (sequence_start start) empty standing =
-    start_other s e limit directives frames (is_undented s (next_place frames).role)
-    (is_key (next_place frames).role && (not s.canonical && is_simple_collection s.canonical directives start empty))
-    empty (as_item true) start standing
-node_other s e limit directives frames (mapping_start start) empty standing =
-    start_other s e limit directives frames false
-    (is_key (next_place frames).role && (not s.canonical && is_simple_collection s.canonical directives start empty))
-    empty (as_key true) start standing
-node_other s e limit directives frames sequence_end empty standing = end_step_other s e limit square directives frames standing
-node_other s e limit directives frames mapping_end empty standing = end_step_other s e limit curly directives frames standing
-node_other s e limit directives frames event empty standing = refl
+  choice_other : (place : Place) (simple : Bool) (content : Scalar) → choice_of other place simple content ≡ choice_of s place simple content
+  choice_other place simple content =
+      ap (λ (special : Bool). chosen (allowances (record { unicode = s.unicode; breaks12 = special }) content.value)
+      content.style (is_empty content.value) (is_some (scalar_tag s.canonical content)) content.plain_implicit content.quoted_implicit place.in_flow simple
+      s.canonical)
+      same
 
-step_other : (s : Effective) (e : Encoding) (limit : ℕ) (stage : Stage) (event : Event) (empty : Bool) (standing : Standing)
-    → step (other s e limit) stage event empty standing ≡ step s stage event empty standing
-step_other s e limit (at_node directives frames) event empty standing = node_other s e limit directives frames event empty standing
-step_other s e limit at_stream (stream_start encoding) empty standing = refl
-step_other s e limit (at_document first) (document_start start) empty standing = refl
-step_other s e limit (at_document first) stream_end empty standing = refl
-step_other s e limit at_document_end (document_end implicit) empty standing = refl
-step_other s e limit stage event empty standing = refl
+  scalar_other : (directives : List TagDirective) (place : Place) (simple : Bool) (content : Scalar) (standing : Standing)
+      → scalar_piece other directives place simple content standing ≡ scalar_piece s directives place simple content standing
+  scalar_other directives place simple content standing =
+      let choice = choice_of s place simple content in
+      let width : Option ℕ = if simple then None else s.width in
+      let indent = deeper s.indent place.column in
+      let lead = λ (placed : Rendered). lead_after s directives place choice content placed in
+      let placed = render_place s place simple standing.cursor in
+      ap (λ (choice : Choice).
+      let lead = lead_after s directives place choice content (render_place other place simple standing.cursor) in
+      scalar_made place choice content standing.open_ended lead (render_body choice.style other width indent content.value lead.cursor))
+      (choice_other place simple content)
+      ∙ ap (λ (placed : Rendered). scalar_made place choice content standing.open_ended (lead placed)
+      (render_body choice.style other width indent content.value (lead placed).cursor))
+      (place_other place simple standing.cursor)
+      ∙ ap (λ (body : Rendered). scalar_made place choice content standing.open_ended (lead placed) body)
+      (body_other choice.style width indent content.value (lead placed).cursor)
 
-steps_other : (events : List Event) (s : Effective) (e : Encoding) (limit : ℕ) (follows : Bool) (stage : Stage) (standing : Standing)
-    → steps (other s e limit) follows events stage standing ≡ steps s follows events stage standing
-steps_other [] s e limit follows stage standing = refl
-steps_other (event ∷ rest) s e limit follows stage standing =
-    let stepped = step s stage event (ends_next rest follows) standing in
-    ap (λ (made : Stepped). then_steps made (steps (other s e limit) follows rest)) (step_other s e limit stage event (ends_next rest follows) standing)
-    ∙ ap (λ (after : Steps). let made : Steps = record { pieces = stepped.rendered.piece ∷ after.pieces; standing = after.standing; stage = after.stage } in
-    made)
-    (steps_other rest s e limit follows stepped.stage stepped.rendered.standing)
+  end_other : (brackets : Brackets) (in_flow empty : Bool) (column : Option ℕ) (cursor : Cursor)
+      → render_end other brackets in_flow empty column cursor ≡ render_end s brackets in_flow empty column cursor
+  end_other brackets false empty column cursor = refl
+  end_other brackets true true column cursor = refl
+  end_other brackets true false column cursor = refl
 
-layout_other : (s : Effective) (e : Encoding) (limit : ℕ) (stream : Stream) → layout (other s e limit) stream ≡ layout s stream
-layout_other s e limit stream =
-    sym (stream_steps stream (other s e limit))
-    ∙ ap (λ (made : Steps). made.pieces) (steps_other (stream_events stream) s e limit false at_stream first_standing)
-    ∙ stream_steps stream s
+  start_other : (directives : List TagDirective) (frames : List Frame) (undented simple empty : Bool) (role : Role)
+      (start : Collection) (standing : Standing)
+      → start_step other directives frames undented simple empty role start standing
+      ≡ start_step s directives frames undented simple empty role start standing
+  start_other directives frames undented simple empty role start standing =
+      let place = next_place frames in
+      ap (λ (placed : Rendered).
+      let rendered : RenderedPiece = piece_without_body standing.open_ended
+      (render_then placed (render_properties s.portable directives start.anchor (collection_tag s.canonical start) false)) in
+      let made : Stepped = record {
+        rendered = rendered;
+        stage = at_node directives (frame_opened s place (is_written_in_flow s place start empty) undented simple role rendered ∷ frames);
+      } in
+      made)
+      (place_other place simple standing.cursor)
 
-list_other : (s : Effective) (e : Encoding) (limit : ℕ) (events : List Event) → list_layout (other s e limit) events ≡ list_layout s events
-list_other s e limit events = by (tree_of events)
-  where
-    by : (tree : Option Stream) → ◌≡◌ {A = List Piece} (unwrap_or (option_map (layout (other s e limit)) tree) []) (unwrap_or (option_map (layout s) tree) [])
-    by None = refl
-    by (Some stream) = layout_other s e limit stream
+  end_step_other : (brackets : Brackets) (directives : List TagDirective) (frames : List Frame) (standing : Standing)
+      → end_step other brackets directives frames standing ≡ end_step s brackets directives frames standing
+  end_step_other brackets directives [] standing = refl
+  end_step_other brackets directives (frame ∷ outer) standing =
+      ap (λ (rendered : Rendered).
+      let made : Stepped = record { rendered = piece_without_body standing.open_ended rendered; stage = stage_after directives outer frame.simple } in
+      made)
+      (end_other brackets frame.place.in_flow (is_first frame.place.role) (next_place outer).column standing.cursor)
+
+  node_other : (directives : List TagDirective) (frames : List Frame) (event : Event) (empty : Bool)
+      (standing : Standing)
+      → node_step other directives frames event empty standing ≡ node_step s directives frames event empty standing
+  node_other directives frames (alias name) empty standing =
+      let simple = is_key (next_place frames).role && (not s.canonical && is_simple_alias name) in
+      ap (λ (placed : Rendered). leaf_step directives frames simple (piece_without_body standing.open_ended (render_then placed (render_alias name simple))))
+      (place_other (next_place frames) simple standing.cursor)
+  node_other directives frames (scalar content) empty standing =
+      let simple = is_key (next_place frames).role && (not s.canonical && is_simple_scalar s.canonical directives content) in
+      ap (λ (rendered : RenderedPiece). leaf_step directives frames simple rendered)
+      (scalar_other directives (next_place frames) simple content standing)
+  node_other directives frames (sequence_start start) empty standing =
+      start_other directives frames (is_undented s (next_place frames).role)
+      (is_key (next_place frames).role && (not s.canonical && is_simple_collection s.canonical directives start empty))
+      empty (as_item true) start standing
+  node_other directives frames (mapping_start start) empty standing =
+      start_other directives frames false
+      (is_key (next_place frames).role && (not s.canonical && is_simple_collection s.canonical directives start empty))
+      empty (as_key true) start standing
+  node_other directives frames sequence_end empty standing = end_step_other square directives frames standing
+  node_other directives frames mapping_end empty standing = end_step_other curly directives frames standing
+  node_other directives frames event empty standing = refl
+
+  step_other : (stage : Stage) (event : Event) (empty : Bool) (standing : Standing)
+      → step other stage event empty standing ≡ step s stage event empty standing
+  step_other (at_node directives frames) event empty standing = node_other directives frames event empty standing
+  step_other at_stream (stream_start encoding) empty standing = refl
+  step_other (at_document first) (document_start start) empty standing = refl
+  step_other (at_document first) stream_end empty standing = refl
+  step_other at_document_end (document_end implicit) empty standing = refl
+  step_other stage event empty standing = refl
+
+  steps_other : (events : List Event) (follows : Bool) (stage : Stage) (standing : Standing)
+      → steps other follows events stage standing ≡ steps s follows events stage standing
+  steps_other [] follows stage standing = refl
+  steps_other (event ∷ rest) follows stage standing =
+      let stepped = step s stage event (ends_next rest follows) standing in
+      ap (λ (made : Stepped). then_steps made (steps other follows rest)) (step_other stage event (ends_next rest follows) standing)
+      ∙ ap (λ (after : Steps). let made : Steps = record { pieces = stepped.rendered.piece ∷ after.pieces; standing = after.standing; stage = after.stage } in
+      made)
+      (steps_other rest follows stepped.stage stepped.rendered.standing)
+
+  layout_other : (stream : Stream) → layout other stream ≡ layout s stream
+  layout_other stream =
+      sym (stream_steps stream other)
+      ∙ ap (λ (made : Steps). made.pieces) (steps_other (stream_events stream) false at_stream first_standing)
+      ∙ stream_steps stream s
+
+  list_other : (events : List Event) → list_layout other events ≡ list_layout s events
+  list_other events = by (tree_of events)
+    where
+      by : (tree : Option Stream) → ◌≡◌ {A = List Piece} (unwrap_or (option_map (layout other) tree) []) (unwrap_or (option_map (layout s) tree) [])
+      by None = refl
+      by (Some stream) = layout_other stream
 
 pub limit_cuts : LimitCuts
 limit_cuts given limit more events within =
     let s = settings_for (record given { limit = more }) events in
-    ap (λ (pieces : List Piece). cut limit (bytes_written s pieces)) (list_other s s.encoding limit events)
+    ap (λ (pieces : List Piece). cut limit (bytes_written s pieces)) (list_other s s.encoding limit s.breaks12 refl events)
     ∙ sym (take-take limit more (bytes_written s (list_layout s events)) within)
 
 pub encodings_agree : EncodingsAgree
 encodings_agree given encoding events scalars =
     let s = settings_for given events in
-    ap (λ (pieces : List Piece). decode (Some encoding) (encode (Some encoding) (text_written s pieces))) (list_other s encoding given.limit events)
+    ap (λ (pieces : List Piece). decode (Some encoding) (encode (Some encoding) (text_written s pieces)))
+    (list_other s encoding given.limit s.breaks12 refl events)
     ∙ decode-encode encoding (text_written s (list_layout s events)) scalars
+
+pub breaks_agree : BreaksAgree
+breaks_agree given breaks12 encoding events portable =
+    let s = effective given encoding in
+    list_other s s.encoding s.limit breaks12 (special breaks12 ∙ sym (special given.breaks12)) events
+  where
+    special : (x : Bool) → (x || given.portable) ≡ true
+    special true = refl
+    special false = portable

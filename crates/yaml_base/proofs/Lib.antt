@@ -11,6 +11,7 @@ pub mod Pushes
 pub mod StepLaws
 pub mod Trees
 pub mod rows
+pub mod Charsets
 pub mod Decoding
 pub mod BreakLaws
 pub mod PercentLaws

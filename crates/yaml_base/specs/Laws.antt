@@ -1,8 +1,8 @@
 -- What follows from the definitions, for callers.
-use Rattle.std.specs.Prelude.{◌≡◌, ℕ, ◌≤◌, Bool, true, false, Some, List, ◌∷◌, ◌++◌, codes}
+use Rattle.std.specs.Prelude.{◌≡◌, ℕ, ◌≤◌, Bool, true, false, Option, Some, List, ◌∷◌, ◌++◌, codes}
 use Rattle.std.specs.Str.{all_scalars}
 use Rattle.yaml_base.specs.Characters.{Text, is_among}
-use Rattle.yaml_base.specs.Settings.{Encoding, Settings}
+use Rattle.yaml_base.specs.Settings.{Encoding, Settings, effective}
 use Rattle.yaml_base.specs.Encoding.{cut}
 use Rattle.yaml_base.specs.Decode.{decode}
 use Rattle.yaml_base.specs.Event.{Event}
@@ -43,3 +43,9 @@ EncodingsAgree =
     let other = settings_for (record given { encoding = Some encoding }) events in
     let text = text_written s (list_layout s events) in
     all_scalars text ≡ true → decode (Some encoding) (bytes_written other (list_layout other events)) ≡ text
+
+-- in portable mode the layout is the same with the line breaks of YAML 1.1 and with those of 1.2
+abbrev pub BreaksAgree : Type 0
+BreaksAgree =
+    (given : Settings) (breaks12 : Bool) (encoding : Option Encoding) (events : List Event) → given.portable ≡ true
+    → list_layout (effective (record given { breaks12 = breaks12 }) encoding) events ≡ list_layout (effective given encoding) events

@@ -2,13 +2,13 @@
 -- Source, unless a definition names its own: libyaml's emitter.
 use Rattle.std.specs.Prelude.{ℕ, Bool, true, false, Option, None, Some, List, [], ◌∷◌, ◌++◌, ◌||◌, not, codes, is_some, filter_map, flat_map, if◌then◌else◌}
 use Rattle.yaml_base.specs.Characters.{Text}
-use Rattle.yaml_base.specs.Settings.{Effective}
+use Rattle.yaml_base.specs.Settings.{Effective, escapes_separators}
 use Rattle.yaml_base.specs.Cursor.{Cursor, Rendered, render_nothing, render_then, render_text, new_line, space_if, render_name}
 use Rattle.yaml_base.specs.Indicators as indicators
 use Rattle.yaml_base.specs.Event.{ScalarStyle, plain, single_quoted, literal, folded, CollectionStyle, flow, TagDirective, Scalar, Collection}
 use Rattle.yaml_base.specs.Percent.{percent_escaped, suffix_escaped}
 use Rattle.yaml_base.specs.Tags.{Spelling, shorthand, verbatim, spelling}
-use Rattle.yaml_base.specs.scalars.Analysis.{is_empty, allowances}
+use Rattle.yaml_base.specs.scalars.Analysis.{Charset, is_empty, allowances}
 use Rattle.yaml_base.specs.scalars.Style.{Choice, chosen}
 use Rattle.yaml_base.specs.scalars.Plain.{plain_body}
 use Rattle.yaml_base.specs.scalars.SingleQuoted.{single_quoted_body}
@@ -153,11 +153,15 @@ open_ended_after literal value open_ended = header_open_ended value
 open_ended_after folded value open_ended = header_open_ended value
 open_ended_after _ value open_ended = open_ended
 
+-- what may stand as itself
+abbrev pub charset_of : Effective → Charset
+charset_of s = record { unicode = s.unicode; breaks12 = escapes_separators s }
+
 -- the style of a scalar at its place
 abbrev pub choice_of : Effective → Place → (simple : Bool) → Scalar → Choice
 choice_of s place simple content =
     chosen
-    (allowances (record { unicode = s.unicode; breaks12 = s.breaks12 }) content.value)
+    (allowances (charset_of s) content.value)
     content.style (is_empty content.value) (is_some (scalar_tag s.canonical content))
     content.plain_implicit content.quoted_implicit (place.in_flow) simple s.canonical
 

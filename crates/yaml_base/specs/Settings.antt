@@ -1,5 +1,5 @@
 -- What the caller sets, and what it comes to at the stream's start (libyaml's own rules).
-use Rattle.std.specs.Prelude.{ℕ, ℤ, pos, Bool, Option, None, Some, ◌==◌, ◌&&◌, ◌*◌, nat_le, if◌then◌else◌, unwrap_or}
+use Rattle.std.specs.Prelude.{ℕ, ℤ, pos, Bool, Option, None, Some, ◌==◌, ◌||◌, ◌&&◌, ◌*◌, nat_le, if◌then◌else◌, unwrap_or}
 
 -- the largest `i32`, which as a width is no limit
 abbrev pub largest_i32 : ℕ
@@ -80,3 +80,8 @@ effective given of_stream =
       indented_sequences = given.indented_sequences;
       limit = given.limit;
     }
+
+-- U+2028 and U+2029 are escaped with the line breaks of YAML 1.2, and in portable mode, since readers of YAML 1.2 take them
+-- for text
+abbrev pub escapes_separators : Effective → Bool
+escapes_separators s = s.breaks12 || s.portable

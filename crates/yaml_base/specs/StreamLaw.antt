@@ -83,3 +83,12 @@ StreamReadsBack =
     → agrees given.canonical events
     (stream_trees given.breaks12 (bytes_written (effective given encoding) (list_layout (effective given encoding) events)))
     ≡ true
+
+-- in portable mode they do so with the line breaks of YAML 1.1 and with those of 1.2
+abbrev pub PortableReadsBack : Type 0
+PortableReadsBack =
+    (given : Settings) (breaks12 : Bool) (encoding : Option Encoding) (events : List Event) → given.portable ≡ true
+    → IsAccepted given.canonical events → list_all has_scalar_texts events ≡ true
+    → agrees given.canonical events
+    (stream_trees breaks12 (bytes_written (effective given encoding) (list_layout (effective given encoding) events)))
+    ≡ true

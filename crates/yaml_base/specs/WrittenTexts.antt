@@ -4,7 +4,7 @@ use Rattle.std.specs.Prelude.{◌≡◌, ℕ, Bool, true, false, Option, Some, L
 use Rattle.std.specs.List.{All, list_all, list_any}
 use Rattle.std.specs.Str.{all_scalars}
 use Rattle.yaml_base.specs.Characters.{Text, carriage_return, line_separator, paragraph_separator, is_ascii, is_printable}
-use Rattle.yaml_base.specs.Settings.{Encoding, Settings, Effective, effective}
+use Rattle.yaml_base.specs.Settings.{Encoding, Settings, Effective, effective, escapes_separators}
 use Rattle.yaml_base.specs.Event.{Event}
 use Rattle.yaml_base.specs.Refusal.{IsAccepted}
 use Rattle.yaml_base.specs.NodeLayout.{bodies_of}
@@ -22,12 +22,12 @@ abbrev pub may_stand_raw : ℕ → Bool
 may_stand_raw c = is_printable c || c == carriage_return
 
 -- what a text holds raw: printable characters alone, which are Unicode scalar values; only ASCII where no more is kept; and
--- with the line breaks of YAML 1.2 neither U+2028 nor U+2029
+-- where they are escaped, neither U+2028 nor U+2029
 pub record HoldsRaw (s : Effective) (text : Text) : Type 0 where
   pub printable : list_all may_stand_raw text ≡ true
   pub scalars : all_scalars text ≡ true
   pub ascii : s.unicode ≡ false → list_all is_ascii text ≡ true
-  pub no_separators : s.breaks12 ≡ true → list_any is_separator text ≡ false
+  pub no_separators : escapes_separators s ≡ true → list_any is_separator text ≡ false
 
 -- so does the text of every accepted list, under all settings
 abbrev pub TextsHoldRaw : Type 0

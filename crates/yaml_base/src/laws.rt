@@ -1,7 +1,7 @@
 //! Laws of the definitions, each the contract of a function that does nothing: what they promise together.
 ghost use Rattle.yaml_base.specs.Encoding.{OneText};
 ghost use Rattle.yaml_base.specs.Grammar.{OneTree};
-ghost use Rattle.yaml_base.specs.Laws.{EncodingsAgree, LimitCuts, PlainHoldsNoIndicator, TreeIsFound};
+ghost use Rattle.yaml_base.specs.Laws.{BreaksAgree, EncodingsAgree, LimitCuts, PlainHoldsNoIndicator, TreeIsFound};
 ghost use Rattle.yaml_base.specs.Layout.{OnePieceEach};
 ghost use Rattle.yaml_base.specs.Pieces.{PiecesStand};
 ghost use Rattle.yaml_base.specs.Ready.{ReadyStays, WholeStreamIsReady};
@@ -68,4 +68,10 @@ pub fn limit_cuts_the_output()
 /// give the same characters, where these are Unicode scalar values.
 pub fn encodings_agree()
     ensures { EncodingsAgree }
+{}
+
+/// In portable mode the layout is the same with the line breaks of YAML 1.1 and with those of 1.2, so what is promised of
+/// one holds of the other.
+pub fn breaks_agree()
+    ensures { BreaksAgree }
 {}

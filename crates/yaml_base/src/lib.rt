@@ -30,9 +30,10 @@ pub use events::yaml_event_t::{
     YAML_SEQUENCE_START_EVENT, YAML_STREAM_END_EVENT, YAML_STREAM_START_EVENT,
 };
 pub use laws::{
-    bytes_have_one_text, documents_unfold, encodings_agree, layout_has_one_piece_each,
-    limit_cuts_the_output, list_has_one_tree, pieces_stand, plain_holds_no_indicator,
-    ready_events_stay_ready, refused_exactly, tree_is_found, whole_stream_is_ready,
+    breaks_agree, bytes_have_one_text, documents_unfold, encodings_agree,
+    layout_has_one_piece_each, limit_cuts_the_output, list_has_one_tree, pieces_stand,
+    plain_holds_no_indicator, ready_events_stay_ready, refused_exactly, tree_is_found,
+    whole_stream_is_ready,
 };
 pub use nodes::{yaml_node_data_t, yaml_node_pair_t, yaml_node_t};
 pub use styles::yaml_mapping_style_t::{

@@ -3,7 +3,7 @@ ghost use Rattle.std.specs.Prelude.{List};
 ghost use Rattle.yaml_base.specs.Event.{Event};
 ghost use Rattle.yaml_base.specs.Meaning.{CanonicalBytesRead, MeaningIsKept};
 ghost use Rattle.yaml_base.specs.Settings.{Settings};
-ghost use Rattle.yaml_base.specs.StreamLaw.{StreamReadsBack};
+ghost use Rattle.yaml_base.specs.StreamLaw.{PortableReadsBack, StreamReadsBack};
 ghost use Rattle.yaml_base.specs.WrittenTexts.{BodiesAreTidy, StreamsAgree, TextsHoldRaw};
 ghost use Rattle.yaml_emitter.specs.EncodedAlike as encoded;
 ghost use Rattle.yaml_emitter.specs.Promises.{Promised};
@@ -18,7 +18,7 @@ pub fn meaning_is_kept()
 {}
 
 /// What stands raw in the text of a well-formed event stream: printable characters alone, and so Unicode scalar values; ASCII
-/// alone where no more is kept; with the line breaks of YAML 1.2 neither U+2028 nor U+2029 (YAML 1.2, section 5.4).
+/// alone where no more is kept; with the line breaks of YAML 1.2 (section 5.4), and in portable mode, neither U+2028 nor U+2029.
 pub fn texts_hold_raw()
     ensures { TextsHoldRaw }
 {}
@@ -62,6 +62,11 @@ pub fn canonical_output_reads()
 /// `---`; and one in which a flow indicator (`,` `[` `]`) stands after a tag's handle, where readers end the tag.
 pub fn streams_read_back()
     ensures { StreamReadsBack }
+{}
+
+/// In portable mode they read back so with the line breaks of YAML 1.1 and with those of 1.2.
+pub fn portable_streams_read_back()
+    ensures { PortableReadsBack }
 {}
 
 /// The output of a well-formed event stream in every mode, where no limit cuts it, reads back, the same two kinds of

@@ -112,7 +112,8 @@ pub fn yaml_emitter_set_line_breaks_1_2<A: Allocator>(
 }
 
 /// Sets whether what readers of YAML read differently, or not at all, is written in the way that all read alike: every
-/// document begins with `---`, `,` `[` `]` after a tag's handle are escaped, and a `!` that begins a `%TAG` prefix isn't.
+/// document begins with `---`, `,` `[` `]` after a tag's handle and U+2028 and U+2029 are escaped, and a `!` that begins a
+/// `%TAG` prefix isn't.
 pub fn yaml_emitter_set_portable<A: Allocator>(emitter: &mut yaml_emitter_t<A>, portable: bool)
     requires { emitter.old.started ≡ false }
     ensures set { emitter.new ≡ record emitter.old { given = record emitter.old.given { portable = portable } } }

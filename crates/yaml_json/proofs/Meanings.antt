@@ -15,12 +15,12 @@ use Rattle.yaml_base.specs.values.JsonNumbers.{JsonNumber, fraction_or_default, 
 use Rattle.yaml_base.specs.values.JsonNumbers.{number_meant, value_with}
 use Rattle.yaml_base.specs.values.JsonNumbers.{yaml_number}
 use Rattle.yaml_base.specs.Layout.{as_item, as_key, as_value, Place, has_no_nodes, has_no_pairs, is_simple, is_simple_at, is_written_in_flow, entry_place}
-use Rattle.yaml_base.specs.NodeLayout.{choice_of}
+use Rattle.yaml_base.specs.NodeLayout.{charset_of, choice_of}
 use Rattle.yaml_base.specs.Event.{collection_tag, scalar_tag}
 use Rattle.yaml_base.specs.values.Resolved.{Resolved, meant_null, meant_boolean, meant_integer, meant_decimal, meant_text, meant_by_nobody, signed}
 use Rattle.yaml_base.specs.values.SchemaCore.{resolved_by_core}
 use Rattle.yaml_base.specs.values.SchemaOf11.{resolved_by_11}
-use Rattle.yaml_base.specs.Settings.{Effective}
+use Rattle.yaml_base.specs.Settings.{Effective, escapes_separators}
 use Rattle.yaml_base.specs.streams.StreamContent.{Stood, stood_plain, stood_quoted, Tagging, with_tag, without_tag, Tree, sequence_tree, mapping_tree}
 use Rattle.yaml_base.specs.scalars.Style.{Choice, chosen, is_plain}
 use Rattle.yaml_base.specs.values.TypedValues.{null_tag, bool_tag, int_tag, bool_text}
@@ -120,7 +120,7 @@ module _ (schema : Schema) (s : Effective) (place : Place) (simple : Bool) where
   -- the style of a scalar, and how it is tagged, by whether the form is canonical
   abbrev style_by : Scalar → Bool → Choice
   style_by content canonical =
-      chosen (allowances (record { unicode = s.unicode; breaks12 = s.breaks12 }) content.value) content.style (is_empty content.value)
+      chosen (allowances (charset_of s) content.value) content.style (is_empty content.value)
       (is_some (scalar_tag canonical content)) content.plain_implicit content.quoted_implicit place.in_flow simple canonical
 
   abbrev tagging_by : Scalar → Bool → Tagging
@@ -136,7 +136,7 @@ module _ (schema : Schema) (s : Effective) (place : Place) (simple : Bool) where
       → scalar_meant schema (tagging_by (word_content canonical own word) canonical) word ≡ meant
   word_by own word meant reads is plain_there true = with_own_tag own word meant reads is
   word_by own word meant reads is plain_there false =
-      ap (λ (x : Bool). scalar_meant schema (without_tag (standing_by x)) word) (plain_there s.unicode s.breaks12 place.in_flow simple) ∙ reads
+      ap (λ (x : Bool). scalar_meant schema (without_tag (standing_by x)) word) (plain_there s.unicode (escapes_separators s) place.in_flow simple) ∙ reads
     where
       standing_by : Bool → Stood
       standing_by x = if x then stood_plain else stood_quoted
@@ -166,9 +166,9 @@ module _ (schema : Schema) (s : Effective) (place : Place) (simple : Bool) where
 
   text_by : (text : Text) → TextsOf schema → (canonical : Bool) → scalar_meant schema (tagging_by (text_content text) canonical) text ≡ meant_text
   text_by text texts true = as_it_stands text (style_by (text_content text) true).style
-      (texts text (allowances (record { unicode = s.unicode; breaks12 = s.breaks12 }) text) (is_empty text) false true true place.in_flow simple true)
+      (texts text (allowances (charset_of s) text) (is_empty text) false true true place.in_flow simple true)
   text_by text texts false = as_it_stands text (style_by (text_content text) false).style
-      (texts text (allowances (record { unicode = s.unicode; breaks12 = s.breaks12 }) text) (is_empty text) false true true place.in_flow simple false)
+      (texts text (allowances (charset_of s) text) (is_empty text) false true true place.in_flow simple false)
 
   pub text_means : (text : Text) → TextsOf schema
       → scalar_meant schema (tagging_in (scalar_tag s.canonical (text_content text)) (choice_of s place simple (text_content text))) text ≡ meant_text

@@ -101,3 +101,24 @@ escapes : (suffix_escaped true (codes "a,b!%") ≡ codes "a%2Cb%21%25") × (suff
     × (prefix_escaped true (codes "%!") ≡ codes "%25%21")
 unfolding encode_utf8
 escapes = (refl, refl, refl, refl, refl)
+
+-- U+2028 and U+2029 are escaped, though the line breaks are those of YAML 1.1
+abbrev separated : List Event
+separated = alone (leaf (97 ∷ 0x2028 ∷ 98 ∷ 0x2029 ∷ []) ∷ [])
+
+separators : (rendered_under (record portable_settings { unicode = true }) separated ≡ codes "--- \"a\\Lb\\P\"\n")
+    × (rendered_under (record portable_settings { unicode = true; breaks12 = true }) separated ≡ codes "--- \"a\\Lb\\P\"\n")
+    × (rendered_under (record plain_settings { unicode = true }) separated
+    ≡ 39 ∷ 97 ∷ 0x2028 ∷ 32 ∷ 32 ∷ 98 ∷ 0x2029 ∷ 32 ∷ 32 ∷ 39 ∷ 10 ∷ [])
+separators = (refl, refl, refl)
+
+separators_read : reads separated (codes "--- \"a\\Lb\\P\"\n") × (agrees false separated (stream_trees true (codes "--- \"a\\Lb\\P\"\n")) ≡ true)
+unfolding chars is_utf8 encode_utf8
+separators_read = (refl, refl)
+
+-- a key that holds one is no simple one
+separated_key : rendered_under (record portable_settings { unicode = true })
+    (alone (mapping any_layout (leaf (97 ∷ 0x2028 ∷ []) ∷ leaf (codes "v") ∷ [])))
+    ≡ codes "---\n? \"a\\L\"\n: v\n"
+unfolding encode_utf8
+separated_key = refl

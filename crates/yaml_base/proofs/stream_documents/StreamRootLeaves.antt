@@ -12,7 +12,7 @@ use Rattle.yaml_base.specs.Tags.{directives_in_force}
 use Rattle.yaml_base.specs.Cursor.{Cursor}
 use Rattle.yaml_base.specs.Grammar.{Node, alias_node, scalar_node, sequence_node, mapping_node, Document}
 use Rattle.yaml_base.specs.Event.{scalar_tag, collection_tag}
-use Rattle.yaml_base.specs.Layout.{as_root, deeper, render_properties, choice_of, root_place}
+use Rattle.yaml_base.specs.Layout.{as_root, deeper, render_properties, charset_of, choice_of, root_place}
 use Rattle.yaml_base.specs.reading.TidyText.{has_deep_lines, is_tidy_style}
 use Rattle.yaml_base.specs.StreamLaw.{is_written_as_nothing}
 use Rattle.yaml_base.proofs.stream_nodes.StreamTexts.{node_own}
@@ -48,7 +48,7 @@ nothing_written s content is empty no_anchor no_tag =
     tag = scalar_tag s.canonical content
 
     allowed : Allowances
-    allowed = allowances (record { unicode = s.unicode; breaks12 = s.breaks12 }) content.value
+    allowed = allowances (charset_of s) content.value
 
     or_false : (x : Bool) → (x || false) ≡ x
     or_false true = refl

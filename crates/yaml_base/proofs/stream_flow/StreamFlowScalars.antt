@@ -13,7 +13,7 @@ use Rattle.yaml_base.specs.scalars.SingleQuoted.{quotes_doubled, single_quote}
 use Rattle.yaml_base.specs.scalars.DoubleQuoted.{double_inside, render_quote}
 use Rattle.yaml_base.specs.Meaning.{read_in_style}
 use Rattle.yaml_base.specs.reading.ReadPlain.{read_plain}
-use Rattle.yaml_base.specs.Layout.{render_properties, render_separation, render_body, choice_of, entry_place, Role}
+use Rattle.yaml_base.specs.Layout.{render_properties, render_separation, render_body, charset_of, choice_of, entry_place, Role}
 use Rattle.yaml_base.specs.Event.{scalar_tag}
 use Rattle.yaml_base.specs.reading.TidyText.{is_tidy}
 use Rattle.yaml_base.specs.streams.StreamScalars.{Rules}
@@ -64,7 +64,7 @@ style_in_flow allowed fits x double_quoted = refl
 pub chosen_in_flow : (s : Effective) (role : Role) (column : ℕ) (simple : Bool) (content : Scalar)
     → is_flow_style (choice_of s (entry_place true role column) simple content).style ≡ true
 chosen_in_flow s role column simple content =
-    let allowed = allowances (record { unicode = s.unicode; breaks12 = s.breaks12 }) content.value in
+    let allowed = allowances (charset_of s) content.value in
     style_in_flow allowed
     (fits_plain allowed (is_empty content.value) (is_some (scalar_tag s.canonical content)) content.plain_implicit true simple) simple
     (requested_style (s.canonical || (simple && allowed.multiline)) content.style)

@@ -16,7 +16,7 @@ use Rattle.yaml_base.specs.Grammar.{alias_node, scalar_node, sequence_node, mapp
 use Rattle.yaml_base.specs.Event.{scalar_tag, collection_tag}
 use Rattle.yaml_base.specs.Layout.{Role, is_key, byte_count, name_count, tag_count, is_short, is_simple, deeper, render_properties, render_alias}
 use Rattle.yaml_base.specs.Layout.{render_separation}
-use Rattle.yaml_base.specs.Layout.{render_body, choice_of, entry_place}
+use Rattle.yaml_base.specs.Layout.{render_body, charset_of, choice_of, entry_place}
 use Rattle.yaml_base.specs.Places.{most_key_bytes}
 use Rattle.yaml_base.specs.streams.StreamContent.{Tree}
 use Rattle.yaml_base.specs.streams.StreamScalars.{name_read}
@@ -72,7 +72,7 @@ style_of_key allowed fits block asked h = ap (λ x. is_flow_style (fitting_style
 pub key_style : (s : Effective) (in_flow : Bool) (role : Role) (column : ℕ) (content : Scalar)
     → is_flow_style (choice_of s (entry_place in_flow role column) true content).style ≡ true
 key_style s in_flow role column content =
-    let allowed = allowances (record { unicode = s.unicode; breaks12 = s.breaks12 }) content.value in
+    let allowed = allowances (charset_of s) content.value in
     style_of_key allowed (fits_plain allowed (is_empty content.value) (is_some (scalar_tag s.canonical content)) content.plain_implicit in_flow true)
     (allowed.block && not in_flow && false) (requested_style (s.canonical || (true && allowed.multiline)) content.style) (never (allowed.block && not in_flow))
   where

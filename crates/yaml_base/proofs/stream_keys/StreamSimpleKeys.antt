@@ -16,7 +16,7 @@ use Rattle.yaml_base.specs.Meaning.{read_in_style}
 use Rattle.yaml_base.specs.reading.TidyText.{is_tidy}
 use Rattle.yaml_base.specs.Layout.{as_key, byte_count, name_count, tag_count, is_short, has_no_pairs, deeper, Body, body_at, render_properties}
 use Rattle.yaml_base.specs.Layout.{render_separation}
-use Rattle.yaml_base.specs.Layout.{render_body, choice_of, Place, entry_place, Role, render_alias, asks_flow, is_written_in_flow, Brackets, square}
+use Rattle.yaml_base.specs.Layout.{render_body, charset_of, choice_of, Place, entry_place, Role, render_alias, asks_flow, is_written_in_flow, Brackets, square}
 use Rattle.yaml_base.specs.Layout.{curly, render_end}
 use Rattle.yaml_base.specs.Places.{most_key_bytes}
 use Rattle.yaml_base.specs.scalars.SingleQuoted.{quotes_doubled}
@@ -73,7 +73,7 @@ plain_where allowed false block asked h = absurd (false≢true (sym (by block as
 plain_not_empty : (s : Effective) (in_flow : Bool) (role : Role) (column : ℕ) (content : Scalar)
     → is_plain (choice_of s (entry_place in_flow role column) true content).style ≡ true → is_empty content.value ≡ false
 plain_not_empty s in_flow role column content h =
-    let allowed = allowances (record { unicode = s.unicode; breaks12 = s.breaks12 }) content.value in
+    let allowed = allowances (charset_of s) content.value in
     let tagged = is_some (scalar_tag s.canonical content) in
     let fits = fits_plain allowed (is_empty content.value) tagged content.plain_implicit in_flow true in
     let parts = and_parts ((if in_flow then allowed.flow_plain else allowed.block_plain) && not (is_empty content.value && (in_flow || true)))

@@ -15,6 +15,7 @@ use Rattle.yaml_base.specs.Grammar.{Node, alias_node, scalar_node, sequence_node
 use Rattle.yaml_base.specs.Grammar.{Document}
 use Rattle.yaml_base.specs.Event.{scalar_tag, collection_tag}
 use Rattle.yaml_base.specs.Layout.{as_item, as_key, as_value, Place, has_no_nodes, has_no_pairs, is_simple, is_simple_at, choice_of, is_written_in_flow}
+use Rattle.yaml_base.specs.NodeLayout.{charset_of}
 use Rattle.yaml_base.specs.Layout.{entry_place, root_place}
 use Rattle.yaml_base.specs.streams.StreamContent.{Stood, stood_plain, stood_quoted, stood_bare, Tagging, with_tag, without_tag, Tree, alias_tree, scalar_tree}
 use Rattle.yaml_base.specs.streams.StreamContent.{sequence_tree, mapping_tree, Trees, no_trees, trees_and, TreePairs, no_tree_pairs, tree_pairs_and}
@@ -136,7 +137,7 @@ tagging_is s place simple content None e flags =
     ∙ stands content (style None) fits flags
   where
     allowed : Allowances
-    allowed = allowances (record { unicode = s.unicode; breaks12 = s.breaks12 }) content.value
+    allowed = allowances (charset_of s) content.value
 
     fit : Option Text → Bool
     fit t = fits_plain allowed (is_empty content.value) (is_some t) content.plain_implicit place.in_flow simple

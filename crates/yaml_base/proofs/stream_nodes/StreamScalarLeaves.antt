@@ -12,7 +12,8 @@ use Rattle.yaml_base.specs.Meaning.{read_in_style}
 use Rattle.yaml_base.specs.reading.TidyText.{is_tidy}
 use Rattle.yaml_base.specs.Event.{scalar_tag}
 use Rattle.yaml_base.specs.Grammar.{scalar_node}
-use Rattle.yaml_base.specs.Layout.{Place, deeper, is_simple_at, render_body, choice_of}
+use Rattle.yaml_base.specs.Layout.{Place, deeper, is_simple_at, render_body, charset_of, choice_of}
+use Rattle.yaml_base.proofs.Charsets.{block_still}
 use Rattle.yaml_base.proofs.stream_nodes.StreamFits.{Fits}
 use Rattle.yaml_base.proofs.stream_nodes.StreamProperties.{IsNamed}
 use Rattle.yaml_base.proofs.stream_nodes.StreamStands.{TagStands}
@@ -71,12 +72,12 @@ scalars_fit s own directives low high content role column cursor complex stands 
     let simple = is_simple_at place s.canonical directives (scalar_node content) in
     let choice = choice_of s place simple content in
     let tag = scalar_tag s.canonical content in
-    let allowed : Allowances = allowances (record { unicode = s.unicode; breaks12 = s.breaks12 }) content.value in
+    let allowed : Allowances = allowances (charset_of s) content.value in
     scalar_fits s own directives content.anchor tag choice.bare choice.style (if simple then None else s.width)
     (deeper s.indent column) content.value place cursor low high
     names.0 names.1
     (λ h. bare_not_plain (is_some tag) content.quoted_implicit (is_plain choice.style) h)
-    (λ h.
+    (λ h. block_still s.unicode s.breaks12 s.portable content.value
     (and_parts allowed.block true
     (and_parts (allowed.block && true) (not simple)
     (block_fitting allowed (fits_plain allowed (is_empty content.value) (is_some tag) content.plain_implicit false simple) (allowed.block && true && not simple)

@@ -13,7 +13,7 @@ use Rattle.yaml_base.specs.Event.{mapping_end}
 use Rattle.yaml_base.specs.Grammar.{Stream, stream_events}
 use Rattle.yaml_base.specs.Layout.{layout, first_standing}
 use Rattle.yaml_base.specs.Meaning.{BodyMeans, has_scalar_values, MeaningIsKept}
-use Rattle.yaml_base.specs.NodeLayout.{Body, Piece, bodies_of, Standing, choice_of, scalar_lead, scalar_piece, body_at, render_body}
+use Rattle.yaml_base.specs.NodeLayout.{Body, Piece, bodies_of, Standing, charset_of, choice_of, scalar_lead, scalar_piece, body_at, render_body}
 use Rattle.yaml_base.specs.Pieces.{list_layout}
 use Rattle.yaml_base.specs.Places.{Place, deeper}
 use Rattle.yaml_base.specs.Refusal.{IsAccepted}
@@ -23,7 +23,7 @@ use Rattle.yaml_base.specs.Steps.{Frame, Stage, at_stream, at_document, at_node,
 use Rattle.yaml_base.proofs.StepLaws.{stream_steps}
 use Rattle.yaml_base.proofs.Trees.{tree_of-stream_events}
 use Rattle.yaml_emitter.proofs.layouts.MeaningStyles.{Allows, chosen_allowed}
-use Rattle.yaml_emitter.proofs.layouts.MeaningBodies.{IsIndent, charset_of, body_means}
+use Rattle.yaml_emitter.proofs.layouts.MeaningBodies.{IsIndent, body_means}
 
 module _ (s : Effective) (Holds : Body → Type 0) (is_good : Event → Bool)
     (each : (place : Place) (style : ScalarStyle) (limit : Option ℕ) (content : Scalar) (cursor : Cursor) → is_good (scalar content) ≡ true

@@ -9,8 +9,9 @@ use Rattle.yaml_base.specs.Cursor.{Cursor}
 use Rattle.yaml_base.specs.Event.{ScalarStyle, any_style, plain, single_quoted, double_quoted, literal, folded}
 use Rattle.yaml_base.specs.Meaning.{BodyMeans}
 use Rattle.yaml_base.specs.Places.{Place, deeper}
-use Rattle.yaml_base.specs.NodeLayout.{body_at, render_body}
+use Rattle.yaml_base.specs.NodeLayout.{body_at, render_body, charset_of}
 use Rattle.yaml_base.specs.Settings.{Effective}
+use Rattle.yaml_base.proofs.Charsets.{plain_still, single_still, block_still}
 use Rattle.yaml_scalar.proofs.PlainReads.{plain-reads, plain-indented}
 use Rattle.yaml_scalar.proofs.SingleReads.{single-reads, single-indented}
 use Rattle.yaml_scalar.proofs.DoubleReads.{double-reads, double-indented}
@@ -22,9 +23,6 @@ pub record IsIndent (indent : ℕ) : Type 0 where
   pub low : 2 ≤ indent
   pub high : indent ≤ 9
 
-abbrev pub charset_of : Effective → Charset
-charset_of s = record { unicode = s.unicode; breaks12 = s.breaks12 }
-
 -- a scalar is indented from the entries around it by the indent
 encloses : (indent : ℕ) (column : Option ℕ) → Encloses (deeper indent column) indent column
 encloses indent None = omega arith
@@ -35,21 +33,37 @@ pub plain_context : (charset : Charset) (flow : Bool) (value : Text)
 plain_context charset true value h = h
 plain_context charset false value h = h
 
+-- what may stand as itself by the line breaks alone
+abbrev pub charset_by_breaks : Effective → Charset
+charset_by_breaks s = record { unicode = s.unicode; breaks12 = s.breaks12 }
+
+-- a style that a value allows, it allows so too
+pub allows_still : (s : Effective) (flow : Bool) (value : Text) (style : ScalarStyle) → Allows (allowances (charset_of s) value) flow style
+    → Allows (allowances (charset_by_breaks s) value) flow style
+allows_still s flow value any_style h = h
+allows_still s true value plain h = plain_still s.unicode s.breaks12 s.portable true value h
+allows_still s false value plain h = plain_still s.unicode s.breaks12 s.portable false value h
+allows_still s flow value single_quoted h = single_still s.unicode s.breaks12 s.portable value h
+allows_still s flow value double_quoted h = h
+allows_still s flow value literal h = block_still s.unicode s.breaks12 s.portable value h
+allows_still s flow value folded h = block_still s.unicode s.breaks12 s.portable value h
+
 pub body_means : (s : Effective) (place : Place) (style : ScalarStyle) (limit : Option ℕ) (value : Text) (cursor : Cursor)
     → IsIndent s.indent → all_scalars value ≡ true → Allows (allowances (charset_of s) value) place.in_flow style
     → BodyMeans s (body_at place style value (render_body style s limit (deeper s.indent place.column) value cursor))
 body_means s place any_style limit value cursor is scalars h = absurd h
 body_means s place plain limit value cursor is scalars h =
     let low : 2 ≤ deeper s.indent place.column = omega (arith, is.low) in
-    let allowed = plain_context (charset_of s) place.in_flow value h in
+    let allowed = plain_context (charset_by_breaks s) place.in_flow value (allows_still s place.in_flow value plain h) in
     record {
-      reads = plain-reads (charset_of s) place.in_flow limit (deeper s.indent place.column) value cursor s.line_break allowed;
+      reads = plain-reads (charset_by_breaks s) place.in_flow limit (deeper s.indent place.column) value cursor s.line_break allowed;
       indented = plain-indented limit (deeper s.indent place.column) value cursor s.line_break low;
     }
 body_means s place single_quoted limit value cursor is scalars h =
     let low : 2 ≤ deeper s.indent place.column = omega (arith, is.low) in
     record {
-      reads = single-reads (charset_of s) limit (deeper s.indent place.column) value cursor s.line_break h;
+      reads = single-reads (charset_by_breaks s) limit (deeper s.indent place.column) value cursor s.line_break
+          (allows_still s place.in_flow value single_quoted h);
       indented = single-indented limit (deeper s.indent place.column) value cursor s.line_break low;
     }
 body_means s place double_quoted limit value cursor is scalars h =
@@ -60,11 +74,13 @@ body_means s place double_quoted limit value cursor is scalars h =
     }
 body_means s place literal limit value cursor is scalars h =
     let above : s.indent ≤ deeper s.indent place.column = omega arith in
-    let kept = literal-kept (charset_of s) value h (deeper s.indent place.column) s.indent is.low is.high above cursor place.column
+    let allowed = allows_still s place.in_flow value literal h in
+    let kept = literal-kept (charset_by_breaks s) value allowed (deeper s.indent place.column) s.indent is.low is.high above cursor place.column
     (encloses s.indent place.column) s.line_break in
     record { reads = kept.reads; indented = kept.indented }
 body_means s place folded limit value cursor is scalars h =
     let above : s.indent ≤ deeper s.indent place.column = omega arith in
-    let kept = folded-kept (charset_of s) value h (deeper s.indent place.column) s.indent is.low is.high above cursor limit place.column
+    let allowed = allows_still s place.in_flow value folded h in
+    let kept = folded-kept (charset_by_breaks s) value allowed (deeper s.indent place.column) s.indent is.low is.high above cursor limit place.column
     (encloses s.indent place.column) s.line_break in
     record { reads = kept.reads; indented = kept.indented }

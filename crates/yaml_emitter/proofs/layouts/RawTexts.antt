@@ -11,12 +11,12 @@ use Rattle.yaml_base.specs.Characters.{Text, carriage_return, is_ascii, is_print
 use Rattle.yaml_base.specs.Cursor.{Cursor}
 use Rattle.yaml_base.specs.scalars.DoubleQuoted.{backslash, needs_escape, quote}
 use Rattle.yaml_base.specs.Event.{Event, ScalarStyle, any_style, plain, single_quoted, double_quoted, literal, folded}
-use Rattle.yaml_base.specs.Layout.{Place, deeper, render_body, first_standing, text_of, Piece}
+use Rattle.yaml_base.specs.Layout.{Place, deeper, render_body, charset_of, first_standing, text_of, Piece}
 use Rattle.yaml_base.specs.LineBreaks.{with_breaks_written, break_text}
 use Rattle.yaml_base.specs.Output.{encoding_asked}
 use Rattle.yaml_base.specs.Pieces.{list_layout}
 use Rattle.yaml_base.specs.Refusal.{IsAccepted}
-use Rattle.yaml_base.specs.Settings.{Effective, LineBreak, carriage_return_break, line_feed_break, both_break, effective}
+use Rattle.yaml_base.specs.Settings.{Effective, LineBreak, carriage_return_break, line_feed_break, both_break, effective, escapes_separators}
 use Rattle.yaml_base.specs.Steps.{at_stream}
 use Rattle.yaml_base.specs.WrittenTexts.{is_separator, may_stand_raw, HoldsRaw, TextsHoldRaw, StreamsAgree}
 use Rattle.yaml_base.proofs.CallerLaws.{encodings_agree}
@@ -27,7 +27,7 @@ use Rattle.yaml_scalar.proofs.LineTexts.{any_both, any_one}
 use Rattle.yaml_scalar.proofs.Sparing.{Spares, is_graph, lacks_plain, lacks_single, lacks_double}
 use Rattle.yaml_scalar.proofs.SparingBlocks.{lacks_literal, lacks_folded, plain_unspecial, single_unspecial, block_unspecial}
 use Rattle.yaml_emitter.proofs.layouts.Meaning.{is_indent}
-use Rattle.yaml_emitter.proofs.layouts.MeaningBodies.{IsIndent, charset_of, plain_context}
+use Rattle.yaml_emitter.proofs.layouts.MeaningBodies.{IsIndent, plain_context}
 use Rattle.yaml_emitter.proofs.layouts.MeaningStyles.{Allows}
 use Rattle.yaml_emitter.proofs.layouts.SparingSteps.{Spared, lacks_steps}
 
@@ -93,7 +93,7 @@ special_bodies s is place single_quoted limit value cursor h =
     lacks_single (is_special (charset_of s)) (special_spares (charset_of s)) limit (deeper s.indent place.column) value cursor
     (single_unspecial (charset_of s) value h)
 special_bodies s is place double_quoted limit value cursor h =
-    lacks_double (is_special (charset_of s)) (special_spares (charset_of s)) s.unicode (special_raw s.breaks12 s.unicode) limit
+    lacks_double (is_special (charset_of s)) (special_spares (charset_of s)) s.unicode (special_raw (escapes_separators s) s.unicode) limit
     (deeper s.indent place.column) value cursor
 special_bodies s is place literal limit value cursor h =
     lacks_literal (is_special (charset_of s)) (special_spares (charset_of s)) (deeper s.indent place.column) s.indent value cursor is.high
@@ -173,7 +173,7 @@ special_ascii : (charset : Charset) (c : ℕ) → charset.unicode ≡ false → 
 special_ascii charset c off h =
     not-false _ (then_false (not charset.unicode) (not (is_ascii c)) (ap not off) (or_parts (not (is_printable c)) _ (or_parts _ _ h).0).1)
 
--- with the line breaks of YAML 1.2 it is no separator
+-- where separators are special it is none
 special_separator : (charset : Charset) (c : ℕ) → charset.breaks12 ≡ true → is_special charset c ≡ false → is_separator c ≡ false
 special_separator charset c on h = then_false charset.breaks12 (is_separator c) on (or_parts _ (charset.breaks12 && is_separator c) h).1
 

@@ -24,7 +24,7 @@ use Rattle.yaml_scalar.proofs.Sparing.{Spares, lacks_line}
 use Rattle.yaml_emitter.proofs.canonical.CanonicalPlaces.{AnchorOk}
 use Rattle.yaml_emitter.proofs.canonical.CanonicalSound.{anchor_is, name_is}
 use Rattle.yaml_base.proofs.NoFaults.{neither, is_none_none}
-use Rattle.yaml_emitter.proofs.layouts.MeaningBodies.{charset_of}
+use Rattle.yaml_base.specs.NodeLayout.{charset_of}
 use Rattle.yaml_emitter.proofs.layouts.MeaningStyles.{Allows, chosen_allowed}
 use Rattle.yaml_emitter.proofs.layouts.SparingPlaces.{Lacks, lacks_alias, lacks_closing, lacks_document, lacks_end, lacks_if, lacks_place, lacks_properties}
 use Rattle.yaml_emitter.proofs.layouts.SparingPlaces.{lacks_separation, lacks_then}

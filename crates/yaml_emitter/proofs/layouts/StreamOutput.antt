@@ -9,8 +9,8 @@ use Rattle.yaml_base.specs.Pieces.{list_layout}
 use Rattle.yaml_base.specs.Output.{encoding_asked, settings_for, bytes_written, output_of}
 use Rattle.yaml_base.specs.streams.StreamContent.{DocumentTree, agrees}
 use Rattle.yaml_base.specs.streams.StreamReader.{stream_trees}
-use Rattle.yaml_emitter.specs.Uncut.{OutputReadsBack, OutputTellsContent, HaveSameContent}
-use Rattle.yaml_emitter.proofs.layouts.StreamsReadBack.{stream_reads_back}
+use Rattle.yaml_emitter.specs.Uncut.{IsReadable, OutputReadsBack, OutputTellsContent, HaveSameContent}
+use Rattle.yaml_emitter.proofs.layouts.StreamsReadBack.{stream_reads_back, portable_reads_back}
 
 -- the output is all bytes, which read back
 pub output_reads_back : (given : Settings) (events : List Event) → OutputReadsBack given events
@@ -18,6 +18,14 @@ output_reads_back given events readable =
     let bytes = bytes_written (settings_for given events) (list_layout (settings_for given events) events) in
     ap (λ (output : List ℕ). agrees given.canonical events (stream_trees given.breaks12 output)) (take_all given.limit bytes readable.uncut)
     ∙ stream_reads_back given (encoding_asked events) events readable.accepted readable.scalars readable.portable
+
+-- in portable mode with either kind of line breaks
+pub output_reads_by_either : (given : Settings) (breaks12 : Bool) (events : List Event) → given.portable ≡ true → IsReadable given events
+    → agrees given.canonical events (stream_trees breaks12 (output_of given events)) ≡ true
+output_reads_by_either given breaks12 events portable readable =
+    let bytes = bytes_written (settings_for given events) (list_layout (settings_for given events) events) in
+    ap (λ (output : List ℕ). agrees given.canonical events (stream_trees breaks12 output)) (take_all given.limit bytes readable.uncut)
+    ∙ portable_reads_back given breaks12 (encoding_asked events) events portable readable.accepted readable.scalars
 
 -- what agrees with both is what was read of either
 same_content : (canonical : Bool) (first second : List Event) (read : Option (List DocumentTree)) → agrees canonical first read ≡ true

@@ -1,22 +1,23 @@
 -- Every stream reads back, in every mode.
-use Rattle.std.proofs.Common.{◌≡◌, ap}
+use Rattle.std.proofs.Common.{◌≡◌, sym, ap, ◌∙◌}
 use Rattle.std.specs.List.{list_all}
 use Rattle.std.specs.Prelude.{true, Option, Some, List, not}
 use Rattle.yaml_base.specs.Characters.{is_printable}
 use Rattle.yaml_base.specs.scalars.Analysis.{is_special}
 use Rattle.yaml_base.specs.Settings.{Encoding, Settings, effective}
 use Rattle.yaml_base.specs.Event.{Event}
-use Rattle.yaml_base.specs.Layout.{text_of}
+use Rattle.yaml_base.specs.Layout.{Piece, charset_of, text_of}
 use Rattle.yaml_base.specs.Meaning.{has_scalar_texts}
 use Rattle.yaml_base.specs.Pieces.{list_layout}
 use Rattle.yaml_base.specs.Output.{bytes_written, text_written}
 use Rattle.yaml_base.specs.Refusal.{IsAccepted}
-use Rattle.yaml_base.specs.StreamLaw.{StreamReadsBack, reads_alike}
+use Rattle.yaml_base.specs.StreamLaw.{StreamReadsBack, PortableReadsBack, reads_alike}
+use Rattle.yaml_base.specs.streams.StreamContent.{agrees}
 use Rattle.yaml_base.specs.streams.StreamReader.{stream_trees}
+use Rattle.yaml_base.proofs.CallerLaws.{breaks_agree}
 use Rattle.yaml_base.proofs.stream_documents.StreamAllStand.{LayoutsArePrintable, LayoutsAreRead, StreamsStand, streams_read_back, streams_stand}
 use Rattle.yaml_base.proofs.stream_documents.StreamLawStands.{stream_read_back}
 use Rattle.yaml_base.proofs.stream_documents.StreamWholeReads.{document_trees}
-use Rattle.yaml_emitter.proofs.layouts.MeaningBodies.{charset_of}
 use Rattle.yaml_emitter.proofs.layouts.Meaning.{is_indent, meaning_is_kept}
 use Rattle.yaml_emitter.proofs.layouts.TidyStreams.{bodies_are_tidy}
 use Rattle.yaml_emitter.proofs.layouts.RawTexts.{special_list, lacks_fewer, all_meet, special_printable, texts_hold_raw}
@@ -45,6 +46,14 @@ stand = streams_stand bodies_are_tidy meaning_is_kept values_of_texts layouts_ar
 -- every stream reads back
 pub stream_reads_back : StreamReadsBack
 stream_reads_back = streams_read_back stand
+
+-- in portable mode with either kind of line breaks
+pub portable_reads_back : PortableReadsBack
+portable_reads_back given breaks12 encoding events portable accepted texts =
+    let other : Settings = record given { breaks12 = breaks12 } in
+    ap (λ (pieces : List Piece). agrees given.canonical events (stream_trees breaks12 (bytes_written (effective given encoding) pieces)))
+    (sym (breaks_agree given breaks12 encoding events portable))
+    ∙ stream_reads_back other encoding events accepted texts (ap (λ on. reads_alike on given.canonical events) portable)
 
 -- what is read are its documents' trees
 pub stream_found : (given : Settings) (encoding : Option Encoding) (events : List Event) (accepted : IsAccepted given.canonical events)

@@ -7,7 +7,7 @@ use Rattle.yaml_base.specs.scalars.Analysis.{allowances, is_special}
 use Rattle.yaml_base.specs.Characters.{Text, is_printable}
 use Rattle.yaml_base.specs.Cursor.{Cursor}
 use Rattle.yaml_base.specs.Event.{ScalarStyle, any_style, plain, single_quoted, double_quoted, literal, folded, Event}
-use Rattle.yaml_base.specs.NodeLayout.{body_at, render_body}
+use Rattle.yaml_base.specs.NodeLayout.{body_at, render_body, charset_of}
 use Rattle.yaml_base.specs.Places.{Place, deeper}
 use Rattle.yaml_base.specs.Settings.{Effective, effective}
 use Rattle.yaml_base.specs.TidyBodies.{IsTidy}
@@ -17,7 +17,7 @@ use Rattle.yaml_scalar.proofs.TidyLines.{plain_even, plain_edges, single_even}
 use Rattle.yaml_scalar.proofs.TidyQuoted.{double_even}
 use Rattle.yaml_scalar.proofs.TidyBlocks.{literal_deep, folded_deep}
 use Rattle.yaml_emitter.proofs.layouts.Meaning.{is_indent, list_holds}
-use Rattle.yaml_emitter.proofs.layouts.MeaningBodies.{IsIndent, charset_of, plain_context}
+use Rattle.yaml_emitter.proofs.layouts.MeaningBodies.{IsIndent, plain_context, charset_by_breaks, allows_still}
 use Rattle.yaml_emitter.proofs.layouts.MeaningStyles.{Allows}
 use Rattle.yaml_emitter.proofs.layouts.RawTexts.{all_meet, lacks_fewer, special_printable, special_spared}
 
@@ -49,22 +49,25 @@ module _ (s : Effective) (is : IsIndent s.indent) (place : Place) where
       → KeepsTo style (render_body style s limit (deeper s.indent place.column) value cursor).text
   keeps_to any_style limit value cursor allowed = absurd allowed
   keeps_to plain limit value cursor allowed =
-      let context = plain_context (charset_of s) place.in_flow value allowed in
-      let even = plain_even (charset_of s) place.in_flow (depth_of place.column) limit (deeper s.indent place.column) value cursor enough context in
-      let edges = plain_edges (charset_of s) place.in_flow limit (deeper s.indent place.column) value cursor context in
+      let context = plain_context (charset_by_breaks s) place.in_flow value (allows_still s place.in_flow value plain allowed) in
+      let even = plain_even (charset_by_breaks s) place.in_flow (depth_of place.column) limit (deeper s.indent place.column) value cursor enough context in
+      let edges = plain_edges (charset_by_breaks s) place.in_flow limit (deeper s.indent place.column) value cursor context in
       record { deep = even.deep; tidy = and_from _ _ even.even edges }
   keeps_to single_quoted limit value cursor allowed =
-      let even = single_even (charset_of s) (depth_of place.column) limit (deeper s.indent place.column) value cursor enough allowed in
+      let even = single_even (charset_by_breaks s) (depth_of place.column) limit (deeper s.indent place.column) value cursor enough
+      (allows_still s place.in_flow value single_quoted allowed) in
       record { deep = even.deep; tidy = even.even }
   keeps_to double_quoted limit value cursor allowed =
       let even = double_even s.breaks12 s.unicode (depth_of place.column) limit (deeper s.indent place.column) value cursor enough in
       record { deep = even.deep; tidy = even.even }
   keeps_to literal limit value cursor allowed = record {
-    deep = literal_deep (charset_of s) (depth_of place.column) (deeper s.indent place.column) s.indent value cursor enough is.high allowed;
+    deep = literal_deep (charset_by_breaks s) (depth_of place.column) (deeper s.indent place.column) s.indent value cursor enough is.high
+        (allows_still s place.in_flow value literal allowed);
     tidy = refl;
   }
   keeps_to folded limit value cursor allowed = record {
-    deep = folded_deep (charset_of s) (depth_of place.column) limit (deeper s.indent place.column) s.indent value cursor enough is.high allowed;
+    deep = folded_deep (charset_by_breaks s) (depth_of place.column) limit (deeper s.indent place.column) s.indent value cursor enough is.high
+        (allows_still s place.in_flow value folded allowed);
     tidy = refl;
   }
 

@@ -8,7 +8,7 @@ use Rattle.yaml_base.specs.Characters.{Text}
 use Rattle.yaml_base.specs.Cursor.{Cursor, Rendered, render_then}
 use Rattle.yaml_base.specs.Event.{ScalarStyle, TagDirective, any_style, plain, single_quoted, double_quoted, literal, folded}
 use Rattle.yaml_base.specs.Layout.{Place, render_anchor, byte_count, choice_of, deeper, is_short, is_simple_scalar, name_count, render_place, scalar_piece}
-use Rattle.yaml_base.specs.Layout.{tag_count}
+use Rattle.yaml_base.specs.Layout.{charset_of, tag_count}
 use Rattle.yaml_base.specs.Event.{scalar_tag}
 use Rattle.yaml_base.specs.Seen.{seen_scalar_style}
 use Rattle.yaml_base.specs.Settings.{Effective}
@@ -91,7 +91,7 @@ pub usual_choice : (s : Effective) (place : Place) (simple : Bool) {content : Sc
     → choice_of s place simple (seen_scalar content) ≡ record { style = plain; bare = false }
 usual_choice s place simple {content} is =
     let seen = seen_scalar content in
-    let charset : Charset = record { unicode = s.unicode; breaks12 = s.breaks12 } in
+    let charset : Charset = charset_of s in
     let by : Allowances → (empty tag implicit canonical : Bool) → Choice =
     λ a empty tag implicit canonical. chosen a seen.style empty tag implicit seen.quoted_implicit place.in_flow simple canonical in
     let allowed = is.usual.allows charset in

@@ -15,6 +15,7 @@ use Rattle.yaml_base.specs.scalars.DoubleQuoted.{render_double_quoted}
 use Rattle.yaml_base.specs.Event.{ScalarStyle, any_style, plain, single_quoted, double_quoted, literal, folded, Scalar, TagDirective}
 use Rattle.yaml_base.specs.scalars.Folded.{render_folded}
 use Rattle.yaml_base.specs.Layout.{Place, render_anchor, render_place, render_properties, choice_of, deeper, scalar_piece, render_separation, render_body}
+use Rattle.yaml_base.specs.NodeLayout.{charset_of}
 use Rattle.yaml_base.specs.scalars.Plain.{render_plain}
 use Rattle.yaml_base.specs.Event.{scalar_tag}
 use Rattle.yaml_base.specs.Settings.{Effective}
@@ -132,7 +133,7 @@ both a b c d is holds =
 pub chosen_fits : (s : Effective) (place : Place) (simple : Bool) (content : Scalar)
     → style_fits (choice_of s place simple content).style content.value simple ≡ true
 chosen_fits s place simple content =
-    let charset : Charset = record { unicode = s.unicode; breaks12 = s.breaks12 } in
+    let charset : Charset = charset_of s in
     fitting_fits (allowances charset content.value) _ _ _ content.value simple
     (λ fits. both (allows_block charset content.value) (not place.in_flow) (not simple) (not (is_empty content.value)) fits
     (not_either (is_empty content.value) (somewhere (bars_block charset) content.value)))

@@ -15,6 +15,7 @@ use Rattle.yaml_base.specs.Steps.{progress}
 use Rattle.yaml_base.specs.Output.{encoding_asked, settings_for, text_written, last_flushes}
 use Rattle.yaml_base.specs.reading.CanonicalReader.{canonical_content}
 use Rattle.yaml_base.specs.Meaning.{has_scalar_texts}
+use Rattle.yaml_base.specs.StreamLaw.{reads_alike}
 use Rattle.yaml_base.specs.streams.StreamContent.{agrees}
 use Rattle.yaml_base.specs.streams.StreamReader.{stream_trees}
 use Rattle.yaml_base.specs.Seen.{seen_event}
@@ -37,7 +38,7 @@ use Rattle.yaml_emitter.proofs.standing.PromisingRoom.{promises_fits}
 use Rattle.yaml_emitter.proofs.standing.StandingEnds.{promises_end, all_written, whole_text}
 use Rattle.yaml_emitter.proofs.layouts.Meaning.{meaning_is_kept}
 use Rattle.yaml_emitter.proofs.canonical.CanonicalOutput.{output_reads}
-use Rattle.yaml_emitter.proofs.layouts.StreamOutput.{output_reads_back}
+use Rattle.yaml_emitter.proofs.layouts.StreamOutput.{output_reads_back, output_reads_by_either}
 use Rattle.yaml_emitter.proofs.events_done.SeenTexts.{seen_scalars, texts_more, values_of_texts}
 
 -- All that is flushed is the bytes of the pieces.
@@ -124,6 +125,10 @@ promises_whole given all state h none accepted =
       reads_back = λ portable.
           ap (λ (bytes : List ℕ). agrees given.canonical all (stream_trees given.breaks12 bytes)) output
           ∙ output_reads_back given all (record { accepted = accepted; scalars = h.texts; portable = portable; uncut = uncut });
+      reads_by_either = λ portable breaks12.
+          ap (λ (bytes : List ℕ). agrees given.canonical all (stream_trees breaks12 bytes)) output
+          ∙ output_reads_by_either given breaks12 all portable
+          (record { accepted = accepted; scalars = h.texts; portable = ap (λ on. reads_alike on given.canonical all) portable; uncut = uncut });
     }
 
 dropped_by : (error : Option yaml_error_t) (given : Settings) (all : List Event) (state : State)

@@ -6,6 +6,7 @@ ghost use Rattle.yaml_base.specs.Event.{TagDirective, double_quoted};
 ghost use Rattle.yaml_base.specs.Layout.{choice_of, open_ended_after, scalar_piece};
 ghost use Rattle.yaml_base.specs.Event.{scalar_tag};
 ghost use Rattle.yaml_base.specs.Seen.{seen_scalar_style};
+ghost use Rattle.yaml_base.specs.Settings as in_force;
 ghost use Rattle.yaml_base.specs.scalars.Style.{lacks_tag_and_flags, requested_style};
 ghost use Rattle.yaml_base.specs.Tags.{spelling};
 ghost use Rattle.yaml_pen.specs.Page.{IsReady};
@@ -83,7 +84,11 @@ fn choose(
         let bare = needs_bare_tag(tag_written, content.quoted_implicit);
         return Ok((YAML_DOUBLE_QUOTED_SCALAR_STYLE, bare));
     }
-    let data = analyze_for_style(content.value, settings.unicode, settings.breaks12);
+    let data = analyze_for_style(
+        content.value,
+        settings.unicode,
+        escapes_separators(settings),
+    );
     select_scalar_style(
         content.style,
         &data,
@@ -95,6 +100,13 @@ fn choose(
         site.simple,
         settings.canonical,
     )
+}
+
+/// Whether U+2028 and U+2029 are escaped: with the line breaks of YAML 1.2, and in portable mode.
+fn escapes_separators(settings: &EffectiveSettings) -> bool
+    ensures { result ≡ in_force.escapes_separators (seen_effective settings.now) }
+{
+    settings.breaks12 || settings.portable
 }
 
 /// Whether double quotes are written, whatever the value holds.

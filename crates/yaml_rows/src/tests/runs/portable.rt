@@ -1,4 +1,5 @@
-//! Portable mode: documents begin with `---`, flow indicators after a handle are escaped, a prefix begins with its `!`.
+//! Portable mode: documents begin with `---`, flow indicators after a handle are escaped, a prefix begins with its `!`, and
+//! U+2028 and U+2029 are escaped.
 use super::{Group, StreamGroup, check_all_roots, check_all_streams};
 
 /// Roots of documents, after some settings.
@@ -52,6 +53,46 @@ const ROOTS: &[Group] = &[
         ],
     ),
     ("", &[(r#"=VAL any 0 0 - "!a,b[c]" "x""#, "!a,b[c] x\n")]),
+    // U+2028 and U+2029 are escaped in each style, also where characters past ASCII stand as themselves.
+    (
+        "portable on\nunicode on\n",
+        &[
+            (r#"=VAL any 1 1 - - "a\u{2028}b""#, "--- \"a\\Lb\"\n"),
+            (r#"=VAL plain 1 1 - - "\u{2029}""#, "--- \"\\P\"\n"),
+            (
+                r#"=VAL single 1 1 - - "é\u{2028}\nb""#,
+                "--- \"é\\L\\nb\"\n",
+            ),
+            (
+                r#"=VAL literal 1 1 - - "a\u{2028}\nb""#,
+                "--- \"a\\L\\nb\"\n",
+            ),
+            (
+                r#"=VAL folded 1 1 - - "a\u{2029}\nb""#,
+                "--- \"a\\P\\nb\"\n",
+            ),
+            (
+                r#"
++MAP block 1 - -
+=VAL any 1 1 - - "a\u{2028}b"
+=VAL any 1 1 - - "v"
+-MAP"#,
+                "---\n? \"a\\Lb\"\n: v\n",
+            ),
+        ],
+    ),
+    (
+        "portable on\nunicode on\nbreaks12 on\n",
+        &[(r#"=VAL any 1 1 - - "é\u{2028}""#, "--- \"é\\L\"\n")],
+    ),
+    (
+        "canonical on\nportable on\nunicode on\n",
+        &[(r#"=VAL any 1 1 - - "\u{2028}""#, "---\n\"\\L\"\n")],
+    ),
+    (
+        "unicode on\n",
+        &[(r#"=VAL any 1 1 - - "a\u{2028}b""#, "'a\u{2028}  b'\n")],
+    ),
 ];
 
 /// Streams, after some settings.

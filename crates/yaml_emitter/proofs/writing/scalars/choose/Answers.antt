@@ -2,14 +2,16 @@ use Rattle.std.proofs.Common.{ap, sym, ◌∙◌, Bool}
 use Rattle.yaml_base.specs.scalars.Analysis.{allowances, is_empty}
 use Rattle.yaml_base.specs.Event.{double_quoted}
 use Rattle.yaml_base.specs.scalars.Style.{Choice, chosen}
+use Rattle.yaml_base.specs.Layout.{charset_of}
 use Rattle.yaml_emitter.specs.BorrowedTexts.{seen_scalar}
+use Rattle.yaml_emitter.specs.Given.{seen_effective}
 use Rattle.yaml_emitter.proofs.pieces.WritingScalars.{chosen_surely, if_ok_from}
 use Rattle.yaml_emitter.proofs.writing.scalars.choose.Goals as goal
 
 pub returns-clause-choice : goal.returns-clause-choice
 returns-clause-choice c =
     let content = seen_scalar c.args.content.now in
-    let allowed = allowances (record { unicode = c.args.site.now.settings.now.unicode; breaks12 = c.args.site.now.settings.now.breaks12 }) content.value in
+    let allowed = allowances (charset_of (seen_effective c.args.site.now.settings.now)) content.value in
     let flow = c.args.site.now.place.in_flow in
     let canonical = c.args.site.now.settings.now.canonical in
     if_ok_from _ _ _ c.select_scalar_style.result
@@ -17,6 +19,9 @@ returns-clause-choice c =
     holds.1
     ∙ c.analyze_for_style-data.ensures content.style c.is_empty_value.result c.args.tag_written content.plain_implicit content.quoted_implicit flow
     c.args.site.now.simple canonical
+    ∙ ap (λ (special : Bool). chosen (allowances (record { unicode = c.args.site.now.settings.now.unicode; breaks12 = special }) content.value) content.style
+    c.is_empty_value.result c.args.tag_written content.plain_implicit content.quoted_implicit flow c.args.site.now.simple canonical)
+    c.escapes_separators.ensures
     ∙ ap (λ (e : Bool). chosen allowed content.style e c.args.tag_written content.plain_implicit content.quoted_implicit flow c.args.site.now.simple canonical)
     c.is_empty_value.ensures
     ∙ ap (λ (t : Bool). chosen allowed content.style
@@ -26,7 +31,7 @@ returns-clause-choice c =
 pub returns-then-is_surely_double-clause-choice : goal.returns-then-is_surely_double-clause-choice
 returns-then-is_surely_double-clause-choice c =
     let content = seen_scalar c.args.content.now in
-    let allowed = allowances (record { unicode = c.args.site.now.settings.now.unicode; breaks12 = c.args.site.now.settings.now.breaks12 }) content.value in
+    let allowed = allowances (charset_of (seen_effective c.args.site.now.settings.now)) content.value in
     let flow = c.args.site.now.place.in_flow in
     let canonical = c.args.site.now.settings.now.canonical in
     ap (λ (b : Bool). let choice : Choice = record { style = double_quoted; bare = b } in choice) c.needs_bare_tag-bare.ensures
