@@ -1,5 +1,6 @@
 //! The writer: what it holds, and how it begins.
-ghost use Rattle.std.specs.Prelude.{◌≡◌, IfOk, IfErr, OnOk, [], None, Some, Err, true, false, option_map};
+ghost use Rattle.std.specs.Prelude.{◌≡◌, IfOk, IfErr, OnErr, OnOk, [], None, Some, Err, true, false, option_map};
+ghost use Rattle.std.specs.Io.KnownBytes.{Appends};
 ghost use Rattle.yaml_base.specs.Seen.{seen_scalar_style, seen_text};
 ghost use Rattle.std.specs.Option.{option_or};
 ghost use Rattle.yaml_emitter.specs.State.{with_all_taken};
@@ -12,6 +13,7 @@ use crate::giving::{begin, finished, give_scalar};
 use crate::kinds::CollectionKind;
 use crate::settings::{Settings, emitter_of};
 use std::alloc::Allocator;
+use std::io;
 use std::marker::Model;
 use yaml_base::{yaml_error_t, yaml_scalar_style_t};
 use yaml_emitter::{yaml_emitter_t, yaml_emitter_take_output};
@@ -99,6 +101,24 @@ impl<A: Allocator + Copy> Writer<A> {
         ensures kept { self.new ≡ record self.old { emitter = with_all_taken self.old.emitter } }
     {
         yaml_emitter_take_output(&mut self.emitter)
+    }
+
+    /// Hands the bytes that `take_output` would return on to a sink; they are then taken, too. So a stream of any length is
+    /// written in bounded memory: send after each document, or, as its bytes are flushed 16,384 at a time, after each call.
+    ///
+    /// All else of the writer stays.
+    ///
+    /// # Errors
+    /// That of the sink. Then nothing of the writer changes: all these bytes are left, and the sink may have some of them.
+    pub fn send<W: io::Write>(&mut self, sink: &mut W) -> io::Result<()>
+        ensures sent { OnOk result (Appends (W.contents sink.old) (W.contents sink.new) (output_left self.old.emitter.page)) }
+        ensures takes { OnOk result (TakesBytes self.old.emitter (output_left self.old.emitter.page) self.new.emitter) }
+        ensures kept { OnOk result (self.new ≡ record self.old { emitter = with_all_taken self.old.emitter }) }
+        ensures left { OnErr result (self.new ≡ self.old) }
+    {
+        sink.write_all(self.emitter.output())?;
+        let _sent = self.take_output();
+        Ok(())
     }
 
     /// The bytes of the stream that weren't taken before: ends the document and the stream. A stream of more documents than
