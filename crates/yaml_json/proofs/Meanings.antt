@@ -67,7 +67,7 @@ reads_by_11 =
       flags = flags_by_11;
       numbers = λ parts valid. (spelling_read parts valid).0;
       texts = λ text allowed empty tag_written plain_implicit quoted_implicit flow simple_key canonical is.
-          (plain_texts text allowed empty tag_written plain_implicit quoted_implicit flow simple_key canonical is).0;
+          (plain_texts any_style text allowed empty tag_written plain_implicit quoted_implicit flow simple_key canonical is).0;
     }
 
 pub reads_by_core : ReadsScalars resolved_by_core
@@ -77,7 +77,7 @@ reads_by_core =
       flags = flags_by_core;
       numbers = λ parts valid. (spelling_read parts valid).1;
       texts = λ text allowed empty tag_written plain_implicit quoted_implicit flow simple_key canonical is.
-          (plain_texts text allowed empty tag_written plain_implicit quoted_implicit flow simple_key canonical is).1;
+          (plain_texts any_style text allowed empty tag_written plain_implicit quoted_implicit flow simple_key canonical is).1;
     }
 
 -- Words

@@ -1,14 +1,15 @@
 -- Where the texts of a writer stand plain.
-use Rattle.std.proofs.Common.{◌≡◌, refl}
+use Rattle.std.proofs.Common.{◌≡◌, refl, sym, ap, ◌∙◌}
 use Rattle.std.specs.List.{list_any}
 use Rattle.std.specs.Prelude.{Bool, true, false, ◌||◌, ◌&&◌, not, if◌then◌else◌}
 use Rattle.yaml_base.proofs.SurelyTexts.{surely_text}
 use Rattle.yaml_base.specs.scalars.Analysis.{Allowances}
-use Rattle.yaml_base.specs.Characters.{is_break}
-use Rattle.yaml_base.specs.Event.{any_style, plain, single_quoted, double_quoted, literal}
+use Rattle.yaml_base.specs.Characters.{Text, is_break}
+use Rattle.yaml_base.specs.Event.{ScalarStyle, any_style, plain, single_quoted, double_quoted, literal, folded}
 use Rattle.yaml_base.specs.scalars.Style.{requested_style, fitting_style, fits_plain}
 use Rattle.yaml_base.specs.values.SurelyText.{is_surely_text}
 use Rattle.yaml_writer.specs.PlainTexts.{PlainTextsAreTexts}
+use Rattle.yaml_writer.specs.Writing.{style_asked}
 
 -- neither quotes nor a block style are plain
 quoted_apart : (single : Bool) → (if single then single_quoted else double_quoted) ≡ plain → ⊥
@@ -19,17 +20,43 @@ block_apart : (fits : Bool) → (if fits then literal else double_quoted) ≡ pl
 block_apart true is = cc
 block_apart false is = cc
 
+folded_apart : (fits : Bool) → (if fits then folded else double_quoted) ≡ plain → ⊥
+folded_apart true is = cc
+folded_apart false is = cc
+
+-- the style of a text that holds a break or none, and is surely one or isn't
+abbrev style_by : (broken sure : Bool) → ScalarStyle → ScalarStyle
+style_by broken sure any_style = if broken then literal else (if sure then any_style else single_quoted)
+style_by broken sure plain = if sure then plain else single_quoted
+style_by broken sure style = style
+
+by_text : (asked : ScalarStyle) (text : Text) → style_asked asked text ≡ style_by (list_any is_break text) (is_surely_text text) asked
+by_text any_style text = refl
+by_text plain text = refl
+by_text single_quoted text = refl
+by_text double_quoted text = refl
+by_text literal text = refl
+by_text folded text = refl
+
 -- plain is chosen only for a text that is surely one
-plain_sure : (allowed : Allowances) (plain_fits block_fits double broken sure : Bool)
-    → fitting_style allowed plain_fits block_fits (requested_style double (if broken then literal else (if sure then any_style else single_quoted))) ≡ plain
-    → sure ≡ true
-plain_sure allowed plain_fits block_fits true broken sure is = cc
-plain_sure allowed plain_fits block_fits false true sure is = absurd (block_apart block_fits is)
-plain_sure allowed plain_fits block_fits false false true is = refl
-plain_sure allowed plain_fits block_fits false false false is = absurd (quoted_apart allowed.single_quoted is)
+plain_sure : (asked : ScalarStyle) (allowed : Allowances) (plain_fits block_fits double broken sure : Bool)
+    → fitting_style allowed plain_fits block_fits (requested_style double (style_by broken sure asked)) ≡ plain → sure ≡ true
+plain_sure asked allowed plain_fits block_fits true broken sure is = cc
+plain_sure any_style allowed plain_fits block_fits false true sure is = absurd (block_apart block_fits is)
+plain_sure any_style allowed plain_fits block_fits false false true is = refl
+plain_sure any_style allowed plain_fits block_fits false false false is = absurd (quoted_apart allowed.single_quoted is)
+plain_sure plain allowed plain_fits block_fits false broken true is = refl
+plain_sure plain allowed plain_fits block_fits false broken false is = absurd (quoted_apart allowed.single_quoted is)
+plain_sure single_quoted allowed plain_fits block_fits false broken sure is = absurd (quoted_apart allowed.single_quoted is)
+plain_sure double_quoted allowed plain_fits block_fits false broken sure is = cc
+plain_sure literal allowed plain_fits block_fits false broken sure is = absurd (block_apart block_fits is)
+plain_sure folded allowed plain_fits block_fits false broken sure is = absurd (folded_apart block_fits is)
 
 pub plain_texts : PlainTextsAreTexts
-plain_texts text allowed empty tag_written plain_implicit quoted_implicit flow simple_key canonical is =
+plain_texts asked text allowed empty tag_written plain_implicit quoted_implicit flow simple_key canonical is =
+    let plain_fits = fits_plain allowed empty tag_written plain_implicit flow simple_key in
+    let block_fits = allowed.block && not flow && not simple_key in
+    let double = canonical || (simple_key && allowed.multiline) in
     surely_text text
-    (plain_sure allowed (fits_plain allowed empty tag_written plain_implicit flow simple_key) (allowed.block && not flow && not simple_key)
-    (canonical || (simple_key && allowed.multiline)) (list_any is_break text) (is_surely_text text) is)
+    (plain_sure asked allowed plain_fits block_fits double (list_any is_break text) (is_surely_text text)
+    (ap (λ (style : ScalarStyle). fitting_style allowed plain_fits block_fits (requested_style double style)) (sym (by_text asked text)) ∙ is))

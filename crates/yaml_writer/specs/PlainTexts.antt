@@ -2,16 +2,17 @@
 use Rattle.std.specs.Prelude.{◌≡◌, Bool}
 use Rattle.yaml_base.specs.scalars.Analysis.{Allowances}
 use Rattle.yaml_base.specs.Characters.{Text}
-use Rattle.yaml_base.specs.Event.{plain}
+use Rattle.yaml_base.specs.Event.{ScalarStyle, plain}
 use Rattle.yaml_base.specs.values.Resolved.{meant_text}
 use Rattle.yaml_base.specs.values.SchemaCore.{resolved_by_core}
 use Rattle.yaml_base.specs.values.SchemaOf11.{resolved_by_11}
 use Rattle.yaml_base.specs.scalars.Style.{chosen}
-use Rattle.yaml_writer.specs.Writing.{text_style}
+use Rattle.yaml_writer.specs.Writing.{style_asked}
 
--- wherever a text stands, and whatever it allows: where it is written plain, it means a text by both schemas
+-- wherever a text stands, whatever it allows, and whichever style was asked for: where it is written plain, it means a text by both
+-- schemas
 abbrev pub PlainTextsAreTexts : Type 0
 PlainTextsAreTexts =
-    (text : Text) (allowed : Allowances) (empty tag_written plain_implicit quoted_implicit flow simple_key canonical : Bool)
-    → (chosen allowed (text_style text) empty tag_written plain_implicit quoted_implicit flow simple_key canonical).style ≡ plain
+    (asked : ScalarStyle) (text : Text) (allowed : Allowances) (empty tag_written plain_implicit quoted_implicit flow simple_key canonical : Bool)
+    → (chosen allowed (style_asked asked text) empty tag_written plain_implicit quoted_implicit flow simple_key canonical).style ≡ plain
     → (resolved_by_11 text ≡ meant_text) × (resolved_by_core text ≡ meant_text)

@@ -88,9 +88,19 @@ number_event writer number = word_event writer (number_tag number) (yaml_number 
 abbrev pub text_style : Text → ScalarStyle
 text_style text = if list_any is_break text then literal else (if is_surely_text text then any_style else single_quoted)
 
+-- the style that is asked for, where any is the writer's own; plain only for what is surely read as a text, else single quotes
+abbrev pub style_asked : ScalarStyle → Text → ScalarStyle
+style_asked any_style text = text_style text
+style_asked plain text = if is_surely_text text then plain else single_quoted
+style_asked style text = style
+
+-- a text in a style that is asked for
+abbrev pub styled_event : WriterState → ScalarStyle → Text → Event
+styled_event writer asked text = scalar_event writer writer.tag text (style_asked asked text)
+
 -- a text
 abbrev pub text_event : WriterState → Text → Event
-text_event writer text = scalar_event writer writer.tag text (text_style text)
+text_event writer text = styled_event writer any_style text
 
 -- the start of a collection with the properties of the next node; its tag is written where there is one
 abbrev pub collection_of : WriterState → CollectionStyle → Collection

@@ -15,7 +15,7 @@ pub fn numbers_are_read()
     ensures { NumbersAreRead }
 {}
 
-/// A text in the style that a writer gives it is written plain only where both schemas read it as a text.
+/// A text in the style that a writer gives it, whichever was asked for, is written plain only where both schemas read it as a text.
 pub fn plain_texts_are_texts()
     ensures { PlainTextsAreTexts }
 {}

@@ -4,7 +4,7 @@ ghost use Rattle.std.specs.Fmt.{signed_decimal};
 ghost use Rattle.yaml_base.specs.Seen.{seen_scalar_style, seen_text};
 ghost use Rattle.yaml_base.specs.values.TypedValues.{bool_text};
 ghost use Rattle.yaml_writer.specs.Writing.{Failed, GaveEvent, bool_event, int_event, null_event, number_event, number_tag, tag_or_default};
-ghost use Rattle.yaml_writer.specs.Writing.{text_event, text_style};
+ghost use Rattle.yaml_writer.specs.Writing.{style_asked, styled_event, text_event, text_style};
 ghost use Rattle.yaml_writer.specs.Writing.{word_event};
 
 use crate::numbers::Number;
@@ -89,6 +89,19 @@ fn style_of(text: &str) -> yaml_scalar_style_t
     }
 }
 
+/// How a text is to stand for which a style is asked.
+fn style_for(asked: yaml_scalar_style_t, text: &str) -> yaml_scalar_style_t
+    ensures { seen_scalar_style result ≡ style_asked (seen_scalar_style asked) (chars text.now) }
+{
+    match asked {
+        yaml_scalar_style_t::YAML_ANY_SCALAR_STYLE => style_of(text),
+        yaml_scalar_style_t::YAML_PLAIN_SCALAR_STYLE if !is_surely_text(text) => {
+            YAML_SINGLE_QUOTED_SCALAR_STYLE
+        }
+        style => style,
+    }
+}
+
 impl<A: Allocator + Copy> Writer<A> {
     /// Writes `null`.
     ///
@@ -164,7 +177,24 @@ impl<A: Allocator + Copy> Writer<A> {
         ensures given { OnOk result (GaveEvent self.old (text_event self.old (chars value.now)) None self.new) }
         ensures failed { IfErr result (λ error. Failed self.old (text_event self.old (chars value.now)) error self.new) }
     {
-        let style = style_of(value);
+        self.text_styled(YAML_ANY_SCALAR_STYLE, value)
+    }
+
+    /// Writes a text in a style, which no reader takes for another value. Where it can't stand so, the emitter's choice decides:
+    /// a plain one stands in quotes, also where a reader could take it for another value; one in a block style, as a key or in a
+    /// flow collection, in double quotes, and so does what can't stand in single ones. ANY is the style of `text`.
+    ///
+    /// # Errors
+    /// Those of the emitter, and `Memory`.
+    pub fn text_styled(
+        &mut self,
+        style: yaml_scalar_style_t,
+        value: &str,
+    ) -> Result<(), yaml_error_t>
+        ensures given { OnOk result (GaveEvent self.old (styled_event self.old (seen_scalar_style style) (chars value.now)) None self.new) }
+        ensures failed { IfErr result (λ error. Failed self.old (styled_event self.old (seen_scalar_style style) (chars value.now)) error self.new) }
+    {
+        let style = style_for(style, value);
         let value = text_of(self.alloc, value)?;
         self.scalar(None, value, style)
     }
