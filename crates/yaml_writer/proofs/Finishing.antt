@@ -1,7 +1,7 @@
 -- What it comes to that a document and its stream are ended.
 use Rattle.std.proofs.Common.{◌≡◌, refl, sym, ap, ap₂, ◌∙◌, arith, subst, append_assoc}
 use Rattle.std.proofs.lemmas.List.{nil_from_length}
-use Rattle.std.specs.Prelude.{ℕ, ◌<◌, ◌≤◌, true, false, ◌||◌, Option, None, Some, IsSome, is_some, unwrap_or, List, [], ◌∷◌, ◌++◌, length}
+use Rattle.std.specs.Prelude.{ℕ, ◌<◌, ◌≤◌, Bool, true, false, ◌||◌, Option, None, Some, IsSome, is_some, unwrap_or, List, [], ◌∷◌, ◌++◌, length}
 use Rattle.yaml_base.specs.Characters.{Text}
 use Rattle.yaml_base.specs.Event.{Event, stream_end, document_end}
 use Rattle.yaml_base.specs.Refusal.{IsAccepted}
@@ -12,8 +12,8 @@ use Rattle.yaml_emitter.specs.State.{State}
 use Rattle.yaml_emitter.specs.StandsAfter.{StandsAfter}
 use Rattle.yaml_emitter.specs.Promises.{Promised, RefusedAt, HasRoom, IsRefusal, ends_stream}
 use Rattle.yaml_emitter.proofs.EndedStreams.{ends_last}
-use Rattle.yaml_writer.specs.Unfinished.{IsUnfinished, RefusesOne}
-use Rattle.yaml_writer.specs.Writing.{IsStream, StandsTaken, WriterState, awaits_node, closing, plain_start}
+use Rattle.yaml_writer.specs.Unfinished.{IsUnfinishedBy, RefusesOne}
+use Rattle.yaml_writer.specs.Writing.{IsStream, StandsTaken, WriterState, awaits_node, closing_by, plain_start}
 use Rattle.yaml_writer.proofs.MissingNodes.{misses}
 use Rattle.yaml_writer.proofs.Overflow.{overflowed}
 use Rattle.yaml_writer.proofs.Taken.{taken_and_left}
@@ -21,44 +21,6 @@ use Rattle.yaml_writer.proofs.Taken.{taken_and_left}
 -- no node is awaited where there is neither an anchor nor a tag
 pub nothing_awaited : (writer : WriterState) → writer.anchor ≡ None → writer.tag ≡ None → awaits_node writer ≡ false
 nothing_awaited writer anchor tag = ap₂ (λ (a t : Option Text). is_some a || is_some t) anchor tag
-
--- a list to which the closing is added ends the stream
-closing_ends : (events : List Event) → ends_stream (events ++ closing) ≡ true
-closing_ends events =
-    ap ends_stream (sym (append_assoc events (document_end true ∷ []) (stream_end ∷ []))) ∙ ends_last (events ++ document_end true ∷ [])
-
--- both events were given, one after the other
-pub closed : (given : Settings) (all : List Event) (state : State) → Promised given ((all ++ document_end true ∷ []) ++ stream_end ∷ []) state
-    → Promised given (all ++ closing) state
-closed given all state = subst (λ (events : List Event). Promised given events state) (append_assoc all (document_end true ∷ []) (stream_end ∷ []))
-
-pub closed_stands : (given : Settings) (all : List Event) (state : State) → StandsAfter given ((all ++ document_end true ∷ []) ++ stream_end ∷ []) state
-    → StandsAfter given (all ++ closing) state
-closed_stands given all state =
-    subst (λ (events : List Event). StandsAfter given events state) (append_assoc all (document_end true ∷ []) (stream_end ∷ []))
-
--- without an error and an event that waits, the output is that of a stream
-stream_finished : (given : Settings) (all : List Event) (state : State) → Promised given (all ++ closing) state → state.error ≡ None → state.held ≡ []
-    → IsStream given (all ++ closing) state.page.output
-stream_finished given all state promised none held =
-    let room : HasRoom state.error = subst HasRoom (sym none) tt in
-    let accepted = (promised.ends (closing_ends all) room).1 (none, held) in
-    record { accepted = accepted; state = state; written = promised.whole none accepted; output = refl }
-
--- where an event was refused, the events are no stream
-refused_unaccepted : (given : Settings) (all : List Event) (error : yaml_error_t) (state : State) → Promised given (all ++ closing) state
-    → state.error ≡ Some error → IsRefusal error → IsAccepted given.canonical (all ++ closing) → ⊥
-refused_unaccepted given all error state promised some refusal accepted =
-    apart (sym ((promised.ends (closing_ends all) (subst HasRoom (sym some) refusal)).0 accepted).0 ∙ some)
-  where
-    apart : None ≡ Some error → ⊥
-    apart is = cc
-
--- nor where an event waits
-pub waiting_unaccepted : (given : Settings) (all : List Event) (state : State) → Promised given (all ++ closing) state → state.error ≡ None
-    → (state.held ≡ [] → ⊥) → IsAccepted given.canonical (all ++ closing) → ⊥
-waiting_unaccepted given all state promised none some accepted =
-    some ((promised.ends (closing_ends all) (subst HasRoom (sym none) tt)).0 accepted).1
 
 -- the event that was refused
 pub refuses_one : (given : Settings) (all : List Event) (error : yaml_error_t) (state : State) → RefusedAt given all error state
@@ -72,8 +34,6 @@ refuses_one given all error state at = record {
   refusal = at.refusal;
 }
 
--- Errors that were there before
-
 -- an error stays when an event is given
 pub error_kept : (before after : State) (error : yaml_error_t) → (IsSome before.error → after ≡ record before { started = true })
     → before.error ≡ Some error → after.error ≡ Some error
@@ -82,33 +42,6 @@ error_kept before after error kept is = ap (λ (s : State). s.error) (kept (ap i
 pub same_error : (a b : yaml_error_t) → Some a ≡ Some b → a ≡ b
 same_error a b is = ap (λ o. unwrap_or o a) is
 
--- All
-
--- what an error of the emitter comes to, once document and stream were ended
-pub failed_unfinished : (before after : State) (error : yaml_error_t) → ((earlier : yaml_error_t) → before.error ≡ Some earlier → after.error ≡ Some earlier)
-    → ((given : Settings) (all : List Event) → StandsAfter given all before
-    → StandsAfter given (all ++ closing) after × Promised given (all ++ closing) after)
-    → after.error ≡ Some error → IsUnfinished before error
-failed_unfinished before after error stays ends is = record {
-  first = λ earlier was. same_error error earlier (sym is ∙ stays earlier was);
-  full = λ full given all stands.
-      let ended = ends given all stands in
-      overflowed given (all ++ closing) after ended.0.so (is ∙ ap (λ (e : yaml_error_t). Some e) full);
-  refused = λ refusal given all stands.
-      let ended = ends given all stands in
-      record {
-        unaccepted = refused_unaccepted given all error after ended.1 is refusal;
-        named = refused_one given all ended.1 refusal;
-        missing = λ node.
-            misses given.canonical (all ++ closing)
-            (subst (RefusesOne given.canonical (all ++ closing)) node (refused_one given all ended.1 refusal));
-      };
-}
-  where
-    refused_one : (given : Settings) (all : List Event) → Promised given (all ++ closing) after → IsRefusal error
-        → RefusesOne given.canonical (all ++ closing) error
-    refused_one given all promised refusal = refuses_one given (all ++ closing) error after (promised.refused error is refusal)
-
 -- what the number of events that wait says
 pub some_waits : (count : ℕ) (held : List Event) → 0 < count → count ≡ length held → held ≡ [] → ⊥
 some_waits count held some is none = let empty = ap length none in omega (arith, some, is, empty)
@@ -116,17 +49,85 @@ some_waits count held some is none = let empty = ap length none in omega (arith,
 pub none_waits : (count : ℕ) (held : List Event) → count ≤ 0 → count ≡ length held → held ≡ []
 none_waits count held none is = nil_from_length held (omega (arith, none, is))
 
--- a document was ended and the next begun, one event after the other
-pub next_stands : (given : Settings) (all : List Event) (sent : List ℕ) (start : Event) (state : State) → start ≡ plain_start
-    → StandsTaken given ((all ++ document_end true ∷ []) ++ start ∷ []) sent state
-    → StandsTaken given (all ++ document_end true ∷ plain_start ∷ []) sent state
-next_stands given all sent start state is stands =
-    subst (λ (events : List Event). StandsTaken given events sent state)
-    (ap (λ event. (all ++ document_end true ∷ []) ++ event ∷ []) is ∙ append_assoc all (document_end true ∷ []) (plain_start ∷ [])) stands
+module _ (implicit : Bool) where
+  -- what ends the stream
+  abbrev closing : List Event
+  closing = closing_by implicit
 
--- what was taken and what is left then are the stream
-pub rest_finished : (given : Settings) (all more : List Event) (sent : List ℕ) (state : State) → StandsTaken given more sent state
-    → Promised given (all ++ closing) state → state.error ≡ None → state.held ≡ []
-    → IsStream given (all ++ closing) (sent ++ output_left state.page)
-rest_finished given all more sent state stands promised none held =
-    subst (IsStream given (all ++ closing)) (sym (taken_and_left given more sent state stands)) (stream_finished given all state promised none held)
+  -- a list to which the closing is added ends the stream
+  closing_ends : (events : List Event) → ends_stream (events ++ closing) ≡ true
+  closing_ends events =
+      ap ends_stream (sym (append_assoc events (document_end implicit ∷ []) (stream_end ∷ []))) ∙ ends_last (events ++ document_end implicit ∷ [])
+
+  -- both events were given, one after the other
+  pub closed : (given : Settings) (all : List Event) (state : State) → Promised given ((all ++ document_end implicit ∷ []) ++ stream_end ∷ []) state
+      → Promised given (all ++ closing) state
+  closed given all state = subst (λ (events : List Event). Promised given events state) (append_assoc all (document_end implicit ∷ []) (stream_end ∷ []))
+
+  pub closed_stands : (given : Settings) (all : List Event) (state : State) → StandsAfter given ((all ++ document_end implicit ∷ []) ++ stream_end ∷ []) state
+      → StandsAfter given (all ++ closing) state
+  closed_stands given all state =
+      subst (λ (events : List Event). StandsAfter given events state) (append_assoc all (document_end implicit ∷ []) (stream_end ∷ []))
+
+  -- without an error and an event that waits, the output is that of a stream
+  stream_finished : (given : Settings) (all : List Event) (state : State) → Promised given (all ++ closing) state → state.error ≡ None → state.held ≡ []
+      → IsStream given (all ++ closing) state.page.output
+  stream_finished given all state promised none held =
+      let room : HasRoom state.error = subst HasRoom (sym none) tt in
+      let accepted = (promised.ends (closing_ends all) room).1 (none, held) in
+      record { accepted = accepted; state = state; written = promised.whole none accepted; output = refl }
+
+  -- where an event was refused, the events are no stream
+  refused_unaccepted : (given : Settings) (all : List Event) (error : yaml_error_t) (state : State) → Promised given (all ++ closing) state
+      → state.error ≡ Some error → IsRefusal error → IsAccepted given.canonical (all ++ closing) → ⊥
+  refused_unaccepted given all error state promised some refusal accepted =
+      apart (sym ((promised.ends (closing_ends all) (subst HasRoom (sym some) refusal)).0 accepted).0 ∙ some)
+    where
+      apart : None ≡ Some error → ⊥
+      apart is = cc
+
+  -- nor where an event waits
+  pub waiting_unaccepted : (given : Settings) (all : List Event) (state : State) → Promised given (all ++ closing) state → state.error ≡ None
+      → (state.held ≡ [] → ⊥) → IsAccepted given.canonical (all ++ closing) → ⊥
+  waiting_unaccepted given all state promised none some accepted =
+      some ((promised.ends (closing_ends all) (subst HasRoom (sym none) tt)).0 accepted).1
+
+  -- what an error of the emitter comes to, once document and stream were ended
+  pub failed_unfinished : (before after : State) (error : yaml_error_t) → ((earlier : yaml_error_t) → before.error ≡ Some earlier → after.error ≡ Some earlier)
+      → ((given : Settings) (all : List Event) → StandsAfter given all before
+      → StandsAfter given (all ++ closing) after × Promised given (all ++ closing) after)
+      → after.error ≡ Some error → IsUnfinishedBy implicit before error
+  failed_unfinished before after error stays ends is = record {
+    first = λ earlier was. same_error error earlier (sym is ∙ stays earlier was);
+    full = λ full given all stands.
+        let ended = ends given all stands in
+        overflowed given (all ++ closing) after ended.0.so (is ∙ ap (λ (e : yaml_error_t). Some e) full);
+    refused = λ refusal given all stands.
+        let ended = ends given all stands in
+        record {
+          unaccepted = refused_unaccepted given all error after ended.1 is refusal;
+          named = refused_one given all ended.1 refusal;
+          missing = λ node.
+              misses given.canonical (all ++ closing)
+              (subst (RefusesOne given.canonical (all ++ closing)) node (refused_one given all ended.1 refusal));
+        };
+  }
+    where
+      refused_one : (given : Settings) (all : List Event) → Promised given (all ++ closing) after → IsRefusal error
+          → RefusesOne given.canonical (all ++ closing) error
+      refused_one given all promised refusal = refuses_one given (all ++ closing) error after (promised.refused error is refusal)
+
+  -- a document was ended and the next begun, one event after the other
+  pub next_stands : (given : Settings) (all : List Event) (sent : List ℕ) (start : Event) (state : State) → start ≡ plain_start
+      → StandsTaken given ((all ++ document_end implicit ∷ []) ++ start ∷ []) sent state
+      → StandsTaken given (all ++ document_end implicit ∷ plain_start ∷ []) sent state
+  next_stands given all sent start state is stands =
+      subst (λ (events : List Event). StandsTaken given events sent state)
+      (ap (λ event. (all ++ document_end implicit ∷ []) ++ event ∷ []) is ∙ append_assoc all (document_end implicit ∷ []) (plain_start ∷ [])) stands
+
+  -- what was taken and what is left then are the stream
+  pub rest_finished : (given : Settings) (all more : List Event) (sent : List ℕ) (state : State) → StandsTaken given more sent state
+      → Promised given (all ++ closing) state → state.error ≡ None → state.held ≡ []
+      → IsStream given (all ++ closing) (sent ++ output_left state.page)
+  rest_finished given all more sent state stands promised none held =
+      subst (IsStream given (all ++ closing)) (sym (taken_and_left given more sent state stands)) (stream_finished given all state promised none held)

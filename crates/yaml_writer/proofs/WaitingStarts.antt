@@ -22,14 +22,8 @@ use Rattle.yaml_emitter.specs.State.{State}
 use Rattle.yaml_writer.proofs.Finishing.{refuses_one}
 use Rattle.yaml_writer.proofs.MissingNodes.{misses}
 use Rattle.yaml_writer.proofs.Overflow.{overflowed}
-use Rattle.yaml_writer.specs.Unfinished.{IsUnfinished, PassesLimit, RefusesOne}
-use Rattle.yaml_writer.specs.Writing.{closing}
-
--- what stands at the end, once a third event was given
-abbrev closed_twice : List Event
-closed_twice = document_end true ∷ stream_end ∷ stream_end ∷ []
-
--- ---- lists
+use Rattle.yaml_writer.specs.Unfinished.{IsUnfinishedBy, PassesLimit, RefusesOne}
+use Rattle.yaml_writer.specs.Writing.{closing_by}
 
 -- a list that ends behind another's last element but one
 shorter : {A : Type 0} (prefix later all : List A) (last : A) → prefix ++ later ≡ all ++ last ∷ [] → (later ≡ [] → ⊥)
@@ -47,168 +41,175 @@ drop_nil zero none is = is
 drop_nil (suc n) [] is = refl
 drop_nil (suc n) (x ∷ rest) is = cc
 
--- no start stands at the end
-tail_none : (n : ℕ) → begins_with_start (drop n closed_twice) ≡ true → drop n closed_twice ≡ []
-tail_none zero starts = cc
-tail_none (suc zero) starts = cc
-tail_none (suc (suc zero)) starts = cc
-tail_none (suc (suc (suc n))) starts = drop_nil n [] refl
-
--- so no start is among the last three
-few_none : (all : List Event) (n : ℕ) → begins_with_start (drop n (all ++ closed_twice)) ≡ true → length (drop n (all ++ closed_twice)) ≤ 3
-    → drop n (all ++ closed_twice) ≡ []
-few_none [] n starts few = tail_none n starts
-few_none (event ∷ all) zero starts few = absurd (omega (arith, few, length-append all closed_twice))
-few_none (event ∷ all) (suc n) starts few = few_none all n starts few
-
--- ---- the third event
-
-module _ (canonical : Bool) (all : List Event) (unaccepted : IsAccepted canonical (all ++ closing) → ⊥) where
-  -- where the events are no stream, no stream begins with them
-  begins_none : BeginsAccepted canonical (all ++ closing) → ⊥
-  begins_none begins =
-      unaccepted
-      (subst (IsAccepted canonical) same (whole_accepted canonical (all ++ document_end true ∷ []) (subst (BeginsAccepted canonical) (sym same) begins)))
-    where
-      same : (all ++ document_end true ∷ []) ++ stream_end ∷ [] ≡ all ++ closing
-      same = append_assoc all (document_end true ∷ []) (stream_end ∷ [])
-
-  -- nor with one event more
-  pub accepts_none : IsAccepted canonical ((all ++ closing) ++ stream_end ∷ []) → ⊥
-  accepts_none accepted = begins_none (record { rest = stream_end ∷ []; accepted = accepted })
-
-  -- the refused event is none of the third call
-  pub refuses_shorter : (error : yaml_error_t) → RefusesOne canonical ((all ++ closing) ++ stream_end ∷ []) error
-      → RefusesOne canonical (all ++ closing) error
-  refuses_shorter error one = by one.later refl
-    where
-      at : (later : List Event) → one.prefix ++ one.event ∷ later ≡ all ++ closing → RefusesOne canonical (all ++ closing) error
-      at later parts = record {
-        prefix = one.prefix;
-        event = one.event;
-        later = later;
-        parts = parts;
-        begins = one.begins;
-        refusal = one.refusal;
-      }
-
-      is_all : (rest : List Event) → one.prefix ++ rest ≡ all ++ closing → one.later ≡ [] → one.prefix ≡ all ++ closing
-      is_all rest parts none =
-          let whole : one.prefix ++ one.event ∷ [] ≡ (all ++ closing) ++ stream_end ∷ [] = ap (λ later. one.prefix ++ one.event ∷ later) (sym none)
-          ∙ one.parts in
-          let nothing : rest ≡ [] =
-          nil_from_length rest
-          (omega (
-            arith,
-            ap length whole,
-            ap length parts,
-            length-append one.prefix (one.event ∷ []),
-            length-append one.prefix rest,
-            length-append (all ++ closing) (stream_end ∷ []),
-          )) in
-          sym (append-nil one.prefix) ∙ ap (λ rest. one.prefix ++ rest) (sym nothing) ∙ parts
-
-      by : (later : List Event) → one.later ≡ later → RefusesOne canonical (all ++ closing) error
-      by [] none =
-          let before = shorter one.prefix (one.event ∷ one.later) (all ++ closing) stream_end one.parts (λ is. cc) in
-          absurd (begins_none (subst (BeginsAccepted canonical) (is_all before.0 before.1 none) one.begins))
-      by (x ∷ later) some =
-          let longer = one.prefix ++ one.event ∷ [] in
-          let before =
-          shorter longer one.later (all ++ closing) stream_end (append_assoc one.prefix (one.event ∷ []) one.later ∙ one.parts)
-          (λ none. let is = sym none ∙ some in cc) in
-          at before.0 (sym (append_assoc one.prefix (one.event ∷ []) before.0) ∙ before.1)
-
--- the settings are told by the first event
-settings_more : (given : Settings) (all more : List Event) → settings_for given ((all ++ closing) ++ more) ≡ settings_for given (all ++ closing)
-settings_more given [] more = settings_grown given (document_end true) [] (stream_end ∷ []) closing more refl
-settings_more given (event ∷ all) more = settings_grown given event [] (all ++ closing) (event ∷ (all ++ closing)) more refl
-
--- nor do their bytes pass the limit by the third event
-passes_shorter : (given : Settings) (all : List Event) → (IsAccepted given.canonical (all ++ closing) → ⊥)
-    → PassesLimit given ((all ++ closing) ++ stream_end ∷ []) → PassesLimit given (all ++ closing)
-passes_shorter given all unaccepted passes =
-    record {
-      prefix = passes.prefix;
-      later = before.0;
-      parts = before.1;
-      more = passes.more;
-      accepted = passes.accepted;
-      passed =
-          subst (λ (s : Effective). given.limit < length (bytes_written s (take (length passes.prefix) (list_layout s (passes.prefix ++ passes.more)))))
-          (settings_more given all (stream_end ∷ [])) passes.passed;
-      whole = λ accepted. absurd (unaccepted accepted);
-    }
-  where
-    not_all : passes.later ≡ [] → ⊥
-    not_all none =
-        let whole : passes.prefix ≡ (all ++ closing) ++ stream_end ∷ [] =
-        sym (append-nil passes.prefix) ∙ ap (λ later. passes.prefix ++ later) (sym none) ∙ passes.parts in
-        begins_none given.canonical all unaccepted
-        (record {
-          rest = stream_end ∷ passes.more;
-          accepted =
-              subst (IsAccepted given.canonical)
-              (ap (λ prefix. prefix ++ passes.more) whole ∙ append_assoc (all ++ closing) (stream_end ∷ []) passes.more) passes.accepted;
-        })
-
-    before : (rest : List Event) × (passes.prefix ++ rest ≡ all ++ closing)
-    before = shorter passes.prefix passes.later (all ++ closing) stream_end passes.parts not_all
-
--- the third event is answered with an error
-pub third_fails : (given : Settings) (all : List Event) (state : State) → (IsAccepted given.canonical (all ++ closing) → ⊥)
-    → Promised given ((all ++ closing) ++ stream_end ∷ []) state → state.error ≡ None → ⊥
-third_fails given all state unaccepted promised none =
-    accepts_none given.canonical all unaccepted ((promised.ends (ends_last (all ++ closing)) (subst HasRoom (sym none) tt)).1 (none, held))
-  where
-    same : (all ++ closing) ++ stream_end ∷ [] ≡ all ++ closed_twice
-    same = append_assoc all closing (stream_end ∷ [])
-
-    held : state.held ≡ []
-    held =
-        let waits = promised.held none in
-        let n = written ((all ++ closing) ++ stream_end ∷ []) in
-        let is : state.held ≡ drop n (all ++ closed_twice) = waits.held ∙ ap (drop n) same in
-        let few : length (drop n (all ++ closed_twice)) ≤ 3 = omega (arith, waits.few, most_few state.held, ap length is) in
-        is ∙ few_none all n (ap begins_with_start (sym is) ∙ waits.starts) few
-
 -- an error that would have stayed wasn't there
 pub no_earlier : (before after : State) → ((error : yaml_error_t) → before.error ≡ Some error → after.error ≡ Some error) → after.error ≡ None
     → (error : yaml_error_t) → before.error ≡ Some error → ⊥
 no_earlier before after stays none error was = let is = sym none ∙ stays error was in cc
 
--- what its error comes to
-pub third_unfinished : (before after : State) (error : yaml_error_t) → ((earlier : yaml_error_t) → before.error ≡ Some earlier → ⊥)
-    → ((given : Settings) (all : List Event) → StandsAfter given all before → (IsAccepted given.canonical (all ++ closing) → ⊥)
-    × StandsAfter given ((all ++ closing) ++ stream_end ∷ []) after × Promised given ((all ++ closing) ++ stream_end ∷ []) after)
-    → after.error ≡ Some error → IsUnfinished before error
-third_unfinished before after error none ends is = record {
-  first = λ earlier was. absurd (none earlier was);
-  full = λ full given all stands.
-      let ended = ends given all stands in
-      passes_shorter given all ended.0
-      (overflowed given ((all ++ closing) ++ stream_end ∷ []) after ended.1.so (is ∙ ap (λ (e : yaml_error_t). Some e) full));
-  refused = λ refusal given all stands.
-      let ended = ends given all stands in
-      let one = refuses_shorter given.canonical all ended.0 error (one_of given all ended.2 refusal) in
-      record {
-        unaccepted = ended.0;
-        named = one;
-        missing = λ node. misses given.canonical (all ++ closing) (subst (RefusesOne given.canonical (all ++ closing)) node one);
-      };
-}
-  where
-    one_of : (given : Settings) (all : List Event) → Promised given ((all ++ closing) ++ stream_end ∷ []) after → IsRefusal error
-        → RefusesOne given.canonical ((all ++ closing) ++ stream_end ∷ []) error
-    one_of given all promised refusal = refuses_one given ((all ++ closing) ++ stream_end ∷ []) error after (promised.refused error is refusal)
-
--- by the answer of the third call
-pub third_err : (before after : State) (answer : Result (Unit {0}) yaml_error_t) → answer ≡ result_of_error after.error
-    → ((error : yaml_error_t) → after.error ≡ Some error → IsUnfinished before error) → IfErr answer (λ error. IsUnfinished before error)
-third_err before after (Ok done) is ends = tt
-third_err before after (Err error) is ends = ends error (some_from_result after.error error is)
-
 pub third_ok : {P : Type 0} (after : State) (answer : Result (Unit {0}) yaml_error_t) → answer ≡ result_of_error after.error → (after.error ≡ None → P)
     → OnOk answer P
 third_ok after (Ok done) is ends = ends (none_from_result after.error is)
 third_ok after (Err error) is ends = tt
+
+module _ (implicit : Bool) where
+  -- what ends the stream
+  abbrev closing : List Event
+  closing = closing_by implicit
+
+  -- what stands at the end, once a third event was given
+  abbrev closed_twice : List Event
+  closed_twice = document_end implicit ∷ stream_end ∷ stream_end ∷ []
+
+  -- no start stands at the end
+  tail_none : (n : ℕ) → begins_with_start (drop n closed_twice) ≡ true → drop n closed_twice ≡ []
+  tail_none zero starts = cc
+  tail_none (suc zero) starts = cc
+  tail_none (suc (suc zero)) starts = cc
+  tail_none (suc (suc (suc n))) starts = drop_nil n [] refl
+
+  -- so no start is among the last three
+  few_none : (all : List Event) (n : ℕ) → begins_with_start (drop n (all ++ closed_twice)) ≡ true → length (drop n (all ++ closed_twice)) ≤ 3
+      → drop n (all ++ closed_twice) ≡ []
+  few_none [] n starts few = tail_none n starts
+  few_none (event ∷ all) zero starts few = absurd (omega (arith, few, length-append all closed_twice))
+  few_none (event ∷ all) (suc n) starts few = few_none all n starts few
+
+  module _ (canonical : Bool) (all : List Event) (unaccepted : IsAccepted canonical (all ++ closing) → ⊥) where
+    -- where the events are no stream, no stream begins with them
+    begins_none : BeginsAccepted canonical (all ++ closing) → ⊥
+    begins_none begins =
+        unaccepted
+        (subst (IsAccepted canonical) same (whole_accepted canonical (all ++ document_end implicit ∷ []) (subst (BeginsAccepted canonical) (sym same) begins)))
+      where
+        same : (all ++ document_end implicit ∷ []) ++ stream_end ∷ [] ≡ all ++ closing
+        same = append_assoc all (document_end implicit ∷ []) (stream_end ∷ [])
+
+    -- nor with one event more
+    pub accepts_none : IsAccepted canonical ((all ++ closing) ++ stream_end ∷ []) → ⊥
+    accepts_none accepted = begins_none (record { rest = stream_end ∷ []; accepted = accepted })
+
+    -- the refused event is none of the third call
+    pub refuses_shorter : (error : yaml_error_t) → RefusesOne canonical ((all ++ closing) ++ stream_end ∷ []) error
+        → RefusesOne canonical (all ++ closing) error
+    refuses_shorter error one = by one.later refl
+      where
+        at : (later : List Event) → one.prefix ++ one.event ∷ later ≡ all ++ closing → RefusesOne canonical (all ++ closing) error
+        at later parts = record {
+          prefix = one.prefix;
+          event = one.event;
+          later = later;
+          parts = parts;
+          begins = one.begins;
+          refusal = one.refusal;
+        }
+
+        is_all : (rest : List Event) → one.prefix ++ rest ≡ all ++ closing → one.later ≡ [] → one.prefix ≡ all ++ closing
+        is_all rest parts none =
+            let whole : one.prefix ++ one.event ∷ [] ≡ (all ++ closing) ++ stream_end ∷ [] = ap (λ later. one.prefix ++ one.event ∷ later) (sym none)
+            ∙ one.parts in
+            let nothing : rest ≡ [] =
+            nil_from_length rest
+            (omega (
+              arith,
+              ap length whole,
+              ap length parts,
+              length-append one.prefix (one.event ∷ []),
+              length-append one.prefix rest,
+              length-append (all ++ closing) (stream_end ∷ []),
+            )) in
+            sym (append-nil one.prefix) ∙ ap (λ rest. one.prefix ++ rest) (sym nothing) ∙ parts
+
+        by : (later : List Event) → one.later ≡ later → RefusesOne canonical (all ++ closing) error
+        by [] none =
+            let before = shorter one.prefix (one.event ∷ one.later) (all ++ closing) stream_end one.parts (λ is. cc) in
+            absurd (begins_none (subst (BeginsAccepted canonical) (is_all before.0 before.1 none) one.begins))
+        by (x ∷ later) some =
+            let longer = one.prefix ++ one.event ∷ [] in
+            let before =
+            shorter longer one.later (all ++ closing) stream_end (append_assoc one.prefix (one.event ∷ []) one.later ∙ one.parts)
+            (λ none. let is = sym none ∙ some in cc) in
+            at before.0 (sym (append_assoc one.prefix (one.event ∷ []) before.0) ∙ before.1)
+
+  -- the settings are told by the first event
+  settings_more : (given : Settings) (all more : List Event) → settings_for given ((all ++ closing) ++ more) ≡ settings_for given (all ++ closing)
+  settings_more given [] more = settings_grown given (document_end implicit) [] (stream_end ∷ []) closing more refl
+  settings_more given (event ∷ all) more = settings_grown given event [] (all ++ closing) (event ∷ (all ++ closing)) more refl
+
+  -- nor do their bytes pass the limit by the third event
+  passes_shorter : (given : Settings) (all : List Event) → (IsAccepted given.canonical (all ++ closing) → ⊥)
+      → PassesLimit given ((all ++ closing) ++ stream_end ∷ []) → PassesLimit given (all ++ closing)
+  passes_shorter given all unaccepted passes =
+      record {
+        prefix = passes.prefix;
+        later = before.0;
+        parts = before.1;
+        more = passes.more;
+        accepted = passes.accepted;
+        passed =
+            subst (λ (s : Effective). given.limit < length (bytes_written s (take (length passes.prefix) (list_layout s (passes.prefix ++ passes.more)))))
+            (settings_more given all (stream_end ∷ [])) passes.passed;
+        whole = λ accepted. absurd (unaccepted accepted);
+      }
+    where
+      not_all : passes.later ≡ [] → ⊥
+      not_all none =
+          let whole : passes.prefix ≡ (all ++ closing) ++ stream_end ∷ [] =
+          sym (append-nil passes.prefix) ∙ ap (λ later. passes.prefix ++ later) (sym none) ∙ passes.parts in
+          begins_none given.canonical all unaccepted
+          (record {
+            rest = stream_end ∷ passes.more;
+            accepted =
+                subst (IsAccepted given.canonical)
+                (ap (λ prefix. prefix ++ passes.more) whole ∙ append_assoc (all ++ closing) (stream_end ∷ []) passes.more) passes.accepted;
+          })
+
+      before : (rest : List Event) × (passes.prefix ++ rest ≡ all ++ closing)
+      before = shorter passes.prefix passes.later (all ++ closing) stream_end passes.parts not_all
+
+  -- the third event is answered with an error
+  pub third_fails : (given : Settings) (all : List Event) (state : State) → (IsAccepted given.canonical (all ++ closing) → ⊥)
+      → Promised given ((all ++ closing) ++ stream_end ∷ []) state → state.error ≡ None → ⊥
+  third_fails given all state unaccepted promised none =
+      accepts_none given.canonical all unaccepted ((promised.ends (ends_last (all ++ closing)) (subst HasRoom (sym none) tt)).1 (none, held))
+    where
+      same : (all ++ closing) ++ stream_end ∷ [] ≡ all ++ closed_twice
+      same = append_assoc all closing (stream_end ∷ [])
+
+      held : state.held ≡ []
+      held =
+          let waits = promised.held none in
+          let n = written ((all ++ closing) ++ stream_end ∷ []) in
+          let is : state.held ≡ drop n (all ++ closed_twice) = waits.held ∙ ap (drop n) same in
+          let few : length (drop n (all ++ closed_twice)) ≤ 3 = omega (arith, waits.few, most_few state.held, ap length is) in
+          is ∙ few_none all n (ap begins_with_start (sym is) ∙ waits.starts) few
+
+  -- what its error comes to
+  pub third_unfinished : (before after : State) (error : yaml_error_t) → ((earlier : yaml_error_t) → before.error ≡ Some earlier → ⊥)
+      → ((given : Settings) (all : List Event) → StandsAfter given all before → (IsAccepted given.canonical (all ++ closing) → ⊥)
+      × StandsAfter given ((all ++ closing) ++ stream_end ∷ []) after × Promised given ((all ++ closing) ++ stream_end ∷ []) after)
+      → after.error ≡ Some error → IsUnfinishedBy implicit before error
+  third_unfinished before after error none ends is = record {
+    first = λ earlier was. absurd (none earlier was);
+    full = λ full given all stands.
+        let ended = ends given all stands in
+        passes_shorter given all ended.0
+        (overflowed given ((all ++ closing) ++ stream_end ∷ []) after ended.1.so (is ∙ ap (λ (e : yaml_error_t). Some e) full));
+    refused = λ refusal given all stands.
+        let ended = ends given all stands in
+        let one = refuses_shorter given.canonical all ended.0 error (one_of given all ended.2 refusal) in
+        record {
+          unaccepted = ended.0;
+          named = one;
+          missing = λ node. misses given.canonical (all ++ closing) (subst (RefusesOne given.canonical (all ++ closing)) node one);
+        };
+  }
+    where
+      one_of : (given : Settings) (all : List Event) → Promised given ((all ++ closing) ++ stream_end ∷ []) after → IsRefusal error
+          → RefusesOne given.canonical ((all ++ closing) ++ stream_end ∷ []) error
+      one_of given all promised refusal = refuses_one given ((all ++ closing) ++ stream_end ∷ []) error after (promised.refused error is refusal)
+
+  -- by the answer of the third call
+  pub third_err : (before after : State) (answer : Result (Unit {0}) yaml_error_t) → answer ≡ result_of_error after.error
+      → ((error : yaml_error_t) → after.error ≡ Some error → IsUnfinishedBy implicit before error) → IfErr answer (λ error. IsUnfinishedBy implicit before error)
+  third_err before after (Ok done) is ends = tt
+  third_err before after (Err error) is ends = ends error (some_from_result after.error error is)

@@ -12,7 +12,7 @@ use Rattle.yaml_emitter.specs.Promises.{IsRefusal}
 use Rattle.yaml_emitter.specs.StandsAfter.{StandsAfter}
 use Rattle.yaml_emitter.specs.State.{State}
 use Rattle.yaml_emitter.specs.Uncut.{IsUncut}
-use Rattle.yaml_writer.specs.Writing.{closing}
+use Rattle.yaml_writer.specs.Writing.{closing_by}
 
 -- one of some events is refused with this error; those before it begin a stream
 pub record RefusesOne (canonical : Bool) (all : List Event) (error : yaml_error_t) : Type 0 where
@@ -56,10 +56,14 @@ pub record PassesLimit (given : Settings) (all : List Event) : Type 0 where
       given.limit < length (bytes_written s (take (length prefix) (list_layout s (prefix ++ more))))
   pub whole : IsAccepted given.canonical all → IsUncut given all → ⊥
 
--- the stream of an emitter couldn't be finished with this error: its first error stays; the limit gave out only where the bytes
+-- the stream of an emitter couldn't be finished with this error, by an end that is written or isn't: its first error stays; the limit gave out only where the bytes
 -- pass it; an error of events comes only where they are no stream
-pub record IsUnfinished (emitter : State) (error : yaml_error_t) : Type 0 where
+pub record IsUnfinishedBy (implicit : Bool) (emitter : State) (error : yaml_error_t) : Type 0 where
   pub first : (earlier : yaml_error_t) → emitter.error ≡ Some earlier → error ≡ earlier
-  pub full : error ≡ WriteError → (given : Settings) (all : List Event) → StandsAfter given all emitter → PassesLimit given (all ++ closing)
+  pub full : error ≡ WriteError → (given : Settings) (all : List Event) → StandsAfter given all emitter → PassesLimit given (all ++ closing_by implicit)
   pub refused : IsRefusal error → (given : Settings) (all : List Event) → StandsAfter given all emitter
-      → IsNoStream given.canonical (all ++ closing) error
+      → IsNoStream given.canonical (all ++ closing_by implicit) error
+
+-- and so where the document's end isn't written
+abbrev pub IsUnfinished : State → yaml_error_t → Type 0
+IsUnfinished = IsUnfinishedBy true

@@ -1,5 +1,5 @@
 -- What the calls of a writer give to its emitter.
-use Rattle.std.specs.Prelude.{◌≡◌, ◌⊎◌, ℕ, ℤ, Bool, true, Option, None, Some, Result, Err, List, [], ◌∷◌, ◌++◌, ◌||◌, codes, is_none, is_some, length}
+use Rattle.std.specs.Prelude.{◌≡◌, ◌⊎◌, ℕ, ℤ, Bool, true, false, Option, None, Some, Result, Err, List, [], ◌∷◌, ◌++◌, ◌||◌, codes, is_none, is_some, length}
 use Rattle.std.specs.Prelude.{if◌then◌else◌}
 use Rattle.std.specs.Fmt.{signed_decimal}
 use Rattle.std.specs.List.{list_any}
@@ -21,6 +21,8 @@ use Rattle.yaml_emitter.specs.StandsAfter.{StandsAfter}
 use Rattle.yaml_emitter.specs.Promises.{IsWritten}
 use Rattle.yaml_writer.specs.declared.kinds.CollectionKind.{CollectionKind}
 use Rattle.yaml_writer.specs.declared.kinds.CollectionKind.TheVariants.{Mapping, Sequence}
+use Rattle.yaml_writer.specs.declared.kinds.DocumentEnd.{DocumentEnd}
+use Rattle.yaml_writer.specs.declared.kinds.DocumentEnd.TheVariants.{Implicit, Explicit}
 
 -- the emitter; whether it writes canonical form; the collections that are open, the innermost last; the anchor and the tag
 -- of the next node
@@ -41,9 +43,18 @@ plain_start = document_start (record { version = None; directives = []; implicit
 abbrev pub opening : List Event
 opening = stream_start None ∷ plain_start ∷ []
 
+-- an end that isn't written
+abbrev pub is_implicit : DocumentEnd → Bool
+is_implicit Implicit = true
+is_implicit Explicit = false
+
+-- what ends a stream within a document, by an end that is written or isn't
+abbrev pub closing_by : (implicit : Bool) → List Event
+closing_by implicit = document_end implicit ∷ stream_end ∷ []
+
 -- what ends a stream within a document
 abbrev pub closing : List Event
-closing = document_end true ∷ stream_end ∷ []
+closing = closing_by true
 
 -- a tag that was given, else this one in canonical form, where each scalar stands in quotes
 abbrev pub tag_or_default : Option Text → Bool → Text → Option Text
@@ -198,6 +209,10 @@ pub record IsStream (given : Settings) (all : List Event) (bytes : List ℕ) : T
   pub output : bytes ≡ state.page.output
 
 -- wherever the emitter stood, what was taken and then these bytes are the output of its events and the stream's end
+abbrev pub FinishesBy : (implicit : Bool) → State → List ℕ → Type 0
+FinishesBy implicit emitter bytes =
+    (given : Settings) (all : List Event) (sent : List ℕ) → StandsTaken given all sent emitter → IsStream given (all ++ closing_by implicit) (sent ++ bytes)
+
+-- and so where the end isn't written
 abbrev pub Finishes : State → List ℕ → Type 0
-Finishes emitter bytes =
-    (given : Settings) (all : List Event) (sent : List ℕ) → StandsTaken given all sent emitter → IsStream given (all ++ closing) (sent ++ bytes)
+Finishes = FinishesBy true

@@ -5,10 +5,11 @@ ghost use Rattle.yaml_base.specs.Seen.{seen_event, seen_mapping_style, seen_scal
 ghost use Rattle.yaml_base.specs.Settings.{Settings};
 ghost use Rattle.yaml_pen.specs.Page.{output_left, result_of_error};
 ghost use Rattle.yaml_pen.specs.Wrote.{Grows};
-ghost use Rattle.yaml_writer.specs.Unfinished.{IsUnfinished};
-ghost use Rattle.yaml_writer.specs.Writing.{AddsEvent, AddsEvents, Finishes, StandsTaken, end_event, opening, plain_start as document_begins};
+ghost use Rattle.yaml_writer.specs.Unfinished.{IsUnfinishedBy};
+ghost use Rattle.yaml_writer.specs.Writing.{AddsEvent, AddsEvents, FinishesBy, StandsTaken, end_event, opening, plain_start as document_begins};
+ghost use Rattle.yaml_writer.specs.Writing as writing;
 
-use crate::kinds::CollectionKind;
+use crate::kinds::{CollectionKind, DocumentEnd, is_implicit};
 use std::alloc::Allocator;
 use yaml_base::{
     YAML_ALIAS_EVENT, YAML_ANY_ENCODING, YAML_DOCUMENT_END_EVENT, YAML_DOCUMENT_START_EVENT,
@@ -188,24 +189,30 @@ pub(crate) fn give_alias<A: Allocator + Copy>(
 pub(crate) fn give_next<A: Allocator + Copy>(
     alloc: A,
     emitter: &mut yaml_emitter_t<A>,
+    end: DocumentEnd,
 ) -> Result<(), yaml_error_t>
     requires output { emitter.old.has_output ≡ true }
-    ensures adds { AddsEvents emitter.old (document_end true ∷ document_begins ∷ []) emitter.new }
+    ensures adds { AddsEvents emitter.old (document_end (writing.is_implicit end) ∷ document_begins ∷ []) emitter.new }
     ensures grows { Grows emitter.old.page emitter.new.page }
     ensures answered { result ≡ result_of_error emitter.new.error }
     ensures output { emitter.new.has_output ≡ true }
 {
-    let _ = give(emitter, YAML_DOCUMENT_END_EVENT { implicit: true });
+    let implicit = is_implicit(end);
+    let _ = give(emitter, YAML_DOCUMENT_END_EVENT { implicit });
     give(emitter, plain_start(alloc))
 }
 
 /// Ends the document and the stream. An error that was there before stays.
-fn end_stream<A: Allocator + Copy>(emitter: &mut yaml_emitter_t<A>) -> Result<(), yaml_error_t>
+fn end_stream<A: Allocator + Copy>(
+    emitter: &mut yaml_emitter_t<A>,
+    end: DocumentEnd,
+) -> Result<(), yaml_error_t>
     requires output { emitter.old.has_output ≡ true }
-    ensures finishes { OnOk result (Finishes emitter.old (output_left emitter.new.page)) }
-    ensures unfinished { IfErr result (λ error. IsUnfinished emitter.old error) }
+    ensures finishes { OnOk result (FinishesBy (writing.is_implicit end) emitter.old (output_left emitter.new.page)) }
+    ensures unfinished { IfErr result (λ error. IsUnfinishedBy (writing.is_implicit end) emitter.old error) }
 {
-    let _ = yaml_emitter_emit(emitter, YAML_DOCUMENT_END_EVENT { implicit: true });
+    let implicit = is_implicit(end);
+    let _ = yaml_emitter_emit(emitter, YAML_DOCUMENT_END_EVENT { implicit });
     yaml_emitter_emit(emitter, YAML_STREAM_END_EVENT)?;
     if emitter.held() > 0 {
         // The start of a mapping waits. One event more decides what is refused: it, or the document's end after it.
@@ -217,11 +224,12 @@ fn end_stream<A: Allocator + Copy>(emitter: &mut yaml_emitter_t<A>) -> Result<()
 /// Ends the document and the stream, and flushes the bytes that weren't taken before.
 pub(crate) fn finished<A: Allocator + Copy>(
     emitter: &mut yaml_emitter_t<A>,
+    end: DocumentEnd,
 ) -> Result<Vec<u8, A>, yaml_error_t>
     requires output { emitter.old.has_output ≡ true }
-    ensures finishes { IfOk result (λ bytes. Finishes emitter.old bytes.items) }
-    ensures unfinished { IfErr result (λ error. IsUnfinished emitter.old error) }
+    ensures finishes { IfOk result (λ bytes. FinishesBy (writing.is_implicit end) emitter.old bytes.items) }
+    ensures unfinished { IfErr result (λ error. IsUnfinishedBy (writing.is_implicit end) emitter.old error) }
 {
-    end_stream(emitter)?;
+    end_stream(emitter, end)?;
     Ok(yaml_emitter_take_output(emitter))
 }

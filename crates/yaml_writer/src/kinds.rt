@@ -1,4 +1,6 @@
-//! Kinds of collections.
+//! Kinds of collections, and ends of documents.
+ghost use Rattle.std.specs.Prelude.{◌≡◌};
+ghost use Rattle.yaml_writer.specs.Writing as writing;
 
 /// What kind a collection is of.
 #[derive(Clone, Copy, PartialEq, Eq, Debug)]
@@ -7,4 +9,23 @@ pub enum CollectionKind {
     Mapping,
     /// Items.
     Sequence,
+}
+
+/// How the end of a document is written.
+#[derive(Clone, Copy, PartialEq, Eq, Debug)]
+pub enum DocumentEnd {
+    /// Not at all: what follows tells it, another document or the end of the stream.
+    Implicit,
+    /// As `...`, so that a reader knows it before anything follows.
+    Explicit,
+}
+
+/// Whether an end isn't written.
+pub(crate) fn is_implicit(end: DocumentEnd) -> bool
+    ensures { result ≡ writing.is_implicit end }
+{
+    match end {
+        DocumentEnd::Implicit => true,
+        DocumentEnd::Explicit => false,
+    }
 }

@@ -17,7 +17,7 @@ mod words;
 mod writer;
 
 pub use floats::SpecialFloat;
-pub use kinds::CollectionKind;
+pub use kinds::{CollectionKind, DocumentEnd};
 pub use laws::{
     numbers_are_read, plain_texts_are_texts, special_floats_are_read, surely_text_is_text,
     written_numbers_are_read,

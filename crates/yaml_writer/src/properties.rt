@@ -1,9 +1,10 @@
 //! Properties of nodes, aliases, and further documents of a writer.
 ghost use Rattle.std.specs.Prelude.{◌≡◌, ◌⊎◌, IfErr, OnOk, Err, Some, [], ◌∷◌, true, false, chars};
 ghost use Rattle.yaml_base.specs.Event as event;
-ghost use Rattle.yaml_writer.specs.Writing.{NodeExpected, PassedEvents, awaits_node, plain_start};
+ghost use Rattle.yaml_writer.specs.Writing.{NodeExpected, PassedEvents, awaits_node, is_implicit, plain_start};
 
 use crate::giving::{give_alias, give_next};
+use crate::kinds::DocumentEnd;
 use crate::scalars::text_of;
 use crate::writer::Writer;
 use std::alloc::Allocator;
@@ -60,10 +61,21 @@ impl<A: Allocator + Copy> Writer<A> {
         ensures awaited { awaits_node self.old ≡ true → NodeExpected self.old result self.new }
         ensures passed { awaits_node self.old ≡ false → PassedEvents self.old (event.document_end true ∷ plain_start ∷ []) result self.new }
     {
+        self.next_document_after(DocumentEnd::Implicit)
+    }
+
+    /// Ends the document, where asked by `...`, and begins another.
+    ///
+    /// # Errors
+    /// Those of `next_document`.
+    pub fn next_document_after(&mut self, end: DocumentEnd) -> Result<(), yaml_error_t>
+        ensures awaited { awaits_node self.old ≡ true → NodeExpected self.old result self.new }
+        ensures passed { awaits_node self.old ≡ false → PassedEvents self.old (event.document_end (is_implicit end) ∷ plain_start ∷ []) result self.new }
+    {
         if self.awaits_node() {
             Err(yaml_error_t::ExpectedNode)
         } else {
-            give_next(self.alloc, &mut self.emitter)
+            give_next(self.alloc, &mut self.emitter, end)
         }
     }
 }

@@ -6,11 +6,11 @@ ghost use Rattle.std.specs.Option.{option_or};
 ghost use Rattle.yaml_emitter.specs.State.{with_all_taken};
 ghost use Rattle.yaml_pen.specs.Page.{output_left};
 ghost use Rattle.yaml_writer.specs.Given.{seen_settings};
-ghost use Rattle.yaml_writer.specs.Unfinished.{IsUnfinished};
-ghost use Rattle.yaml_writer.specs.Writing.{Finishes, GaveEvent, StandsTaken, TakesBytes, awaits_node, opening, scalar_event};
+ghost use Rattle.yaml_writer.specs.Unfinished.{IsUnfinished, IsUnfinishedBy};
+ghost use Rattle.yaml_writer.specs.Writing.{Finishes, FinishesBy, GaveEvent, StandsTaken, TakesBytes, awaits_node, is_implicit, opening, scalar_event};
 
 use crate::giving::{begin, finished, give_scalar};
-use crate::kinds::CollectionKind;
+use crate::kinds::{CollectionKind, DocumentEnd};
 use crate::settings::{Settings, emitter_of};
 use std::alloc::Allocator;
 use std::io;
@@ -128,14 +128,26 @@ impl<A: Allocator + Copy> Writer<A> {
     /// `ExpectedNode` where an anchor or a tag awaits its node. Else the first error of the emitter, as `ExpectedNode` where a
     /// document has no root, or a collection is still open. `WriteError` where the bytes pass the limit. `Memory` where an
     /// allocation fails.
-    pub fn finish(mut self) -> Result<Vec<u8, A>, yaml_error_t>
+    pub fn finish(self) -> Result<Vec<u8, A>, yaml_error_t>
         ensures awaited { awaits_node self ≡ true → result ≡ Err yaml_error_t.ExpectedNode }
         ensures finishes { IfOk result (λ bytes. Finishes self.emitter bytes.items) }
         ensures unfinished { awaits_node self ≡ false → IfErr result (λ error. IsUnfinished self.emitter error) }
     {
+        self.finish_after(DocumentEnd::Implicit)
+    }
+
+    /// What `finish` returns, where the document's end is asked for as `...`.
+    ///
+    /// # Errors
+    /// Those of `finish`.
+    pub fn finish_after(mut self, end: DocumentEnd) -> Result<Vec<u8, A>, yaml_error_t>
+        ensures awaited { awaits_node self ≡ true → result ≡ Err yaml_error_t.ExpectedNode }
+        ensures finishes { IfOk result (λ bytes. FinishesBy (is_implicit end) self.emitter bytes.items) }
+        ensures unfinished { awaits_node self ≡ false → IfErr result (λ error. IsUnfinishedBy (is_implicit end) self.emitter error) }
+    {
         if self.awaits_node() {
             return Err(yaml_error_t::ExpectedNode);
         }
-        finished(&mut self.emitter)
+        finished(&mut self.emitter, end)
     }
 }

@@ -1,61 +1,67 @@
-use Rattle.std.proofs.Common.{[], ◌∷◌, ◌++◌, ◌∙◌, ap, true, Err, IfErr, subst, sym}
+use Rattle.std.proofs.Common.{Bool, [], ◌∷◌, ◌++◌, ◌∙◌, ap, Err, IfErr, subst, sym}
 use Rattle.std.proofs.lemmas.Result.{err_from_is_err_and}
 use Rattle.yaml_base.specs.Event.{document_end, stream_end}
 use Rattle.yaml_emitter.proofs.standing.StandingMore.{some_from_result}
 use Rattle.yaml_pen.proofs.Writing.{none_from_result}
+use Rattle.yaml_pen.specs.Page.{output_left}
 use Rattle.yaml_writer.proofs.Finishing.{closed, closed_stands, error_kept, failed_unfinished, none_waits, rest_finished, some_waits, waiting_unaccepted}
 use Rattle.yaml_writer.proofs.Taken.{still_taken}
-use Rattle.yaml_writer.specs.Unfinished.{IsUnfinished}
+use Rattle.yaml_writer.specs.Unfinished.{IsUnfinishedBy}
 use Rattle.yaml_writer.proofs.WaitingStarts.{no_earlier, third_err, third_fails, third_ok, third_unfinished}
-use Rattle.yaml_writer.specs.Writing.{closing}
+use Rattle.yaml_writer.specs.Writing.{FinishesBy, closing_by, is_implicit}
 use Rattle.yaml_writer.proofs.giving.end_stream.Goals as goal
 
 pub returns-in_err-yaml_emitter_emit-clause-unfinished : goal.returns-in_err-yaml_emitter_emit-clause-unfinished
 returns-in_err-yaml_emitter_emit-clause-unfinished g c =
+    let implicit = c.is_implicit-implicit.result in
     let before = c.args.emitter.now in
     let between = c.yaml_emitter_emit.new.emitter in
     let after = c.yaml_emitter_emit-2.new.emitter in
     let error = c.in_err-yaml_emitter_emit.field-0.0 in
     let told = err_from_is_err_and c.from_residual.result c.from_residual.ensures.1 in
-    subst (λ answer. IfErr answer (λ error. IsUnfinished before error)) (sym (told.1 ∙ ap (λ e. Err e) told.2))
-    (failed_unfinished before after error
+    subst (λ answer. IfErr answer (λ error. IsUnfinishedBy (is_implicit c.args.end) before error)) (sym (told.1 ∙ ap (λ e. Err e) told.2))
+    (subst (λ (end : Bool). IsUnfinishedBy end before error) c.is_implicit-implicit.ensures
+    (failed_unfinished implicit before after error
     (λ error is.
     error_kept between after error c.yaml_emitter_emit-2.ensures.kept (error_kept before between error c.yaml_emitter_emit.ensures.kept is))
     (λ given all stands.
     let ended = c.yaml_emitter_emit.ensures.stands given all stands in (
-      closed_stands given all after (c.yaml_emitter_emit-2.ensures.stands given (all ++ document_end true ∷ []) ended),
-      closed given all after (c.yaml_emitter_emit-2.ensures.promised given (all ++ document_end true ∷ []) ended),
+      closed_stands implicit given all after (c.yaml_emitter_emit-2.ensures.stands given (all ++ document_end implicit ∷ []) ended),
+      closed implicit given all after (c.yaml_emitter_emit-2.ensures.promised given (all ++ document_end implicit ∷ []) ended),
     ))
-    (some_from_result after.error error c.in_err-yaml_emitter_emit.ensures.answered))
+    (some_from_result after.error error c.in_err-yaml_emitter_emit.ensures.answered)))
 
 pub returns-then-held-gt0-clause-unfinished : goal.returns-then-held-gt0-clause-unfinished
 returns-then-held-gt0-clause-unfinished g c =
+    let implicit = c.is_implicit-implicit.result in
     let before = c.args.emitter.now in
     let between = c.yaml_emitter_emit.new.emitter in
     let closed_once = c.yaml_emitter_emit-2.new.emitter in
     let after = c.yaml_emitter_emit-then-held-gt0.new.emitter in
     let none = none_from_result closed_once.error c.in_ok-yaml_emitter_emit.ensures.answered in
     let some = some_waits c.held.result closed_once.held c.if-held-gt0.true c.held.ensures in
-    third_err before after c.yaml_emitter_emit-then-held-gt0.result c.yaml_emitter_emit-then-held-gt0.ensures.answered
+    subst (λ (end : Bool). IfErr c.yaml_emitter_emit-then-held-gt0.result (λ error. IsUnfinishedBy end before error)) c.is_implicit-implicit.ensures
+    (third_err implicit before after c.yaml_emitter_emit-then-held-gt0.result c.yaml_emitter_emit-then-held-gt0.ensures.answered
     (λ error is.
-    third_unfinished before after error
+    third_unfinished implicit before after error
     (no_earlier before closed_once
     (λ earlier was.
     error_kept between closed_once earlier c.yaml_emitter_emit-2.ensures.kept (error_kept before between earlier c.yaml_emitter_emit.ensures.kept was))
     none)
     (λ given all stands.
     let ended = c.yaml_emitter_emit.ensures.stands given all stands in
-    let with_end = all ++ document_end true ∷ [] in
-    let stood = closed_stands given all closed_once (c.yaml_emitter_emit-2.ensures.stands given with_end ended) in
-    let promised = closed given all closed_once (c.yaml_emitter_emit-2.ensures.promised given with_end ended) in (
-      waiting_unaccepted given all closed_once promised none some,
-      c.yaml_emitter_emit-then-held-gt0.ensures.stands given (all ++ closing) stood,
-      c.yaml_emitter_emit-then-held-gt0.ensures.promised given (all ++ closing) stood,
+    let with_end = all ++ document_end implicit ∷ [] in
+    let stood = closed_stands implicit given all closed_once (c.yaml_emitter_emit-2.ensures.stands given with_end ended) in
+    let promised = closed implicit given all closed_once (c.yaml_emitter_emit-2.ensures.promised given with_end ended) in (
+      waiting_unaccepted implicit given all closed_once promised none some,
+      c.yaml_emitter_emit-then-held-gt0.ensures.stands given (all ++ closing_by implicit) stood,
+      c.yaml_emitter_emit-then-held-gt0.ensures.promised given (all ++ closing_by implicit) stood,
     ))
-    is)
+    is))
 
 pub returns-then-held-gt0-clause-finishes : goal.returns-then-held-gt0-clause-finishes
 returns-then-held-gt0-clause-finishes g c =
+    let implicit = c.is_implicit-implicit.result in
     let before = c.args.emitter.now in
     let between = c.yaml_emitter_emit.new.emitter in
     let closed_once = c.yaml_emitter_emit-2.new.emitter in
@@ -65,19 +71,22 @@ returns-then-held-gt0-clause-finishes g c =
     third_ok after c.yaml_emitter_emit-then-held-gt0.result c.yaml_emitter_emit-then-held-gt0.ensures.answered
     (λ unfailed given all sent stands.
     let ended = c.yaml_emitter_emit.ensures.stands given all stands.stands in
-    let with_end = all ++ document_end true ∷ [] in
-    let stood = closed_stands given all closed_once (c.yaml_emitter_emit-2.ensures.stands given with_end ended) in
-    let promised = closed given all closed_once (c.yaml_emitter_emit-2.ensures.promised given with_end ended) in
+    let with_end = all ++ document_end implicit ∷ [] in
+    let stood = closed_stands implicit given all closed_once (c.yaml_emitter_emit-2.ensures.stands given with_end ended) in
+    let promised = closed implicit given all closed_once (c.yaml_emitter_emit-2.ensures.promised given with_end ended) in
     absurd
-    (third_fails given all after (waiting_unaccepted given all closed_once promised none some)
-    (c.yaml_emitter_emit-then-held-gt0.ensures.promised given (all ++ closing) stood) unfailed))
+    (third_fails implicit given all after (waiting_unaccepted implicit given all closed_once promised none some)
+    (c.yaml_emitter_emit-then-held-gt0.ensures.promised given (all ++ closing_by implicit) stood) unfailed))
 
 pub returns-clause-finishes : goal.returns-clause-finishes
-returns-clause-finishes g c given all sent stands =
+returns-clause-finishes g c =
+    let implicit = c.is_implicit-implicit.result in
     let before = c.args.emitter.now in
     let between = c.yaml_emitter_emit.new.emitter in
     let after = c.yaml_emitter_emit-2.new.emitter in
-    let with_end = all ++ document_end true ∷ [] in
+    subst (λ (end : Bool). FinishesBy end before (output_left after.page)) c.is_implicit-implicit.ensures
+    (λ given all sent stands.
+    let with_end = all ++ document_end implicit ∷ [] in
     let with_both = with_end ++ stream_end ∷ [] in
     let ended =
     still_taken given all with_end sent before between stands c.yaml_emitter_emit.ensures.set c.yaml_emitter_emit.ensures.grows
@@ -85,6 +94,6 @@ returns-clause-finishes g c given all sent stands =
     let closes =
     still_taken given with_end with_both sent between after ended c.yaml_emitter_emit-2.ensures.set c.yaml_emitter_emit-2.ensures.grows
     (c.yaml_emitter_emit-2.ensures.stands given with_end ended.stands) in
-    rest_finished given all with_both sent after closes (closed given all after (c.yaml_emitter_emit-2.ensures.promised given with_end ended.stands))
+    rest_finished implicit given all with_both sent after closes (closed implicit given all after (c.yaml_emitter_emit-2.ensures.promised given with_end ended.stands))
     (none_from_result after.error c.in_ok-yaml_emitter_emit.ensures.answered)
-    (none_waits c.held.result after.held c.if-held-gt0.false c.held.ensures)
+    (none_waits c.held.result after.held c.if-held-gt0.false c.held.ensures))

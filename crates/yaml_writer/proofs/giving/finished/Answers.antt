@@ -1,6 +1,6 @@
 use Rattle.std.proofs.Common.{sym, subst}
-use Rattle.yaml_writer.specs.Writing.{Finishes}
+use Rattle.yaml_writer.specs.Writing.{FinishesBy, is_implicit}
 use Rattle.yaml_writer.proofs.giving.finished.Goals as goal
 
 pub returns-clause-finishes : goal.returns-clause-finishes
-returns-clause-finishes g c = subst (Finishes c.args.emitter.now) (sym c.yaml_emitter_take_output.ensures.rest) c.in_ok-end_stream.ensures.finishes
+returns-clause-finishes g c = subst (FinishesBy (is_implicit c.args.end) c.args.emitter.now) (sym c.yaml_emitter_take_output.ensures.rest) c.in_ok-end_stream.ensures.finishes

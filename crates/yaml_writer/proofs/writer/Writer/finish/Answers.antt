@@ -1,7 +1,0 @@
-use Rattle.std.proofs.Common.{IfOk, subst}
-use Rattle.yaml_writer.specs.Writing.{Finishes, WriterState}
-use Rattle.yaml_writer.proofs.writer.Writer.finish.Goals as goal
-
-pub returns-clause-finishes : goal.returns-clause-finishes
-returns-clause-finishes g c =
-    subst (λ (writer : WriterState). IfOk c.finished.result (λ bytes. Finishes writer.emitter bytes.items)) c.self.view_is c.finished.ensures.finishes
