@@ -9,6 +9,8 @@ mod writers;
 
 use std::alloc::{Allocator, Global};
 use std::fmt::Debug;
+use std::io;
+use std::io::Write;
 use std::process::Abort;
 use yaml_base::yaml_error_t;
 use yaml_writer::Writer;
@@ -53,5 +55,37 @@ fn answers<A: Allocator>(
     match answer {
         Ok(bytes) => came(rt, bytes.as_slice(), wanted),
         Err(error) => equal(rt, &Some(error), &wanted.err()),
+    }
+}
+
+/// A sink that takes at most three bytes at once, and so many in all.
+#[derive(Drop)]
+struct Narrow {
+    taken: Vec<u8>,
+    room: usize,
+}
+
+impl Narrow {
+    fn new(alloc: Global, room: usize) -> Narrow {
+        Narrow {
+            taken: Vec::new(alloc),
+            room,
+        }
+    }
+}
+
+impl Write for Narrow {
+    fn write(&mut self, bytes: &[u8]) -> io::Result<usize> {
+        let count = bytes.len().min(3).min(self.room);
+        if count == 0 {
+            return Err(io::Error::from(io::ErrorKind::StorageFull));
+        }
+        self.taken.extend_from_slice(&bytes[..count])?;
+        self.room -= count;
+        Ok(count)
+    }
+
+    fn flush(&mut self) -> io::Result<()> {
+        Ok(())
     }
 }

@@ -3,14 +3,16 @@ mod kinds;
 mod lists;
 mod parts;
 mod refused;
+mod sending;
+mod styles;
 mod texts;
 
 use crate::tests::{Answer, answers, equal, finished};
 use std::alloc::Global;
 use std::process::Abort;
 use yaml_writer::{
-    Settings, Writer, YAML_BLOCK_MAPPING_STYLE, YAML_BLOCK_SEQUENCE_STYLE,
-    YAML_FLOW_SEQUENCE_STYLE, number_of, yaml_error_t,
+    DocumentEnd, Settings, Writer, YAML_BLOCK_MAPPING_STYLE, YAML_BLOCK_SEQUENCE_STYLE,
+    YAML_FLOW_SEQUENCE_STYLE, number_of, yaml_error_t, yaml_scalar_style_t,
 };
 
 /// A call of a writer.
@@ -24,6 +26,8 @@ enum Call {
     Mapping,
     End,
     Next,
+    /// Ends a document with `...`, and begins another.
+    NextAfterEnd,
     Anchored(&'static str),
     Tagged(&'static str),
     Alias(&'static str),
@@ -32,6 +36,7 @@ enum Call {
     Int(i64),
     Unsigned(u64),
     Text(&'static str),
+    Styled(yaml_scalar_style_t, &'static str),
     /// The number of JSON that a text is.
     Number(&'static str),
 }
@@ -51,6 +56,7 @@ fn give(writer: &mut Writer<Global>, call: &Call) -> Result<(), yaml_error_t> {
         Call::Mapping => writer.begin_mapping(YAML_BLOCK_MAPPING_STYLE),
         Call::End => writer.end(),
         Call::Next => writer.next_document(),
+        Call::NextAfterEnd => writer.next_document_after(DocumentEnd::Explicit),
         Call::Anchored(name) => writer.anchored(name),
         Call::Tagged(tag) => writer.tagged(tag),
         Call::Alias(name) => writer.alias(name),
@@ -59,6 +65,7 @@ fn give(writer: &mut Writer<Global>, call: &Call) -> Result<(), yaml_error_t> {
         Call::Int(value) => writer.int(*value),
         Call::Unsigned(value) => writer.unsigned(*value),
         Call::Text(text) => writer.text(text),
+        Call::Styled(style, text) => writer.text_styled(*style, text),
         Call::Number(text) => give_number(writer, text),
     }
 }
