@@ -10,7 +10,7 @@ mod streams;
 mod taking;
 
 use crate::tests::{equal, same};
-use std::alloc::Allocator;
+use std::alloc::{Allocator, Global};
 use std::process::Abort;
 use streams::{Given, event};
 use yaml_base::{
@@ -21,6 +21,7 @@ use yaml_emitter::{
     yaml_emitter_set_encoding, yaml_emitter_set_output_string, yaml_emitter_set_unicode,
     yaml_emitter_set_width, yaml_emitter_t,
 };
+use yaml_test_allocator::Refusing;
 
 pub(super) type Answer = Result<(), yaml_error_t>;
 
@@ -151,6 +152,20 @@ pub(super) fn check_failed<A: Allocator + Copy>(
     check_refused(rt, emitter, YAML_STREAM_END_EVENT, error);
     check_flush_refused(rt, emitter, error);
     check_kept(rt, emitter, error);
+}
+
+/// A call answers so; the call in which a growth was refused, and each after it, that there is no memory.
+pub(super) fn check_answer(
+    rt: &impl Abort,
+    heap: &Refusing<Global>,
+    answer: Answer,
+    wanted: &Answer,
+) {
+    if heap.left() == 0 {
+        equal(rt, &answer, &Err(yaml_error_t::Memory));
+    } else {
+        equal(rt, &answer, wanted);
+    }
 }
 
 /// A growth was refused: what was flushed begins the whole, and each call answers the error.

@@ -1,20 +1,34 @@
-//! Documents of many nodes dumped.
+//! Documents of many nodes dumped: with each growth refused where there are some hundred, else with some of them refused.
 use super::Given::{Sequence, Text};
 use super::events::events_of;
 use super::steps::Step::{Close, Dump, Output};
-use super::steps::check_steps;
-use super::{Given, add, document, dump, in_each_other, nodes};
-use crate::tests::emitters::{Setting, UNSET, made};
-use crate::tests::equal;
+use super::steps::{check_steps, check_steps_at};
+use super::{Given, document, nodes};
+use crate::tests::emitters::{Setting, UNSET};
+use crate::tests::{equal, joined};
 use std::alloc::Global;
 use std::process::Abort;
-use yaml_base::{yaml_error_t, yaml_node_t};
-use yaml_emitter::yaml_emitter_t;
+use yaml_base::yaml_error_t;
 
-// A dump of these nodes gives this text.
-fn check_text<'a>(rt: &impl Abort, alloc: Global, given: &'a [Given<'a>], text: &'a str) {
-    let steps = [Dump(given, Ok(())), Close(Ok(())), Output(text.as_bytes())];
-    check_steps(rt, alloc, &UNSET, &steps);
+/// Sequences of so many of these numbers each.
+fn sequences<'a>(
+    rt: &impl Abort,
+    alloc: Global,
+    numbers: &'a [i32],
+    size: usize,
+) -> Vec<Given<'a>> {
+    assert!(rt; size != 0);
+    let mut given = Vec::new(alloc);
+    for items in numbers.chunks(size) {
+        given.push(Sequence(items)).expect(rt, "no memory");
+    }
+    given
+}
+
+fn add_texts<'a>(rt: &impl Abort, given: &mut Vec<Given<'a>>, text: &'a str, count: usize) {
+    for _ in 0..count {
+        given.push(Text(text)).expect(rt, "no memory");
+    }
 }
 
 /// A line of an item, which is an anchor or an alias and what follows it.
@@ -37,26 +51,13 @@ fn add_item(
 const NESTED: usize = 40;
 
 /// The numbers of the second node to the last, each twice.
-fn pairs(rt: &impl Abort, alloc: Global) -> Vec<[i32; 2]> {
+fn pairs(rt: &impl Abort, alloc: Global) -> Vec<i32> {
     let mut pairs = Vec::new(alloc);
     for number in 2..=41 {
-        pairs.push([number, number]).expect(rt, "no memory");
+        pairs.push(number).expect(rt, "no memory");
+        pairs.push(number).expect(rt, "no memory");
     }
     pairs
-}
-
-/// The sequences, and a text in the innermost.
-fn twice_in_each_other<'a>(
-    rt: &impl Abort,
-    alloc: Global,
-    pairs: &'a [[i32; 2]],
-) -> Vec<Given<'a>> {
-    let mut given = Vec::new(alloc);
-    for pair in pairs {
-        given.push(Sequence(pair)).expect(rt, "no memory");
-    }
-    given.push(Text("a")).expect(rt, "no memory");
-    given
 }
 
 /// Anchors are numbered by second meetings, so from within.
@@ -72,82 +73,122 @@ fn nested_text(rt: &impl Abort, alloc: Global) -> String {
     text
 }
 
+// A dump of these nodes gives this text, with each growth refused.
+fn check_text<'a>(rt: &impl Abort, alloc: Global, given: &'a [Given<'a>], text: &'a str) {
+    let steps = [Dump(given, Ok(())), Close(Ok(())), Output(text.as_bytes())];
+    check_steps(rt, alloc, &UNSET, &steps);
+}
+
 // Of forty sequences: 80 starts and ends, the text once, an alias for each second meeting, and the document's own two.
 #[test]
 fn shared_nodes_in_each_other_are_written_once(rt: HostRuntime) {
     let alloc = rt.alloc();
     let pairs = pairs(&rt, alloc);
-    let given = twice_in_each_other(&rt, alloc, pairs.as_slice());
+    let mut given = sequences(&rt, alloc, pairs.as_slice(), 2);
+    add_texts(&rt, &mut given, "a", 1);
     let graph = document(&rt, alloc, nodes(&rt, alloc, given.as_slice()));
     equal(&rt, &events_of(&rt, alloc, &graph).len(), &123);
     let text = nested_text(&rt, alloc);
     check_text(&rt, alloc, given.as_slice(), text.as_str());
 }
 
-/// The numbers from 2 to 1,001.
-fn add_numbers(rt: &impl Abort, numbers: &mut Vec<i32>) {
-    for number in 2..=1_001 {
+/// The numbers from 2 to the last.
+fn numbers(rt: &impl Abort, alloc: Global, last: i32) -> Vec<i32> {
+    let mut numbers = Vec::new(alloc);
+    for number in 2..=last {
         numbers.push(number).expect(rt, "no memory");
     }
+    numbers
 }
 
-type Nodes = Vec<yaml_node_t<Global>>;
-
-fn add_shares(rt: &impl Abort, alloc: Global, nodes: &mut Nodes) {
-    let mut numbers = Vec::new(alloc);
-    add_numbers(rt, &mut numbers);
-    add_numbers(rt, &mut numbers);
-    add(rt, alloc, nodes, &Sequence(numbers.as_slice()));
+/// The numbers from 2 to the last, and then all again.
+fn doubled(rt: &impl Abort, alloc: Global, last: i32) -> Vec<i32> {
+    let mut doubled = numbers(rt, alloc, last);
+    let again = numbers(rt, alloc, last);
+    doubled
+        .extend_from_slice(again.as_slice())
+        .expect(rt, "no memory");
+    doubled
 }
 
-/// A sequence that holds each of a thousand texts twice.
-fn thousand_shared(rt: &impl Abort, alloc: Global) -> Nodes {
-    let mut nodes = Vec::new(alloc);
-    add_shares(rt, alloc, &mut nodes);
-    for _ in 0..1_000 {
-        add(rt, alloc, &mut nodes, &Text("x"));
+/// So many texts with their anchors, and as many aliases.
+fn shared_text(rt: &impl Abort, alloc: Global, count: usize) -> String {
+    let mut text = String::new(alloc);
+    for number in 1..=count {
+        add_item(rt, &mut text, (0, '&'), number, " x");
     }
-    nodes
-}
-
-// Lines, by their numbers from 0 on.
-fn check_lines(rt: &impl Abort, text: &str, count: usize, rows: &[(usize, &str)]) {
-    equal(rt, &text.lines().count(), &count);
-    for row in rows {
-        equal(rt, &text.lines().nth(row.0), &Some(row.1));
+    for number in 1..=count {
+        add_item(rt, &mut text, (0, '*'), number, "");
     }
-}
-
-const LINES: &[(usize, &str)] = &[
-    (0, "- &id001 x"),
-    (11, "- &id012 x"),
-    (998, "- &id999 x"),
-    (999, "- &id1000 x"),
-    (1_999, "- *id1000"),
-];
-
-fn dump_shared(rt: &impl Abort, alloc: Global, emitter: &mut yaml_emitter_t<Global>) {
-    let shared = document(rt, alloc, thousand_shared(rt, alloc));
-    equal(rt, &dump(rt, alloc, emitter, shared), &Ok(()));
-    let text = str::from_utf8(emitter.output()).unwrap_or("");
-    check_lines(rt, text, 2_000, LINES);
+    text
 }
 
 #[test]
+fn twenty_shared_texts_are_written_once(rt: HostRuntime) {
+    let alloc = rt.alloc();
+    let doubled = doubled(&rt, alloc, 21);
+    let mut given = sequences(&rt, alloc, doubled.as_slice(), 40);
+    add_texts(&rt, &mut given, "x", 20);
+    let text = shared_text(&rt, alloc, 20);
+    check_text(&rt, alloc, given.as_slice(), text.as_str());
+}
+
+/// The growths that are refused where there are many; the last stands for none.
+const REFUSED: &[usize] = &[
+    1,
+    2,
+    4,
+    8,
+    16,
+    32,
+    64,
+    128,
+    256,
+    512,
+    1_024,
+    2_048,
+    4_096,
+    usize::MAX,
+];
+
+#[test]
 fn anchors_past_999_have_four_digits(rt: HostRuntime) {
-    dump_shared(&rt, rt.alloc(), &mut made(&rt, rt.alloc(), &UNSET));
+    let alloc = rt.alloc();
+    let doubled = doubled(&rt, alloc, 1_001);
+    let mut given = sequences(&rt, alloc, doubled.as_slice(), 2_000);
+    add_texts(&rt, &mut given, "x", 1_000);
+    let text = shared_text(&rt, alloc, 1_000);
+    let steps = [
+        Dump(given.as_slice(), Ok(())),
+        Close(Ok(())),
+        Output(text.as_str().as_bytes()),
+    ];
+    check_steps_at(&rt, alloc, &UNSET, &steps, REFUSED);
+}
+
+#[test]
+fn forty_nodes_in_each_other_are_written(rt: HostRuntime) {
+    let alloc = rt.alloc();
+    let numbers = numbers(&rt, alloc, 40);
+    let mut given = sequences(&rt, alloc, numbers.as_slice(), 1);
+    add_texts(&rt, &mut given, "a", 1);
+    let signs = "- ".repeat(alloc, 39).expect(&rt, "no memory");
+    let text = joined(&rt, alloc, &[signs.as_str(), "a\n"]);
+    check_text(&rt, alloc, given.as_slice(), text.as_str());
 }
 
 const ENDLESS: Setting = Setting { width: -1, ..UNSET };
 
-// A million and one sequences, each the one item of the one before.
-fn dump_too_deep(rt: &impl Abort, alloc: Global, emitter: &mut yaml_emitter_t<Global>) {
-    let nested = in_each_other(rt, alloc, 1_000_001, &Sequence(&[]));
-    let answer = dump(rt, alloc, emitter, document(rt, alloc, nested));
-    equal(rt, &answer, &Err(yaml_error_t::TooDeep));
-}
+/// The tag of each event takes one, so the second comes while the events are emitted; the last stands for none.
+const REFUSED_OF_A_MILLION: &[usize] = &[1_000, 1_000_090, usize::MAX];
 
+// A million and one sequences, each the one item of the one before.
 #[test]
 fn too_many_nodes_in_each_other_are_refused(rt: HostRuntime) {
-    dump_too_deep(&rt, rt.alloc(), &mut made(&rt, rt.alloc(), &ENDLESS));
+    let alloc = rt.alloc();
+    let numbers = numbers(&rt, alloc, 1_000_001);
+    let mut given = sequences(&rt, alloc, numbers.as_slice(), 1);
+    given.push(Sequence(&[])).expect(&rt, "no memory");
+    let steps = [Dump(given.as_slice(), Err(yaml_error_t::TooDeep))];
+    check_steps_at(&rt, alloc, &ENDLESS, &steps, REFUSED_OF_A_MILLION);
 }

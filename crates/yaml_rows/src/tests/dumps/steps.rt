@@ -1,6 +1,6 @@
 //! Calls on one emitter, and what is then so, as tables write them; also with each growth refused in turn.
 use super::{Given, close, document, dump, nodes};
-use crate::tests::emitters::{Setting, begun, check_out_of_memory, give};
+use crate::tests::emitters::{Answer, Setting, begun, check_answer, check_out_of_memory, give};
 use crate::tests::{equal, same};
 use std::alloc::{Allocator, Global};
 use std::process::Abort;
@@ -11,8 +11,6 @@ use yaml_base::{
 use yaml_dump::yaml_emitter_open;
 use yaml_emitter::yaml_emitter_t;
 use yaml_test_allocator::Refusing;
-
-pub(super) type Answer = Result<(), yaml_error_t>;
 
 /// A call with its answer, or what stands after it.
 #[derive(Clone, Copy)]
@@ -76,15 +74,6 @@ fn dump_again<A: Allocator + Copy>(
     equal(rt, &answer, &Err(yaml_error_t::Memory));
     heap.refuse(usize::MAX);
     dump(rt, alloc, emitter, granted(rt, heap, alloc, given))
-}
-
-// The call in which a growth was refused answers so.
-fn check_answer(rt: &impl Abort, heap: &Refusing<Global>, answer: Answer, wanted: &Answer) {
-    if heap.left() == 0 {
-        equal(rt, &answer, &Err(yaml_error_t::Memory));
-    } else {
-        equal(rt, &answer, wanted);
-    }
 }
 
 fn take<A: Allocator + Copy>(
@@ -159,15 +148,40 @@ fn take_refused<A: Allocator + Copy>(
     }
 }
 
+// The steps are taken with this growth refused. Answers whether there is that growth.
+fn is_refused(
+    rt: &impl Abort,
+    alloc: Global,
+    setting: &Setting,
+    steps: &[Step],
+    number: usize,
+) -> bool {
+    let heap = Refusing::new(alloc);
+    heap.refuse(number);
+    take_refused(rt, &heap, &heap, setting, steps);
+    // It was refused; or no growth was refused before another dump, from which on so many are left.
+    heap.left() == 0 || heap.left() > number
+}
+
 /// The steps are taken with the first growth refused, the second, and so on, until none is.
 pub(super) fn check_steps(rt: &impl Abort, alloc: Global, setting: &Setting, steps: &[Step]) {
-    let heap = Refusing::new(alloc);
     for number in 1..usize::MAX {
-        heap.refuse(number);
-        take_refused(rt, &heap, &heap, setting, steps);
-        // It was refused; or no growth was refused before another dump, from which on so many are left.
-        let is_refused = heap.left() == 0 || heap.left() > number;
-        if !is_refused {
+        if !is_refused(rt, alloc, setting, steps, number) {
+            return;
+        }
+    }
+}
+
+/// The steps are taken with each of these growths refused, until there is none of that number.
+pub(super) fn check_steps_at(
+    rt: &impl Abort,
+    alloc: Global,
+    setting: &Setting,
+    steps: &[Step],
+    numbers: &[usize],
+) {
+    for number in numbers {
+        if !is_refused(rt, alloc, setting, steps, *number) {
             return;
         }
     }

@@ -3,9 +3,9 @@ use super::Given;
 use super::Given::{Mapping, Sequence, Tagged, Text};
 use super::events::events_of;
 use super::steps::Step::{Close, Closed, Dump, End, Error, Open, Opened, Output, Start};
-use super::steps::{Answer, Row, Step, check_rows, check_steps};
+use super::steps::{Row, Step, check_rows, check_steps};
 use super::streams::ONE_BYTE;
-use crate::tests::emitters::{Setting, UNSET};
+use crate::tests::emitters::{Answer, Setting, UNSET};
 use yaml_base::{yaml_error_t, yaml_node_pair_t};
 
 /// A sequence that holds one string twice.

@@ -1,77 +1,54 @@
-//! Collections within one another.
+//! Collections within one another, as deep as they may be.
+use super::steps::Step::{Emit, Failed, Held, Output, Refused, Repeat};
+use super::steps::{Step, check_granted, check_steps};
 use super::streams::Given::{
-    BlockSequence, Document, DocumentEnd, FlowSequence, SequenceEnd, Stream,
+    BlockSequence, Document, DocumentEnd, FlowSequence, SequenceEnd, Stream, StreamEnd,
 };
-use super::streams::{Given, event};
-use super::{Setting, UNSET, check_failed, check_refused, emit, emit_all, made};
-use crate::tests::equal;
+use super::{Setting, UNSET};
+use crate::tests::joined;
 use std::alloc::Global;
 use std::process::Abort;
 use yaml_base::yaml_error_t;
-use yaml_emitter::yaml_emitter_t;
 
-const ENDLESS: Setting = Setting { width: -1, ..UNSET };
+const ENDLESS: &Setting = &Setting { width: -1, ..UNSET };
 
 /// The maximum nesting depth.
 const MOST: usize = 1_000_000;
 
-const STARTED: &[Given] = &[Stream, Document];
-
-const ENDED: &[Given] = &[DocumentEnd];
-
-fn emit_often(
-    rt: &impl Abort,
-    alloc: Global,
-    emitter: &mut yaml_emitter_t<Global>,
-    given: &Given,
-    times: usize,
-) {
-    for _ in 0..times {
-        emit(rt, alloc, emitter, given);
-    }
-}
-
 // Two more may wait; the next makes the collection ready that is one too many.
-fn open_too_many(rt: &impl Abort, alloc: Global, emitter: &mut yaml_emitter_t<Global>) {
-    emit_all(rt, alloc, emitter, STARTED);
-    emit_often(rt, alloc, emitter, &BlockSequence, MOST + 2);
-    equal(rt, &emitter.held(), &2);
-    let next = event(rt, alloc, &BlockSequence);
-    check_refused(rt, emitter, next, yaml_error_t::TooDeep);
-    check_failed(rt, emitter, yaml_error_t::TooDeep);
-}
+const TOO_MANY: &[Step] = &[
+    Emit(Stream),
+    Emit(Document),
+    Repeat(BlockSequence, MOST + 2),
+    Held(2),
+    Refused(BlockSequence, yaml_error_t::TooDeep),
+    Failed(yaml_error_t::TooDeep),
+];
 
 #[test]
 fn a_million_collections_may_be_open(rt: HostRuntime) {
-    open_too_many(&rt, rt.alloc(), &mut made(&rt, rt.alloc(), &ENDLESS));
+    check_granted(&rt, rt.alloc(), ENDLESS, TOO_MANY);
 }
 
-fn open_and_close(rt: &impl Abort, alloc: Global, emitter: &mut yaml_emitter_t<Global>) {
-    emit_all(rt, alloc, emitter, STARTED);
-    emit_often(rt, alloc, emitter, &FlowSequence, MOST);
-    emit_often(rt, alloc, emitter, &SequenceEnd, MOST);
-    emit_all(rt, alloc, emitter, ENDED);
-    equal(rt, &emitter.held(), &0);
-    check_brackets(rt, emitter.output());
-}
-
-fn bracket_at(place: usize) -> u8 {
-    match place {
-        0..MOST => b'[',
-        MOST..2_000_000 => b']',
-        _ => b'\n',
-    }
-}
-
-// A million brackets open, as many close, and the line ends.
-fn check_brackets(rt: &impl Abort, output: &[u8]) {
-    equal(rt, &output.len(), &2_000_001);
-    for (place, byte) in output.iter().enumerate() {
-        equal(rt, byte, &bracket_at(place));
-    }
+/// So many brackets that open, as many that close, and the line's end.
+fn brackets(rt: &impl Abort, alloc: Global, count: usize) -> String {
+    let opened = "[".repeat(alloc, count).expect(rt, "no memory");
+    let closed = "]".repeat(alloc, count).expect(rt, "no memory");
+    joined(rt, alloc, &[opened.as_str(), closed.as_str(), "\n"])
 }
 
 #[test]
 fn a_million_brackets_are_closed(rt: HostRuntime) {
-    open_and_close(&rt, rt.alloc(), &mut made(&rt, rt.alloc(), &ENDLESS));
+    let text = brackets(&rt, rt.alloc(), MOST);
+    let steps = [
+        Emit(Stream),
+        Emit(Document),
+        Repeat(FlowSequence, MOST),
+        Repeat(SequenceEnd, MOST),
+        Emit(DocumentEnd),
+        Output(text.as_str().as_bytes()),
+        Emit(StreamEnd),
+        Held(0),
+    ];
+    check_steps(&rt, rt.alloc(), ENDLESS, &steps);
 }

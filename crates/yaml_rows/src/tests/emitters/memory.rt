@@ -4,7 +4,9 @@ use super::streams::Given::{
     StreamEnd, StreamIn, Tagged, Text,
 };
 use super::streams::{Given, event};
-use super::{UNSET, begun, check_out_of_memory, emit_all, flush_if_known, give, made};
+use super::{
+    UNSET, begun, check_answer, check_out_of_memory, emit_all, flush_if_known, give, made,
+};
 use crate::tests::{equal, same};
 use linked_list_allocator::LocalHeap;
 use std::alloc::{Allocator, Global};
@@ -57,15 +59,6 @@ fn in_utf16(rt: &impl Abort, alloc: Global, text: &str) -> Vec<u8> {
     bytes
 }
 
-// From the call on in which the growth was refused each answers that there is no memory.
-fn check_answer(rt: &impl Abort, heap: &Refusing<Global>, answer: Result<(), yaml_error_t>) {
-    if heap.left() == 0 {
-        equal(rt, &answer, &Err(yaml_error_t::Memory));
-    } else {
-        equal(rt, &answer, &Ok(()));
-    }
-}
-
 // An event of which no growth is refused.
 pub(super) fn granted<A: Allocator + Copy>(
     rt: &impl Abort,
@@ -89,7 +82,7 @@ fn check_emit<A: Allocator + Copy>(
 ) {
     let was_refused = heap.left() == 0;
     let length = emitter.output().len();
-    check_answer(rt, heap, give(rt, emitter, next));
+    check_answer(rt, heap, give(rt, emitter, next), &Ok(()));
     if was_refused {
         equal(rt, &emitter.output().len(), &length);
     }
@@ -105,7 +98,7 @@ fn check_flush<A: Allocator + Copy>(
         return;
     }
     let length = emitter.output().len();
-    check_answer(rt, heap, flush_if_known(rt, emitter));
+    check_answer(rt, heap, flush_if_known(rt, emitter), &Ok(()));
     if heap.left() == 0 {
         equal(rt, &emitter.output().len(), &length);
     }
@@ -151,11 +144,11 @@ fn is_reported<A: Allocator + Copy>(
 ) -> bool {
     match begun(alloc, &UNSET) {
         Ok(mut emitter) => {
-            check_answer(rt, heap, Ok(()));
+            check_answer(rt, heap, Ok(()), &Ok(()));
             check_each(rt, heap, alloc, &mut emitter, events);
             check_end(rt, heap, &mut emitter, whole);
         }
-        Err(error) => check_answer(rt, heap, Err(error)),
+        Err(error) => check_answer(rt, heap, Err(error), &Ok(())),
     }
     heap.left() == 0
 }

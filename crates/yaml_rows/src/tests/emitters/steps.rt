@@ -1,7 +1,9 @@
 //! Calls on one emitter, and what is then so, as tables write them; also with each growth refused in turn.
 use super::memory::granted;
 use super::streams::Given;
-use super::{Answer, Setting, begun, check_failed, check_out_of_memory, flush_if_known, give};
+use super::{
+    Answer, Setting, begun, check_answer, check_failed, check_out_of_memory, flush_if_known, give,
+};
 use crate::tests::{equal, same};
 use std::alloc::{Allocator, Global};
 use std::process::Abort;
@@ -14,6 +16,10 @@ use yaml_test_allocator::Refusing;
 pub(super) enum Step<'a> {
     /// This event is emitted, and not refused.
     Emit(Given<'a>),
+    /// This event is emitted so often.
+    Repeat(Given<'a>, usize),
+    /// This event is refused so.
+    Refused(Given<'a>, yaml_error_t),
     /// A flush, where the encoding is known.
     Flush(Answer),
     /// The output, which is then taken.
@@ -47,24 +53,31 @@ fn check_taken<A: Allocator + Copy>(
     check_bytes(rt, yaml_emitter_take_output(emitter), b"");
 }
 
-// The call in which a growth was refused answers so.
-fn check_answer(rt: &impl Abort, heap: &Refusing<Global>, answer: Answer, wanted: &Answer) {
-    if heap.left() == 0 {
-        equal(rt, &answer, &Err(yaml_error_t::Memory));
-    } else {
-        equal(rt, &answer, wanted);
-    }
-}
-
 fn emit<A: Allocator + Copy>(
     rt: &impl Abort,
     heap: &Refusing<Global>,
     alloc: A,
     emitter: &mut yaml_emitter_t<A>,
-    given: &Given,
+    (given, wanted): (&Given, &Answer),
 ) {
     let answer = give(rt, emitter, granted(rt, heap, alloc, given));
-    check_answer(rt, heap, answer, &Ok(()));
+    check_answer(rt, heap, answer, wanted);
+}
+
+// Up to the event in which a growth is refused.
+fn emit_often<A: Allocator + Copy>(
+    rt: &impl Abort,
+    heap: &Refusing<Global>,
+    alloc: A,
+    emitter: &mut yaml_emitter_t<A>,
+    (given, times): (&Given, usize),
+) {
+    for _ in 0..times {
+        emit(rt, heap, alloc, emitter, (given, &Ok(())));
+        if heap.left() == 0 {
+            return;
+        }
+    }
 }
 
 fn take_step<A: Allocator + Copy>(
@@ -75,7 +88,9 @@ fn take_step<A: Allocator + Copy>(
     step: &Step,
 ) {
     match step {
-        Step::Emit(given) => emit(rt, heap, alloc, emitter, given),
+        Step::Emit(given) => emit(rt, heap, alloc, emitter, (given, &Ok(()))),
+        Step::Repeat(given, times) => emit_often(rt, heap, alloc, emitter, (given, *times)),
+        Step::Refused(given, error) => emit(rt, heap, alloc, emitter, (given, &Err(*error))),
         Step::Flush(answer) => check_answer(rt, heap, flush_if_known(rt, emitter), answer),
         Step::Take(bytes) => check_taken(rt, emitter, bytes),
         Step::Output(bytes) => same(rt, emitter.output(), bytes),
@@ -128,14 +143,34 @@ fn take_refused<A: Allocator + Copy>(
     }
 }
 
+// The steps are taken with this growth refused. Answers whether there is that growth.
+fn is_refused(
+    rt: &impl Abort,
+    alloc: Global,
+    setting: &Setting,
+    steps: &[Step],
+    number: usize,
+) -> bool {
+    let heap = Refusing::new(alloc);
+    heap.refuse(number);
+    take_refused(rt, &heap, &heap, setting, steps);
+    heap.left() == 0
+}
+
 /// The steps are taken with the first growth refused, the second, and so on, until none is.
 pub(super) fn check_steps(rt: &impl Abort, alloc: Global, setting: &Setting, steps: &[Step]) {
-    let heap = Refusing::new(alloc);
     for number in 1..usize::MAX {
-        heap.refuse(number);
-        take_refused(rt, &heap, &heap, setting, steps);
-        if heap.left() != 0 {
+        if !is_refused(rt, alloc, setting, steps, number) {
             return;
         }
     }
+}
+
+/// The steps are taken with no growth refused.
+pub(super) fn check_granted(rt: &impl Abort, alloc: Global, setting: &Setting, steps: &[Step]) {
+    equal(
+        rt,
+        &is_refused(rt, alloc, setting, steps, usize::MAX),
+        &false,
+    );
 }

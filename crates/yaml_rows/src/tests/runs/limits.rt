@@ -22,10 +22,7 @@ fn answer_within(limit: usize, ends: &[(u64, usize)]) -> run_answer_t {
 
 /// The script with this limit.
 fn limited(rt: &impl Abort, alloc: Global, limit: usize, encoding: &str, events: &str) -> String {
-    format!(in alloc; "limit {limit}\nunicode on\nencoding {encoding}\n{events}").expect(
-        rt,
-        "no memory",
-    )
+    format!(in alloc; "limit {limit}\nencoding {encoding}\n{events}").expect(rt, "no memory")
 }
 
 /// The length after each end.
@@ -63,7 +60,8 @@ fn check_all_limits(rt: &impl Abort, alloc: Global, events: &str, streams: &[Str
     }
 }
 
-const TWO_DOCUMENTS: &str = r#"+STR any
+const TWO_DOCUMENTS: &str = r#"unicode on
++STR any
 +DOC 1 -
 =VAL any 1 1 - - "\u{E9}"
 -DOC 1
@@ -95,7 +93,8 @@ fn a_limit_cuts_two_documents_anywhere(rt: HostRuntime) {
     check_all_limits(&rt, rt.alloc(), TWO_DOCUMENTS, DOCUMENTS);
 }
 
-const FACE: &str = r#"+STR any
+const FACE: &str = r#"unicode on
++STR any
 +DOC 1 -
 =VAL any 1 1 - - "\u{1F600}"
 -DOC 1
@@ -119,8 +118,8 @@ const LETTER: &str = r#"+STR any
 -STR"#;
 
 const LETTERS: &[Stream] = &[
-    ("utf8", &[(7, 2)], b"a\n"),
-    ("utf16be", &[(7, 6)], b"\xFE\xFF\0a\0\n"),
+    ("utf8", &[(6, 2)], b"a\n"),
+    ("utf16be", &[(6, 6)], b"\xFE\xFF\0a\0\n"),
 ];
 
 const WORD: &str = r#"+STR any
@@ -129,7 +128,7 @@ const WORD: &str = r#"+STR any
 -DOC 1
 -STR"#;
 
-const WORDS: &[Stream] = &[("utf8", &[(7, 4)], b"foo\n")];
+const WORDS: &[Stream] = &[("utf8", &[(6, 4)], b"foo\n")];
 
 #[test]
 fn a_limit_cuts_short_roots(rt: HostRuntime) {
@@ -144,10 +143,10 @@ const LAST_BREAKS: &str = r#"+STR any
 -STR"#;
 
 const DOTS: &[Stream] = &[
-    ("utf8", &[(7, 8), (8, 12)], b"|+\n  a\n\n...\n"),
+    ("utf8", &[(6, 8), (7, 12)], b"|+\n  a\n\n...\n"),
     (
         "utf16be",
-        &[(7, 18), (8, 26)],
+        &[(6, 18), (7, 26)],
         b"\xFE\xFF\0|\0+\0\n\0 \0 \0a\0\n\0\n\0.\0.\0.\0\n",
     ),
 ];
@@ -157,7 +156,7 @@ fn a_limit_cuts_the_streams_last_dots(rt: HostRuntime) {
     check_all_limits(&rt, rt.alloc(), LAST_BREAKS, DOTS);
 }
 
-const MARK: &[Stream] = &[("utf16le", &[(5, 2)], b"\xFF\xFE")];
+const MARK: &[Stream] = &[("utf16le", &[(4, 2)], b"\xFF\xFE")];
 
 #[test]
 fn a_limit_cuts_a_mark(rt: HostRuntime) {
