@@ -2,6 +2,7 @@ pub mod JsonEvents
 pub mod TokenEvents
 pub mod Means
 pub mod Texts
+pub mod Cuts
 pub mod Wrote
 pub mod Begins
 pub mod Refused

@@ -1,8 +1,9 @@
 //! Where a JSON text ends that others follow.
-ghost use Rattle.std.specs.Prelude.{◌≡◌, ◌+◌, ◌<◌, ◌^◌, ◌++◌, ◌||◌, ◌==◌};
+ghost use Rattle.std.specs.Prelude.{◌≡◌, ℕ, List, ◌+◌, ◌<◌, ◌≤◌, ◌^◌, ◌++◌, ◌||◌, ◌==◌, true, length, MatchOption};
 ghost use Rattle.json.specs.Ascii as ascii;
 ghost use Rattle.json.specs.Word.{is_operator, is_space};
 ghost use Rattle.yaml_json.specs.Texts.{CutsFirstText, after_byte, scan_first_byte, scan_in_string, is_closer, is_inner_byte, is_opener, scan_within};
+ghost use Rattle.yaml_json.specs.Cuts.{CutsAt, HasScanned};
 
 /// What a scan has before it.
 #[derive(Clone, Copy, PartialEq, Eq, Debug)]
@@ -193,22 +194,102 @@ fn step(scan: Scan, byte: u8) -> Option<Scan>
     }
 }
 
+/// How far a text was scanned.
+#[derive(Clone, Copy, PartialEq, Eq, Debug)]
+pub(crate) struct Cut {
+    pub(crate) scan: Scan,
+    /// So many bytes were.
+    pub(crate) scanned: usize,
+}
+
+/// Nothing was scanned.
+pub(crate) fn new_cut() -> Cut
+    ensures { (text : List ℕ) → HasScanned text result }
+{
+    Cut {
+        scan: Scan {
+            mode: Mode::Before,
+            levels: 0,
+        },
+        scanned: 0,
+    }
+}
+
+/// Whether an array or an object goes on with this byte as before.
+fn is_plain_within(byte: u8) -> bool
+    ensures { (levels : ℕ) → result ≡ true → scan_within levels byte ≡ record { mode = Mode.Within; levels = levels } }
+{
+    (byte != b'"') & (byte | 32 != b'{') & (byte | 32 != b'}')
+}
+
+/// Passes the bytes with which an array or an object goes on as before.
+fn pass_within(text: &[u8], cut: Cut) -> usize
+    requires within { cut.scan.mode ≡ Mode.Within }
+    requires scanned { HasScanned text.now cut }
+    ensures scanned { HasScanned text.now (record cut { scanned = result }) }
+    ensures further { cut.scanned ≤ result }
+{
+    let mut at = cut.scanned;
+    'bytes: while at < text.len() && is_plain_within(text[at]) {
+        at += 1;
+    }
+    at
+}
+
+/// Passes the bytes with which a string goes on as before.
+fn pass_in_string(text: &[u8], cut: Cut) -> usize
+    requires within { cut.scan.mode ≡ Mode.InString }
+    requires scanned { HasScanned text.now cut }
+    ensures scanned { HasScanned text.now (record cut { scanned = result }) }
+    ensures further { cut.scanned ≤ result }
+{
+    let mut at = cut.scanned;
+    'bytes: while at < text.len() && text[at] != b'"' && text[at] != b'\\' {
+        at += 1;
+    }
+    at
+}
+
+/// Passes bytes with which a text goes on as before.
+fn pass(text: &[u8], cut: Cut) -> usize
+    requires { HasScanned text.now cut }
+    ensures scanned { HasScanned text.now (record cut { scanned = result }) }
+    ensures further { cut.scanned ≤ result }
+{
+    match cut.scan.mode {
+        Mode::Within => pass_within(text, cut),
+        Mode::InString => pass_in_string(text, cut),
+        _ => cut.scanned,
+    }
+}
+
+/// Scans a text from where the scan stopped. Returns where the text after the first begins; where there is none, all is scanned.
+pub(crate) fn find_end(text: &[u8], cut: &mut Cut) -> Option<usize>
+    requires { HasScanned text.now cut.old }
+    ensures { MatchOption result (HasScanned text.now cut.new × (cut.new.scanned ≡ length text.now)) (CutsAt text.now) }
+{
+    let mut next = *cut;
+    'bytes: while next.scanned < text.len() {
+        next.scanned = pass(text, next);
+        if next.scanned == text.len() {
+            break;
+        }
+        match step(next.scan, text[next.scanned]) {
+            Some(scan) => next.scan = scan,
+            None => return Some(next.scanned),
+        }
+        next.scanned += 1;
+    }
+    *cut = next;
+    None
+}
+
 /// The first JSON text of a text, with the blanks after it, and what follows it.
 pub(crate) fn first_cut(text: &str) -> (&str, &str)
     ensures { CutsFirstText text.now result.0.now result.1.now }
 {
-    let bytes = text.as_bytes();
-    let mut scan = Scan {
-        mode: Mode::Before,
-        levels: 0,
-    };
-    let mut end = 0usize;
-    'bytes: while end < bytes.len() {
-        match step(scan, bytes[end]) {
-            Some(next) => scan = next,
-            None => return text.split_at(end),
-        }
-        end += 1;
+    match find_end(text.as_bytes(), &mut new_cut()) {
+        Some(end) => text.split_at(end),
+        None => (text, ""),
     }
-    (text, "")
 }

@@ -1,0 +1,24 @@
+use Rattle.std.proofs.Common.{◌≡◌, ◌<◌, ℕ, None, Some, arith, get_or, length}
+use Rattle.yaml_json.specs.Cuts.{HasScanned}
+use Rattle.yaml_json.specs.Texts.{after_byte}
+use Rattle.yaml_json.proofs.Cutting.{one_cut, one_scanned}
+use Rattle.yaml_json.proofs.cuts.find_end.Goals as goal
+
+pub returns-in-None : goal.returns-in-None
+returns-in-None c =
+    let text = c.args.text.now in
+    let less : c.pass.result < length text = grind arith in
+    one_cut text (record c.bytes.next { scanned = c.pass.result }) c.pass.ensures.scanned less (grind arith)
+
+pub bytes-smaller : goal.bytes-smaller
+bytes-smaller c =
+    let text = c.args.text.now in
+    let less : c.pass.result < length text = grind arith in
+    let further = c.pass.ensures.further in
+    omega (arith, less, further)
+
+pub bytes-preserved : goal.bytes-preserved
+bytes-preserved c =
+    let text = c.args.text.now in
+    let less : c.pass.result < length text = grind arith in
+    one_scanned text (record c.bytes.next { scanned = c.pass.result }) c.pass.ensures.scanned less c.in-Some.scan (grind arith)

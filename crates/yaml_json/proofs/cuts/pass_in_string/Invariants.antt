@@ -1,0 +1,9 @@
+use Rattle.std.proofs.Common.{◌-◌, ◌≤◌, length}
+use Rattle.yaml_json.specs.Cuts.{HasScanned}
+use Rattle.yaml_json.proofs.cuts.pass_in_string.Given as goal
+
+abbrev pub invariant-bytes : goal.invariant-bytes
+invariant-bytes l = HasScanned l.text (record l.fn.cut { scanned = l.at }) × (l.fn.cut.scanned ≤ l.at)
+
+abbrev pub decreases-bytes : goal.decreases-bytes
+decreases-bytes l = length l.text - l.at
