@@ -146,10 +146,14 @@ pub cuts_first : (text : List ℕ) (end : ℕ) → CutsAt text end → CutsFirst
 cuts_first text end cuts =
     let some = cuts.some in
     let within = cuts.within in
-    let shorter : length (drop end text) + end ≡ length text = omega (arith, within, length-drop end text) in
-    (take-append-drop end text, inr ((λ none. let never : ⊥ = omega (arith, within, shorter, ap length none) in absurd never),
-    omega (arith, some, shorter),
-    ap texts_in (sym (append-nil text)) ∙ cuts.cut [] ∙ ap (λ (t : List ℕ). take end text ∷ texts_in t) (append-nil (drop end text))))
+    let shorter : length (drop end text) + end ≡ length text = omega (arith, within, length-drop end text) in (
+      take-append-drop end text,
+      inr (
+        (λ none. let never : ⊥ = omega (arith, within, shorter, ap length none) in absurd never),
+        omega (arith, some, shorter),
+        ap texts_in (sym (append-nil text)) ∙ cuts.cut [] ∙ ap (λ (t : List ℕ). take end text ∷ texts_in t) (append-nil (drop end text)),
+      ),
+    )
 
 pub whole_text : (text : List ℕ) (cut : Cut) → HasScanned text cut → cut.scanned ≡ length text → texts_in text ≡ text ∷ []
 whole_text text cut has all =

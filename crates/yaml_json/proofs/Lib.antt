@@ -16,6 +16,7 @@ pub mod Portable
 pub mod JsonReads
 pub mod YamlOf
 pub mod TextsInTurn
+pub mod Sending
 pub mod Accepting
 pub mod OnlyDepth
 pub mod Unfailed

@@ -26,7 +26,7 @@ use Rattle.yaml_json.proofs.WroteLemmas.{wrote_nothing, wrote_same, wrote_then}
 use Rattle.yaml_json.proofs.YamlOf.{last_reads}
 
 -- the events of some texts, after each of which a document begins, and then those of one more, the last
-ends_with : (canonical in_flow : Bool) (parts : List (List ℕ × Json)) (last : List ℕ × Json)
+pub ends_with : (canonical in_flow : Bool) (parts : List (List ℕ × Json)) (last : List ℕ × Json)
     → events_with_separators canonical in_flow parts ++ json_events canonical in_flow last.1 ≡ parts_events canonical in_flow (parts ++ last ∷ [])
 ends_with canonical in_flow [] last = refl
 ends_with canonical in_flow (part ∷ []) last =
@@ -40,12 +40,12 @@ ends_with canonical in_flow (part ∷ next ∷ rest) last =
     ∙ ap (λ (events : List Event). json_events canonical in_flow part.1 ++ (between ++ events)) (ends_with canonical in_flow (next ∷ rest) last)
 
 -- one text more
-one_more : (depth : ℕ) (parts : List (List ℕ × Json)) (last : List ℕ × Json) → AreJson depth parts → value depth (tokens last.0) ≡ Some (last.1, [])
+pub one_more : (depth : ℕ) (parts : List (List ℕ × Json)) (last : List ℕ × Json) → AreJson depth parts → value depth (tokens last.0) ≡ Some (last.1, [])
     → AreJson depth (parts ++ last ∷ [])
 one_more depth [] last each is = (is, tt)
 one_more depth (part ∷ parts) last each is = (each.0, one_more depth parts last each.1 is)
 
-joined_more : (parts : List (List ℕ × Json)) (last : List ℕ × Json) (rest : List ℕ)
+pub joined_more : (parts : List (List ℕ × Json)) (last : List ℕ × Json) (rest : List ℕ)
     → flat_map (λ part. part.0) (parts ++ last ∷ []) ++ rest ≡ flat_map (λ part. part.0) parts ++ (last.0 ++ rest)
 joined_more parts last rest =
     ap (λ (text : List ℕ). text ++ rest) (flat_map-append (λ (part : List ℕ × Json). part.0) parts (last ∷ []))
@@ -58,7 +58,7 @@ text_names unique text once is depth json read =
     once_is_unique json []
     (subst (NamesOnce []) (value_spelled depth (tokens text) [] json read ∙ append-nil (json_tokens json)) (once is))
 
-more_names : (unique : Bool) (parts : List (List ℕ × Json)) (last : List ℕ × Json) → HaveNamesOnce unique (map (λ part. part.0) parts)
+pub more_names : (unique : Bool) (parts : List (List ℕ × Json)) (last : List ℕ × Json) → HaveNamesOnce unique (map (λ part. part.0) parts)
     → HasNamesOnce unique last.0 → HaveNamesOnce unique (map (λ part. part.0) (parts ++ last ∷ []))
 more_names unique [] last names more = (more, tt)
 more_names unique (part ∷ parts) last names more = (names.0, more_names unique parts last names.1 more)

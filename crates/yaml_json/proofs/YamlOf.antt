@@ -1,5 +1,5 @@
 -- The streams of JSON texts.
-use Rattle.std.proofs.Common.{◌≡◌, refl, ◌∙◌, subst}
+use Rattle.std.proofs.Common.{◌≡◌, refl, sym, ◌∙◌, subst, append-nil}
 use Rattle.std.proofs.lemmas.Bool.{and_from}
 use Rattle.std.proofs.lemmas.List.Folds.{list_all-append}
 use Rattle.std.specs.List.{list_all}
@@ -13,7 +13,8 @@ use Rattle.yaml_base.specs.Meaning.{has_scalar_texts}
 use Rattle.yaml_base.specs.Settings.{Settings}
 use Rattle.yaml_writer.specs.Writing.{Finishes, StandsTaken, WriterState, closing, opening}
 use Rattle.yaml_json.specs.JsonEvents.{json_events}
-use Rattle.yaml_json.specs.Wrote.{AreJson, IsYamlOf, ReadsTexts, Wrote, WroteText, parts_events}
+use Rattle.yaml_json.specs.Sent.{AddsTaking}
+use Rattle.yaml_json.specs.Wrote.{AreJson, IsYamlOf, IsYamlOfTexts, ReadsTexts, Wrote, WroteText, parts_events}
 use Rattle.yaml_json.proofs.JsonReads.{HaveNumbers, reads_as_json, reads_as_values}
 use Rattle.yaml_json.proofs.Trees.{values_of}
 
@@ -50,29 +51,42 @@ all_have_numbers : (depth : ℕ) (parts : List (List ℕ × Json)) → AreJson d
 all_have_numbers depth [] each = tt
 all_have_numbers depth (part ∷ parts) each = (text_has_numbers depth part.0 part.1 each.0, all_have_numbers depth parts each.1)
 
--- the events of texts, of which there is one at least, read as these texts
-pub yaml_of_texts : (depth : ℕ) (in_flow : Bool) (text : List ℕ) (was now : WriterState) (part : List ℕ × Json) (rest : List (List ℕ × Json))
-    → flat_map (λ part. part.0) (part ∷ rest) ≡ text → AreJson depth (part ∷ rest) → Wrote was (parts_events was.canonical in_flow (part ∷ rest)) now
-    → ReadsTexts depth in_flow text was now
-yaml_of_texts depth in_flow text was now part rest joined each wrote given sent bytes stands canonical finishes =
+-- the events of texts, of which there is one at least, read as these texts, whatever was taken of their bytes
+texts_read : (depth : ℕ) (in_flow : Bool) (text : List ℕ) (was now : WriterState) (taken : List ℕ) (part : List ℕ × Json) (rest : List (List ℕ × Json))
+    → flat_map (λ part. part.0) (part ∷ rest) ≡ text → AreJson depth (part ∷ rest)
+    → AddsTaking was.emitter (parts_events was.canonical in_flow (part ∷ rest)) taken now.emitter
+    → (given : Settings) (sent bytes : List ℕ) → StandsTaken given opening sent was.emitter → was.canonical ≡ given.canonical → Finishes now.emitter bytes
+    → IsYamlOfTexts given in_flow depth text ((sent ++ taken) ++ bytes)
+texts_read depth in_flow text was now taken part rest joined each adds given sent bytes stands canonical finishes =
     let events = opening ++ parts_events given.canonical in_flow (part ∷ rest) in
-    let stood = subst (λ (c : Bool). StandsTaken given (opening ++ parts_events c in_flow (part ∷ rest)) sent now.emitter) canonical
-    (wrote.adds given opening sent stands) in
-    let stream = finishes given events sent stood in
+    let stood = subst (λ (c : Bool). StandsTaken given (opening ++ parts_events c in_flow (part ∷ rest)) (sent ++ taken) now.emitter) canonical
+    (adds given opening sent stands) in
+    let stream = finishes given events (sent ++ taken) stood in
     record {
       parts = part ∷ rest;
       joined = joined;
       each = each;
       stream = stream;
-      reads = reads_as_values given in_flow part rest (sent ++ bytes) (all_have_numbers depth (part ∷ rest) each)
+      reads = reads_as_values given in_flow part rest ((sent ++ taken) ++ bytes) (all_have_numbers depth (part ∷ rest) each)
           (texts_closed events stood.stands.texts) stream;
     }
 
 -- the last of them is one
+pub sent_reads : (depth : ℕ) (in_flow : Bool) (text : List ℕ) (was now : WriterState) (taken : List ℕ) (parts : List (List ℕ × Json))
+    (last : List ℕ × Json) → flat_map (λ part. part.0) (parts ++ last ∷ []) ≡ text → AreJson depth (parts ++ last ∷ [])
+    → AddsTaking was.emitter (parts_events was.canonical in_flow (parts ++ last ∷ [])) taken now.emitter
+    → (given : Settings) (sent bytes : List ℕ) → StandsTaken given opening sent was.emitter → was.canonical ≡ given.canonical → Finishes now.emitter bytes
+    → IsYamlOfTexts given in_flow depth text ((sent ++ taken) ++ bytes)
+sent_reads depth in_flow text was now taken [] last = texts_read depth in_flow text was now taken last []
+sent_reads depth in_flow text was now taken (part ∷ rest) last = texts_read depth in_flow text was now taken part (rest ++ last ∷ [])
+
+-- nothing was taken
 pub last_reads : (depth : ℕ) (in_flow : Bool) (text : List ℕ) (was now : WriterState) (parts : List (List ℕ × Json)) (last : List ℕ × Json)
     → flat_map (λ part. part.0) (parts ++ last ∷ []) ≡ text → AreJson depth (parts ++ last ∷ [])
     → Wrote was (parts_events was.canonical in_flow (parts ++ last ∷ [])) now
     → ReadsTexts depth in_flow text was now
-last_reads depth in_flow text was now [] last joined each wrote = yaml_of_texts depth in_flow text was now last [] joined each wrote
-last_reads depth in_flow text was now (part ∷ rest) last joined each wrote =
-    yaml_of_texts depth in_flow text was now part (rest ++ last ∷ []) joined each wrote
+last_reads depth in_flow text was now parts last joined each wrote given sent bytes stands canonical finishes =
+    subst (λ (s : List ℕ). IsYamlOfTexts given in_flow depth text (s ++ bytes)) (append-nil sent)
+    (sent_reads depth in_flow text was now [] parts last joined each
+    (λ settings all before stood. subst (λ (s : List ℕ). StandsTaken settings (all ++ parts_events was.canonical in_flow (parts ++ last ∷ [])) s now.emitter)
+    (sym (append-nil before)) (wrote.adds settings all before stood)) given sent bytes stands canonical finishes)

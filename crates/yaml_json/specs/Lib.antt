@@ -11,3 +11,4 @@ pub mod Names
 pub mod HeldNames
 pub mod Walk
 pub mod Nests
+pub mod Sent

@@ -1,4 +1,5 @@
 //! Why a text isn't written as YAML.
+use std::io;
 use thiserror::Error;
 use yaml_writer::yaml_error_t;
 
@@ -19,4 +20,24 @@ pub enum JsonError {
     /// the emitter refuses what lies deeper than that (`TooDeep`).
     #[error("{0}")]
     Emitter(yaml_error_t),
+}
+
+/// Why JSON texts that come part by part aren't written as YAML to their end. Places count from the first byte that came.
+#[derive(Clone, Copy, Debug, Drop, Error)]
+pub enum StreamError {
+    /// One of the texts isn't written.
+    #[error("{0}")]
+    Refused(JsonError),
+    /// The first bytes that are no UTF-8 begin here.
+    #[error("line {line}, column {column}: not UTF-8")]
+    NotText { line: usize, column: usize },
+    /// The bytes begin with a byte order mark.
+    #[error("line 1, column 1: a byte order mark")]
+    Marked,
+    /// Reading failed.
+    #[error("cannot read: {0}")]
+    ReadFailed(io::Error),
+    /// The sink failed.
+    #[error("cannot write: {0}")]
+    WriteFailed(io::Error),
 }

@@ -9,14 +9,16 @@ mod places;
 mod scalars;
 mod settings;
 mod several;
+mod stream;
 mod texts;
 mod values;
 
-pub use error::JsonError;
+pub use error::{JsonError, StreamError};
 pub use laws::faults_differ;
 pub use places::place_of;
 pub use settings::JsonSettings;
 pub use several::write_json_texts;
+pub use stream::send_json_texts;
 pub use texts::{write_json, yaml_from_json};
 pub use yaml_writer::{
     Settings, Writer, YAML_ANY_BREAK, YAML_ANY_ENCODING, YAML_CR_BREAK, YAML_CRLN_BREAK,

@@ -61,6 +61,11 @@ pub(crate) fn offset_of(text: &str, start: usize, spot: Spot) -> usize {
     }
 }
 
+/// Whether a character begins with this byte.
+fn begins_character(byte: u8) -> bool {
+    byte < 128 || byte >= 192
+}
+
 /// The line and the column of an offset in bytes of a text, both from 1. A column counts characters, and a line ends with LF.
 pub fn place_of(text: &[u8], offset: usize) -> (usize, usize) {
     let mut line: usize = 1;
@@ -69,9 +74,43 @@ pub fn place_of(text: &[u8], offset: usize) -> (usize, usize) {
         if *byte == b'\n' {
             line = line.saturating_add(1);
             column = 1;
-        } else if *byte < 128 || *byte >= 192 {
+        } else if begins_character(*byte) {
             column = column.saturating_add(1);
         }
     }
     (line, column)
+}
+
+/// A line and a column, both from 1.
+#[derive(Clone, Copy, PartialEq, Eq, Debug)]
+pub(crate) struct Place {
+    line: usize,
+    column: usize,
+}
+
+impl Place {
+    pub(crate) fn first() -> Place {
+        Place { line: 1, column: 1 }
+    }
+
+    /// A place in a text that begins at this one, by its place in that text.
+    pub(crate) fn and(self, line: usize, column: usize) -> (usize, usize) {
+        if line <= 1 {
+            (
+                self.line,
+                self.column.saturating_add(column).saturating_sub(1),
+            )
+        } else {
+            (self.line.saturating_add(line).saturating_sub(1), column)
+        }
+    }
+
+    /// The place that follows these bytes, the first of which is at this one.
+    pub(crate) fn after(self, bytes: &[u8]) -> Place {
+        let lines = bytes.iter().filter(|byte| **byte == b'\n').count();
+        let last = bytes.iter().rev().take_while(|byte| **byte != b'\n');
+        let characters = last.filter(|byte| begins_character(**byte)).count();
+        let (line, column) = self.and(lines.saturating_add(1), characters.saturating_add(1));
+        Place { line, column }
+    }
 }

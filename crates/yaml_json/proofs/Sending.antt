@@ -1,0 +1,511 @@
+-- JSON texts that come part by part, in turn.
+use Rattle.std.proofs.Common.{◌≡◌, ◌≤◌, ◌-◌, ◌+◌, inl, inr, refl, sym, ap, ◌∙◌, subst, append_assoc, append-nil, arith}
+use Rattle.std.proofs.lemmas.List.{drop-drop, length-drop, map-append, take-append-drop}
+use Rattle.std.proofs.lemmas.List.Concat.{flat_map-append}
+use Rattle.std.specs.Prelude.{ℕ, Bool, true, Option, None, Some, IfErr, OnOk, Result, Ok, Err, List, [], ◌∷◌, ◌++◌, IfSome, drop, flat_map, length, map, take}
+use Rattle.std.specs.Io.KnownBytes.{Appends, Consumes, IsAtEnd, Keeps}
+use Rattle.json.specs.Json.{Json}
+use Rattle.json.specs.Lex.{tokens}
+use Rattle.yaml_base.specs.Event.{Event}
+use Rattle.yaml_base.specs.declared.errors.yaml_error_t.{yaml_error_t}
+use Rattle.yaml_emitter.specs.State.{with_all_taken}
+use Rattle.yaml_writer.specs.Writing.{PassedEvents, StandsTaken, TakesBytes, WriterState}
+use Rattle.yaml_json.specs.Cuts.{CutsAt, HasScanned}
+use Rattle.yaml_json.specs.declared.cuts.Cut.{Cut}
+use Rattle.yaml_json.specs.Failing.{between, events_with_separators}
+use Rattle.yaml_json.specs.JsonEvents.{json_events}
+use Rattle.yaml_json.specs.Names.{NamesOnce}
+use Rattle.yaml_json.specs.Refused.{HaveNamesOnce}
+use Rattle.yaml_json.specs.Sent.{Advances, BeginsNext, ExplainsPart, IsByNoText, IsSent, LeavesLast, ReadsSent, RefusesSent, Sending, SentDocuments, SentTexts, StopsWithin, WroteTaking}
+use Rattle.yaml_json.specs.Texts.{texts_in}
+use Rattle.yaml_json.specs.Wrote.{AreJson, IsBare, Wrote, WroteText, parts_events}
+use Rattle.yaml_json.specs.declared.error.StreamError.{StreamError}
+use Rattle.yaml_json.specs.declared.error.StreamError.TheVariants as faults
+use Rattle.yaml_json.proofs.Cutting.{whole_text}
+use Rattle.yaml_json.proofs.YamlOf.{sent_reads}
+use Rattle.yaml_json.proofs.TextsInTurn.{ends_with, joined_more, more_names, one_more, text_names}
+
+-- ---- what follows where a call succeeds, or fails
+
+pub on_both : {A E P Q R : Type 0} (answer : Result A E) → (P → Q → R) → OnOk answer P → OnOk answer Q → OnOk answer R
+on_both (Ok value) follows held also = follows held also
+on_both (Err error) follows held also = tt
+
+pub always_err : {A E : Type 0} {P : E → Type 0} (answer : Result A E) → ((error : E) → P error) → IfErr answer P
+always_err (Ok value) held = tt
+always_err (Err error) held = held error
+
+-- ---- known bytes that grow
+
+pub appends_nothing : (held : Option (List ℕ)) → Appends held held []
+appends_nothing None = tt
+appends_nothing (Some bytes) = sym (append-nil bytes)
+
+pub appends_then : (before middle after : Option (List ℕ)) (first second : List ℕ) → Appends before middle first → Appends middle after second
+    → Appends before after (first ++ second)
+appends_then None middle after first second one other = tt
+appends_then (Some bytes) None after first second one other = absurd one
+appends_then (Some bytes) (Some more) None first second one other = absurd other
+appends_then (Some bytes) (Some more) (Some all) first second one other =
+    other ∙ ap (λ (b : List ℕ). b ++ second) one ∙ append_assoc bytes first second
+
+-- ---- what was given and taken
+
+pub took_nothing : (writer : WriterState) → IsBare writer → WroteTaking writer [] [] writer
+took_nothing writer bare =
+    record {
+      adds = λ given all sent stands.
+          subst (λ (events : List Event). StandsTaken given events (sent ++ []) writer.emitter) (sym (append-nil all))
+          (subst (λ (s : List ℕ). StandsTaken given all s writer.emitter) (sym (append-nil sent)) stands);
+      canonical = refl;
+      levels = refl;
+      bare = bare;
+    }
+
+pub taking_then : (before middle after : WriterState) (first second : List Event) (one_bytes other_bytes : List ℕ)
+    → WroteTaking before first one_bytes middle → WroteTaking middle second other_bytes after
+    → WroteTaking before (first ++ second) (one_bytes ++ other_bytes) after
+taking_then before middle after first second one_bytes other_bytes one other =
+    record {
+      adds = λ given all sent stands.
+          subst (λ (events : List Event). StandsTaken given events (sent ++ (one_bytes ++ other_bytes)) after.emitter) (append_assoc all first second)
+          (subst (λ (s : List ℕ). StandsTaken given ((all ++ first) ++ second) s after.emitter) (append_assoc sent one_bytes other_bytes)
+          (other.adds given (all ++ first) (sent ++ one_bytes) (one.adds given all sent stands)));
+      canonical = other.canonical ∙ one.canonical;
+      levels = other.levels ∙ one.levels;
+      bare = other.bare;
+    }
+
+-- without a call that takes
+pub took_none : (before after : WriterState) (events : List Event) → Wrote before events after → WroteTaking before events [] after
+took_none before after events wrote =
+    record {
+      adds = λ given all sent stands.
+          subst (λ (s : List ℕ). StandsTaken given (all ++ events) s after.emitter) (sym (append-nil sent)) (wrote.adds given all sent stands);
+      canonical = wrote.canonical;
+      levels = wrote.levels;
+      bare = wrote.bare;
+    }
+
+pub taking_same : (before after : WriterState) (events same : List Event) (bytes alike : List ℕ) → events ≡ same → bytes ≡ alike
+    → WroteTaking before events bytes after → WroteTaking before same alike after
+taking_same before after events same bytes alike is are wrote =
+    subst (λ (e : List Event). WroteTaking before e alike after) is (subst (λ (b : List ℕ). WroteTaking before events b after) are wrote)
+
+-- the next document is begun, and all output is taken
+pub begun_taken : (before middle after : WriterState) (answer : Result (Unit {0}) yaml_error_t) (bytes : List ℕ) (held holds : Option (List ℕ))
+    → IsBare before → PassedEvents before between answer middle → TakesBytes middle.emitter bytes after.emitter
+    → after ≡ record middle { emitter = with_all_taken middle.emitter } → Appends held holds bytes → BeginsNext before held after holds
+begun_taken before middle after answer bytes held holds bare passed takes kept sends =
+    record {
+      bytes = bytes;
+      sends = sends;
+      wrote = record {
+        adds = λ given all sent stands. takes given (all ++ between) sent (passed.adds given all sent stands);
+        canonical = ap (λ (w : WriterState). w.canonical) kept ∙ ap (λ (w : WriterState). w.canonical) passed.rest;
+        levels = ap (λ (w : WriterState). w.levels) kept ∙ ap (λ (w : WriterState). w.levels) passed.rest;
+        bare = (
+          ap (λ (w : WriterState). w.anchor) kept ∙ ap (λ (w : WriterState). w.anchor) passed.rest ∙ bare.0,
+          ap (λ (w : WriterState). w.tag) kept ∙ ap (λ (w : WriterState). w.tag) passed.rest ∙ bare.1,
+        );
+      };
+      whole = ap (λ (w : WriterState). w.emitter.page.taken) kept ∙ ap (λ (w : WriterState). length w.emitter.page.output) (sym kept);
+    }
+
+-- the events of some texts, after each of which a document begins, and one more
+separated : (canonical in_flow : Bool) (parts : List (List ℕ × Json)) (last : List ℕ × Json)
+    → events_with_separators canonical in_flow parts ++ (json_events canonical in_flow last.1 ++ between)
+    ≡ events_with_separators canonical in_flow (parts ++ last ∷ [])
+separated canonical in_flow parts last =
+    ap (λ (events : List Event). events_with_separators canonical in_flow parts ++ events) (sym (append-nil (json_events canonical in_flow last.1 ++ between)))
+    ∙ sym (flat_map-append (λ (part : List ℕ × Json). json_events canonical in_flow part.1 ++ between) parts (last ∷ []))
+
+-- ---- the texts in turn
+
+pub sending_begins : (depth : ℕ) (in_flow unique : Bool) (text : List ℕ) (was : WriterState) (held : Option (List ℕ)) → IsBare was
+    → Sending depth in_flow unique text was held text was held
+sending_begins depth in_flow unique text was held bare =
+    record {
+      parts = [];
+      joined = refl;
+      cut = refl;
+      each = tt;
+      names = tt;
+      handed = [];
+      sends = appends_nothing held;
+      wrote = took_nothing was bare;
+      whole = inl refl;
+    }
+
+-- what is ahead is this
+pub sending_same : (depth : ℕ) (in_flow unique : Bool) (text : List ℕ) (was : WriterState) (start : Option (List ℕ)) (rest same : List ℕ)
+    (now : WriterState) (held : Option (List ℕ)) → rest ≡ same → Sending depth in_flow unique text was start rest now held
+    → Sending depth in_flow unique text was start same now held
+sending_same depth in_flow unique text was start rest same now held is =
+    subst (λ (r : List ℕ). Sending depth in_flow unique text was start r now held) is
+
+-- the texts given so far, and one more
+module _ (depth : ℕ) (in_flow unique : Bool) (text : List ℕ) (was : WriterState) (start : Option (List ℕ)) (rest : List ℕ) (now : WriterState)
+    (held : Option (List ℕ)) (sending : Sending depth in_flow unique text was start rest now held) (first left : List ℕ) (later : List (List ℕ))
+    (joined : first ++ left ≡ rest) (cut : texts_in rest ≡ first ∷ later) (given : WriterState)
+    (named : unique ≡ true → NamesOnce [] (tokens first)) (one : WroteText depth in_flow first now given) where
+  abbrev all_parts : List (List ℕ × Json)
+  all_parts = sending.parts ++ (first, one.json) ∷ []
+
+  events_given : WroteTaking now (json_events was.canonical in_flow one.json) [] given
+  events_given =
+      took_none now given (json_events was.canonical in_flow one.json)
+      (subst (λ (canonical : Bool). Wrote now (json_events canonical in_flow one.json) given) sending.wrote.canonical one.wrote)
+
+  joined_now : flat_map (λ part. part.0) all_parts ++ left ≡ text
+  joined_now =
+      joined_more sending.parts (first, one.json) left ∙ ap (λ (t : List ℕ). flat_map (λ part. part.0) sending.parts ++ t) joined ∙ sending.joined
+
+  cut_now : map (λ part. part.0) all_parts ++ later ≡ texts_in text
+  cut_now =
+      ap (λ (texts : List (List ℕ)). texts ++ later) (map-append (λ (part : List ℕ × Json). part.0) sending.parts ((first, one.json) ∷ []))
+      ∙ append_assoc (map (λ part. part.0) sending.parts) (first ∷ []) later
+      ∙ ap (λ (texts : List (List ℕ)). map (λ part. part.0) sending.parts ++ texts) (sym cut) ∙ sending.cut
+
+  each_now : AreJson depth all_parts
+  each_now = one_more depth sending.parts (first, one.json) sending.each one.read
+
+  pub names_now : HaveNamesOnce unique (map (λ part. part.0) all_parts)
+  names_now = more_names unique sending.parts (first, one.json) sending.names (text_names unique first named)
+
+  -- and the next document is begun
+  pub sending_goes_on : (after : WriterState) (holds : Option (List ℕ)) → later ≡ texts_in left → BeginsNext given held after holds
+      → Sending depth in_flow unique text was start left after holds
+  sending_goes_on after holds is next =
+      let before = events_with_separators was.canonical in_flow sending.parts in
+      let events = json_events was.canonical in_flow one.json in
+      record {
+        parts = all_parts;
+        joined = joined_now;
+        cut = ap (λ (texts : List (List ℕ)). map (λ part. part.0) all_parts ++ texts) (sym is) ∙ cut_now;
+        each = each_now;
+        names = names_now;
+        handed = sending.handed ++ next.bytes;
+        sends = appends_then start held holds sending.handed next.bytes sending.sends next.sends;
+        wrote = taking_same was after (before ++ (events ++ between)) (events_with_separators was.canonical in_flow all_parts)
+            (sending.handed ++ ([] ++ next.bytes)) (sending.handed ++ next.bytes) (separated was.canonical in_flow sending.parts (first, one.json)) refl
+            (taking_then was now after before (events ++ between) sending.handed ([] ++ next.bytes) sending.wrote
+            (taking_then now given after events between [] next.bytes events_given next.wrote));
+        whole = inr next.whole;
+      }
+
+  -- or nothing follows
+  module _ (none : left ≡ []) (last : later ≡ []) where
+    joined_done : flat_map (λ part. part.0) all_parts ≡ text
+    joined_done =
+        sym (append-nil (flat_map (λ part. part.0) all_parts)) ∙ ap (λ (t : List ℕ). flat_map (λ part. part.0) all_parts ++ t) (sym none) ∙ joined_now
+
+    cut_done : map (λ part. part.0) all_parts ≡ texts_in text
+    cut_done =
+        sym (append-nil (map (λ part. part.0) all_parts))
+        ∙ ap (λ (texts : List (List ℕ)). map (λ part. part.0) all_parts ++ texts) (sym last) ∙ cut_now
+
+    wrote_done : WroteTaking was (parts_events was.canonical in_flow all_parts) sending.handed given
+    wrote_done =
+        let before = events_with_separators was.canonical in_flow sending.parts in
+        let events = json_events was.canonical in_flow one.json in
+        taking_same was given (before ++ events) (parts_events was.canonical in_flow all_parts) (sending.handed ++ []) sending.handed
+        (ends_with was.canonical in_flow sending.parts (first, one.json)) (append-nil sending.handed)
+        (taking_then was now given before events sending.handed [] sending.wrote events_given)
+
+    pub sent_all : SentTexts depth in_flow text was start given held
+    sent_all =
+        record {
+          parts = all_parts;
+          cut = cut_done;
+          joined = joined_done;
+          each = each_now;
+          handed = sending.handed;
+          sends = sending.sends;
+          wrote = wrote_done;
+        }
+
+    pub sent_read : ReadsSent depth in_flow text was start given held
+    sent_read =
+        record {
+          handed = sending.handed;
+          sends = sending.sends;
+          reads = sent_reads depth in_flow text was given sending.handed sending.parts (first, one.json) joined_done each_now wrote_done.adds;
+        }
+
+    pub sent_names : HaveNamesOnce unique (texts_in text)
+    sent_names = subst (HaveNamesOnce unique) cut_done names_now
+
+-- ---- errors
+
+module _ (depth : ℕ) (in_flow unique : Bool) (text : List ℕ) (was : WriterState) (start : Option (List ℕ)) (rest : List ℕ) (now : WriterState)
+    (held : Option (List ℕ)) (sending : Sending depth in_flow unique text was start rest now held) where
+  -- what was sent is whole
+  pub documents_sent : SentDocuments depth in_flow unique text was start held
+  documents_sent =
+      record {
+        parts = sending.parts;
+        later = texts_in rest;
+        cut = sending.cut;
+        each = sending.each;
+        names = sending.names;
+        handed = sending.handed;
+        sends = sending.sends;
+        then = now.emitter;
+        wrote = sending.wrote.adds;
+        whole = sending.whole;
+      }
+
+  -- the next text is refused
+  pub part_refused : (first : List ℕ) (later : List (List ℕ)) → texts_in rest ≡ first ∷ later → (error : StreamError)
+      → ExplainsPart depth unique first error → RefusesSent depth unique text error
+  part_refused first later cut (faults.Refused error) why = λ is. record {
+    parts = sending.parts;
+    next = first;
+    later = later;
+    cut = ap (λ (texts : List (List ℕ)). map (λ part. part.0) sending.parts ++ texts) (sym cut) ∙ sending.cut;
+    each = sending.each;
+    names = sending.names;
+    why = why;
+  }
+  part_refused first later cut (faults.NotText line column) why = tt
+  part_refused first later cut faults.Marked why = tt
+  part_refused first later cut (faults.ReadFailed error) why = tt
+  part_refused first later cut (faults.WriteFailed error) why = tt
+
+-- something else failed
+pub refused_by_none : (depth : ℕ) (unique : Bool) (text : List ℕ) (error : StreamError) → IsByNoText error → RefusesSent depth unique text error
+refused_by_none depth unique text (faults.Refused error) isn't = λ is. absurd (isn't is)
+refused_by_none depth unique text (faults.NotText line column) isn't = tt
+refused_by_none depth unique text faults.Marked isn't = tt
+refused_by_none depth unique text (faults.ReadFailed error) isn't = tt
+refused_by_none depth unique text (faults.WriteFailed error) isn't = tt
+
+-- ---- what is left of some bytes
+
+pub whole_suffix : (held rest : List ℕ) → rest ≡ held → (length rest ≤ length held) × (drop (length held - length rest) held ≡ rest)
+whole_suffix held rest is =
+    let same : length rest ≡ length held = ap length is in
+    let none : length held - length rest ≡ 0 = omega (arith, same) in
+    (omega (arith, same), ap (λ n. drop n held) none ∙ sym is)
+
+pub suffix_on : (held rest left : List ℕ) (end : ℕ) → length rest ≤ length held → drop (length held - length rest) held ≡ rest → end ≤ length rest
+    → left ≡ drop end rest → (length left ≤ length held) × (drop (length held - length left) held ≡ left)
+suffix_on held rest left end most is within same =
+    let shorter : length left ≡ length rest - end = ap length same ∙ length-drop end rest in
+    let further : length held - length left ≡ (length held - length rest) + end = omega (arith, shorter, most, within) in (
+      omega (arith, shorter, most),
+      ap (λ n. drop n held) further ∙ sym (drop-drop end (length held - length rest) held) ∙ ap (drop end) is ∙ sym same,
+    )
+
+pub left_scanned : (slice held now : List ℕ) (count : ℕ) (cut same : Cut) → slice ≡ held → now ≡ drop (length held - count) held → same ≡ cut
+    → LeavesLast count slice cut → HasScanned now same × (same.scanned ≡ length now)
+left_scanned slice held now count cut same is kept keeps leaves =
+    let found = subst (λ (t : List ℕ). LeavesLast count t cut) is leaves in
+    subst (λ (c : Cut). HasScanned now c × (c.scanned ≡ length now)) (sym keeps)
+    (subst (λ (t : List ℕ). HasScanned t cut × (cut.scanned ≡ length t)) (sym kept) (found.scanned, found.all))
+
+pub left_within : (slice held : List ℕ) (count : ℕ) (cut : Cut) → slice ≡ held → LeavesLast count slice cut → count ≤ length held
+left_within slice held count cut is leaves = (subst (λ (t : List ℕ). LeavesLast count t cut) is leaves).within
+
+-- ---- what came, text by text
+
+module _ (depth : ℕ) (in_flow unique : Bool) (ahead : List ℕ) (before : WriterState) (held : Option (List ℕ)) where
+  pub advances_none : (same : List ℕ) → same ≡ ahead → Advances depth in_flow unique ahead before held same before held
+  advances_none same is text was start more sending =
+      sending_same depth in_flow unique text was start (ahead ++ more) (same ++ more) before held (ap (λ (all : List ℕ). all ++ more) (sym is)) sending
+
+  module _ (rest : List ℕ) (now : WriterState) (holds : Option (List ℕ)) (advances : Advances depth in_flow unique ahead before held rest now holds) where
+    pub advances_same : (same : List ℕ) → rest ≡ same → Advances depth in_flow unique ahead before held same now holds
+    advances_same same is = subst (λ (left : List ℕ). Advances depth in_flow unique ahead before held left now holds) is advances
+
+    pub advances_left : (ahead_same left : List ℕ) (count : ℕ) → rest ≡ drop (length ahead - count) ahead → ahead ≡ ahead_same
+        → left ≡ drop (length ahead_same - count) ahead_same → Advances depth in_flow unique ahead_same before held left now holds
+    advances_left ahead_same left count drops is kept =
+        subst (λ (all : List ℕ). Advances depth in_flow unique ahead_same before held all now holds)
+        (drops ∙ ap (λ (all : List ℕ). drop (length all - count) all) is ∙ sym kept)
+        (subst (λ (all : List ℕ). Advances depth in_flow unique all before held rest now holds) is advances)
+
+    -- something failed
+    pub stops_by_none : (error : StreamError) (later : Option (List ℕ)) → IsByNoText error → (IsSent error → later ≡ holds)
+        → StopsWithin depth in_flow unique ahead before held error later
+    stops_by_none error later isn't same text was start more sending = (
+      refused_by_none depth unique text error isn't,
+      λ sent. subst (SentDocuments depth in_flow unique text was start) (sym (same sent))
+          (documents_sent depth in_flow unique text was start (rest ++ more) now holds (advances text was start more sending)),
+    )
+
+    module _ (end : ℕ) (cuts : CutsAt rest end) where
+      -- the first of the texts is refused
+      pub stops_at_first : (error : StreamError) → ExplainsPart depth unique (take end rest) error
+          → StopsWithin depth in_flow unique ahead before held error holds
+      stops_at_first error why text was start more sending =
+          let stood = advances text was start more sending in (
+            part_refused depth in_flow unique text was start (rest ++ more) now holds stood (take end rest) (texts_in (drop end rest ++ more))
+                (cuts.cut more) error why,
+            λ sent. documents_sent depth in_flow unique text was start (rest ++ more) now holds stood,
+          )
+
+      -- or it is given, and the next document begun
+      pub advances_on : (given : WriterState) → (unique ≡ true → NamesOnce [] (tokens (take end rest)))
+          → WroteText depth in_flow (take end rest) now given → (after : WriterState) (later : Option (List ℕ)) → BeginsNext given holds after later
+          → Advances depth in_flow unique ahead before held (drop end rest) after later
+      advances_on given named one after later next text was start more sending =
+          sending_goes_on depth in_flow unique text was start (rest ++ more) now holds (advances text was start more sending) (take end rest)
+          (drop end rest ++ more) (texts_in (drop end rest ++ more))
+          (sym (append_assoc (take end rest) (drop end rest) more) ∙ ap (λ (all : List ℕ). all ++ more) (take-append-drop end rest)) (cuts.cut more)
+          given named one after later refl next
+
+-- ---- parts
+
+-- these bytes are held, and those that are left come yet
+pub record Comes (depth : ℕ) (in_flow unique : Bool) (text : List ℕ) (was : WriterState) (start : Option (List ℕ)) (held : List ℕ)
+    (ahead : Option (List ℕ)) (now : WriterState) (holds : Option (List ℕ)) : Type 0 where
+  pub left : List ℕ
+  pub known : ahead ≡ Some left
+  pub sending : Sending depth in_flow unique text was start (held ++ left) now holds
+
+pub comes_first : (depth : ℕ) (in_flow unique : Bool) (was : WriterState) (start ahead : Option (List ℕ)) (held : List ℕ) → held ≡ [] → IsBare was
+    → IfSome ahead (λ text. Comes depth in_flow unique text was start held ahead was start)
+comes_first depth in_flow unique was start None held none bare = tt
+comes_first depth in_flow unique was start (Some text) held none bare =
+    record {
+      left = text;
+      known = refl;
+      sending = sending_same depth in_flow unique text was start text (held ++ text) was start (ap (λ (all : List ℕ). all ++ text) (sym none))
+          (sending_begins depth in_flow unique text was start bare);
+    }
+
+-- a flush keeps them
+kept_appends : (start holds later : Option (List ℕ)) (handed : List ℕ) → Appends start holds handed → Keeps holds later → Appends start later handed
+kept_appends None holds later handed appends keeps = tt
+kept_appends (Some bytes) None later handed appends keeps = absurd appends
+kept_appends (Some bytes) (Some more) None handed appends keeps = absurd keeps
+kept_appends (Some bytes) (Some more) (Some same) handed appends keeps = keeps ∙ appends
+
+sending_kept : (depth : ℕ) (in_flow unique : Bool) (text : List ℕ) (was : WriterState) (start : Option (List ℕ)) (rest : List ℕ) (now : WriterState)
+    (holds later : Option (List ℕ)) → Keeps holds later → Sending depth in_flow unique text was start rest now holds
+    → Sending depth in_flow unique text was start rest now later
+sending_kept depth in_flow unique text was start rest now holds later keeps sending =
+    record {
+      parts = sending.parts;
+      joined = sending.joined;
+      cut = sending.cut;
+      each = sending.each;
+      names = sending.names;
+      handed = sending.handed;
+      sends = kept_appends start holds later sending.handed sending.sends keeps;
+      wrote = sending.wrote;
+      whole = sending.whole;
+    }
+
+consumed_some : (bytes left : List ℕ) (later : Option (List ℕ)) → Consumes (Some left) later bytes
+    → (more : List ℕ) × (later ≡ Some more) × (left ≡ bytes ++ more)
+consumed_some bytes left None consumes = absurd consumes
+consumed_some bytes left (Some more) consumes = (more, refl, consumes)
+
+module _ (depth : ℕ) (in_flow unique : Bool) (was : WriterState) (start : Option (List ℕ)) where
+  -- more came
+  pub more_came : (first : Option (List ℕ)) (held after bytes : List ℕ) (ahead later : Option (List ℕ)) (now : WriterState) (holds : Option (List ℕ))
+      → after ≡ held ++ bytes → Consumes ahead later bytes → IfSome first (λ text. Comes depth in_flow unique text was start held ahead now holds)
+      → IfSome first (λ text. Comes depth in_flow unique text was start after later now holds)
+  more_came None held after bytes ahead later now holds is consumes comes = tt
+  more_came (Some text) held after bytes ahead later now holds is consumes comes =
+      let found = consumed_some bytes comes.left later (subst (λ (known : Option (List ℕ)). Consumes known later bytes) comes.known consumes) in
+      record {
+        left = found.0;
+        known = found.1;
+        sending = sending_same depth in_flow unique text was start (held ++ comes.left) (after ++ found.0) now holds
+            (ap (λ (more : List ℕ). held ++ more) found.2 ∙ sym (append_assoc held bytes found.0) ∙ ap (λ (all : List ℕ). all ++ found.0) (sym is))
+            comes.sending;
+      }
+
+  -- the texts that are complete were given
+  pub complete_given : (first : Option (List ℕ)) (held left : List ℕ) (ahead : Option (List ℕ)) (before now : WriterState)
+      (holds later : Option (List ℕ)) → Advances depth in_flow unique held before holds left now later
+      → IfSome first (λ text. Comes depth in_flow unique text was start held ahead before holds)
+      → IfSome first (λ text. Comes depth in_flow unique text was start left ahead now later)
+  complete_given None held left ahead before now holds later advances comes = tt
+  complete_given (Some text) held left ahead before now holds later advances comes =
+      record { left = comes.left; known = comes.known; sending = advances text was start comes.left comes.sending }
+
+  -- the sink was flushed
+  pub comes_kept : (first : Option (List ℕ)) (held : List ℕ) (ahead : Option (List ℕ)) (now : WriterState) (holds later : Option (List ℕ))
+      → Keeps holds later → IfSome first (λ text. Comes depth in_flow unique text was start held ahead now holds)
+      → IfSome first (λ text. Comes depth in_flow unique text was start held ahead now later)
+  comes_kept None held ahead now holds later keeps comes = tt
+  comes_kept (Some text) held ahead now holds later keeps comes =
+      record {
+        left = comes.left;
+        known = comes.known;
+        sending = sending_kept depth in_flow unique text was start (held ++ comes.left) now holds later keeps comes.sending;
+      }
+
+  -- or one of them was refused
+  pub complete_refused : (first : Option (List ℕ)) (held : List ℕ) (ahead : Option (List ℕ)) (before : WriterState)
+      (holds later : Option (List ℕ)) (error : StreamError) → StopsWithin depth in_flow unique held before holds error later
+      → IfSome first (λ text. Comes depth in_flow unique text was start held ahead before holds)
+      → IfSome first (λ text. RefusesSent depth unique text error)
+  complete_refused None held ahead before holds later error stops comes = tt
+  complete_refused (Some text) held ahead before holds later error stops comes = (stops text was start comes.left comes.sending).0
+
+  pub complete_sent : (first : Option (List ℕ)) (held : List ℕ) (ahead : Option (List ℕ)) (before : WriterState)
+      (holds later : Option (List ℕ)) (error : StreamError) → StopsWithin depth in_flow unique held before holds error later
+      → IfSome first (λ text. Comes depth in_flow unique text was start held ahead before holds) → IsSent error
+      → IfSome first (λ text. SentDocuments depth in_flow unique text was start later)
+  complete_sent None held ahead before holds later error stops comes sent = tt
+  complete_sent (Some text) held ahead before holds later error stops comes sent = (stops text was start comes.left comes.sending).1 sent
+
+  -- something else failed
+  pub comes_sent : (first : Option (List ℕ)) (held : List ℕ) (ahead : Option (List ℕ)) (now : WriterState) (holds : Option (List ℕ))
+      → IfSome first (λ text. Comes depth in_flow unique text was start held ahead now holds)
+      → IfSome first (λ text. SentDocuments depth in_flow unique text was start holds)
+  comes_sent None held ahead now holds comes = tt
+  comes_sent (Some text) held ahead now holds comes =
+      documents_sent depth in_flow unique text was start (held ++ comes.left) now holds comes.sending
+
+  pub none_refused : (first : Option (List ℕ)) (error : StreamError) → IsByNoText error → IfSome first (λ text. RefusesSent depth unique text error)
+  none_refused None error isn't = tt
+  none_refused (Some text) error isn't = refused_by_none depth unique text error isn't
+
+-- ---- the last text
+
+none_left : (left : List ℕ) → IsAtEnd (Some left) → left ≡ []
+none_left left is = is
+
+module _ (depth : ℕ) (in_flow unique : Bool) (was : WriterState) (start : Option (List ℕ)) (held : List ℕ) (ahead : Option (List ℕ))
+    (now : WriterState) (holds : Option (List ℕ)) (ended : IsAtEnd ahead) (scan : Cut) (scanned : HasScanned held scan)
+    (all : scan.scanned ≡ length held) where
+  last_left : (text : List ℕ) → Comes depth in_flow unique text was start held ahead now holds → Sending depth in_flow unique text was start held now holds
+  last_left text comes =
+      let none : comes.left ≡ [] = none_left comes.left (subst IsAtEnd comes.known ended) in
+      sending_same depth in_flow unique text was start (held ++ comes.left) held now holds
+      (ap (λ (more : List ℕ). held ++ more) none ∙ append-nil held) comes.sending
+
+  one_left : texts_in held ≡ held ∷ []
+  one_left = whole_text held scan scanned all
+
+  module _ (given : WriterState) (named : unique ≡ true → NamesOnce [] (tokens held)) (one : WroteText depth in_flow held now given) where
+    pub last_sent : (first : Option (List ℕ)) → IfSome first (λ text. Comes depth in_flow unique text was start held ahead now holds)
+        → IfSome first (λ text. SentTexts depth in_flow text was start given holds)
+    last_sent None comes = tt
+    last_sent (Some text) comes =
+        sent_all depth in_flow unique text was start held now holds (last_left text comes) held [] [] (append-nil held) one_left given named one refl refl
+
+    pub last_read : (first : Option (List ℕ)) → IfSome first (λ text. Comes depth in_flow unique text was start held ahead now holds)
+        → IfSome first (λ text. ReadsSent depth in_flow text was start given holds)
+    last_read None comes = tt
+    last_read (Some text) comes =
+        sent_read depth in_flow unique text was start held now holds (last_left text comes) held [] [] (append-nil held) one_left given named one refl refl
+
+    pub last_named : (first : Option (List ℕ)) → IfSome first (λ text. Comes depth in_flow unique text was start held ahead now holds)
+        → IfSome first (λ text. HaveNamesOnce unique (texts_in text))
+    last_named None comes = tt
+    last_named (Some text) comes =
+        sent_names depth in_flow unique text was start held now holds (last_left text comes) held [] [] (append-nil held) one_left given named one refl refl
+
+  pub last_refused : (first : Option (List ℕ)) (error : StreamError) → ExplainsPart depth unique held error
+      → IfSome first (λ text. Comes depth in_flow unique text was start held ahead now holds) → IfSome first (λ text. RefusesSent depth unique text error)
+  last_refused None error why comes = tt
+  last_refused (Some text) error why comes =
+      part_refused depth in_flow unique text was start held now holds (last_left text comes) held [] one_left error why

@@ -1,0 +1,15 @@
+use Rattle.std.specs.Prelude.{IfSome}
+use Rattle.yaml_json.specs.Sent.{IsScanned}
+use Rattle.yaml_json.specs.Wrote.{IsBare}
+use Rattle.yaml_json.proofs.Sending.{Comes}
+use Rattle.yaml_json.proofs.stream.send_json_texts.Given as goal
+
+abbrev pub invariant-parts : goal.invariant-parts
+invariant-parts g l =
+    IsBare l.writer × IsScanned l.incoming
+    × IfSome (g.R.Read.remaining l.fn.reader)
+    (λ text. Comes l.settings.depth l.settings.flow l.settings.unique_names text l.fn.writer (g.W.Write.contents l.fn.sink) l.incoming.held.items
+    (g.R.Read.remaining l.reader) l.writer (g.W.Write.contents l.sink))
+
+abbrev pub decreases-parts : goal.decreases-parts
+decreases-parts g l = l.turns

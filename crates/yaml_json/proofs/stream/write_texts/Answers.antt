@@ -1,0 +1,71 @@
+use Rattle.std.proofs.Common.{◌≡◌, ◌∙◌, ◌-◌, ◌<◌, ◌≤◌, ◌+◌, ℕ, List, [], true, refl, sym, ap, subst, arith, drop, length}
+use Rattle.std.proofs.lemmas.List.{length-drop}
+use Rattle.json.specs.Lex.{tokens}
+use Rattle.yaml_json.specs.Cuts.{HasScanned}
+use Rattle.yaml_json.specs.Names.{NamesOnce}
+use Rattle.yaml_json.specs.Sent.{ExplainsPart}
+use Rattle.yaml_json.specs.Wrote.{WroteText}
+use Rattle.yaml_json.proofs.Sending.{advances_none, advances_on, advances_same, stops_at_first, stops_by_none, suffix_on, whole_suffix}
+use Rattle.yaml_json.proofs.stream.write_texts.Goals as goal
+
+pub texts-init : goal.texts-init
+texts-init g c =
+    let a = c.args in
+    let suffix = whole_suffix a.held.now a.held.now refl in (
+      c.requires.bare,
+      c.requires.scanned,
+      suffix.0,
+      suffix.1,
+      advances_none a.settings.now.depth a.settings.now.flow a.settings.now.unique_names a.held.now a.writer.now (g.W.Write.contents a.sink.now)
+          a.held.now refl,
+    )
+
+pub texts-smaller : goal.texts-smaller
+texts-smaller g c =
+    let cuts = c.in-Some.ensures in
+    let some = cuts.some in
+    let within = cuts.within in
+    let left : length c.split_at.result.1.now ≡ length c.texts.rest.now - c.in-Some.end =
+    ap length c.split_at.ensures.back ∙ length-drop c.in-Some.end c.texts.rest.now in
+    omega (arith, some, within, left)
+
+pub texts-preserved : goal.texts-preserved
+texts-preserved g c =
+    let a = c.args in
+    let l = c.texts in
+    let cuts = c.in-Some.ensures in
+    let within = cuts.within in
+    let next = c.in_default-begin_next.ensures.begun in
+    let named = subst (λ (t : List ℕ). a.settings.now.unique_names ≡ true → NamesOnce [] (tokens t)) c.split_at.ensures.front c.in_default-write_bytes.ensures.names in
+    let wrote = subst (λ (t : List ℕ). WroteText a.settings.now.depth a.settings.now.flow t l.writer c.write_bytes.new.writer) c.split_at.ensures.front
+    c.in_default-write_bytes.ensures.written in
+    let suffix = suffix_on a.held.now l.rest.now c.split_at.result.1.now c.in-Some.end l.invariant.2 l.invariant.3 (omega (arith, within))
+    c.split_at.ensures.back in (
+      next.wrote.bare,
+      c.new_cut-reading.ensures c.split_at.result.1.now,
+      suffix.0,
+      suffix.1,
+      advances_same a.settings.now.depth a.settings.now.flow a.settings.now.unique_names a.held.now a.writer.now (g.W.Write.contents a.sink.now)
+          (drop c.in-Some.end l.rest.now) c.begin_next.new.writer (g.W.Write.contents c.begin_next.new.sink)
+          (advances_on a.settings.now.depth a.settings.now.flow a.settings.now.unique_names a.held.now a.writer.now (g.W.Write.contents a.sink.now)
+          l.rest.now l.writer (g.W.Write.contents l.sink) l.invariant.4 c.in-Some.end cuts c.write_bytes.new.writer named wrote c.begin_next.new.writer
+          (g.W.Write.contents c.begin_next.new.sink) next)
+          c.split_at.result.1.now (sym c.split_at.ensures.back),
+    )
+
+pub returns-in-Err-clause-stops : goal.returns-in-Err-clause-stops
+returns-in-Err-clause-stops g c =
+    let a = c.args in
+    let l = c.texts in
+    let why = subst (λ (t : List ℕ). ExplainsPart a.settings.now.depth a.settings.now.unique_names t c.placed.result) c.split_at.ensures.front
+    (c.placed.ensures.refused a.settings.now.depth a.settings.now.unique_names c.split_at.result.0.now c.in-Err.ensures.refused) in
+    stops_at_first a.settings.now.depth a.settings.now.flow a.settings.now.unique_names a.held.now a.writer.now (g.W.Write.contents a.sink.now)
+    l.rest.now l.writer (g.W.Write.contents l.sink) l.invariant.4 c.in-Some.end c.in-Some.ensures c.placed.result why
+
+pub returns-in-Err-begin_next-clause-stops : goal.returns-in-Err-begin_next-clause-stops
+returns-in-Err-begin_next-clause-stops g c =
+    let a = c.args in
+    let l = c.texts in
+    stops_by_none a.settings.now.depth a.settings.now.flow a.settings.now.unique_names a.held.now a.writer.now (g.W.Write.contents a.sink.now)
+    l.rest.now l.writer (g.W.Write.contents l.sink) l.invariant.4 c.in-Err-begin_next.error (g.W.Write.contents c.begin_next.new.sink)
+    c.in-Err-begin_next.ensures.failed c.in-Err-begin_next.ensures.unsent

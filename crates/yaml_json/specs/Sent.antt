@@ -1,0 +1,143 @@
+-- JSON texts that come part by part: what was given of them, and what was sent on.
+use Rattle.std.specs.Prelude.{◌≡◌, ◌⊎◌, ℕ, ◌-◌, ◌≤◌, Bool, true, Option, None, Some, Result, Ok, Err, List, [], ◌∷◌, ◌++◌, IfSome, drop, flat_map, length, map}
+use Rattle.std.specs.Io.KnownBytes.{Appends, Consumes}
+use Rattle.json.specs.Json.{Json, value}
+use Rattle.json.specs.Lex.{tokens}
+use Rattle.yaml_base.specs.Event.{Event}
+use Rattle.yaml_base.specs.Settings.{Settings}
+use Rattle.yaml_base.specs.Prefix.{IsPrefix}
+use Rattle.yaml_emitter.specs.State.{State}
+use Rattle.yaml_writer.specs.Writing.{Finishes, StandsTaken, WriterState, opening}
+use Rattle.yaml_json.specs.Cuts.{HasScanned}
+use Rattle.yaml_json.specs.Failing.{between, events_with_separators}
+use Rattle.yaml_json.specs.Refused.{ExplainsError, HaveNamesOnce, IsOfText, RefusedAmong}
+use Rattle.yaml_json.specs.Texts.{texts_in}
+use Rattle.yaml_json.specs.Wrote.{AreJson, IsBare, IsYamlOfTexts, parts_events}
+use Rattle.yaml_json.specs.declared.cuts.Cut.{Cut}
+use Rattle.yaml_json.specs.declared.error.JsonError.{JsonError}
+use Rattle.yaml_json.specs.declared.stream.Incoming.{Incoming}
+use Rattle.yaml_json.specs.declared.error.StreamError.{StreamError}
+use Rattle.yaml_json.specs.declared.error.StreamError.TheVariants as faults
+
+-- wherever the emitter stood, it stands after these events more, and these bytes are taken more
+abbrev pub AddsTaking : State → List Event → List ℕ → State → Type 0
+AddsTaking before events bytes after =
+    (given : Settings) (all : List Event) (sent : List ℕ) → StandsTaken given all sent before → StandsTaken given (all ++ events) (sent ++ bytes) after
+
+-- these events were given, and these bytes were taken; the next node has no anchor and no tag
+pub record WroteTaking (before : WriterState) (events : List Event) (bytes : List ℕ) (after : WriterState) : Type 0 where
+  pub adds : AddsTaking before.emitter events bytes after.emitter
+  pub canonical : after.canonical ≡ before.canonical
+  pub levels : after.levels ≡ before.levels
+  pub bare : IsBare after
+
+-- the text is one JSON text after another, where each ends; their events were given, a document each, and the sink was given the
+-- bytes that were taken
+pub record SentTexts (depth : ℕ) (in_flow : Bool) (text : List ℕ) (was : WriterState) (before : Option (List ℕ)) (now : WriterState)
+    (after : Option (List ℕ)) : Type 0 where
+  pub parts : List (List ℕ × Json)
+  pub cut : map (λ part. part.0) parts ≡ texts_in text
+  pub joined : flat_map (λ part. part.0) parts ≡ text
+  pub each : AreJson depth parts
+  pub handed : List ℕ
+  pub sends : Appends before after handed
+  pub wrote : WroteTaking was (parts_events was.canonical in_flow parts) handed now
+
+-- where the writer was at the start of its first document, what was taken of it before, what the sink was given, and what then
+-- finishes the stream, is read as the values of the text
+pub record ReadsSent (depth : ℕ) (in_flow : Bool) (text : List ℕ) (was : WriterState) (before : Option (List ℕ)) (now : WriterState)
+    (after : Option (List ℕ)) : Type 0 where
+  pub handed : List ℕ
+  pub sends : Appends before after handed
+  pub reads : (given : Settings) (sent bytes : List ℕ) → StandsTaken given opening sent was.emitter → was.canonical ≡ given.canonical
+      → Finishes now.emitter bytes → IsYamlOfTexts given in_flow depth text ((sent ++ handed) ++ bytes)
+
+-- of these bytes, these are left: the texts before them were given, a document begun after each, and the sink was given what was
+-- written of the documents
+pub record Sending (depth : ℕ) (in_flow unique : Bool) (text : List ℕ) (was : WriterState) (before : Option (List ℕ)) (rest : List ℕ) (now : WriterState)
+    (after : Option (List ℕ)) : Type 0 where
+  pub parts : List (List ℕ × Json)
+  pub joined : flat_map (λ part. part.0) parts ++ rest ≡ text
+  pub cut : map (λ part. part.0) parts ++ texts_in rest ≡ texts_in text
+  pub each : AreJson depth parts
+  pub names : HaveNamesOnce unique (map (λ part. part.0) parts)
+  pub handed : List ℕ
+  pub sends : Appends before after handed
+  pub wrote : WroteTaking was (events_with_separators was.canonical in_flow parts) handed now
+  pub whole : (parts ≡ []) ⊎ (now.emitter.page.taken ≡ length now.emitter.page.output)
+
+-- wherever the sending was, with these bytes ahead, these are left
+abbrev pub Advances : (depth : ℕ) → (in_flow unique : Bool) → List ℕ → WriterState → Option (List ℕ) → List ℕ → WriterState → Option (List ℕ) → Type 0
+Advances depth in_flow unique ahead before held left now holds =
+    (text : List ℕ) (was : WriterState) (start : Option (List ℕ)) (more : List ℕ)
+    → Sending depth in_flow unique text was start (ahead ++ more) before held → Sending depth in_flow unique text was start (left ++ more) now holds
+
+-- the next document was begun, and the sink was given all that was written before
+pub record BeginsNext (before : WriterState) (held : Option (List ℕ)) (after : WriterState) (holds : Option (List ℕ)) : Type 0 where
+  pub bytes : List ℕ
+  pub sends : Appends held holds bytes
+  pub wrote : WroteTaking before between bytes after
+  pub whole : after.emitter.page.taken ≡ length after.emitter.page.output
+
+-- the sink was given whole documents: those of the first texts, as a writer has written them that was given no more than these
+-- and the start of the next, and whose output is taken; where the first is refused, nothing
+pub record SentDocuments (depth : ℕ) (in_flow unique : Bool) (text : List ℕ) (was : WriterState) (before after : Option (List ℕ)) : Type 0 where
+  pub parts : List (List ℕ × Json)
+  pub later : List (List ℕ)
+  pub cut : map (λ part. part.0) parts ++ later ≡ texts_in text
+  pub each : AreJson depth parts
+  pub names : HaveNamesOnce unique (map (λ part. part.0) parts)
+  pub handed : List ℕ
+  pub sends : Appends before after handed
+  pub then : State
+  pub wrote : AddsTaking was.emitter (events_with_separators was.canonical in_flow parts) handed then
+  pub whole : (parts ≡ []) ⊎ (then.page.taken ≡ length then.page.output)
+
+-- ---- errors
+
+-- one of the texts is refused, for this reason
+abbrev pub RefusesSent : (depth : ℕ) → (unique : Bool) → (text : List ℕ) → StreamError → Type 0
+RefusesSent depth unique text (faults.Refused error) = IsOfText error → RefusedAmong depth unique text error
+RefusesSent depth unique text _ = Unit {0}
+
+-- the writer or the sink failed
+abbrev pub IsByNoText : StreamError → Type 0
+IsByNoText (faults.Refused error) = IsOfText error → ⊥
+IsByNoText _ = Unit {0}
+
+-- the sink took all that it was given
+abbrev pub IsSent : StreamError → Type 0
+IsSent (faults.WriteFailed error) = ⊥
+IsSent _ = Unit {0}
+
+-- a part of a text is refused, for this reason
+abbrev pub ExplainsPart : (depth : ℕ) → (unique : Bool) → (text : List ℕ) → StreamError → Type 0
+ExplainsPart depth unique text (faults.Refused error) = ExplainsError depth unique text error
+ExplainsPart depth unique text _ = Unit {0}
+
+-- wherever the sending was, with these bytes ahead, one of the texts is refused for this reason, or something failed; the sink
+-- was given whole documents
+abbrev pub StopsWithin : (depth : ℕ) → (in_flow unique : Bool) → List ℕ → WriterState → Option (List ℕ) → StreamError → Option (List ℕ) → Type 0
+StopsWithin depth in_flow unique ahead before held error holds =
+    (text : List ℕ) (was : WriterState) (start : Option (List ℕ)) (more : List ℕ) → Sending depth in_flow unique text was start (ahead ++ more) before held
+    → RefusesSent depth unique text error × (IsSent error → SentDocuments depth in_flow unique text was start holds)
+
+-- ---- what came
+
+-- what was held was scanned as far as is said; all of it
+abbrev pub IsIncoming : {A : Type 0} → Incoming A → Type 0
+IsIncoming incoming = HasScanned incoming.held.items incoming.reading.cut
+
+abbrev pub IsScanned : {A : Type 0} → Incoming A → Type 0
+IsScanned incoming = IsIncoming incoming × (incoming.reading.cut.scanned ≡ length incoming.held.items)
+
+-- so many of some bytes are left, and scanned
+pub record LeavesLast (count : ℕ) (held : List ℕ) (cut : Cut) : Type 0 where
+  pub within : count ≤ length held
+  pub scanned : HasScanned (drop (length held - count) held) cut
+  pub all : cut.scanned ≡ length (drop (length held - count) held)
+
+-- these bytes came more
+abbrev pub HasCome : {A : Type 0} → Incoming A → Option (List ℕ) → Incoming A → Option (List ℕ) → Type 0
+HasCome before ahead after left =
+    (bytes : List ℕ) × (after.held.items ≡ before.held.items ++ bytes) × Consumes ahead left bytes

@@ -1,0 +1,345 @@
+//! JSON texts that follow one another, read part by part and sent on as they are complete.
+ghost use Rattle.std.specs.Prelude.{◌≡◌, ◌<◌, ◌≤◌, ◌-◌, ℕ, Bool, List, [], IfErr, IfOk, IfSome, OnOk, drop, false, length, true};
+ghost use Rattle.std.specs.Io.KnownBytes.{IsAtEnd};
+ghost use Rattle.json.specs.Lex.{tokens};
+ghost use Rattle.yaml_json.specs.Names.{NamesOnce};
+ghost use Rattle.yaml_json.specs.Refused.{HaveNamesOnce};
+ghost use Rattle.yaml_json.specs.Cuts.{HasScanned};
+ghost use Rattle.yaml_json.specs.Sent.{Advances, BeginsNext, ExplainsPart, HasCome, IsByNoText, IsIncoming, IsScanned, IsSent, LeavesLast, ReadsSent};
+ghost use Rattle.yaml_json.specs.Sent.{RefusesSent, SentDocuments, SentTexts, StopsWithin};
+ghost use Rattle.yaml_json.specs.Texts.{texts_in};
+ghost use Rattle.yaml_json.specs.Wrote.{IsBare, WroteText};
+
+use crate::cuts::{Cut, find_end, new_cut};
+use crate::error::{JsonError, StreamError};
+use crate::places::{Place, place_of};
+use crate::settings::JsonSettings;
+use crate::texts::{error_of, write_text_by};
+use json::Scratch;
+use std::alloc::Allocator;
+use std::io::{ErrorKind, Read, Write};
+use std::{io, str};
+use yaml_writer::{Writer, yaml_error_t};
+
+/// So many bytes are read at once.
+const PART_SIZE: usize = 65_536;
+
+/// A byte order mark, which no JSON text begins with.
+const MARK: &[u8] = b"\xef\xbb\xbf";
+
+const NO_MEMORY: StreamError = StreamError::Refused(JsonError::Emitter(yaml_error_t::Memory));
+
+/// How far the texts are read.
+#[derive(Drop)]
+pub(crate) struct Reading<A: Allocator> {
+    alloc: A,
+    pub(crate) cut: Cut,
+    /// Where what came and isn't written yet begins.
+    place: Place,
+    scratch: Scratch<A>,
+}
+
+/// What came and isn't written yet.
+#[derive(Drop)]
+pub(crate) struct Incoming<A: Allocator> {
+    pub(crate) held: Vec<u8, A>,
+    pub(crate) reading: Reading<A>,
+}
+
+impl<A: Allocator + Copy> Incoming<A> {
+    /// Before anything came.
+    fn new(alloc: A) -> Self
+        ensures scanned { IsScanned result }
+        ensures nothing { result.held.items ≡ [] }
+    {
+        Incoming {
+            held: Vec::new(alloc),
+            reading: Reading {
+                alloc,
+                cut: new_cut(),
+                place: Place::first(),
+                scratch: Scratch::new(alloc),
+            },
+        }
+    }
+}
+
+/// Reads a part by a buffer. Returns whether more may follow.
+fn read_part<A: Allocator + Copy, R: Read>(
+    reader: &mut R,
+    part: &mut [u8],
+    incoming: &mut Incoming<A>,
+) -> Result<bool, StreamError>
+    requires room { 0 < length part.old }
+    requires scanned { IsScanned incoming.old }
+    ensures come { OnOk result (HasCome incoming.old (R.remaining reader.old) incoming.new (R.remaining reader.new)) }
+    ensures incoming { OnOk result (IsIncoming incoming.new) }
+    ensures end { IfOk result (λ more. more ≡ false → IsAtEnd (R.remaining reader.new) × (incoming.new ≡ incoming.old)) }
+    ensures refused { IfErr result IsByNoText }
+    ensures sent { IfErr result IsSent }
+{
+    match reader.read(part) {
+        Ok(0) => Ok(false),
+        Ok(count) => match incoming.held.extend_from_slice(&part[..count]) {
+            Ok(()) => Ok(true),
+            Err(_) => Err(NO_MEMORY),
+        },
+        Err(error) => match error.kind() {
+            ErrorKind::Interrupted => Ok(true),
+            ErrorKind::OutOfMemory => Err(NO_MEMORY),
+            _ => Err(StreamError::ReadFailed(error)),
+        },
+    }
+}
+
+/// Reads a part. Returns whether more may follow.
+fn read_more<A: Allocator + Copy, R: Read>(
+    alloc: A,
+    reader: &mut R,
+    incoming: &mut Incoming<A>,
+) -> Result<bool, StreamError>
+    requires { IsScanned incoming.old }
+    ensures come { OnOk result (HasCome incoming.old (R.remaining reader.old) incoming.new (R.remaining reader.new)) }
+    ensures incoming { OnOk result (IsIncoming incoming.new) }
+    ensures end { IfOk result (λ more. more ≡ false → IsAtEnd (R.remaining reader.new) × (incoming.new ≡ incoming.old)) }
+    ensures refused { IfErr result IsByNoText }
+    ensures sent { IfErr result IsSent }
+{
+    let mut part = Vec::new(alloc);
+    match part.resize(PART_SIZE, 0) {
+        Ok(()) => read_part(reader, part.as_mut_slice(), incoming),
+        Err(_) => Err(NO_MEMORY),
+    }
+}
+
+/// Gives a writer the events of a JSON text.
+fn write_bytes<A: Allocator + Copy>(
+    alloc: A,
+    writer: &mut Writer<A>,
+    scratch: &mut Scratch<A>,
+    bytes: &[u8],
+    settings: &JsonSettings,
+) -> Result<(), StreamError>
+    requires { IsBare writer.old }
+    ensures names { OnOk result (settings.now.unique_names ≡ true → NamesOnce [] (tokens bytes.now)) }
+    ensures written { OnOk result (WroteText settings.now.depth settings.now.flow bytes.now writer.old writer.new) }
+    ensures refused { IfErr result (ExplainsPart settings.now.depth settings.now.unique_names bytes.now) }
+{
+    let text = match str::from_utf8(bytes) {
+        Ok(text) => text,
+        Err(error) => {
+            let (line, column) = place_of(bytes, error.valid_up_to());
+            return Err(StreamError::NotText { line, column });
+        }
+    };
+    match write_text_by(alloc, writer, scratch, text, settings) {
+        Ok(()) => Ok(()),
+        Err(stop) => Err(StreamError::Refused(error_of(text, 0, stop))),
+    }
+}
+
+/// The error of a text as one of all that came, where the text begins at this place.
+fn placed(error: StreamError, start: Place, text: &[u8]) -> StreamError
+    ensures refused { (depth : ℕ) (unique : Bool) (all : List ℕ) → ExplainsPart depth unique all error → ExplainsPart depth unique all result }
+{
+    if start == Place::first() && text.starts_with(MARK) {
+        return StreamError::Marked;
+    }
+    match error {
+        StreamError::Refused(JsonError::NotJson { line, column }) => {
+            let (line, column) = start.and(line, column);
+            StreamError::Refused(JsonError::NotJson { line, column })
+        }
+        StreamError::Refused(JsonError::DuplicateName { line, column }) => {
+            let (line, column) = start.and(line, column);
+            StreamError::Refused(JsonError::DuplicateName { line, column })
+        }
+        StreamError::NotText { line, column } => {
+            let (line, column) = start.and(line, column);
+            StreamError::NotText { line, column }
+        }
+        other => other,
+    }
+}
+
+/// Begins the next document, and sends on what is written.
+fn begin_next<A: Allocator + Copy, W: Write>(
+    writer: &mut Writer<A>,
+    sink: &mut W,
+) -> Result<(), StreamError>
+    requires { IsBare writer.old }
+    ensures begun { OnOk result (BeginsNext writer.old (W.contents sink.old) writer.new (W.contents sink.new)) }
+    ensures failed { IfErr result IsByNoText }
+    ensures unsent { IfErr result (λ error. IsSent error → W.contents sink.new ≡ W.contents sink.old) }
+{
+    if let Err(error) = writer.next_document() {
+        return Err(StreamError::Refused(JsonError::Emitter(error)));
+    }
+    let bytes = writer.take_output();
+    match sink.write_all(bytes.as_slice()) {
+        Ok(()) => Ok(()),
+        Err(error) => Err(StreamError::WriteFailed(error)),
+    }
+}
+
+/// Keeps the last so many bytes of what came.
+fn keep_last<A: Allocator + Copy>(
+    incoming: &mut Incoming<A>,
+    count: usize,
+) -> Result<(), StreamError>
+    requires { count ≤ length incoming.old.held.items }
+    ensures kept { OnOk result (incoming.new.held.items ≡ drop (length incoming.old.held.items - count) incoming.old.held.items) }
+    ensures cut { incoming.new.reading.cut ≡ incoming.old.reading.cut }
+    ensures failed { IfErr result IsByNoText }
+    ensures sent { IfErr result IsSent }
+{
+    let start = incoming.held.len() - count;
+    if start == 0 {
+        return Ok(());
+    }
+    incoming.reading.place = incoming.reading.place.after(&incoming.held[..start]);
+    let Ok(left) = Vec::from_slice(incoming.reading.alloc, &incoming.held[start..]) else {
+        return Err(NO_MEMORY);
+    };
+    incoming.held.clear();
+    match incoming.held.extend_from_slice(left.as_slice()) {
+        Ok(()) => Ok(()),
+        Err(_) => Err(NO_MEMORY),
+    }
+}
+
+/// Gives a writer the texts that are complete in what came, and sends on what is written of each. Returns how many bytes are left.
+fn write_texts<A: Allocator + Copy, W: Write>(
+    writer: &mut Writer<A>,
+    sink: &mut W,
+    held: &[u8],
+    reading: &mut Reading<A>,
+    settings: &JsonSettings,
+) -> Result<usize, StreamError>
+    requires bare { IsBare writer.old }
+    requires scanned { HasScanned held.now reading.old.cut }
+    ensures bare { OnOk result (IsBare writer.new) }
+    ensures left { IfOk result (λ count. LeavesLast count held.now reading.new.cut) }
+    ensures gives { IfOk result (λ count. Advances settings.now.depth settings.now.flow settings.now.unique_names held.now writer.old
+        (W.contents sink.old) (drop (length held.now - count) held.now) writer.new (W.contents sink.new)) }
+    ensures stops { IfErr result (λ error. StopsWithin settings.now.depth settings.now.flow settings.now.unique_names held.now writer.old
+        (W.contents sink.old) error (W.contents sink.new)) }
+{
+    let mut rest = held;
+    'texts: while let Some(end) = find_end(rest, &mut reading.cut) {
+        let (first, more) = rest.split_at(end);
+        if let Err(error) = write_bytes(
+            reading.alloc,
+            writer,
+            &mut reading.scratch,
+            first,
+            settings,
+        ) {
+            let done = &held[..held.len() - rest.len()];
+            return Err(placed(error, reading.place.after(done), first));
+        }
+        if let Err(error) = begin_next(writer, sink) {
+            return Err(error);
+        }
+        reading.cut = new_cut();
+        rest = more;
+    }
+    Ok(rest.len())
+}
+
+/// The same, and drops the bytes of these texts.
+fn write_complete<A: Allocator + Copy, W: Write>(
+    writer: &mut Writer<A>,
+    sink: &mut W,
+    incoming: &mut Incoming<A>,
+    settings: &JsonSettings,
+) -> Result<(), StreamError>
+    requires bare { IsBare writer.old }
+    requires incoming { IsIncoming incoming.old }
+    ensures bare { OnOk result (IsBare writer.new) }
+    ensures scanned { OnOk result (IsScanned incoming.new) }
+    ensures gives { OnOk result (Advances settings.now.depth settings.now.flow settings.now.unique_names incoming.old.held.items writer.old
+        (W.contents sink.old) incoming.new.held.items writer.new (W.contents sink.new)) }
+    ensures stops { IfErr result (λ error. StopsWithin settings.now.depth settings.now.flow settings.now.unique_names incoming.old.held.items writer.old
+        (W.contents sink.old) error (W.contents sink.new)) }
+{
+    let held = incoming.held.as_slice();
+    match write_texts(writer, sink, held, &mut incoming.reading, settings) {
+        Ok(count) => match keep_last(incoming, count) {
+            Ok(()) => Ok(()),
+            Err(error) => Err(error),
+        },
+        Err(error) => Err(error),
+    }
+}
+
+/// Gives a writer the last text.
+fn write_last<A: Allocator + Copy>(
+    writer: &mut Writer<A>,
+    incoming: &mut Incoming<A>,
+    settings: &JsonSettings,
+) -> Result<(), StreamError>
+    requires { IsBare writer.old }
+    ensures bare { OnOk result (IsBare writer.new) }
+    ensures names { OnOk result (settings.now.unique_names ≡ true → NamesOnce [] (tokens incoming.old.held.items)) }
+    ensures written { OnOk result (WroteText settings.now.depth settings.now.flow incoming.old.held.items writer.old writer.new) }
+    ensures refused { IfErr result (ExplainsPart settings.now.depth settings.now.unique_names incoming.old.held.items) }
+{
+    let text = incoming.held.as_slice();
+    let reading = &mut incoming.reading;
+    match write_bytes(reading.alloc, writer, &mut reading.scratch, text, settings) {
+        Ok(()) => Ok(()),
+        Err(error) => Err(placed(error, reading.place, text)),
+    }
+}
+
+/// Reads JSON texts that follow one another to the reader's end, and gives their events to a writer, as `write_json_texts` does:
+/// a document each, the first as the document that the writer is in. As a text is complete, the next document is begun, and the
+/// sink is given what is written until then. The last text's document is left to the writer.
+///
+/// No more is held than a part of 65,536 bytes and a text that isn't complete. The sink is flushed before each read.
+///
+/// The writer must have no anchor and no tag for the next node.
+///
+/// # Errors
+///
+/// `Refused` as by `write_json_texts`; `NotText` and `Marked` where a text isn't UTF-8, or begins with a byte order mark;
+/// `ReadFailed` and `WriteFailed`. Until then the sink was given whole documents, those of the texts before the one that is refused.
+pub fn send_json_texts<A: Allocator + Copy, R: Read, W: Write>(
+    alloc: A,
+    writer: &mut Writer<A>,
+    reader: &mut R,
+    sink: &mut W,
+    settings: JsonSettings,
+) -> Result<(), StreamError>
+    requires { IsBare writer.old }
+    ensures bare { OnOk result (IsBare writer.new) }
+    ensures end { OnOk result (IsAtEnd (R.remaining reader.new)) }
+    ensures written { OnOk result (IfSome (R.remaining reader.old) (λ text.
+        SentTexts settings.depth settings.flow text writer.old (W.contents sink.old) writer.new (W.contents sink.new))) }
+    ensures reads { OnOk result (IfSome (R.remaining reader.old) (λ text.
+        ReadsSent settings.depth settings.flow text writer.old (W.contents sink.old) writer.new (W.contents sink.new))) }
+    ensures names { OnOk result (IfSome (R.remaining reader.old) (λ text. HaveNamesOnce settings.unique_names (texts_in text))) }
+    ensures refused { IfErr result (λ error. IfSome (R.remaining reader.old) (λ text. RefusesSent settings.depth settings.unique_names text error)) }
+    ensures sent { IfErr result (λ error. IsSent error → IfSome (R.remaining reader.old) (λ text.
+        SentDocuments settings.depth settings.flow settings.unique_names text writer.old (W.contents sink.old) (W.contents sink.new))) }
+{
+    let mut incoming = Incoming::new(alloc);
+    // No reader promises to end, so the reads are counted.
+    let mut turns = u64::MAX;
+    'parts: while turns > 0 {
+        turns -= 1;
+        match read_more(alloc, reader, &mut incoming) {
+            Ok(true) => {}
+            Ok(false) => return write_last(writer, &mut incoming, &settings),
+            Err(error) => return Err(error),
+        }
+        if let Err(error) = write_complete(writer, sink, &mut incoming, &settings) {
+            return Err(error);
+        }
+        if let Err(error) = sink.flush() {
+            return Err(StreamError::WriteFailed(error));
+        }
+    }
+    Err(StreamError::ReadFailed(io::Error::from(ErrorKind::TimedOut)))
+}
