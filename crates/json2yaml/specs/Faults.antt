@@ -1,4 +1,4 @@
--- The program's status where nothing was written.
+-- The program's status where not all was written.
 use Rattle.std.specs.Prelude.{ℕ}
 use Rattle.json2yaml.specs.declared.program.Fault.{Fault}
 use Rattle.json2yaml.specs.declared.program.Fault.TheVariants as faults

@@ -3,6 +3,7 @@
 
 mod arguments;
 mod options;
+mod output;
 mod program;
 mod version;
 

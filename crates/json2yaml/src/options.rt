@@ -16,7 +16,7 @@ const FILES_LONG: &str =
 const OUTPUT_HELP: &str = "The file to write in place of standard output";
 
 const OUTPUT_LONG: &str =
-    "The file to write in place of standard output. It is made or replaced once all texts are read.{n}Example: json2yaml -o out.yaml in.json";
+    "The file to write in place of standard output. It is made or replaced once all texts are written.{n}Example: json2yaml -o out.yaml in.json";
 
 const INDENT_HELP: &str = "Columns for each level, 2 to 9 [default: 2]";
 

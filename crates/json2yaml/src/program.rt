@@ -1,25 +1,26 @@
 //! The program: what its arguments ask for is done with files and the standard streams.
 ghost use Rattle.std.specs.Prelude.{◌≡◌, ◌≤◌, OnOk};
-ghost use Rattle.yaml_json.specs.Wrote.{IsBare, WroteTexts};
+ghost use Rattle.yaml_json.specs.Wrote.{IsBare};
 ghost use Rattle.json2yaml.specs.Faults as statuses;
 
 use crate::arguments::{Conversion, conversion_of};
+use crate::output::{Beside, is_written_in_place};
 use clap::Error as UsageError;
 use clap::error::ErrorKind as UsageKind;
 use std::alloc::Global;
-use std::io::{ErrorKind, IsTerminal, Read, Write};
+use std::io::{BufWriter, ErrorKind, IsTerminal, Write};
 use std::rt::Runtime;
-use std::{fs, io, str};
+use std::{fs, io};
 use thiserror::Error;
-use yaml_json::{JsonError, JsonSettings, Writer, place_of, write_json_texts, yaml_error_t};
+use yaml_json::{JsonError, JsonSettings, StreamError, Writer, send_json_texts, yaml_error_t};
 
 /// The name that means standard input, or standard output for the file that is written.
 const STREAM: &str = "-";
 
-/// A byte order mark, which no JSON text begins with.
-const MARK: &[u8] = b"\xef\xbb\xbf";
+/// So many bytes are written at once.
+const BUFFER_SIZE: usize = 65_536;
 
-/// Why nothing was written.
+/// Why not all was written.
 #[derive(Clone, Copy, Debug, Drop, Error)]
 enum Fault {
     #[error("{0}")]
@@ -46,16 +47,20 @@ fn status_of(fault: &Fault) -> u8
     }
 }
 
-/// What an error of the writer is for the program.
-fn fault_of(error: JsonError) -> Fault {
+/// What an error of the texts is for the program.
+fn fault_of(error: StreamError) -> Fault {
     match error {
-        JsonError::Emitter(yaml_error_t::Memory) => Fault::NoMemory,
-        error => Fault::Refused(error),
+        StreamError::Refused(JsonError::Emitter(yaml_error_t::Memory)) => Fault::NoMemory,
+        StreamError::Refused(error) => Fault::Refused(error),
+        StreamError::NotText { line, column } => Fault::NotText { line, column },
+        StreamError::Marked => Fault::Marked,
+        StreamError::ReadFailed(error) => Fault::ReadFailed(error),
+        StreamError::WriteFailed(error) => write_fault_of(error),
     }
 }
 
 fn emitter_fault(error: yaml_error_t) -> Fault {
-    fault_of(JsonError::Emitter(error))
+    fault_of(StreamError::Refused(JsonError::Emitter(error)))
 }
 
 /// What an error of a reader is for the program.
@@ -67,73 +72,51 @@ fn read_fault(error: io::Error) -> Fault {
     }
 }
 
-/// All that a reader has.
-fn bytes_of<R: Read>(alloc: Global, reader: &mut R) -> Result<Vec<u8>, Fault> {
-    let mut bytes = Vec::new(alloc);
-    reader.read_to_end(&mut bytes).map_err(read_fault)?;
-    Ok(bytes)
-}
-
-/// The bytes of a file, or of standard input.
-fn bytes_in<R: Runtime + AllocGlobal>(rt: &R, name: &str) -> Result<Vec<u8>, Fault> {
-    if name == STREAM {
-        return bytes_of(rt.alloc(), &mut rt.reader());
+/// What an error of what is written is for the program.
+fn write_fault_of(error: io::Error) -> Fault {
+    if error.kind() == ErrorKind::OutOfMemory {
+        Fault::NoMemory
+    } else {
+        Fault::WriteFailed(error)
     }
-    let mut file = fs::open(rt, name).map_err(read_fault)?;
-    bytes_of(rt.alloc(), &mut file)
 }
 
-/// Gives a writer the JSON texts of these bytes, a document each.
-fn give_bytes(
-    alloc: Global,
-    writer: &mut Writer<Global>,
-    bytes: &[u8],
-    settings: &JsonSettings,
-) -> Result<(), Fault>
-    requires { IsBare writer.old }
-    ensures bare { OnOk result (IsBare writer.new) }
-    ensures written { OnOk result (WroteTexts settings.now.depth settings.now.flow bytes.now writer.old writer.new) }
-{
-    if bytes.starts_with(MARK) {
-        return Err(Fault::Marked);
-    }
-    let text = match str::from_utf8(bytes) {
-        Ok(text) => text,
-        Err(error) => {
-            let (line, column) = place_of(bytes, error.valid_up_to());
-            return Err(Fault::NotText { line, column });
-        }
-    };
-    write_json_texts(alloc, writer, text, *settings).map_err(fault_of)
-}
-
-/// Gives a writer the JSON texts of a file, or of standard input.
-fn give_file<R: Runtime + AllocGlobal>(
+/// Sends on the YAML of the JSON texts of a file, or of standard input, but for the last document, which is left to the writer.
+fn send_file<R: Runtime + AllocGlobal, W: Write>(
     rt: &R,
     writer: &mut Writer<Global>,
     name: &str,
+    sink: &mut W,
     settings: &JsonSettings,
 ) -> Result<(), Fault>
     requires { IsBare writer.old }
     ensures { OnOk result (IsBare writer.new) }
 {
-    let bytes = bytes_in(rt, name)?;
-    give_bytes(rt.alloc(), writer, bytes.as_slice(), settings)
+    if name == STREAM {
+        return send_json_texts(rt.alloc(), writer, &mut rt.reader(), sink, *settings).map_err(
+            fault_of,
+        );
+    }
+    let mut file = fs::open(rt, name).map_err(read_fault)?;
+    send_json_texts(rt.alloc(), writer, &mut file, sink, *settings).map_err(fault_of)
 }
 
-/// Begins the next document of a writer.
-fn begin_next(writer: &mut Writer<Global>) -> Result<(), Fault>
+/// Begins the next document of a writer, and sends on those before it.
+fn begin_next<W: Write>(writer: &mut Writer<Global>, sink: &mut W) -> Result<(), Fault>
     requires { IsBare writer.old }
     ensures { IsBare writer.new }
 {
-    writer.next_document().map_err(emitter_fault)
+    writer.next_document().map_err(emitter_fault)?;
+    let bytes = writer.take_output();
+    sink.write_all(bytes.as_slice()).map_err(Fault::WriteFailed)
 }
 
-/// Gives a writer the JSON texts of some files, a document each. Returns the file at which it failed, and why.
-fn give_files<'a, R: Runtime + AllocGlobal>(
+/// Sends on the YAML of the JSON texts of some files. Returns the file at which it failed, and why.
+fn send_files<'a, R: Runtime + AllocGlobal, W: Write>(
     rt: &R,
     writer: &mut Writer<Global>,
     names: &[&'a str],
+    sink: &mut W,
     settings: &JsonSettings,
 ) -> Result<(), (Option<&'a str>, Fault)>
     requires { IsBare writer.old }
@@ -141,61 +124,89 @@ fn give_files<'a, R: Runtime + AllocGlobal>(
     let mut first = true;
     for name in names {
         if !first {
-            begin_next(writer).map_err(|fault| (Some(*name), fault))?;
+            begin_next(writer, sink).map_err(|fault| (Some(*name), fault))?;
         }
         first = false;
-        give_file(rt, writer, name, settings).map_err(|fault| (Some(*name), fault))?;
+        send_file(rt, writer, name, sink, settings).map_err(|fault| (Some(*name), fault))?;
     }
     Ok(())
 }
 
-/// Gives a writer all that is to be converted.
-fn give_all<'a, R: Runtime + AllocGlobal>(
-    rt: &R,
-    writer: &mut Writer<Global>,
-    conversion: &Conversion<'a>,
-) -> Result<(), (Option<&'a str>, Fault)>
-    requires { IsBare writer.old }
-{
-    if !conversion.files.is_empty() {
-        return give_files(
-            rt,
-            writer,
-            conversion.files.as_slice(),
-            &conversion.settings,
-        );
-    }
-    give_file(rt, writer, STREAM, &conversion.settings).map_err(|fault| (None, fault))
-}
-
-/// The YAML of all that is to be converted.
-fn converted<'a, R: Runtime + AllocGlobal>(
+/// Sends on the YAML of all that is to be converted.
+fn send_all<'a, R: Runtime + AllocGlobal, W: Write>(
     rt: &R,
     conversion: &Conversion<'a>,
-) -> Result<Vec<u8>, (Option<&'a str>, Fault)> {
+    sink: &mut W,
+) -> Result<(), (Option<&'a str>, Fault)> {
     let mut writer = match Writer::new(rt.alloc(), conversion.settings.writer) {
         Ok(writer) => writer,
         Err(error) => return Err((None, emitter_fault(error))),
     };
-    give_all(rt, &mut writer, conversion)?;
+    let settings = &conversion.settings;
+    if conversion.files.is_empty() {
+        send_file(rt, &mut writer, STREAM, sink, settings).map_err(|fault| (None, fault))?;
+    } else {
+        send_files(rt, &mut writer, conversion.files.as_slice(), sink, settings)?;
+    }
     match writer.finish() {
-        Ok(bytes) => Ok(bytes),
+        Ok(bytes) => sink
+            .write_all(bytes.as_slice())
+            .map_err(|error| (None, Fault::WriteFailed(error))),
         Err(error) => Err((None, emitter_fault(error))),
     }
 }
 
-/// Writes the bytes to a file, or to standard output.
-fn write_bytes<R: Runtime + AllocGlobal>(
+/// The same through a buffer, which is flushed at the end, whatever went wrong.
+fn send_buffered<'a, R: Runtime + AllocGlobal, W: Write + Drop>(
     rt: &R,
-    bytes: &[u8],
-    name: Option<&str>,
-) -> io::Result<()> {
-    match name {
-        Some(name) if name != STREAM => {
-            let mut file = fs::create(rt, name)?;
-            file.write_all(bytes)
+    conversion: &Conversion<'a>,
+    sink: W,
+) -> Result<(), (Option<&'a str>, Fault)> {
+    let mut buffer = match BufWriter::with_capacity(rt.alloc(), BUFFER_SIZE, sink) {
+        Ok(buffer) => buffer,
+        Err(error) => return Err((None, write_fault_of(error))),
+    };
+    let sent = send_all(rt, conversion, &mut buffer);
+    let flushed = buffer.flush();
+    sent?;
+    flushed.map_err(|error| (None, Fault::WriteFailed(error)))
+}
+
+/// Writes to a file what is to be converted, which appears whole or not at all.
+fn send_to_file<'a, R: Runtime + AllocGlobal>(
+    rt: &R,
+    conversion: &Conversion<'a>,
+    name: &str,
+) -> Result<(), (Option<&'a str>, Fault)> {
+    if is_written_in_place(rt, name) {
+        return match fs::create(rt, name) {
+            Ok(file) => send_buffered(rt, conversion, file),
+            Err(error) => Err((None, write_fault_of(error))),
+        };
+    }
+    let (file, beside) = match Beside::create(rt, name) {
+        Ok(made) => made,
+        Err(error) => return Err((None, write_fault_of(error))),
+    };
+    match send_buffered(rt, conversion, file) {
+        Ok(()) => beside
+            .replace(rt)
+            .map_err(|error| (None, write_fault_of(error))),
+        Err(stop) => {
+            beside.remove(rt);
+            Err(stop)
         }
-        _ => io::writer(rt).write_all(bytes),
+    }
+}
+
+/// Writes what is to be converted where it is to be written.
+fn send<'a, R: Runtime + AllocGlobal>(
+    rt: &R,
+    conversion: &Conversion<'a>,
+) -> Result<(), (Option<&'a str>, Fault)> {
+    match conversion.output {
+        Some(name) if name != STREAM => send_to_file(rt, conversion, name),
+        _ => send_buffered(rt, conversion, io::writer(rt)),
     }
 }
 
@@ -244,11 +255,9 @@ fn convert<R: Runtime + AllocGlobal, W: Write>(
 ) -> u8
     ensures { result ≤ 3 }
 {
-    match converted(rt, conversion) {
-        Ok(bytes) => match write_bytes(rt, bytes.as_slice(), conversion.output) {
-            Ok(()) => 0,
-            Err(error) => give_up(&Fault::WriteFailed(error), conversion.output, faults),
-        },
+    match send(rt, conversion) {
+        Ok(()) => 0,
+        Err((_, fault @ Fault::WriteFailed(_))) => give_up(&fault, conversion.output, faults),
         Err((name, fault)) => give_up(&fault, name, faults),
     }
 }

@@ -1,5 +1,5 @@
 use Rattle.yaml_json.specs.Wrote.{IsBare}
-use Rattle.json2yaml.proofs.program.give_files.Given as goal
+use Rattle.json2yaml.proofs.program.send_files.Given as goal
 
 abbrev pub invariant-loop-name : goal.invariant-loop-name
 invariant-loop-name g l = IsBare l.writer

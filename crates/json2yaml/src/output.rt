@@ -1,0 +1,69 @@
+//! A file that is written beside the one that it replaces, so that this appears whole or not at all.
+use std::fs::File;
+use std::io::ErrorKind;
+use std::rt::Runtime;
+use std::{fs, io};
+
+/// So many names are tried for a file beside another.
+const MOST_NAMES: u32 = 1_000;
+
+/// Whether the file of this name is written where it lies: it is a device or a pipe, say, which no file can replace.
+pub fn is_written_in_place<R: Runtime + AllocGlobal>(rt: &R, name: &str) -> bool {
+    match fs::metadata(rt, name) {
+        Ok(found) => !found.is_file(),
+        Err(_) => false,
+    }
+}
+
+/// The file that is meant where this name is that of a link.
+fn target_of<R: Runtime + AllocGlobal>(rt: &R, name: &str) -> io::Result<String> {
+    match fs::canonicalize(rt, name) {
+        Ok(path) => Ok(path.into_string()),
+        Err(_) => Ok(String::from_str(rt.alloc(), name)?),
+    }
+}
+
+/// A file beside another, which it is to replace.
+#[derive(Drop)]
+pub struct Beside {
+    name: String,
+    target: String,
+}
+
+impl Beside {
+    /// Makes a file beside the one of this name.
+    pub fn create<R: Runtime + AllocGlobal>(rt: &R, name: &str) -> io::Result<(R::File, Beside)> {
+        let target = target_of(rt, name)?;
+        for number in 0..MOST_NAMES {
+            let name = format!(in rt.alloc(); "{target}.{number}.tmp")?;
+            match File::create_new(rt, name.as_str()) {
+                Ok(file) => return Ok((file, Beside { name, target })),
+                Err(error) => {
+                    if error.kind() != ErrorKind::AlreadyExists {
+                        return Err(error);
+                    }
+                }
+            }
+        }
+        Err(io::Error::from(ErrorKind::AlreadyExists))
+    }
+
+    /// Gives the file the name of the one that it replaces, whose permissions it keeps; where that fails, removes it.
+    pub fn replace<R: Runtime + AllocGlobal>(self, rt: &R) -> io::Result<()> {
+        if let Ok(found) = fs::metadata(rt, self.target.as_str()) {
+            let _kept = fs::set_permissions(rt, self.name.as_str(), found.permissions());
+        }
+        match fs::rename(rt, self.name.as_str(), self.target.as_str()) {
+            Ok(()) => Ok(()),
+            Err(error) => {
+                self.remove(rt);
+                Err(error)
+            }
+        }
+    }
+
+    /// Removes the file.
+    pub fn remove<R: Runtime + AllocGlobal>(self, rt: &R) {
+        let _gone = fs::remove_file(rt, self.name.as_str());
+    }
+}
