@@ -1,4 +1,4 @@
-pub mod Growing
-pub mod Within
+pub mod Handing
+pub mod Giving
 pub mod Bytes
 pub mod NumberTexts

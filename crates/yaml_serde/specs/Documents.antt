@@ -1,10 +1,12 @@
 -- Documents, as they are written and when they are finished.
-use Rattle.std.specs.Prelude.{◌≡◌, ℕ, ℤ, Bool, true, List, [], ◌++◌}
+use Rattle.std.specs.Io.KnownBytes.{Appends}
+use Rattle.std.specs.Prelude.{◌≡◌, ℕ, ℤ, Bool, true, Option, List, [], ◌++◌}
 use Rattle.std.specs.List.{All}
 use Rattle.yaml_base.specs.Characters.{Text}
 use Rattle.yaml_base.specs.Event.{Event, block}
 use Rattle.yaml_base.specs.values.JsonNumbers.{JsonNumber, is_json_number}
 use Rattle.yaml_base.specs.Settings.{Settings}
+use Rattle.yaml_pen.specs.Wrote.{Grows}
 use Rattle.yaml_emitter.specs.State.{State}
 use Rattle.yaml_writer.specs.Floats.{special_event}
 use Rattle.yaml_writer.specs.Writing.{WriterState, IsStream, StandsTaken, bool_event, closing, end_event, int_event, mapping_event, null_event, number_event}
@@ -25,11 +27,24 @@ pub data IsWriterEvent : Event → Type 0 where
   sequence_call : (writer : WriterState) → IsWriterEvent (sequence_event writer block)
   end_call : (kind : CollectionKind) → IsWriterEvent (end_event kind)
 
--- under these settings an emitter was given the start of a document and the events of some calls; nothing of its output is taken
-abbrev pub IsWithin : Settings → State → Type 0
-IsWithin given emitter = ∥ ((events : List Event) × All IsWriterEvent events × StandsTaken given (opening ++ events) [] emitter) ∥₁
-
 -- bytes are the output of a stream that begins and ends a document round the events of some calls: well-formed, written whole
 -- under these settings, and read back as those events
 abbrev pub IsDocument : Settings → List ℕ → Type 0
 IsDocument given bytes = ∥ ((events : List Event) × All IsWriterEvent events × IsStream given (opening ++ events ++ closing) bytes) ∥₁
+
+-- the known bytes of a sink grow by those of a document
+abbrev pub AppendsDocument : Settings → Option (List ℕ) → Option (List ℕ) → Type 0
+AppendsDocument given before after = ∥ ((bytes : List ℕ) × Appends before after bytes × IsDocument given bytes) ∥₁
+
+-- an emitter was given the events of some calls more, and these bytes of its output were taken more; what was written before stays
+pub record GaveEvents (before : State) (bytes : List ℕ) (after : State) : Type 0 where
+  pub events : List Event
+  pub are : All IsWriterEvent events
+  pub stands :
+      (given : Settings) (all : List Event) (sent : List ℕ)
+      → StandsTaken given all sent before → StandsTaken given (all ++ events) (sent ++ bytes) after
+  pub grows : Grows before.page after.page
+
+-- an emitter was given the events of some calls more, and nothing more was taken
+abbrev pub GivesEvents : State → State → Type 0
+GivesEvents before after = ∥ GaveEvents before [] after ∥₁

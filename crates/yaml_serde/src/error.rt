@@ -1,6 +1,6 @@
 //! Why a value isn't written.
 use std::alloc::{AllocError, AllocFailed};
-use std::fmt;
+use std::{fmt, io};
 use yaml_writer::yaml_error_t;
 
 /// Why a value isn't written.
@@ -15,6 +15,8 @@ pub enum Error {
     TwoTags,
     /// A flattened value is neither a struct nor a map.
     Flattened,
+    /// The sink failed.
+    Sink(io::Error),
     /// An allocation failed.
     Memory,
 }
@@ -26,6 +28,7 @@ impl fmt::Display for Error {
             Error::Custom(message) => f.write_str(message.as_str()),
             Error::TwoTags => f.write_str("the data of a variant has a tag of its own"),
             Error::Flattened => f.write_str("a flattened value is neither a struct nor a map"),
+            Error::Sink(error) => write!(f, "cannot write: {error}"),
             Error::Memory => f.write_str("out of memory"),
         }
     }

@@ -3,7 +3,9 @@ ghost use Rattle.yaml_serde.specs.Numbers.{HasNumber};
 ghost use Rattle.yaml_writer.specs.NumberParts.{IsNumber};
 
 use crate::document::{Document, Given};
-use yaml_writer::{Number, SpecialFloat, number_of, yaml_error_t};
+use crate::error::Error;
+use std::io::Write;
+use yaml_writer::{Number, SpecialFloat, number_of};
 
 /// The number of JSON that a text is.
 pub(crate) fn number_in(text: &str) -> Number<'_>
@@ -16,25 +18,25 @@ pub(crate) fn number_in(text: &str) -> Number<'_>
     }
 }
 
-pub(crate) fn give_signed<G: Given>(
-    document: &mut Document<G>,
+pub(crate) fn give_signed<G: Given, W: Write + Drop>(
+    document: &mut Document<G, W>,
     value: i128,
-) -> Result<(), yaml_error_t> {
+) -> Result<(), Error> {
     document.number(itoa::Buffer::new().format(value))
 }
 
-pub(crate) fn give_unsigned<G: Given>(
-    document: &mut Document<G>,
+pub(crate) fn give_unsigned<G: Given, W: Write + Drop>(
+    document: &mut Document<G, W>,
     value: u128,
-) -> Result<(), yaml_error_t> {
+) -> Result<(), Error> {
     document.number(itoa::Buffer::new().format(value))
 }
 
 /// Writes the shortest digits that read as this float, or `.inf`, `-.inf`, `.nan`.
-pub(crate) fn give_single<G: Given>(
-    document: &mut Document<G>,
+pub(crate) fn give_single<G: Given, W: Write + Drop>(
+    document: &mut Document<G, W>,
     value: f32,
-) -> Result<(), yaml_error_t> {
+) -> Result<(), Error> {
     if value.is_finite() {
         return document.number(ryu::Buffer::new().format_finite(value));
     }
@@ -42,10 +44,10 @@ pub(crate) fn give_single<G: Given>(
 }
 
 /// Writes the shortest digits that read as this float, or `.inf`, `-.inf`, `.nan`.
-pub(crate) fn give_double<G: Given>(
-    document: &mut Document<G>,
+pub(crate) fn give_double<G: Given, W: Write + Drop>(
+    document: &mut Document<G, W>,
     value: f64,
-) -> Result<(), yaml_error_t> {
+) -> Result<(), Error> {
     if value.is_finite() {
         return document.number(ryu::Buffer::new().format_finite(value));
     }

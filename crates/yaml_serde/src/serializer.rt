@@ -1,8 +1,4 @@
 //! The serializer over a document.
-ghost use Rattle.std.specs.Prelude.{◌≡◌, IfOk};
-ghost use Rattle.yaml_writer.specs.Given.{seen_settings};
-ghost use Rattle.yaml_serde.specs.Documents.{IsDocument};
-
 use crate::document::{Document, Given};
 use crate::error::Error;
 use crate::numbers::{give_double, give_signed, give_single, give_unsigned};
@@ -10,7 +6,7 @@ use base64::engine::general_purpose::STANDARD;
 use serde::{Case, NameKind, Serializer};
 use std::alloc::Global;
 use std::fmt::Display;
-use yaml_writer::Settings;
+use std::io::Write;
 
 /// The tag of bytes, which stand as base64.
 const BINARY_TAG: &str = "tag:yaml.org,2002:binary";
@@ -40,33 +36,27 @@ enum MapKind {
 
 /// Writes what a value sends.
 #[derive(Drop)]
-pub(crate) struct ValueSerializer<G: Given> {
+pub(crate) struct ValueSerializer<G: Given, W: Write + Drop> {
     alloc: Global,
-    document: Document<G>,
+    document: Document<G, W>,
     next: Next,
     /// The maps that are open, the innermost last.
     maps: Vec<MapKind>,
 }
 
-impl<G: Given> ValueSerializer<G> {
-    pub(crate) fn new(alloc: Global, settings: Settings) -> Result<ValueSerializer<G>, Error>
-        requires { seen_settings settings ≡ G.given }
-    {
-        let document = Document::new(alloc, settings)?;
-        Ok(ValueSerializer {
+impl<G: Given, W: Write + Drop> ValueSerializer<G, W> {
+    pub(crate) fn new(alloc: Global, document: Document<G, W>) -> ValueSerializer<G, W> {
+        ValueSerializer {
             alloc,
             document,
             next: Next::Node,
             maps: Vec::new(alloc),
-        })
+        }
     }
 
-    /// The bytes of the whole stream.
-    pub(crate) fn finish(self) -> Result<Vec<u8>, Error>
-        ensures { IfOk result (λ bytes. IsDocument G.given bytes.items) }
-    {
+    pub(crate) fn into_document(self) -> Document<G, W> {
         let ValueSerializer { document, .. } = self;
-        Ok(document.finish()?)
+        document
     }
 
     /// Makes ready for a node that is no map.
@@ -90,7 +80,7 @@ impl<G: Given> ValueSerializer<G> {
     fn open_map(&mut self) -> Result<(), Error> {
         self.maps.push(MapKind::Written)?;
         self.next = Next::Node;
-        Ok(self.document.begin_mapping()?)
+        self.document.begin_mapping()
     }
 
     fn enter_unwritten(&mut self, next: Next) -> Result<(), Error> {
@@ -109,7 +99,7 @@ impl<G: Given> ValueSerializer<G> {
 
     fn text(&mut self, value: &str) -> Result<(), Error> {
         self.ready()?;
-        Ok(self.document.text(value)?)
+        self.document.text(value)
     }
 
     fn name(&mut self, kind: NameKind, name: &str, case: Case) -> Result<(), Error> {
@@ -122,42 +112,42 @@ impl<G: Given> ValueSerializer<G> {
     }
 }
 
-impl<G: Given> Serializer for ValueSerializer<G> {
+impl<G: Given, W: Write + Drop> Serializer for ValueSerializer<G, W> {
     type Error = Error;
 
     fn bool(&mut self, v: bool) -> Result<(), Error> {
         self.ready()?;
-        Ok(self.document.bool(v)?)
+        self.document.bool(v)
     }
 
     fn i64(&mut self, v: i64) -> Result<(), Error> {
         self.ready()?;
-        Ok(self.document.int(v)?)
+        self.document.int(v)
     }
 
     fn u64(&mut self, v: u64) -> Result<(), Error> {
         self.ready()?;
-        Ok(self.document.unsigned(v)?)
+        self.document.unsigned(v)
     }
 
     fn i128(&mut self, v: i128) -> Result<(), Error> {
         self.ready()?;
-        Ok(give_signed(&mut self.document, v)?)
+        give_signed(&mut self.document, v)
     }
 
     fn u128(&mut self, v: u128) -> Result<(), Error> {
         self.ready()?;
-        Ok(give_unsigned(&mut self.document, v)?)
+        give_unsigned(&mut self.document, v)
     }
 
     fn f32(&mut self, v: f32) -> Result<(), Error> {
         self.ready()?;
-        Ok(give_single(&mut self.document, v)?)
+        give_single(&mut self.document, v)
     }
 
     fn f64(&mut self, v: f64) -> Result<(), Error> {
         self.ready()?;
-        Ok(give_double(&mut self.document, v)?)
+        give_double(&mut self.document, v)
     }
 
     fn char(&mut self, v: char) -> Result<(), Error> {
@@ -177,7 +167,7 @@ impl<G: Given> Serializer for ValueSerializer<G> {
         self.ready()?;
         let text = STANDARD.encode(self.alloc, v)?;
         self.document.tagged(BINARY_TAG)?;
-        Ok(self.document.text(text.as_str())?)
+        self.document.text(text.as_str())
     }
 
     fn unit(&mut self) -> Result<(), Error> {
@@ -186,7 +176,7 @@ impl<G: Given> Serializer for ValueSerializer<G> {
             return Ok(());
         }
         self.ready()?;
-        Ok(self.document.null()?)
+        self.document.null()
     }
 
     fn str_cased(&mut self, name: &str, case: Case) -> Result<(), Error> {
@@ -195,12 +185,12 @@ impl<G: Given> Serializer for ValueSerializer<G> {
 
     fn begin_seq(&mut self, _len: Option<usize>) -> Result<(), Error> {
         self.ready()?;
-        Ok(self.document.begin_sequence()?)
+        self.document.begin_sequence()
     }
 
     fn end_seq(&mut self) -> Result<(), Error> {
         self.open_entry()?;
-        Ok(self.document.end()?)
+        self.document.end()
     }
 
     /// A map of one entry waits for its key, which may be the name of a variant.
@@ -224,7 +214,7 @@ impl<G: Given> Serializer for ValueSerializer<G> {
         self.open_entry()?;
         match self.maps.pop() {
             Some(MapKind::Unwritten) => Ok(()),
-            Some(MapKind::Written) | None => Ok(self.document.end()?),
+            Some(MapKind::Written) | None => self.document.end(),
         }
     }
 

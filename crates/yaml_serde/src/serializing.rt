@@ -1,15 +1,23 @@
 //! A value as YAML.
-ghost use Rattle.std.specs.Prelude.{◌≡◌, IfOk, IsUtf8, string_bytes};
+ghost use Rattle.std.specs.Prelude.{◌≡◌, [], IfOk, IsUtf8, OnOk, false, length, string_bytes, take, true};
+ghost use Rattle.yaml_base.specs.Settings as base;
 ghost use Rattle.yaml_writer.specs.Given.{default_settings, seen_settings};
-ghost use Rattle.yaml_serde.specs.Documents.{IsDocument};
+ghost use Rattle.yaml_writer.specs.Writing.{StandsTaken, awaits_node, opening};
+ghost use Rattle.yaml_serde.specs.Documents.{AppendsDocument, GivesEvents, IsDocument};
 
-use crate::document::Given;
+use crate::document::{Document, Given};
 use crate::error::Error;
+use crate::outlet::Outlet;
 use crate::serializer::ValueSerializer;
 use serde::Serialize;
 use std::alloc::Global;
+use std::io::Write;
 use std::marker::Brand;
-use yaml_writer::Settings;
+use std::mem;
+use yaml_writer::{Settings, Writer, yaml_error_t};
+
+/// The sink of a document whose bytes stay with the writer.
+type NoSink = Vec<u8>;
 
 /// A value as a stream of one document.
 ///
@@ -31,7 +39,8 @@ pub fn to_vec_with<T: Serialize>(
 ) -> Result<Vec<u8>, Error>
     ensures { IfOk result (λ bytes. IsDocument (seen_settings settings) bytes.items) }
 {
-    written::<T, Brand>(alloc, settings, value)
+    let writer = Writer::new(alloc, settings)?;
+    finished::<T, Brand>(alloc, writer, value)
 }
 
 /// A value as a stream of one document, by the writer's default settings: in portable mode, so it begins with `---`; in UTF-8,
@@ -57,18 +66,125 @@ pub fn to_string<T: Serialize>(alloc: Global, value: &T) -> Result<String, Error
     Ok(text_of(bytes))
 }
 
-/// A value as a document by the settings that its type names.
-fn written<T: Serialize, G: Given>(
+/// Writes a value to a sink as a stream of one document, in bounded memory: its bytes are handed on as they are written, at most
+/// 16,384 later, or a scalar later where that is longer. The sink is given back; pass it as `&mut sink` to keep it after an error.
+/// It isn't flushed.
+///
+/// # Errors
+/// Those of `to_vec_with`, and `Sink` where the sink fails. What was handed on before an error stands in the sink.
+pub fn to_writer_with<T: Serialize, W: Write + Drop>(
     alloc: Global,
     settings: Settings,
+    sink: W,
+    value: &T,
+) -> Result<W, Error>
+    ensures { IfOk result (λ after. AppendsDocument (seen_settings settings) (W.contents sink) (W.contents after)) }
+{
+    let writer = Writer::new(alloc, settings)?;
+    sent::<T, W, Brand>(alloc, writer, sink, value)
+}
+
+/// Writes a value to a sink as `to_writer_with` does, by the writer's default settings.
+///
+/// # Errors
+/// Those of `to_writer_with`.
+pub fn to_writer<T: Serialize, W: Write + Drop>(
+    alloc: Global,
+    sink: W,
+    value: &T,
+) -> Result<W, Error>
+    ensures { IfOk result (λ after. AppendsDocument default_settings (W.contents sink) (W.contents after)) }
+{
+    to_writer_with(alloc, Settings::default(), sink, value)
+}
+
+/// Gives a value to a writer as its next node, with the anchor and the tag that await it.
+///
+/// # Errors
+/// Those of `to_vec_with`, and `Emitter` with an error that the writer had before. What was given before an error stays given, and what
+/// the value opened may stay open; what was open before stays so.
+pub fn write<T: Serialize>(
+    alloc: Global,
+    writer: &mut Writer<Global>,
+    value: &T,
+) -> Result<(), Error>
+    ensures gives { GivesEvents writer.old.emitter writer.new.emitter }
+    ensures canonical { writer.new.canonical ≡ writer.old.canonical }
+    ensures above { take (length writer.old.levels) writer.new.levels ≡ writer.old.levels }
+    ensures whole { OnOk result ((writer.new.levels ≡ writer.old.levels) × (awaits_node writer.new ≡ false)) }
+{
+    let spare = Writer::new(alloc, Settings::default())?;
+    let lent = mem::replace(writer, spare);
+    let (lent, answer) = given::<T, Brand>(alloc, lent, value);
+    *writer = lent;
+    answer
+}
+
+/// The document of a value, whose bytes stay with the writer.
+fn finished<T: Serialize, G: Given>(
+    alloc: Global,
+    writer: Writer<Global>,
     value: &T,
 ) -> Result<Vec<u8>, Error>
-    requires { seen_settings settings ≡ G.given }
-    ensures { IfOk result (λ bytes. IsDocument G.given bytes.items) }
+    requires start { writer ≡ G.start }
+    requires keeps { G.keeps ≡ true }
+    ensures { IfOk result (λ bytes. (given : base.Settings) → StandsTaken given opening [] G.start.emitter → IsDocument given bytes.items) }
 {
-    let mut serializer: ValueSerializer<G> = ValueSerializer::new(alloc, settings)?;
+    let document: Document<G, NoSink> = Document::new(writer, Outlet::Kept);
+    let mut serializer = ValueSerializer::new(alloc, document);
     value.serialize(&mut serializer)?;
-    serializer.finish()
+    serializer.into_document().finish()
+}
+
+/// The document of a value, handed on to a sink.
+fn sent<T: Serialize, W: Write + Drop, G: Given>(
+    alloc: Global,
+    writer: Writer<Global>,
+    sink: W,
+    value: &T,
+) -> Result<W, Error>
+    requires start { writer ≡ G.start }
+    requires held { W.contents sink ≡ G.held }
+    requires sends { G.keeps ≡ false }
+    ensures { IfOk result (λ after. (given : base.Settings) → StandsTaken given opening [] G.start.emitter
+        → AppendsDocument given G.held (W.contents after)) }
+{
+    let document: Document<G, W> = Document::new(writer, Outlet::Sink(sink));
+    let mut serializer = ValueSerializer::new(alloc, document);
+    value.serialize(&mut serializer)?;
+    serializer.into_document().finish_sent()
+}
+
+/// A writer with a value more.
+fn given<T: Serialize, G: Given>(
+    alloc: Global,
+    writer: Writer<Global>,
+    value: &T,
+) -> (Writer<Global>, Result<(), Error>)
+    requires start { writer ≡ G.start }
+    requires keeps { G.keeps ≡ true }
+    ensures gives { GivesEvents G.start.emitter result.0.emitter }
+    ensures canonical { result.0.canonical ≡ G.start.canonical }
+    ensures above { take (length G.start.levels) result.0.levels ≡ G.start.levels }
+    ensures whole { OnOk result.1 ((result.0.levels ≡ G.start.levels) × (awaits_node result.0 ≡ false)) }
+{
+    let document: Document<G, NoSink> = Document::new(writer, Outlet::Kept);
+    let mut serializer = ValueSerializer::new(alloc, document);
+    let answer = value.serialize(&mut serializer);
+    let (writer, is_whole) = serializer.into_document().into_writer();
+    (writer, whole_answer(answer, is_whole))
+}
+
+/// An error, also where a value isn't whole.
+fn whole_answer(answer: Result<(), Error>, is_whole: bool) -> Result<(), Error>
+    ensures { OnOk result (is_whole ≡ true) }
+{
+    answer?;
+    if is_whole {
+        Ok(())
+    } else {
+        Err(Error::Emitter(yaml_error_t::ExpectedNode))
+    }
 }
 
 /// Bytes in UTF-8 as a text.

@@ -1,5 +1,5 @@
 //! Collections and documents of a writer.
-ghost use Rattle.std.specs.Prelude.{◌≡◌, ◌⊎◌, IfErr, OnOk, None, Some, true, false};
+ghost use Rattle.std.specs.Prelude.{◌≡◌, ◌⊎◌, IfErr, OnOk, None, Some, true, false, length};
 ghost use Rattle.yaml_base.specs.Seen.{seen_mapping_style, seen_sequence_style};
 ghost use Rattle.yaml_writer.specs.Writing.{EndsInnermost, Failed, GaveEvent, NodeExpected, awaits_node, with_collection, mapping_event, sequence_event};
 ghost use Rattle.yaml_writer.specs.declared.kinds.CollectionKind.TheVariants.{Mapping, Sequence};
@@ -35,6 +35,13 @@ impl<A: Allocator + Copy> Writer<A> {
     {
         self.enter(CollectionKind::Sequence)?;
         self.sequence(style)
+    }
+
+    /// How many collections are open.
+    pub fn depth(&self) -> usize
+        ensures { result ≡ length self.now.levels }
+    {
+        self.levels.len()
     }
 
     /// Ends the innermost collection that is open.

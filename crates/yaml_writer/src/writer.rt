@@ -83,7 +83,7 @@ impl<A: Allocator + Copy> Writer<A> {
     }
 
     /// Whether an anchor or a tag was given whose node wasn't yet.
-    pub(crate) fn awaits_node(&self) -> bool
+    pub fn awaits_node(&self) -> bool
         ensures { result ≡ awaits_node self.now }
     {
         self.anchor.is_some() || self.tag.is_some()

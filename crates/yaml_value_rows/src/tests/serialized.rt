@@ -1,11 +1,13 @@
 //! Values of each kind, against YAML written by hand: what serde_yaml 0.9 writes, with `---`, with texts in quotes where a
 //! schema could read something else, and with floats as both schemas want them.
-use crate::tests::{equal, same};
+use crate::tests::{Narrow, equal, same};
 use serde::{Case, Described, Serialize, Serializer};
 use std::alloc::{AllocError, Global};
 use std::collections::BTreeMap;
+use std::io;
 use std::process::Abort;
-use yaml_serde::{Error, to_string, to_vec, yaml_error_t};
+use yaml_serde::{Error, to_string, to_vec, to_writer, write, yaml_error_t};
+use yaml_writer::{Settings, Writer, YAML_BLOCK_SEQUENCE_STYLE};
 
 /// The YAML of a value. (Tests need none of the clauses of the call.)
 fn yaml_of<T: Serialize>(alloc: Global, value: &T) -> Result<String, Error> {
@@ -28,10 +30,21 @@ fn check_bytes<T: Serialize>(rt: &impl Abort, alloc: Global, value: &T, expected
     same(rt, bytes.as_slice(), expected.as_bytes());
 }
 
-/// The value gives this text, as characters and as bytes.
+/// A sink that was handed a value.
+fn sink_of<T: Serialize>(alloc: Global, room: usize, value: &T) -> Result<Narrow, Error> {
+    to_writer(alloc, Narrow::new(alloc, room), value)
+}
+
+fn check_sent<T: Serialize>(rt: &impl Abort, alloc: Global, value: &T, expected: &str) {
+    let sink = sink_of(alloc, usize::MAX, value).expect(rt, "a value that is written");
+    same(rt, sink.taken.as_slice(), expected.as_bytes());
+}
+
+/// The value gives this text, as characters, as bytes and in a sink.
 fn check_text<T: Serialize>(rt: &impl Abort, alloc: Global, value: &T, expected: &str) {
     check_string(rt, alloc, value, expected);
     check_bytes(rt, alloc, value, expected);
+    check_sent(rt, alloc, value, expected);
 }
 
 /// The same of a value that takes memory.
@@ -331,4 +344,98 @@ fn what_is_no_value_is_refused(rt: HostRuntime) {
     let two = emitter_error(rt.alloc(), &Values(2, None));
     equal(&rt, &two, &Some(yaml_error_t::ExpectedDocumentEnd));
     check_complaint(&rt, rt.alloc(), &Values(1, Some("not today")), "not today");
+}
+
+/// The kind of a sink's error; nothing where it fails otherwise, or the value is written.
+fn sink_failure<T: Serialize>(alloc: Global, room: usize, value: &T) -> Option<io::ErrorKind> {
+    match sink_of(alloc, room, value) {
+        Err(Error::Sink(error)) => Some(error.kind()),
+        _ => None,
+    }
+}
+
+/// So many numbers of five digits.
+fn numbers(alloc: Global, count: u32) -> Result<Vec<u32>, AllocError> {
+    let mut numbers = Vec::new(alloc);
+    for number in 0..count {
+        numbers.push(10_000 + number % 90_000)?;
+    }
+    Ok(numbers)
+}
+
+/// The bytes that a sink has when it fails, of a value that it is handed.
+fn sent_before(rt: &impl Abort, alloc: Global, room: usize, value: &Vec<u32>) -> usize {
+    let mut sink = Narrow::new(alloc, room);
+    equal(rt, &to_writer(alloc, &mut sink, value).is_ok(), &false);
+    sink.taken.len()
+}
+
+#[test]
+fn a_sink_that_fails_ends_the_document(rt: HostRuntime) {
+    let alloc = rt.alloc();
+    let full = Some(io::ErrorKind::StorageFull);
+    equal(&rt, &sink_failure(alloc, 3, &5u8), &full);
+    equal(&rt, &sink_failure(alloc, 6, &5u8), &None);
+    let numbers = numbers(alloc, 10_000).expect(&rt, "no memory");
+    equal(&rt, &sent_before(&rt, alloc, 20_000, &numbers), &20_000);
+}
+
+/// A value is given to a writer. (Tests need none of the clauses of the call.)
+fn is_given<T: Serialize>(alloc: Global, writer: &mut Writer<Global>, value: &T) -> bool {
+    write(alloc, writer, value).is_ok()
+}
+
+fn writer(rt: &impl Abort, alloc: Global) -> Writer<Global> {
+    Writer::new(alloc, Settings::default()).expect(rt, "no memory")
+}
+
+fn check_finished(rt: &impl Abort, writer: Writer<Global>, expected: &str) {
+    let bytes = writer.finish().expect(rt, "a stream");
+    same(rt, bytes.as_slice(), expected.as_bytes());
+}
+
+/// A sequence begins, whose first item has a tag.
+fn begin_tagged(writer: &mut Writer<Global>) -> Result<(), yaml_error_t> {
+    writer.begin_sequence(YAML_BLOCK_SEQUENCE_STYLE)?;
+    writer.tagged("!server")
+}
+
+#[test]
+fn a_value_is_a_node_of_a_writer(rt: HostRuntime) {
+    let alloc = rt.alloc();
+    let mut writer = writer(&rt, alloc);
+    equal(&rt, &begin_tagged(&mut writer), &Ok(()));
+    let server = alpha(alloc).expect(&rt, "no memory");
+    equal(&rt, &is_given(alloc, &mut writer, &server), &true);
+    equal(&rt, &is_given(alloc, &mut writer, &"no"), &true);
+    equal(&rt, &writer.end(), &Ok(()));
+    equal(&rt, &writer.next_document(), &Ok(()));
+    equal(&rt, &is_given(alloc, &mut writer, &Point(1, -2)), &true);
+    let expected =
+        "---\n- !server\n  name: alpha\n  ports:\n    - 80\n    - 443\n  limit: null\n  backup: false\n  weights:\n    - -1\n    - 'yes'\n- 'no'\n---\n- 1\n- -2\n";
+    check_finished(&rt, writer, expected);
+}
+
+/// A value that ends what it didn't begin.
+#[derive(Drop)]
+struct Ender;
+
+impl Described for Ender {}
+
+impl Serialize for Ender {
+    fn serialize<S: Serializer>(&self, out: &mut S) -> Result<(), S::Error> {
+        out.end_seq()
+    }
+}
+
+#[test]
+fn a_value_ends_only_what_it_began(rt: HostRuntime) {
+    let alloc = rt.alloc();
+    let mut writer = writer(&rt, alloc);
+    equal(&rt, &begin_tagged(&mut writer), &Ok(()));
+    equal(&rt, &is_given(alloc, &mut writer, &Ender), &false);
+    equal(&rt, &is_given(alloc, &mut writer, &Values(0, None)), &false);
+    equal(&rt, &is_given(alloc, &mut writer, &1u8), &true);
+    equal(&rt, &writer.end(), &Ok(()));
+    check_finished(&rt, writer, "---\n- !server 1\n");
 }

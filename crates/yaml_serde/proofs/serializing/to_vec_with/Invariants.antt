@@ -1,5 +1,5 @@
-use Rattle.yaml_writer.specs.Given.{seen_settings}
+use Rattle.std.proofs.Common.{None, true}
 use Rattle.yaml_serde.proofs.serializing.to_vec_with.Given as goal
 
-abbrev pub ghosts-written : goal.ghosts-written
-ghosts-written g a = record { given = seen_settings a.settings }
+abbrev pub ghosts-finished : goal.ghosts-finished
+ghosts-finished g a = record { start = a.writer; held = None; keeps = true }

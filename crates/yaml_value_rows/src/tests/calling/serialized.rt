@@ -1,8 +1,10 @@
 //! Values of any type that implements `Serialize`.
-use crate::tests::equal;
+use crate::tests::{equal, same};
 use serde::Serialize;
 use std::alloc::Global;
+use std::io::Write;
 use std::process::Abort;
+use yaml_writer::{Settings, Writer};
 
 /// A host, and what it lets through.
 #[derive(Drop, Serialize)]
@@ -53,4 +55,48 @@ fn hosts_are_written(rt: HostRuntime) {
         Ok(yaml) => equal(&rt, &yaml.as_str(), &expected),
         Err(_) => equal(&rt, &"an error", &expected),
     }
+}
+
+/// JSON values as the documents of a stream, each handed on to a sink as it ends.
+fn send_each<W: Write>(
+    alloc: Global,
+    values: &[serde_json::Value],
+    sink: &mut W,
+) -> Result<(), yaml_serde::Error> {
+    let mut writer = Writer::new(alloc, Settings::default())?;
+    for (index, value) in values.iter().enumerate() {
+        if index > 0 {
+            writer.next_document()?;
+            writer.send(sink).map_err(yaml_serde::Error::Sink)?;
+        }
+        yaml_serde::write(alloc, &mut writer, value)?;
+    }
+    let rest = writer.finish()?;
+    sink.write_all(rest.as_slice())
+        .map_err(yaml_serde::Error::Sink)
+}
+
+/// The value of a JSON text.
+fn json(rt: &impl Abort, alloc: Global, text: &str) -> serde_json::Value {
+    serde_json::Value::from_str(alloc, text).expect(rt, "JSON")
+}
+
+fn is_sent(alloc: Global, values: &[serde_json::Value], sink: &mut Vec<u8>) -> bool {
+    send_each(alloc, values, sink).is_ok()
+}
+
+#[test]
+fn json_values_are_documents(rt: HostRuntime) {
+    let alloc = rt.alloc();
+    let values = [
+        json(&rt, alloc, "{\"no\": [1, null]}"),
+        json(&rt, alloc, "\"a\""),
+    ];
+    let mut sink = Vec::new(alloc);
+    equal(&rt, &is_sent(alloc, &values, &mut sink), &true);
+    same(
+        &rt,
+        sink.as_slice(),
+        b"---\n'no':\n  - 1\n  - null\n--- a\n",
+    );
 }

@@ -1,14 +1,14 @@
-use Rattle.yaml_serde.proofs.Growing.{grown_ended}
-use Rattle.yaml_serde.proofs.Within.{within_ended}
+use Rattle.std.proofs.Common.{◌<◌, arith, length}
+use Rattle.yaml_serde.proofs.Giving.{stands_ended}
 use Rattle.yaml_serde.proofs.document.Document.end.Goals as goal
 
 pub invariant_of-self : goal.invariant_of-self
 invariant_of-self g c =
+    let self = c.args.self.now in
+    let answer = c.end-ended in
+    let inner : self.base < length self.writer.levels = omega arith in
     record {
-      within =
-          within_ended g.G.Given.given c.end.result c.args.self.now.writer c.end.new.self c.end.ensures.awaited c.end.ensures.ended
-          c.args.self.now.within;
+      stands =
+          stands_ended g.W.Write.contents g.G.Given.held g.G.Given.keeps g.G.Given.start answer.result self.outlet self.base self.writer answer.new.self
+          inner answer.ensures.awaited answer.ensures.ended self.stands;
     }
-
-pub returns : goal.returns
-returns g c = record { grows = grown_ended c.end.result c.args.self.now.writer c.end.new.self c.end.ensures.awaited c.end.ensures.ended }

@@ -1,0 +1,11 @@
+use Rattle.yaml_serde.proofs.Giving.{stands_handed}
+use Rattle.yaml_serde.proofs.document.Document.settle.Goals as goal
+
+pub invariant_of-self : goal.invariant_of-self
+invariant_of-self g c =
+    let self = c.args.self.now in
+    record {
+      stands =
+          stands_handed g.W.Write.contents g.G.Given.held g.G.Given.keeps g.G.Given.start self.outlet c.hand_on.new.outlet self.base self.writer
+          c.hand_on.new.writer c.hand_on.ensures self.stands;
+    }

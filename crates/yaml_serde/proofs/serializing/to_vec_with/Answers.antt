@@ -1,0 +1,7 @@
+use Rattle.yaml_writer.specs.Given.{seen_settings}
+use Rattle.yaml_serde.proofs.Giving.{finished_by}
+use Rattle.yaml_serde.proofs.serializing.to_vec_with.Goals as goal
+
+pub returns : goal.returns
+returns g c =
+    finished_by (seen_settings c.args.settings) c.in_ok-writer.writer.emitter c.finished.result c.in_ok-writer.ensures.stands c.finished.ensures

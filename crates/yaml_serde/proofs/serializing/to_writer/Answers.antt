@@ -1,0 +1,10 @@
+use Rattle.std.proofs.Common.{IfOk, subst}
+use Rattle.yaml_base.specs.Settings.{Settings}
+use Rattle.yaml_serde.specs.Documents.{AppendsDocument}
+use Rattle.yaml_serde.proofs.serializing.to_writer.Goals as goal
+
+pub returns : goal.returns
+returns g c =
+    subst
+    (λ (given : Settings). IfOk c.to_writer_with.result (λ after. AppendsDocument given (g.W.Write.contents c.args.sink) (g.W.Write.contents after)))
+    c.default.ensures c.to_writer_with.ensures

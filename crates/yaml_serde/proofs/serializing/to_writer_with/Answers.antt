@@ -1,0 +1,8 @@
+use Rattle.yaml_writer.specs.Given.{seen_settings}
+use Rattle.yaml_serde.proofs.Giving.{sent_by}
+use Rattle.yaml_serde.proofs.serializing.to_writer_with.Goals as goal
+
+pub returns : goal.returns
+returns g c =
+    sent_by g.W.Write.contents (g.W.Write.contents c.args.sink) (seen_settings c.args.settings) c.in_ok-writer.writer.emitter c.sent.result
+    c.in_ok-writer.ensures.stands c.sent.ensures

@@ -1,0 +1,5 @@
+use Rattle.std.proofs.Common.{None, true}
+use Rattle.yaml_serde.proofs.serializing.write.Given as goal
+
+abbrev pub ghosts-given : goal.ghosts-given
+ghosts-given g a = record { start = a.writer; held = None; keeps = true }
