@@ -1,25 +1,16 @@
 -- An event is refused exactly where no accepted list goes on with it.
-use Rattle.std.proofs.Common.{◌≡◌, refl, sym, ap, ◌∙◌, arith, append_assoc, append-nil}
-use Rattle.std.proofs.lemmas.List.Sums.{sum_by-append}
-use Rattle.std.proofs.lemmas.List.Folds.{list_all-append}
-use Rattle.std.proofs.lemmas.Bool.{ltb-true, lt-ltb}
-use Rattle.std.specs.Option.{option_or}
-use Rattle.std.specs.List.{list_all}
-use Rattle.std.specs.Prelude.{ℕ, ◌+◌, ◌≤◌, ◌<◌, Bool, true, false, cond, not, ◌&&◌, nat_lt, Option, None, Some, List, [], ◌∷◌, ◌++◌, length, count_by, is_none}
-use Rattle.std.specs.Prelude.{option_and_then, flat_map}
-use Rattle.yaml_base.specs.Event.{Event, stream_end, document_end, sequence_start, sequence_end, mapping_start, mapping_end}
-use Rattle.yaml_base.specs.Grammar.{no_nodes, nodes_and, no_pairs, pairs_and, Level, at_item, at_key, at_value, Partial, before_stream, between_documents}
-use Rattle.yaml_base.specs.Grammar.{within_document, after_root, after_stream, push, pushed, partial_of}
-use Rattle.yaml_base.specs.Refusal.{some_if, name_or_tag_fault, content_fault, expected, place_fault, most_open, begins_collection, ends_collection}
-use Rattle.yaml_base.specs.Refusal.{open_levels, depth_fault, refusal_at, refusal, is_sound, open_count, BeginsAccepted, RefusedExactly}
-use Rattle.yaml_base.specs.Pieces.{empty_scalar, innermost_missing, outer_missing, levels_missing, missing, missing_after, completion}
-use Rattle.yaml_base.proofs.NoFaults.{neither, is_none_none}
-use Rattle.yaml_base.proofs.Trees.{stream_pushed}
-use Rattle.yaml_base.proofs.Pushes.{partial_of_events}
+use Rattle.yaml_base.proofs.Common.{ℕ, ◌+◌, ◌<◌, ◌≤◌, count_by, is_none, option_and_then, Option, None, Some, nat_lt, length, Bool, cond, false, not, true}
+use Rattle.yaml_base.proofs.Common.{◌&&◌, List, [], ◌++◌, ◌∷◌, refl, ◌≡◌, lt-ltb, ltb-true, append-nil, append_assoc, ap, sym, ◌∙◌, arith, list_all-append}
+use Rattle.yaml_base.proofs.Common.{sum_by-append, list_all, option_or, Event, stream_end, document_end, sequence_start, sequence_end, mapping_start}
+use Rattle.yaml_base.proofs.Common.{mapping_end, no_nodes, nodes_and, no_pairs, pairs_and, Level, at_item, at_key, at_value, Partial, before_stream}
+use Rattle.yaml_base.proofs.Common.{between_documents, within_document, after_root, after_stream, push, pushed, partial_of, empty_scalar, outer_missing}
+use Rattle.yaml_base.proofs.Common.{levels_missing, missing, missing_after, completion, some_if, name_or_tag_fault, content_fault, expected, place_fault}
+use Rattle.yaml_base.proofs.Common.{most_open, begins_collection, ends_collection, open_levels, depth_fault, refusal_at, refusal, is_sound, open_count}
+use Rattle.std.specs.Prelude.{flat_map}
+use Rattle.yaml_base.{proofs.NoFaults.neither, proofs.NoFaults.is_none_none, proofs.OpenCounts.open_count-levels, proofs.Pushes.partial_of_events}
+use Rattle.yaml_base.{proofs.Trees.stream_pushed, specs.Pieces.innermost_missing, specs.Refusal.BeginsAccepted, specs.Refusal.RefusedExactly}
+use Rattle.yaml_base.{specs.declared.errors.yaml_error_t.yaml_error_t, specs.declared.errors.yaml_error_t.TheVariants.TooDeep}
 use Rattle.yaml_base.proofs.Completions.{pushed-append, stream_completed, completion_pushed, prefix_is_partial}
-use Rattle.yaml_base.proofs.OpenCounts.{open_count-levels}
-use Rattle.yaml_base.specs.declared.errors.yaml_error_t.TheVariants.{TooDeep}
-use Rattle.yaml_base.specs.declared.errors.yaml_error_t.{yaml_error_t}
 
 -- no prefix leaves too many collections open
 abbrev IsShallow : List Event → Type 0

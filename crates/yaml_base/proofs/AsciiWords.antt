@@ -1,11 +1,7 @@
 -- A text is a word of ASCII by its bytes where it is by its characters.
-use Rattle.std.proofs.Common.{◌≡◌, refl, sym, ap, ◌∙◌, arith}
-use Rattle.std.proofs.lemmas.Bool.{and_parts, ltb-true}
-use Rattle.std.proofs.lemmas.Slice.Eq.{bytes_eq-Decides}
-use Rattle.std.proofs.lemmas.Str.{chars-IsAscii, encodes-IsAscii, encodes-chars}
-use Rattle.std.specs.List.{list_all}
-use Rattle.std.specs.Str.{chars, IsUtf8, IsAscii, encode_utf8_all}
-use Rattle.std.specs.Prelude.{ℕ, zero, suc, Bool, true, false, List, [], ◌∷◌, nat_lt, bytes_eq}
+use Rattle.yaml_base.proofs.Common.{suc, zero, ℕ, bytes_eq, nat_lt, Bool, false, true, List, [], ◌∷◌, refl, ◌≡◌, ltb-true, ap, sym, ◌∙◌, arith, and_parts}
+use Rattle.yaml_base.proofs.Common.{bytes_eq-Decides, chars-IsAscii, list_all, chars, encode_utf8_all}
+use Rattle.std.{proofs.lemmas.Str.encodes-IsAscii, proofs.lemmas.Str.encodes-chars, specs.Str.IsAscii, specs.Str.IsUtf8}
 
 -- bytes of ASCII
 abbrev pub is_ascii_text : List ℕ → Bool

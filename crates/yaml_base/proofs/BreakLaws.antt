@@ -1,11 +1,9 @@
 -- Reading line breaks undoes the writing of them; and lines stay indented as their breaks are written.
-use Rattle.std.proofs.Common.{◌≡◌, refl, inl, inr}
-use Rattle.std.proofs.lemmas.Bool.{and_from, and_parts, or_cases, or_left, or_right, or_parts, not-true, eqb-true}
-use Rattle.std.specs.Prelude.{ℕ, Bool, true, false, not, [], ◌∷◌, ◌++◌, ◌==◌, ◌||◌, ◌&&◌, if◌then◌else◌}
-use Rattle.yaml_base.specs.Characters.{Text, carriage_return, is_break, line_feed, next_line, space}
-use Rattle.yaml_base.specs.LineBreaks.{begins_indented, break_text, is_indented_text, is_rendered_text, line_breaks_read_after, with_breaks_written}
-use Rattle.yaml_base.specs.LineBreaks.{with_line_breaks_read}
-use Rattle.yaml_base.specs.Settings.{LineBreak, both_break, carriage_return_break, line_feed_break}
+use Rattle.yaml_base.proofs.Common.{ℕ, if◌then◌else◌, ◌==◌, Bool, false, not, true, ◌&&◌, ◌||◌, [], ◌++◌, ◌∷◌, refl, ◌≡◌, eqb-true, inl, inr, or_cases}
+use Rattle.yaml_base.proofs.Common.{and_parts, and_from, or_parts, or_left, or_right, not-true, Text, line_feed, carriage_return, next_line, space, is_break}
+use Rattle.yaml_base.proofs.Common.{break_text, with_breaks_written, with_line_breaks_read, is_rendered_text, is_indented_text, LineBreak}
+use Rattle.yaml_base.proofs.Common.{carriage_return_break, line_feed_break, both_break}
+use Rattle.yaml_base.specs.LineBreaks.{line_breaks_read_after, begins_indented}
 
 -- a rendered text's prefix and rest are rendered
 pub rendered-cons : (c : ℕ) (rest : Text) → is_rendered_text (c ∷ rest) ≡ true

@@ -1,36 +1,21 @@
 -- Laws of the definitions that serve callers.
-use Rattle.std.proofs.Common.{◌≡◌, refl, sym, ap, ◌∙◌}
-use Rattle.std.proofs.lemmas.Bool.{or_parts}
+use Rattle.yaml_base.proofs.Common.{ℕ, if◌then◌else◌, ◌==◌, is_some, unwrap_or, option_map, Option, None, Some, codes, Bool, false, not, true, ◌&&◌, ◌||◌}
+use Rattle.yaml_base.proofs.Common.{List, [], ◌++◌, ◌∷◌, refl, ◌≡◌, ap, sym, ◌∙◌, or_parts, Text, is_among, Cursor, Rendered, render_then, encode, cut}
+use Rattle.yaml_base.proofs.Common.{ScalarStyle, any_style, plain, single_quoted, double_quoted, literal, folded, TagDirective, Scalar, Collection, Event}
+use Rattle.yaml_base.proofs.Common.{stream_start, stream_end, document_start, document_end, alias, scalar, sequence_start, sequence_end, mapping_start}
+use Rattle.yaml_base.proofs.Common.{mapping_end, scalar_tag, collection_tag, Stream, stream_events, tree_of, first_standing, layout, Piece, Standing}
+use Rattle.yaml_base.proofs.Common.{RenderedPiece, piece_without_body, render_properties, render_alias, render_separation, render_body, open_ended_after}
+use Rattle.yaml_base.proofs.Common.{choice_of, body_at, is_written_in_flow, Brackets, square, curly, render_end, Role, as_root, as_item, as_key, as_value}
+use Rattle.yaml_base.proofs.Common.{Place, is_key, is_undented, deeper, is_simple_scalar, is_simple_collection, render_flow_place, render_place, settings_for}
+use Rattle.yaml_base.proofs.Common.{text_written, bytes_written, list_layout, Encoding, Effective, effective, Frame, Stage, at_stream, at_document, at_node}
+use Rattle.yaml_base.proofs.Common.{at_document_end, next_place, stage_after, Stepped, leaf_step, frame_opened, start_step, step, ends_next, Steps}
+use Rattle.yaml_base.proofs.Common.{then_steps, steps, is_read_white, begins_white, begins_no_plain, begins_with_hash, holds_no_plain, read_plain, is_empty}
+use Rattle.yaml_base.proofs.Common.{allowances, Choice, chosen}
 use Rattle.std.proofs.lemmas.List.{take-take}
-use Rattle.std.specs.Prelude.{ℕ, Bool, true, false, ◌&&◌, ◌||◌, ◌==◌, not, Option, None, Some, List, [], ◌∷◌, ◌++◌, option_map, unwrap_or, is_some}
-use Rattle.std.specs.Prelude.{codes, if◌then◌else◌}
-use Rattle.yaml_base.specs.Characters.{Text, is_among}
-use Rattle.yaml_base.specs.Settings.{Encoding, Effective, effective, escapes_separators}
-use Rattle.yaml_base.specs.Encoding.{encode, cut}
-use Rattle.yaml_base.specs.Decode.{decode}
-use Rattle.yaml_base.specs.Cursor.{Cursor, Rendered, render_then}
-use Rattle.yaml_base.specs.Event.{ScalarStyle, any_style, plain, single_quoted, double_quoted, literal, folded, TagDirective, Scalar, Collection, Event}
-use Rattle.yaml_base.specs.Event.{stream_start, stream_end, document_start, document_end, alias, scalar, sequence_start, sequence_end, mapping_start}
-use Rattle.yaml_base.specs.Event.{mapping_end}
-use Rattle.yaml_base.specs.Event.{scalar_tag, collection_tag}
-use Rattle.yaml_base.specs.scalars.Analysis.{allowances, is_empty}
-use Rattle.yaml_base.specs.scalars.Style.{Choice, chosen}
-use Rattle.yaml_base.specs.Grammar.{Stream, stream_events, tree_of}
-use Rattle.yaml_base.specs.reading.ReadPlain.{is_read_white, begins_white, begins_no_plain, begins_with_hash, holds_no_plain, read_plain}
-use Rattle.yaml_base.specs.Layout.{Role, as_root, as_item, as_key, as_value, Place, is_key, is_undented, deeper, is_simple_alias, is_simple_scalar}
-use Rattle.yaml_base.specs.Layout.{is_simple_collection, render_flow_place, render_block_place, render_place, Piece, Standing, RenderedPiece}
-use Rattle.yaml_base.specs.Layout.{piece_without_body, render_properties}
-use Rattle.yaml_base.specs.Layout.{render_separation, render_alias, render_body, open_ended_after, choice_of, body_at, scalar_piece}
-use Rattle.yaml_base.specs.Layout.{is_written_in_flow, Brackets, square}
-use Rattle.yaml_base.specs.Layout.{curly, render_end, first_standing, layout}
-use Rattle.yaml_base.specs.Steps.{Frame, Stage, at_stream, at_document, at_node, at_document_end, next_place, stage_after, is_first, Stepped, leaf_step}
-use Rattle.yaml_base.specs.Steps.{frame_opened, start_step, end_step, node_step, step, ends_next, Steps, then_steps, steps}
-use Rattle.yaml_base.specs.Pieces.{list_layout}
-use Rattle.yaml_base.specs.Output.{settings_for, text_written, bytes_written}
+use Rattle.yaml_base.{proofs.Decoding.decode-encode, proofs.StepLaws.stream_steps, proofs.Trees.tree_of-stream_events, specs.Decode.decode}
+use Rattle.yaml_base.{specs.Layout.is_simple_alias, specs.Layout.render_block_place, specs.Layout.scalar_piece, specs.Settings.escapes_separators}
+use Rattle.yaml_base.{specs.Steps.is_first, specs.Steps.end_step, specs.Steps.node_step}
 use Rattle.yaml_base.specs.Laws.{TreeIsFound, IsPlainInside, PlainHoldsNoIndicator, LimitCuts, EncodingsAgree, BreaksAgree}
-use Rattle.yaml_base.proofs.Decoding.{decode-encode}
-use Rattle.yaml_base.proofs.StepLaws.{stream_steps}
-use Rattle.yaml_base.proofs.Trees.{tree_of-stream_events}
 
 pub tree_found : TreeIsFound
 tree_found stream events is = ap tree_of (sym is) ∙ tree_of-stream_events stream

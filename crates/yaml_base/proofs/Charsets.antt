@@ -1,10 +1,8 @@
 -- What a value may be written in where U+2028 and U+2029 are special, it may be written in where they needn't be.
-use Rattle.std.proofs.Common.{◌≡◌, refl, ap}
-use Rattle.std.proofs.lemmas.Bool.{and_from, and_parts, not-true, or_from, or_parts}
-use Rattle.std.specs.Prelude.{ℕ, Bool, true, false, [], ◌∷◌, ◌==◌, ◌||◌, ◌&&◌, not}
-use Rattle.yaml_base.specs.Characters.{Text, is_ascii, is_printable, line_separator, paragraph_separator}
-use Rattle.yaml_base.specs.scalars.Analysis.{Charset, allows_block, allows_plain, allows_single_quoted, bars_block, bars_plain, bars_single_quoted}
-use Rattle.yaml_base.specs.scalars.Analysis.{begins_unlike_plain, is_empty, is_special, somewhere}
+use Rattle.yaml_base.proofs.Common.{ℕ, ◌==◌, Bool, false, not, true, ◌&&◌, ◌||◌, [], ◌∷◌, refl, ◌≡◌, ap, and_parts, and_from, or_parts, or_from, not-true}
+use Rattle.yaml_base.proofs.Common.{Text, line_separator, paragraph_separator, is_ascii, is_printable, Charset, somewhere, is_empty, is_special, bars_block}
+use Rattle.yaml_base.proofs.Common.{allows_block}
+use Rattle.yaml_base.specs.scalars.Analysis.{begins_unlike_plain, bars_plain, bars_single_quoted, allows_plain, allows_single_quoted}
 
 -- an alternative that holds where another one does
 or_fewer : (a b rest : Bool) → (a ≡ false → b ≡ false) → (a || rest) ≡ false → (b || rest) ≡ false

@@ -1,12 +1,10 @@
 -- The completion of a list that begins a stream is a stream.
-use Rattle.std.proofs.Common.{◌≡◌, refl, sym, ap, ◌∙◌}
-use Rattle.std.specs.Prelude.{true, Option, None, Some, List, [], ◌∷◌, ◌++◌, option_and_then, flat_map}
-use Rattle.yaml_base.specs.Settings.{Encoding}
-use Rattle.yaml_base.specs.Event.{any_style, DocumentStart, Event, stream_end, document_end}
-use Rattle.yaml_base.specs.Grammar.{Node, scalar_node, sequence_node, mapping_node, no_nodes, nodes_and, no_pairs, pairs_and, Documents, no_documents}
-use Rattle.yaml_base.specs.Grammar.{documents_and, Stream, Level, at_item, at_key, at_value, Partial, before_stream, between_documents, within_document}
-use Rattle.yaml_base.specs.Grammar.{after_root, after_stream, with_node, push, pushed, partial_of}
-use Rattle.yaml_base.specs.Pieces.{outer_missing, levels_missing, missing, missing_after, completion}
+use Rattle.yaml_base.proofs.Common.{option_and_then, Option, None, Some, true, List, [], ◌++◌, ◌∷◌, refl, ◌≡◌, ap, sym, ◌∙◌, any_style, DocumentStart, Event}
+use Rattle.yaml_base.proofs.Common.{stream_end, document_end, Node, scalar_node, sequence_node, mapping_node, no_nodes, nodes_and, no_pairs, pairs_and}
+use Rattle.yaml_base.proofs.Common.{Documents, no_documents, documents_and, Stream, Level, at_item, at_key, at_value, Partial, before_stream}
+use Rattle.yaml_base.proofs.Common.{between_documents, within_document, after_root, after_stream, with_node, push, pushed, partial_of, outer_missing}
+use Rattle.yaml_base.proofs.Common.{levels_missing, missing, missing_after, completion, Encoding}
+use Rattle.std.specs.Prelude.{flat_map}
 
 append_next : (a b : List Event) (next : Option Partial) → ((q : Partial) → pushed q (a ++ b) ≡ option_and_then (λ r. pushed r b) (pushed q a))
     → option_and_then (λ q. pushed q (a ++ b)) next ≡ option_and_then (λ q. pushed q b) (option_and_then (λ q. pushed q a) next)

@@ -1,21 +1,16 @@
 -- The content of a tree that unfolds a graph unfolds it but for its styles; graphs dumped one after another are a stream
 -- of such documents.
-use Rattle.std.proofs.Common.{◌≡◌, Option, None, Some, option_map, List, [], ◌∷◌, ◌++◌, refl, sym, ap, ◌∙◌, append_assoc, append-nil, All}
-use Rattle.std.specs.Prelude.{Bool, true, false, flat_map}
-use Rattle.std.proofs.lemmas.List.Elements.{All-head, All-tail}
-use Rattle.yaml_base.specs.Characters.{Text}
-use Rattle.yaml_base.specs.Event.{Event, stream_start, stream_end}
-use Rattle.yaml_base.specs.Grammar.{Node, alias_node, scalar_node, sequence_node, mapping_node, Nodes, no_nodes, nodes_and, Pairs, no_pairs, pairs_and}
-use Rattle.yaml_base.specs.Grammar.{Documents, no_documents, documents_and, Stream, document_events, documents_events, stream_events}
-use Rattle.yaml_base.specs.reading.Content.{DocumentContent, content_tag, node_content, nodes_content, pairs_content, document_content, documents_content}
-use Rattle.yaml_base.specs.reading.Content.{content_of}
-use Rattle.yaml_base.specs.graphs.Meetings.{Graph, GraphNode, Held, scalar_held, sequence_held, mapping_held, node_numbered, document_event_list}
-use Rattle.yaml_base.specs.graphs.Unfolding.{NodeKind, scalar_kind, sequence_kind, mapping_kind, Label, Placed, alias_placed, node_placed, PlacedNodes}
-use Rattle.yaml_base.specs.graphs.Unfolding.{none_placed, placed_and, kind_held, label_of, explicit_tag, HasShape, HaveShapes, node_shape_of, nodes_shapes}
-use Rattle.yaml_base.specs.graphs.Unfolding.{pairs_shapes, content_shape, contents_shapes, content_pairs_shapes, TreeUnfolds, ContentUnfolds, IsDocument}
-use Rattle.yaml_base.specs.graphs.Dumped.{AreDumped, ContentsUnfold}
-use Rattle.yaml_base.proofs.Trees.{tree_of-stream_events}
-use Rattle.yaml_base.proofs.DocumentsUnfold.{document_unfolds}
+use Rattle.yaml_base.proofs.Common.{All, option_map, Option, None, Some, Bool, false, true, List, [], ◌++◌, ◌∷◌, refl, ◌≡◌, append-nil, append_assoc, ap, sym}
+use Rattle.yaml_base.proofs.Common.{◌∙◌, All-head, All-tail, Text, Event, stream_start, stream_end, Node, alias_node, scalar_node, Nodes, sequence_node}
+use Rattle.yaml_base.proofs.Common.{Pairs, mapping_node, no_nodes, nodes_and, no_pairs, pairs_and, Documents, no_documents, documents_and, Stream}
+use Rattle.yaml_base.proofs.Common.{document_events, documents_events, stream_events, AreDumped, Held, scalar_held, sequence_held, mapping_held, GraphNode}
+use Rattle.yaml_base.proofs.Common.{Graph, node_numbered, document_event_list, scalar_kind, sequence_kind, mapping_kind, Label, node_shape_of, nodes_shapes}
+use Rattle.yaml_base.proofs.Common.{pairs_shapes, Placed, alias_placed, PlacedNodes, node_placed, none_placed, placed_and, label_of, HasShape, HaveShapes}
+use Rattle.yaml_base.proofs.Common.{TreeUnfolds, ContentUnfolds, IsDocument, DocumentContent, node_content}
+use Rattle.std.specs.Prelude.{flat_map}
+use Rattle.yaml_base.{proofs.DocumentsUnfold.document_unfolds, proofs.Trees.tree_of-stream_events, specs.graphs.Dumped.ContentsUnfold}
+use Rattle.yaml_base.specs.graphs.Unfolding.{NodeKind, explicit_tag, content_shape, contents_shapes, content_pairs_shapes, kind_held}
+use Rattle.yaml_base.specs.reading.Content.{content_tag, nodes_content, pairs_content, document_content, documents_content, content_of}
 
 -- ---- without styles
 

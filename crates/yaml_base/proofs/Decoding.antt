@@ -1,15 +1,10 @@
 -- The bytes of a text decode to the text.
-use Rattle.std.proofs.Common.{◌≡◌, refl, sym, ◌∙◌, ap, ℕ, ◌+◌, ◌-◌, ◌*◌, ◌/◌, ◌%◌, ◌<◌, ◌≤◌, true, false, cond, ◌&&◌, inl, inr, Some, List, [], ◌∷◌, ◌++◌}
-use Rattle.std.proofs.Common.{nat_lt, nat_le, encode_utf8, arith, lt-ltb, le-ltb, le-leb}
-use Rattle.std.specs.Char.{IsScalar}
-use Rattle.std.specs.Str.{all_scalars, chars, encode_utf8_all}
-use Rattle.std.proofs.lemmas.Str.{chars-encodes}
-use Rattle.std.proofs.lemmas.Bool.{lt-leb, cases_lt, and_parts}
-use lib.Utf8.{scalar_cases}
-use Rattle.yaml_base.specs.Characters.{Text}
-use Rattle.yaml_base.specs.Settings.{Encoding, utf8, utf16_little, utf16_big}
-use Rattle.yaml_base.specs.Encoding.{utf16_units, upper_first, lower_first, text_bytes, encode, OneText}
+use Rattle.yaml_base.proofs.Common.{ℕ, ◌%◌, ◌*◌, ◌+◌, ◌-◌, ◌/◌, ◌<◌, ◌≤◌, Some, nat_le, nat_lt, encode_utf8, cond, false, true, ◌&&◌, List, [], ◌++◌, ◌∷◌}
+use Rattle.yaml_base.proofs.Common.{refl, ◌≡◌, le-leb, le-ltb, lt-ltb, inl, inr, ap, sym, ◌∙◌, arith, and_parts, chars-encodes, all_scalars, chars}
+use Rattle.yaml_base.proofs.Common.{encode_utf8_all, scalar_cases, Text, encode, Encoding, utf8, utf16_little, utf16_big}
+use Rattle.std.{proofs.lemmas.Bool.lt-leb, proofs.lemmas.Bool.cases_lt, specs.Char.IsScalar}
 use Rattle.yaml_base.specs.Decode.{units_upper_first, units_lower_first, text_of_units, decode}
+use Rattle.yaml_base.specs.Encoding.{utf16_units, upper_first, lower_first, text_bytes, OneText}
 
 -- a text's code units
 abbrev pub units_of : Text → List ℕ

@@ -1,26 +1,16 @@
 -- The events of a document unfold its graph.
-use Rattle.std.proofs.Common.{◌≡◌, inl, inr, ℕ, suc, ◌+◌, ◌==◌, ◌≤◌, ◌||◌, Bool, true, false, cond, Option, None, Some, unwrap_or, List, [], ◌∷◌, ◌++◌, length}
-use Rattle.std.proofs.Common.{refl, sym, ap, ◌∙◌, subst, arith, append-nil, ne_eqb}
-use Rattle.std.specs.Prelude.{Contains, count_by, bytes_eq, if◌then◌else◌}
-use Rattle.std.specs.List.{list_any, filter_map, flat_map, cons_option}
-use Rattle.std.proofs.Math.Bool.{or-true}
-use Rattle.std.proofs.lemmas.Bool.{or_cases, eqb-true}
-use Rattle.std.proofs.lemmas.Bool.Decides.{nat_tests, Decides-eqb, same_from_decides}
-use Rattle.std.proofs.lemmas.List.Elements.{filter_map-append, Contains-append_left, Contains-append_right}
-use Rattle.std.proofs.lemmas.List.Sums.{sum_by-append}
-use Rattle.std.proofs.lemmas.Slice.Eq.{bytes_eq-Decides}
-use Rattle.yaml_base.specs.Characters.{Text}
-use Rattle.yaml_base.specs.Event.{Event, document_start, document_end}
-use Rattle.yaml_base.specs.Grammar.{node_events}
-use Rattle.yaml_base.specs.graphs.Meetings.{Graph, Step, enters, leaves, meets_again, is_entry_of, steps, node_met_again, anchor_of, step_events}
-use Rattle.yaml_base.specs.graphs.Meetings.{document_event_list}
-use Rattle.yaml_base.specs.graphs.Unfolding.{Placed, Occurrence, alias_occurrence, node_occurrence, occurrences, has_anchor, is_occurrence_of}
-use Rattle.yaml_base.specs.graphs.Unfolding.{IsNamed, AreNamed}
-use Rattle.yaml_base.specs.graphs.Unfolding.{IsReached, first_reached, child_reached, TreeUnfolds, IsDocument, EventsUnfold}
-use Rattle.yaml_base.proofs.SharedNodes.{has, shared_named, anchors_differ}
-use Rattle.yaml_base.proofs.UnfoldSteps.{FollowEntries, is_meeting_of, IsOrderly, orderly_steps}
+use Rattle.yaml_base.proofs.Common.{suc, ℕ, ◌+◌, ◌≤◌, if◌then◌else◌, ◌==◌, Contains, count_by, unwrap_or, bytes_eq, Option, None, Some, length, Bool, cond}
+use Rattle.yaml_base.proofs.Common.{false, true, ◌||◌, List, [], ◌++◌, ◌∷◌, refl, ◌≡◌, eqb-true, ne_eqb, append-nil, inl, inr, ap, subst, sym, ◌∙◌, arith}
+use Rattle.yaml_base.proofs.Common.{or-true, or_cases, same_from_decides, Decides-eqb, nat_tests, Contains-append_left, Contains-append_right}
+use Rattle.yaml_base.proofs.Common.{filter_map-append, sum_by-append, bytes_eq-Decides, filter_map, flat_map, list_any, Text, Event, document_start}
+use Rattle.yaml_base.proofs.Common.{document_end, node_events, Graph, Step, enters, leaves, meets_again, is_entry_of, node_met_again, anchor_of, step_events}
+use Rattle.yaml_base.proofs.Common.{document_event_list, Placed, Occurrence, alias_occurrence, node_occurrence, occurrences, has_anchor, is_occurrence_of}
+use Rattle.yaml_base.proofs.Common.{IsNamed, AreNamed, IsReached, first_reached, child_reached, TreeUnfolds, IsDocument}
+use Rattle.std.specs.List.{cons_option}
+use Rattle.yaml_base.{proofs.SharedNodes.has, proofs.SharedNodes.shared_named, proofs.SharedNodes.anchors_differ, proofs.UnfoldEvents.node_at}
+use Rattle.yaml_base.{proofs.UnfoldEvents.node_at_events, proofs.UnfoldEvents.node_at_shape, specs.graphs.Meetings.steps, specs.graphs.Unfolding.EventsUnfold}
+use Rattle.yaml_base.proofs.UnfoldSteps.{is_meeting_of, FollowEntries, IsOrderly, orderly_steps}
 use Rattle.yaml_base.proofs.UnfoldTrees.{placed_steps, Fits, Walks, walk_placed, root_met, children_met, place_of, places_are}
-use Rattle.yaml_base.proofs.UnfoldEvents.{node_at, node_at_events, node_at_shape}
 
 -- ---- occurrences are counted as entries
 

@@ -1,30 +1,18 @@
 -- Of the events of a graph none is refused but for an empty tag or too great a depth.
-use Rattle.std.proofs.Common.{◌≡◌, ◌⊎◌, inl, inr, ℕ, zero, suc, ◌+◌, ◌-◌, ◌/◌, ◌%◌, ◌==◌, ◌<◌, ◌||◌, ◌&&◌, Bool, true, false, cond, Option, None}
-use Rattle.std.proofs.Common.{Some, option_map}
-use Rattle.std.proofs.Common.{unwrap_or, List, [], ◌∷◌, ◌++◌, length, replicate, refl, sym, ap, ◌∙◌, subst, arith, append_assoc, eq-eqb}
-use Rattle.std.specs.Prelude.{option_and_then, is_none, flat_map, if◌then◌else◌}
-use Rattle.std.specs.Option.{option_or}
-use Rattle.std.specs.List.{list_all, filter_map, position}
-use Rattle.std.specs.Fmt.{digits_onto, digit_glyph}
-use Rattle.std.proofs.Math.Bool.{or-true}
-use Rattle.std.proofs.lemmas.Bool.Decides.{nat_tests}
-use Rattle.std.proofs.lemmas.List.Folds.{list_all-append}
-use Rattle.yaml_base.specs.Characters.{Text, is_alpha}
-use Rattle.yaml_base.specs.Event.{Event, DocumentStart, stream_start, stream_end, document_start, document_end, alias, sequence_end}
-use Rattle.yaml_base.specs.Event.{mapping_end}
-use Rattle.yaml_base.specs.Tags.{name_fault, anchor_fault, alias_fault, tag_fault}
-use Rattle.yaml_base.specs.Grammar.{Partial, after_stream, Stream, stream_events, push, partial_of}
-use Rattle.yaml_base.specs.Refusal.{some_if, name_or_tag_fault, content_fault, expected, place_fault, depth_fault, refusal_at, refusal}
-use Rattle.yaml_base.specs.graphs.Meetings.{Graph, GraphNode, Held, scalar_held, sequence_held, mapping_held, Step, enters, leaves, meets_again, node_numbered}
-use Rattle.yaml_base.specs.graphs.Meetings.{steps, node_met_again, shared_nodes, decimal_digits, numbered_name, anchor_of, opening_event_of, opening_events}
-use Rattle.yaml_base.specs.graphs.Meetings.{closing_event_of, closing_events, step_events, document_event_list}
-use Rattle.yaml_base.specs.declared.errors.yaml_error_t.{yaml_error_t}
-use Rattle.yaml_base.specs.declared.errors.yaml_error_t.TheVariants.{TagEmpty, TooDeep, AnchorEmpty, AnchorAlphabet, AliasEmpty, AliasAlphabet}
-use Rattle.yaml_base.proofs.Trees.{stream_pushed}
-use Rattle.yaml_base.proofs.Accepted.{pushed_next}
-use Rattle.yaml_base.proofs.Completions.{prefix_is_partial}
-use Rattle.yaml_base.proofs.SharedNodes.{has, shared_named}
-use Rattle.yaml_base.proofs.Twins.{IsIn, in_either}
+use Rattle.yaml_base.proofs.Common.{suc, zero, ℕ, ◌%◌, ◌+◌, ◌-◌, ◌/◌, ◌<◌, if◌then◌else◌, ◌==◌, is_none, unwrap_or, option_map, option_and_then, Option, None}
+use Rattle.yaml_base.proofs.Common.{Some, length, replicate, Bool, cond, false, true, ◌&&◌, ◌||◌, List, [], ◌++◌, ◌∷◌, ◌⊎◌, refl, ◌≡◌, eq-eqb, append_assoc}
+use Rattle.yaml_base.proofs.Common.{inl, inr, ap, subst, sym, ◌∙◌, arith, or-true, nat_tests, list_all-append, digit_glyph, digits_onto, filter_map, list_all}
+use Rattle.yaml_base.proofs.Common.{position, option_or, Text, is_alpha, DocumentStart, Event, stream_start, stream_end, document_start, document_end, alias}
+use Rattle.yaml_base.proofs.Common.{sequence_end, mapping_end, Stream, stream_events, Partial, after_stream, push, partial_of, some_if, name_or_tag_fault}
+use Rattle.yaml_base.proofs.Common.{content_fault, expected, place_fault, depth_fault, refusal_at, refusal, name_fault, anchor_fault, alias_fault, tag_fault}
+use Rattle.yaml_base.proofs.Common.{Held, scalar_held, sequence_held, mapping_held, GraphNode, Graph, node_numbered, Step, enters, leaves, meets_again}
+use Rattle.yaml_base.proofs.Common.{node_met_again, shared_nodes, numbered_name, anchor_of, opening_event_of, opening_events, closing_event_of}
+use Rattle.yaml_base.proofs.Common.{closing_events, step_events, document_event_list}
+use Rattle.std.specs.Prelude.{flat_map}
+use Rattle.yaml_base.{proofs.Accepted.pushed_next, proofs.Completions.prefix_is_partial, proofs.SharedNodes.has, proofs.SharedNodes.shared_named}
+use Rattle.yaml_base.{proofs.Trees.stream_pushed, proofs.Twins.IsIn, proofs.Twins.in_either, specs.declared.errors.yaml_error_t.yaml_error_t}
+use Rattle.yaml_base.{specs.graphs.Meetings.steps, specs.graphs.Meetings.decimal_digits}
+use Rattle.yaml_base.specs.declared.errors.yaml_error_t.TheVariants.{AliasAlphabet, AliasEmpty, AnchorAlphabet, AnchorEmpty, TagEmpty, TooDeep}
 
 -- ---- events of a stream
 

@@ -1,17 +1,10 @@
 -- What a number of JSON is spelled as is the same number.
-use Rattle.std.proofs.Common.{◌≡◌, refl, sym, ap, ◌∙◌, append-nil, arith}
-use Rattle.std.proofs.lemmas.Bool.Decides.{Decides-int_eq}
-use Rattle.std.proofs.lemmas.Int.{ints}
-use Rattle.std.proofs.lemmas.Int.Digits.{digits_value_push}
-use Rattle.std.specs.Ordering.{int_eq}
-use Rattle.std.specs.Str.Parse.{digits_value}
-use Rattle.std.specs.Prelude.{ℕ, ℤ, pos, neg_ℤ, negsuc, Bool, true, false, Option, None, Some, [], ◌++◌, ◌+◌, ◌*◌, ◌^◌, ◌+ℤ◌, ◌-ℤ◌, ◌*ℤ◌, ◌&&◌, not, codes}
-use Rattle.std.specs.Prelude.{if◌then◌else◌}
-use Rattle.yaml_base.specs.Characters.{Text}
-use Rattle.yaml_base.specs.Words.{is_word}
-use Rattle.yaml_base.specs.values.Resolved.{Decimal, meant_integer, meant_decimal, signed}
-use Rattle.yaml_base.specs.values.JsonNumbers.{JsonNumber, JsonExponent, above, is_same_number, means_number, exponent_value, value_with, json_value}
-use Rattle.yaml_base.specs.values.JsonNumbers.{number_meant}
+use Rattle.yaml_base.proofs.Common.{ℕ, ◌*◌, ◌+◌, if◌then◌else◌, Option, None, Some, codes, neg_ℤ, negsuc, pos, ℤ, ◌+ℤ◌, Bool, false, not, true, ◌&&◌, []}
+use Rattle.yaml_base.proofs.Common.{◌++◌, refl, ◌≡◌, append-nil, ap, sym, ◌∙◌, arith, Decides-int_eq, digits_value, Text, is_word, JsonExponent, JsonNumber}
+use Rattle.yaml_base.proofs.Common.{exponent_value, json_value, number_meant, means_number, Decimal, meant_integer, meant_decimal, signed}
+use Rattle.std.{proofs.lemmas.Int.ints, proofs.lemmas.Int.Digits.digits_value_push, specs.Ordering.int_eq, specs.Prelude.◌*ℤ◌, specs.Prelude.◌-ℤ◌}
+use Rattle.std.{specs.Prelude.◌^◌}
+use Rattle.yaml_base.specs.values.JsonNumbers.{value_with, above, is_same_number}
 
 same_integer : (a b : ℤ) → a ≡ b → int_eq a b ≡ true
 same_integer a b h = (Decides-int_eq a b).1 h

@@ -1,11 +1,7 @@
 -- Texts that are written out: ASCII without a break.
-use Rattle.std.proofs.Common.{◌≡◌, ℕ, zero, suc, Bool, true, false, ◌&&◌, not, List, [], ◌∷◌, refl, ◌∙◌, ap, arith}
-use Rattle.std.proofs.lemmas.Bool.{and_parts, not-true, or_from, ltb-true}
-use Rattle.std.proofs.lemmas.Str.{chars-IsAscii}
-use Rattle.std.specs.Prelude.{nat_lt, IsAscii}
-use Rattle.std.specs.List.{list_all, list_any}
-use Rattle.std.specs.Str.{chars}
-use Rattle.yaml_base.specs.Characters.{is_break}
+use Rattle.yaml_base.proofs.Common.{suc, zero, ℕ, nat_lt, Bool, false, not, true, ◌&&◌, List, [], ◌∷◌, refl, ◌≡◌, ltb-true, ap, ◌∙◌, arith, and_parts}
+use Rattle.yaml_base.proofs.Common.{or_from, not-true, chars-IsAscii, list_all, list_any, chars, is_break}
+use Rattle.std.specs.Prelude.{IsAscii}
 
 -- characters of ASCII that are no breaks; computes at a literal
 abbrev pub are_plain : List ℕ → Bool

@@ -1,7 +1,5 @@
 -- What it says that no fault is returned.
-use Rattle.std.proofs.Common.{◌≡◌, ℕ, Bool, true, false, cond, Option, None, Some, refl}
-use Rattle.std.specs.Option.{option_or}
-use Rattle.std.specs.Prelude.{is_none}
+use Rattle.yaml_base.proofs.Common.{is_none, Option, None, Some, Bool, cond, false, true, refl, ◌≡◌, option_or}
 
 -- neither of two options has a value where the first of them that has one is none
 pub neither : {A : Type 0} (x y : Option A) → option_or x y ≡ None → (x ≡ None) × (y ≡ None)

@@ -1,18 +1,12 @@
 -- A number's spelling, cut where the schemas cut it: past its sign, at its point, at its exponent.
-use Rattle.std.proofs.Common.{◌≡◌, refl, sym, ap, ◌∙◌, append-nil, arith}
-use Rattle.std.proofs.lemmas.Bool.{false≢true, and_parts, and_from, and_left, or_from, or_left, not_from_false, eqb-true, ne_eqb}
-use Rattle.std.proofs.lemmas.List.Elements.{All-append, All-cons}
-use Rattle.std.proofs.lemmas.List.Splits.{slice_split_at, slice_split_none, slice_split-cons_yes}
-use Rattle.std.proofs.lemmas.List.Sums.{AllPass-from_list_all, take_while-cons}
-use Rattle.std.specs.List.{All, list_all, slice_split, take_while}
-use Rattle.std.specs.Prelude.{ℕ, suc, Bool, true, false, Option, None, Some, List, [], ◌∷◌, ◌++◌, ◌==◌, ◌||◌, ◌&&◌, not, length, codes, ⊤, if◌then◌else◌}
-use Rattle.yaml_base.specs.Characters.{Text}
-use Rattle.yaml_base.specs.Words.{named}
-use Rattle.yaml_base.specs.values.Resolved.{Resolved, meant_timestamp, words_of_core, words_of_11, is_point, is_exponent_letter, is_plus_or_minus}
-use Rattle.yaml_base.specs.values.Resolved.{is_decimal, first_meets}
-use Rattle.yaml_base.specs.values.Resolved.{past_sign, is_negative, are_digits}
-use Rattle.yaml_base.specs.values.SchemaOf11.{is_underscore, ungrouped, are_grouped, is_hyphen, past, in_date, is_date, is_time_after_date, timestamp_11}
-use Rattle.yaml_base.specs.values.JsonNumbers.{JsonExponent, minus, exponent_negative, exponent_spelled}
+use Rattle.yaml_base.proofs.Common.{suc, ℕ, if◌then◌else◌, ⊤, ◌==◌, Option, None, Some, codes, length, Bool, false, not, true, ◌&&◌, ◌||◌, List, [], ◌++◌}
+use Rattle.yaml_base.proofs.Common.{◌∷◌, refl, ◌≡◌, eqb-true, ne_eqb, append-nil, ap, sym, ◌∙◌, arith, and_parts, and_from, and_left, or_from, or_left}
+use Rattle.yaml_base.proofs.Common.{not_from_false, false≢true, slice_split-cons_yes, take_while-cons, list_all, slice_split, take_while, Text, named}
+use Rattle.yaml_base.proofs.Common.{JsonExponent, minus, exponent_negative, exponent_spelled, Resolved, meant_timestamp, words_of_core, words_of_11, is_point}
+use Rattle.yaml_base.proofs.Common.{is_exponent_letter, is_plus_or_minus, is_decimal, first_meets, past_sign, is_negative, are_digits, is_underscore}
+use Rattle.yaml_base.proofs.Common.{ungrouped, are_grouped, past, is_hyphen, is_date, is_time_after_date, in_date, timestamp_11}
+use Rattle.std.proofs.lemmas.List.{Elements.All-cons, Elements.All-append, Splits.slice_split_none, Splits.slice_split_at, Sums.AllPass-from_list_all}
+use Rattle.std.specs.List.{All}
 use Rattle.yaml_base.proofs.SchemaWords.{named_unlike}
 
 -- Digits

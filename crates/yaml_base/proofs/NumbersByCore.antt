@@ -1,17 +1,10 @@
 -- The core schema reads the spelling of a number of JSON as that number.
-use Rattle.std.proofs.Common.{◌≡◌, refl, sym, ap, ◌∙◌, append_assoc}
-use Rattle.std.proofs.lemmas.Bool.{and_parts, and_from, and_left, and_right}
-use Rattle.std.proofs.lemmas.List.Folds.{list_all-append}
-use Rattle.std.specs.List.{list_all, slice_split}
-use Rattle.std.specs.Str.Parse.{digits_value}
-use Rattle.std.specs.Prelude.{ℕ, ℤ, pos, neg_ℤ, Bool, true, false, Option, None, Some, List, [], ◌∷◌, ◌++◌, ◌==◌, ◌&&◌, ◌+ℤ◌, not, length, codes, if◌then◌else◌}
-use Rattle.yaml_base.specs.Characters.{Text}
-use Rattle.yaml_base.specs.Words.{named}
-use Rattle.yaml_base.specs.values.Resolved.{Decimal, Resolved, meant_integer, meant_decimal, first_reading, words_of_core, is_point, is_exponent_letter}
-use Rattle.yaml_base.specs.values.Resolved.{is_decimal, first_meets, past_sign, is_negative, signed, are_digits, decimal_of_digits, exponent_read}
-use Rattle.yaml_base.specs.values.Resolved.{times_power_of_ten, scientific}
-use Rattle.yaml_base.specs.values.SchemaCore.{core_integer, core_based, core_mantissa, core_decimal, resolved_by_core}
-use Rattle.yaml_base.specs.values.JsonNumbers.{JsonExponent, minus, exponent_negative, exponent_value, exponent_spelled}
+use Rattle.yaml_base.proofs.Common.{ℕ, if◌then◌else◌, ◌==◌, Option, None, Some, codes, neg_ℤ, pos, ℤ, ◌+ℤ◌, length, Bool, false, not, true, ◌&&◌, List, []}
+use Rattle.yaml_base.proofs.Common.{◌++◌, ◌∷◌, refl, ◌≡◌, append_assoc, ap, sym, ◌∙◌, and_parts, and_from, and_left, and_right, list_all-append, list_all}
+use Rattle.yaml_base.proofs.Common.{slice_split, digits_value, Text, named, JsonExponent, minus, exponent_negative, exponent_value, exponent_spelled, Decimal}
+use Rattle.yaml_base.proofs.Common.{Resolved, meant_integer, meant_decimal, first_reading, words_of_core, is_point, is_exponent_letter, is_decimal}
+use Rattle.yaml_base.proofs.Common.{first_meets, past_sign, is_negative, signed, are_digits, decimal_of_digits, exponent_read, times_power_of_ten, scientific}
+use Rattle.yaml_base.proofs.Common.{core_integer, core_based, core_mantissa, core_decimal, resolved_by_core}
 use Rattle.yaml_base.proofs.NumberCuts.{digit_unlike, some_digits, at_point, mantissa_of, exponent_parts, HasDigits, at_exponent, past_minus, minus_read}
 use Rattle.yaml_base.proofs.NumberCuts.{no_word_of_core}
 

@@ -1,19 +1,12 @@
 -- The numbers that name no node are sought node by node.
-use Rattle.std.proofs.Common.{IsTrue, is_none, refl, cond, ◌&&◌, nat_le, pos, negsuc, [], map, Bool, ◌≡◌, ℕ, suc, ◌+◌, ◌<◌, ℤ, true, false, not, is_some}
-use Rattle.std.proofs.Common.{Option, None, Some, List, ◌∷◌, length, get_or, drop, drop-cons, add-one, sym, ap, ◌∙◌}
-use Rattle.std.specs.List.{list_all, flat_map}
-use Rattle.std.proofs.lemmas.List.{length-map}
-use Rattle.std.specs.Option.{option_or}
-use Rattle.std.proofs.lemmas.List.Folds.{find-append}
-use Rattle.yaml_base.specs.graphs.Meetings.{numbers_held, is_whole}
-use Rattle.yaml_base.specs.graphs.SeenNodes.{seen_number, seen_pair, seen_held, seen_node, seen_document, names_node, numbers_of, numbers_of_pairs, all_numbers}
-use Rattle.yaml_base.specs.graphs.SeenNodes.{first_outside}
-use Rattle.yaml_base.specs.declared.directives.yaml_version_directive_t.{yaml_version_directive_t}
-use Rattle.yaml_base.specs.declared.directives.yaml_tag_directive_t.{yaml_tag_directive_t}
-use Rattle.yaml_base.specs.declared.nodes.yaml_node_pair_t.{yaml_node_pair_t}
-use Rattle.yaml_base.specs.declared.nodes.yaml_node_data_t.{yaml_node_data_t}
-use Rattle.yaml_base.specs.declared.nodes.yaml_node_data_t.TheVariants.{Scalar, Sequence, Mapping}
-use Rattle.yaml_base.specs.declared.nodes.yaml_node_t.{yaml_node_t}
+use Rattle.yaml_base.proofs.Common.{suc, ℕ, ◌+◌, ◌<◌, is_some, is_none, Option, None, Some, nat_le, negsuc, pos, ℤ, drop, length, slice_index_or as get_or}
+use Rattle.yaml_base.proofs.Common.{Bool, cond, false, not, true, ◌&&◌, List, [], map, ◌∷◌, refl, ◌≡◌, ap, sym, ◌∙◌, length-map, flat_map, list_all}
+use Rattle.yaml_base.proofs.Common.{option_or, numbers_held, is_whole, numbers_of_pairs, all_numbers, first_outside}
+use Rattle.std.proofs.{Common.add-one, Common.drop-cons, Common.IsTrue, lemmas.List.Folds.find-append}
+use Rattle.yaml_base.specs.declared.directives.{yaml_tag_directive_t.yaml_tag_directive_t, yaml_version_directive_t.yaml_version_directive_t}
+use Rattle.yaml_base.specs.declared.nodes.{yaml_node_data_t.yaml_node_data_t, yaml_node_data_t.TheVariants.Mapping, yaml_node_data_t.TheVariants.Scalar}
+use Rattle.yaml_base.specs.declared.nodes.{yaml_node_data_t.TheVariants.Sequence, yaml_node_pair_t.yaml_node_pair_t, yaml_node_t.yaml_node_t}
+use Rattle.yaml_base.specs.graphs.SeenNodes.{seen_number, seen_pair, seen_held, seen_node, seen_document, names_node, numbers_of}
 
 -- at a place of the list: the node's numbers, and then those behind it
 at_place : {A : Type 0} (count i : ℕ) (nodes : List (yaml_node_t A)) (node : yaml_node_t A) → i < length nodes → node ≡ get_or nodes i node

@@ -1,25 +1,18 @@
 -- Both schemas read the spelling of a number of JSON as that number.
-use Rattle.std.proofs.Common.{◌≡◌, refl, sym, ap, ◌∙◌, append_assoc, append-nil}
-use Rattle.std.proofs.lemmas.Bool.{true≢false, and_parts, and_from, and_left, and_right, or_left, or_right, not-true, not_from_false}
-use Rattle.std.proofs.lemmas.Slice.Eq.{bytes_eq-Decides}
-use Rattle.std.specs.List.{list_all, slice_split}
-use Rattle.std.specs.Str.Parse.{digits_value}
-use Rattle.std.specs.Prelude.{ℕ, pos, Bool, true, false, Option, None, Some, List, [], ◌∷◌, ◌++◌, ◌==◌, ◌||◌, ◌&&◌, not, length, codes, if◌then◌else◌}
-use Rattle.yaml_base.specs.Characters.{Text}
-use Rattle.yaml_base.specs.Words.{named, is_word}
-use Rattle.yaml_base.specs.values.Resolved.{Decimal, Resolved, meant_integer, first_reading, words_of_11, is_point, is_exponent_letter, is_decimal, first_meets}
-use Rattle.yaml_base.specs.values.Resolved.{past_sign, is_negative, signed, are_digits, decimal_of_digits, times_power_of_ten, scientific}
-use Rattle.yaml_base.specs.values.SchemaCore.{resolved_by_core}
-use Rattle.yaml_base.specs.values.SchemaOf11.{ungrouped, are_grouped, integer_of, in_date, is_leading, begins_grouped, based_11, octal_11, decimal_11}
-use Rattle.yaml_base.specs.values.SchemaOf11.{sixties_11, fine_sixties_11, is_colon, mantissa_11, exponent_11, float_11, more_points_11, points_11}
-use Rattle.yaml_base.specs.values.SchemaOf11.{timestamp_11, numbers_11, resolved_by_11}
-use Rattle.yaml_base.specs.values.JsonNumbers.{JsonNumber, JsonExponent, NumbersAreRead, minus, is_whole, is_json_number, is_json_integer, fraction_or_default}
-use Rattle.yaml_base.specs.values.JsonNumbers.{json_value, yaml_number, number_meant, means_number}
-use Rattle.yaml_base.proofs.JsonSpelling.{spelling_keeps_value}
+use Rattle.yaml_base.proofs.Common.{ℕ, if◌then◌else◌, ◌==◌, Option, None, Some, codes, pos, length, Bool, false, not, true, ◌&&◌, ◌||◌, List, [], ◌++◌, ◌∷◌}
+use Rattle.yaml_base.proofs.Common.{refl, ◌≡◌, true≢false, append-nil, append_assoc, ap, sym, ◌∙◌, and_parts, and_from, and_left, and_right, or_left}
+use Rattle.yaml_base.proofs.Common.{or_right, not_from_false, not-true, bytes_eq-Decides, list_all, slice_split, digits_value, Text, is_word, named}
+use Rattle.yaml_base.proofs.Common.{JsonExponent, JsonNumber, is_json_number, minus, json_value, yaml_number, number_meant, means_number, Decimal, Resolved}
+use Rattle.yaml_base.proofs.Common.{meant_integer, first_reading, words_of_11, is_point, is_exponent_letter, is_decimal, first_meets, past_sign, is_negative}
+use Rattle.yaml_base.proofs.Common.{signed, are_digits, decimal_of_digits, times_power_of_ten, scientific, resolved_by_core, ungrouped, are_grouped}
+use Rattle.yaml_base.proofs.Common.{begins_grouped, is_leading, based_11, octal_11, decimal_11, is_colon, sixties_11, fine_sixties_11, mantissa_11}
+use Rattle.yaml_base.proofs.Common.{exponent_11, float_11, more_points_11, points_11, in_date, timestamp_11, numbers_11, resolved_by_11}
+use Rattle.yaml_base.{proofs.JsonSpelling.spelling_keeps_value, specs.values.SchemaOf11.integer_of}
 use Rattle.yaml_base.proofs.NumberCuts.{digits_grouped, digits_ungrouped, no_point, no_exponent, at_point, mantissa_of, HasDigits, past_minus, minus_read}
 use Rattle.yaml_base.proofs.NumberCuts.{no_word_of_11, no_timestamp}
-use Rattle.yaml_base.proofs.NumbersByCore.{passed, found, given, decimal_of, pointed_read, exponent_sign, exponent_read_signed, scientific_read, no_letter}
-use Rattle.yaml_base.proofs.NumbersByCore.{after_whole, cut_read, scientific_of, integer_by_core, decimal_by_core}
+use Rattle.yaml_base.proofs.NumbersByCore.{passed, found, given, decimal_of, pointed_read, exponent_sign, exponent_read_signed, scientific_read}
+use Rattle.yaml_base.proofs.NumbersByCore.{integer_by_core, after_whole, no_letter, cut_read, scientific_of, decimal_by_core}
+use Rattle.yaml_base.specs.values.JsonNumbers.{is_whole, fraction_or_default, is_json_integer, NumbersAreRead}
 
 -- The type repository of YAML 1.1
 

@@ -1,15 +1,11 @@
 -- How many collections are open: in a list's events, and in the partial tree that it is.
-use Rattle.std.proofs.Common.{◌≡◌, refl, sym, ap, ◌∙◌, arith}
-use Rattle.std.proofs.lemmas.List.Sums.{sum_by-append}
-use Rattle.std.specs.Prelude.{ℕ, ◌+◌, true, false, cond, Option, Some, List, [], ◌∷◌, ◌++◌, length, count_by}
-use Rattle.yaml_base.specs.Settings.{Encoding}
-use Rattle.yaml_base.specs.Event.{DocumentStart, Event, stream_start, stream_end, document_start, document_end, sequence_start, sequence_end, mapping_start}
-use Rattle.yaml_base.specs.Event.{mapping_end}
-use Rattle.yaml_base.specs.Grammar.{Node, alias_node, scalar_node, sequence_node, mapping_node, Nodes, no_nodes, nodes_and, Pairs, no_pairs, pairs_and}
-use Rattle.yaml_base.specs.Grammar.{Document, Documents, no_documents, documents_and, node_events, nodes_events, pairs_events, document_events}
-use Rattle.yaml_base.specs.Grammar.{documents_events, Level, at_item, at_key, at_value, Partial, before_stream, between_documents, within_document, after_root}
-use Rattle.yaml_base.specs.Grammar.{after_stream, partial_of}
-use Rattle.yaml_base.specs.Refusal.{begins_collection, ends_collection, open_levels, open_count}
+use Rattle.yaml_base.proofs.Common.{ℕ, ◌+◌, count_by, Option, Some, length, cond, false, true, List, [], ◌++◌, ◌∷◌, refl, ◌≡◌, ap, sym, ◌∙◌, arith}
+use Rattle.yaml_base.proofs.Common.{sum_by-append, DocumentStart, Event, stream_start, stream_end, document_start, document_end, sequence_start, sequence_end}
+use Rattle.yaml_base.proofs.Common.{mapping_start, mapping_end, Node, alias_node, scalar_node, Nodes, sequence_node, Pairs, mapping_node, no_nodes, nodes_and}
+use Rattle.yaml_base.proofs.Common.{no_pairs, pairs_and, Document, Documents, no_documents, documents_and, node_events, nodes_events, pairs_events}
+use Rattle.yaml_base.proofs.Common.{document_events, documents_events, Level, at_item, at_key, at_value, Partial, before_stream, between_documents}
+use Rattle.yaml_base.proofs.Common.{within_document, after_root, after_stream, partial_of, begins_collection, ends_collection, open_levels, open_count}
+use Rattle.yaml_base.proofs.Common.{Encoding}
 use Rattle.yaml_base.proofs.Pushes.{level_events, levels_events, begun_events, partial_events, partial_of_events}
 
 abbrev begins : List Event → ℕ

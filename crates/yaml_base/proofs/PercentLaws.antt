@@ -1,18 +1,12 @@
 -- Percent decoding undoes escaping, and what a written text holds.
-use Rattle.std.proofs.Common.{◌≡◌, ℕ, ◌/◌, ◌%◌, ◌<◌, Bool, true, false, cond, ◌&&◌, ◌||◌, Some, List, [], ◌∷◌, ◌++◌, refl, ◌∙◌, ap, ⊎_elim, arith}
-use Rattle.std.proofs.lemmas.Bool.{agree_below_at, eqb-true, ltb-true, and_parts, and_from, or_from, not-true}
-use Rattle.std.proofs.lemmas.Bool.Decides.{nat_tests}
-use Rattle.std.proofs.lemmas.Str.{chars-encodes, is_utf8-from_IsUtf8, length-encode, len_utf8_bounds}
-use Rattle.std.specs.Prelude.{◌==◌, not, nat_lt, codes, length}
-use Rattle.std.specs.Char.{len_utf8}
-use Rattle.std.specs.List.{flat_map, list_all, list_any}
-use Rattle.std.specs.Str.{is_utf8}
-use lib.Utf8.{scalar, scalars, encode, encodes, scalar_cases}
-use Rattle.std.proofs.lemmas.List.Folds.{list_all-append, list_any-append}
-use Rattle.yaml_base.specs.Characters.{Text, hex_digit, is_blank, is_break, is_among, is_alpha}
-use Rattle.yaml_base.specs.Percent.{percent_sign, is_tag_character, byte_escaped, character_written, percent_escaped, is_suffix_character, suffix_escaped}
-use Rattle.yaml_base.specs.Percent.{prefix_escaped}
-use Rattle.yaml_base.specs.reading.ReadPercent.{between_forms, digit_given, byte_given, form_bytes, percent_read}
+use Rattle.yaml_base.proofs.Common.{ℕ, ◌%◌, ◌/◌, ◌<◌, ◌==◌, Some, codes, nat_lt, length, Bool, cond, false, not, true, ◌&&◌, ◌||◌, List, [], ◌++◌, ◌∷◌, refl}
+use Rattle.yaml_base.proofs.Common.{◌≡◌, eqb-true, ltb-true, ap, ◌∙◌, arith, and_parts, and_from, or_from, agree_below_at, not-true, nat_tests}
+use Rattle.yaml_base.proofs.Common.{list_all-append, list_any-append, chars-encodes, length-encode, len_utf8_bounds, len_utf8, flat_map, list_all, list_any}
+use Rattle.yaml_base.proofs.Common.{scalar_cases, scalars, Text, is_among, is_alpha, is_blank, is_break, hex_digit, percent_sign, is_tag_character}
+use Rattle.yaml_base.proofs.Common.{byte_escaped, character_written, percent_escaped, is_suffix_character, suffix_escaped, prefix_escaped, percent_read}
+use Rattle.std.{proofs.Common.⊎_elim, proofs.lemmas.Str.is_utf8-from_IsUtf8, specs.Str.is_utf8}
+use lib.Utf8.{encode, encodes, scalar}
+use Rattle.yaml_base.specs.reading.ReadPercent.{between_forms, digit_given, byte_given, form_bytes}
 
 abbrev pub are_bytes : List ℕ → Bool
 are_bytes bs = list_all (λ b. nat_lt b 256) bs

@@ -1,5 +1,5 @@
 -- Prefixes of lists.
-use Rattle.std.proofs.Common.{◌≡◌, refl, sym, ap, ◌∙◌, ℕ, ◌≤◌, ◌-◌, List, [], ◌++◌, length, take, append_assoc, append-nil, arith}
+use Rattle.yaml_base.proofs.Common.{ℕ, ◌-◌, ◌≤◌, length, take, List, [], ◌++◌, refl, ◌≡◌, append-nil, append_assoc, ap, sym, ◌∙◌, arith}
 use Rattle.std.proofs.Math.Seq.{take-append-add}
 use Rattle.yaml_base.specs.Prefix.{IsPrefix}
 

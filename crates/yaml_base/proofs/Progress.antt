@@ -1,17 +1,8 @@
 -- As a list grows, its steps go on from where they left off, over what was held back and what came.
-use Rattle.std.proofs.Common.{◌≡◌, refl, sym, ap, ◌∙◌, arith}
-use Rattle.std.specs.Prelude.{ℕ, zero, suc, ◌+◌, ◌≤◌, Bool, true, false, ◌&&◌, Some, List, [], ◌∷◌, ◌++◌, length, take, drop, if◌then◌else◌}
-use Rattle.yaml_base.specs.Settings.{Effective}
-use Rattle.yaml_base.specs.Event.{Event}
-use Rattle.yaml_base.specs.Grammar.{Partial, partial_of}
-use Rattle.yaml_base.specs.Refusal.{ends_collection}
-use Rattle.yaml_base.specs.Ready.{is_ready, written, held_back}
-use Rattle.yaml_base.specs.Layout.{Standing}
-use Rattle.yaml_base.specs.Steps.{Stage, step, ends_next, then_steps, steps, joined_steps, ready_steps, progress}
-use Rattle.yaml_base.specs.Pieces.{last_begins_collection, first_ends_collection, list_layout, completion, pieces}
-use Rattle.yaml_base.proofs.ReadyLaws.{ready_stays}
-use Rattle.yaml_base.proofs.QueueLaws.{written_within, open_at_written, no_end_held}
-use Rattle.yaml_base.proofs.PieceLaws.{steps-append, steps_same, begun_pieces}
+use Rattle.yaml_base.proofs.Common.{suc, zero, ℕ, ◌+◌, ◌≤◌, if◌then◌else◌, Some, drop, length, take, Bool, false, true, List, [], ◌++◌, ◌∷◌, refl, ◌≡◌, ap}
+use Rattle.yaml_base.proofs.Common.{sym, ◌∙◌, arith, Event, Partial, partial_of, completion, list_layout, is_ready, written, Effective}
+use Rattle.yaml_base.{proofs.PieceLaws.begun_pieces, proofs.QueueLaws.written_within, proofs.ReadyLaws.ready_stays, specs.Pieces.pieces}
+use Rattle.yaml_base.{specs.Ready.held_back, specs.Steps.progress}
 
 -- The prefix of a longer list.
 take_add : (k m : ℕ) (events more : List Event) → k ≤ length events → take (k + m) (events ++ more) ≡ take k events ++ take m (drop k events ++ more)

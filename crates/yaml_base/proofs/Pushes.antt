@@ -1,13 +1,10 @@
 -- A partial tree's events: each push adds its event at their end.
-use Rattle.std.proofs.Common.{◌≡◌, refl, sym, ap, ◌∙◌, append_assoc, append-nil}
-use Rattle.std.specs.Prelude.{Option, None, Some, List, [], ◌∷◌, ◌++◌, option_and_then}
-use Rattle.yaml_base.specs.Settings.{Encoding}
-use Rattle.yaml_base.specs.Event.{DocumentStart, Event, stream_start, stream_end, document_start, document_end, alias, scalar, sequence_start, sequence_end}
-use Rattle.yaml_base.specs.Event.{mapping_start, mapping_end}
-use Rattle.yaml_base.specs.Grammar.{Node, alias_node, scalar_node, sequence_node, mapping_node, no_nodes, no_pairs, Document, Documents, no_documents}
-use Rattle.yaml_base.specs.Grammar.{documents_and, Stream, node_events, nodes_events, pairs_events, documents_events, stream_events, Level, at_item, at_key}
-use Rattle.yaml_base.specs.Grammar.{at_value, Partial, before_stream, between_documents, within_document, after_root, after_stream, with_node, closed}
-use Rattle.yaml_base.specs.Grammar.{push_within, push, pushed, partial_of}
+use Rattle.yaml_base.proofs.Common.{option_and_then, Option, None, Some, List, [], ◌++◌, ◌∷◌, refl, ◌≡◌, append-nil, append_assoc, ap, sym, ◌∙◌}
+use Rattle.yaml_base.proofs.Common.{DocumentStart, Event, stream_start, stream_end, document_start, document_end, alias, scalar, sequence_start, sequence_end}
+use Rattle.yaml_base.proofs.Common.{mapping_start, mapping_end, Node, alias_node, scalar_node, sequence_node, mapping_node, no_nodes, no_pairs, Document}
+use Rattle.yaml_base.proofs.Common.{Documents, no_documents, documents_and, Stream, node_events, nodes_events, pairs_events, documents_events, stream_events}
+use Rattle.yaml_base.proofs.Common.{Level, at_item, at_key, at_value, Partial, before_stream, between_documents, within_document, after_root, after_stream}
+use Rattle.yaml_base.proofs.Common.{with_node, closed, push_within, push, pushed, partial_of, Encoding}
 
 abbrev pub level_events : Level → List Event
 level_events (at_item c items) = sequence_start c ∷ nodes_events items

@@ -1,20 +1,12 @@
 -- What is held back: it begins with an event that awaits others, and nothing of a whole stream is held back.
-use Rattle.std.proofs.Common.{◌≡◌, refl, sym, ap, ◌∙◌, arith, append_assoc}
-use Rattle.std.proofs.lemmas.Bool.{eq-eqb}
-use Rattle.std.proofs.lemmas.Bool.Decides.{nat_tests}
-use Rattle.std.proofs.lemmas.List.{length-append}
-use Rattle.std.proofs.lemmas.List.Sums.{sum_by-append}
-use Rattle.std.specs.Prelude.{ℕ, suc, ◌+◌, ◌≤◌, Bool, true, false, cond, ◌||◌, ◌&&◌, ◌==◌, nat_lt, List, [], ◌∷◌, ◌++◌, length, take, drop, map, count_by}
-use Rattle.std.specs.Prelude.{if◌then◌else◌}
-use Rattle.std.specs.List.{list_any}
-use Rattle.yaml_base.specs.Event.{Event, stream_end, document_start, document_end, sequence_start, sequence_end, mapping_start, mapping_end}
-use Rattle.yaml_base.specs.Grammar.{Node, alias_node, scalar_node, sequence_node, mapping_node, Nodes, no_nodes, nodes_and, Pairs, no_pairs, pairs_and}
-use Rattle.yaml_base.specs.Grammar.{Document, Documents, no_documents, documents_and, Stream, node_events, nodes_events, pairs_events, document_events}
-use Rattle.yaml_base.specs.Grammar.{documents_events, stream_events}
-use Rattle.yaml_base.specs.Refusal.{begins_collection, ends_collection}
-use Rattle.yaml_base.specs.Ready.{is_start, is_end, awaited, is_balanced, nonempty_prefixes, is_ready, written}
-use Rattle.yaml_base.specs.Pieces.{first_ends_collection, closes_at_once}
-use Rattle.yaml_base.proofs.ReadyLaws.{any_map, any_prefix}
+use Rattle.yaml_base.proofs.Common.{suc, ℕ, ◌+◌, ◌≤◌, if◌then◌else◌, ◌==◌, count_by, nat_lt, drop, length, take, Bool, cond, false, true, ◌&&◌, ◌||◌, List}
+use Rattle.yaml_base.proofs.Common.{[], map, ◌++◌, ◌∷◌, refl, ◌≡◌, eq-eqb, length-append, append_assoc, ap, sym, ◌∙◌, arith, nat_tests, sum_by-append}
+use Rattle.yaml_base.proofs.Common.{list_any, Event, stream_end, document_start, document_end, sequence_start, sequence_end, mapping_start, mapping_end, Node}
+use Rattle.yaml_base.proofs.Common.{alias_node, scalar_node, Nodes, sequence_node, Pairs, mapping_node, no_nodes, nodes_and, no_pairs, pairs_and, Document}
+use Rattle.yaml_base.proofs.Common.{Documents, no_documents, documents_and, Stream, node_events, nodes_events, pairs_events, document_events}
+use Rattle.yaml_base.proofs.Common.{documents_events, stream_events, first_ends_collection, closes_at_once, awaited, is_balanced, nonempty_prefixes, is_ready}
+use Rattle.yaml_base.proofs.Common.{written, begins_collection, ends_collection}
+use Rattle.yaml_base.{proofs.ReadyLaws.any_map, proofs.ReadyLaws.any_prefix, specs.Ready.is_start, specs.Ready.is_end}
 
 -- No more events are ready than there are.
 written_if : (b : Bool) (m n : ℕ) → m ≤ n → (if b then suc m else 0) ≤ suc n

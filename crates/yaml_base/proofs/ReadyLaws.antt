@@ -1,11 +1,8 @@
 -- Ready events stay ready as a list grows.
-use Rattle.std.proofs.Common.{◌≡◌, refl, sym, ap, ◌∙◌, arith}
-use Rattle.std.proofs.lemmas.List.{length-append}
-use Rattle.std.proofs.lemmas.Bool.Decides.{nat_tests}
-use Rattle.std.specs.Prelude.{ℕ, suc, ◌≤◌, Bool, true, false, ◌||◌, ◌==◌, nat_lt, List, [], ◌∷◌, ◌++◌, length, map, if◌then◌else◌}
-use Rattle.std.specs.List.{list_any}
-use Rattle.yaml_base.specs.Event.{Event}
-use Rattle.yaml_base.specs.Ready.{awaited, is_balanced, nonempty_prefixes, is_ready, written, ReadyStays}
+use Rattle.yaml_base.proofs.Common.{suc, ℕ, ◌≤◌, if◌then◌else◌, ◌==◌, nat_lt, length, Bool, false, true, ◌||◌, List, [], map, ◌++◌, ◌∷◌, refl, ◌≡◌}
+use Rattle.yaml_base.proofs.Common.{length-append, ap, sym, ◌∙◌, arith, nat_tests, list_any, Event, awaited, is_balanced, nonempty_prefixes, is_ready}
+use Rattle.yaml_base.proofs.Common.{written}
+use Rattle.yaml_base.specs.Ready.{ReadyStays}
 
 pub any_map : (p : List Event → Bool) (f : List Event → List Event) (xs : List (List Event)) → list_any p (map f xs) ≡ list_any (λ x. p (f x)) xs
 any_map p f [] = refl

@@ -1,25 +1,15 @@
 -- Isomorphic graphs are dumped as events that differ in styles alone, so in canonical mode as the same bytes.
-use Rattle.std.proofs.Common.{◌≡◌, inl, inr, ℕ, ◌==◌, ◌≤◌, Bool, true, false, Option, None, Some, unwrap_or, option_map, List, [], ◌∷◌, ◌++◌, length, map}
-use Rattle.std.proofs.Common.{refl, sym, ap, ◌∙◌, arith, All}
-use Rattle.std.specs.Prelude.{bytes_eq, flat_map, if◌then◌else◌}
-use Rattle.std.proofs.lemmas.Bool.Decides.{nat_tests}
-use Rattle.std.proofs.lemmas.List.{map-append}
-use Rattle.std.proofs.lemmas.List.Elements.{All-head, All-tail}
-use Rattle.yaml_base.specs.Characters.{Text}
-use Rattle.yaml_base.specs.Settings.{Encoding, Settings}
-use Rattle.yaml_base.specs.Event.{any_style, any_layout, DocumentStart, Event, stream_start, stream_end, document_start, document_end, alias, scalar}
-use Rattle.yaml_base.specs.Event.{sequence_start, sequence_end, mapping_start, mapping_end}
-use Rattle.yaml_base.specs.Output.{encoding_asked, output_of}
-use Rattle.yaml_base.specs.graphs.Meetings.{Graph, GraphNode, Held, scalar_held, sequence_held, mapping_held, Step, enters, leaves, meets_again, node_numbered}
-use Rattle.yaml_base.specs.graphs.Meetings.{string_tag, sequence_tag, mapping_tag, opening_event_of, opening_events, closing_event_of, closing_events}
-use Rattle.yaml_base.specs.graphs.Meetings.{anchor_of, steps}
-use Rattle.yaml_base.specs.graphs.Meetings.{step_events, document_event_list}
-use Rattle.yaml_base.specs.graphs.Unfolding.{NodeKind, scalar_kind, sequence_kind, mapping_kind, Label, label_of, IsReached, IsDocument}
-use Rattle.yaml_base.specs.graphs.Isomorphic.{label_at, Isomorphic, IsWrittenAlike, AreWrittenAlike}
-use Rattle.yaml_base.specs.graphs.Dumped.{AreDumped}
-use Rattle.yaml_base.proofs.Unstyled.{unstyled, outputs_same}
-use Rattle.yaml_base.proofs.ContentsUnfold.{dumped_stream}
-use Rattle.yaml_base.proofs.SameWalks.{AllReached, node_of_step, renumbered, same_walks, anchors_alike}
+use Rattle.yaml_base.proofs.Common.{ℕ, ◌≤◌, if◌then◌else◌, ◌==◌, All, unwrap_or, option_map, bytes_eq, Option, None, Some, length, Bool, false, true, List}
+use Rattle.yaml_base.proofs.Common.{[], map, ◌++◌, ◌∷◌, refl, ◌≡◌, inl, inr, ap, sym, ◌∙◌, arith, nat_tests, map-append, All-head, All-tail, Text, any_style}
+use Rattle.yaml_base.proofs.Common.{any_layout, DocumentStart, Event, stream_start, stream_end, document_start, document_end, alias, scalar, sequence_start}
+use Rattle.yaml_base.proofs.Common.{sequence_end, mapping_start, mapping_end, encoding_asked, output_of, Encoding, Settings, AreDumped, label_at, Isomorphic}
+use Rattle.yaml_base.proofs.Common.{Held, scalar_held, sequence_held, mapping_held, GraphNode, Graph, node_numbered, Step, enters, leaves, meets_again}
+use Rattle.yaml_base.proofs.Common.{anchor_of, string_tag, sequence_tag, mapping_tag, opening_event_of, opening_events, closing_event_of, closing_events}
+use Rattle.yaml_base.proofs.Common.{step_events, document_event_list, scalar_kind, sequence_kind, mapping_kind, Label, label_of, IsReached, IsDocument}
+use Rattle.std.specs.Prelude.{flat_map}
+use Rattle.yaml_base.{proofs.ContentsUnfold.dumped_stream, proofs.Unstyled.unstyled, proofs.Unstyled.outputs_same, specs.graphs.Isomorphic.IsWrittenAlike}
+use Rattle.yaml_base.{specs.graphs.Isomorphic.AreWrittenAlike, specs.graphs.Meetings.steps, specs.graphs.Unfolding.NodeKind}
+use Rattle.yaml_base.proofs.SameWalks.{node_of_step, AllReached, renumbered, same_walks, anchors_alike}
 
 -- ---- a node's events, by its label
 

@@ -1,23 +1,14 @@
 -- The walk over a graph, and its anchors, depend on the order of meetings alone: over isomorphic graphs the walks are the
 -- same but for the numbers of the nodes.
-use Rattle.std.proofs.Common.{◌≡◌, inl, inr, ℕ, suc, ◌+◌, ◌==◌, ◌≤◌, ◌||◌, nat_lt, Bool, true, false, cond, not, Option, None, Some, option_map}
-use Rattle.std.proofs.Common.{List, [], ◌∷◌, ◌++◌, length, map, refl, sym, ap, ◌∙◌, subst, arith, append_assoc, append-nil, length-append, eq-eqb}
-use Rattle.std.specs.Prelude.{⊤, Contains, Decides}
-use Rattle.std.specs.List.{list_any, filter, filter_map, position, position_or_len}
-use Rattle.std.proofs.lemmas.Bool.{eqb-true}
-use Rattle.std.proofs.lemmas.Bool.Decides.{Decides-eqb, same_from_decides}
-use Rattle.std.proofs.lemmas.List.{map-append, length-map}
-use Rattle.std.proofs.lemmas.List.Elements.{Contains-append_left, Contains-append_right}
-use Rattle.yaml_base.specs.Characters.{Text}
-use Rattle.yaml_base.specs.graphs.Meetings.{Graph, Step, enters, leaves, meets_again, children, is_entry_of, steps, node_met_again, first_of_each}
-use Rattle.yaml_base.specs.graphs.Meetings.{shared_nodes, numbered_name, anchor_of, is_whole}
-use Rattle.yaml_base.specs.graphs.Unfolding.{Placed, alias_placed, node_placed, PlacedNodes, none_placed, placed_and, number_at, numbers_at}
-use Rattle.yaml_base.specs.graphs.Unfolding.{IsReached, first_reached}
-use Rattle.yaml_base.specs.graphs.Unfolding.{child_reached}
-use Rattle.yaml_base.specs.graphs.Isomorphic.{Isomorphic}
-use Rattle.yaml_base.proofs.UnfoldSteps.{Keeps, steps_keep}
+use Rattle.yaml_base.proofs.Common.{suc, ℕ, ◌+◌, ◌≤◌, ⊤, ◌==◌, Contains, option_map, Option, None, Some, nat_lt, length, Bool, cond, false, not, true, ◌||◌}
+use Rattle.yaml_base.proofs.Common.{List, [], map, ◌++◌, ◌∷◌, refl, ◌≡◌, eq-eqb, eqb-true, length-append, append-nil, append_assoc, inl, inr, ap, subst, sym}
+use Rattle.yaml_base.proofs.Common.{◌∙◌, arith, same_from_decides, Decides-eqb, length-map, map-append, Contains-append_left, Contains-append_right, filter}
+use Rattle.yaml_base.proofs.Common.{filter_map, list_any, position, position_or_len, Text, Isomorphic, Graph, children, is_whole, Step, enters, leaves}
+use Rattle.yaml_base.proofs.Common.{meets_again, is_entry_of, node_met_again, first_of_each, shared_nodes, numbered_name, anchor_of, Placed, alias_placed}
+use Rattle.yaml_base.proofs.Common.{PlacedNodes, node_placed, none_placed, placed_and, number_at, numbers_at, IsReached, first_reached, child_reached}
+use Rattle.std.specs.Prelude.{Decides}
+use Rattle.yaml_base.{proofs.Twins.IsIn, proofs.Twins.in_either, proofs.UnfoldSteps.Keeps, proofs.UnfoldSteps.steps_keep, specs.graphs.Meetings.steps}
 use Rattle.yaml_base.proofs.UnfoldTrees.{placed_steps, below_steps, Fits, AllFit, walk_placed}
-use Rattle.yaml_base.proofs.Twins.{IsIn, in_either}
 
 -- ---- each step in its turn
 

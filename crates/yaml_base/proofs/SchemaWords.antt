@@ -1,11 +1,6 @@
 -- Words of a schema, looked up in its table.
-use Rattle.std.proofs.Common.{◌≡◌, refl, sym, ap, ◌∙◌}
-use Rattle.std.proofs.lemmas.Bool.{true≢false, and_parts}
-use Rattle.std.proofs.lemmas.Slice.Eq.{bytes_eq-Decides}
-use Rattle.std.specs.List.{list_all}
-use Rattle.std.specs.Prelude.{Bool, true, false, None, Some, List, [], ◌∷◌, ◌++◌, ◌||◌, is_some, if◌then◌else◌}
-use Rattle.yaml_base.specs.Characters.{Text}
-use Rattle.yaml_base.specs.Words.{named, is_word}
+use Rattle.yaml_base.proofs.Common.{if◌then◌else◌, is_some, None, Some, Bool, false, true, ◌||◌, List, [], ◌++◌, ◌∷◌, refl, ◌≡◌, true≢false, ap, sym, ◌∙◌}
+use Rattle.yaml_base.proofs.Common.{and_parts, bytes_eq-Decides, list_all, Text, is_word, named}
 
 -- a text that differs from all words of a table in some test is none of them
 pub named_unlike : {A : Type 0} (test : Text → Bool) (table : List (Text × A)) (text : Text)

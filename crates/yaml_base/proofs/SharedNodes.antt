@@ -1,16 +1,10 @@
 -- The numbers that a list has, each where it first stands; the names of shared nodes, and that they differ.
-use Rattle.std.proofs.Common.{◌≡◌, ℕ, zero, suc, ◌+◌, ◌-◌, ◌*◌, ◌/◌, ◌%◌, ◌==◌, ◌<◌, ◌||◌, nat_lt, Bool, true, false, cond, not, Option, None, Some, option_map}
-use Rattle.std.proofs.Common.{List, [], ◌∷◌, ◌++◌, length, get_or, replicate, refl, sym, ap, ◌∙◌, arith}
-use Rattle.std.specs.Fmt.{digits_onto, digit_glyph}
-use Rattle.std.specs.Char.{digit_value}
-use Rattle.std.specs.Str.Parse.{digits_value_after}
-use Rattle.std.specs.List.{list_any, filter, filter_map, position, position_or_len}
-use Rattle.std.proofs.lemmas.Bool.{eqb-true}
-use Rattle.std.proofs.lemmas.Bool.Decides.{nat_tests}
-use Rattle.std.proofs.lemmas.List.Quantifiers.{position-Some}
-use Rattle.std.proofs.lemmas.Str.{digit_value_digit}
-use Rattle.yaml_base.specs.Characters.{Text}
-use Rattle.yaml_base.specs.graphs.Meetings.{Step, node_met_again, first_of_each, shared_nodes, decimal_digits, numbered_name, anchor_of}
+use Rattle.yaml_base.proofs.Common.{suc, zero, ℕ, ◌%◌, ◌*◌, ◌+◌, ◌-◌, ◌/◌, ◌<◌, ◌==◌, option_map, Option, None, Some, nat_lt, length, replicate}
+use Rattle.yaml_base.proofs.Common.{slice_index_or as get_or, Bool, cond, false, not, true, ◌||◌, List, [], ◌++◌, ◌∷◌, refl, ◌≡◌, eqb-true, ap, sym, ◌∙◌}
+use Rattle.yaml_base.proofs.Common.{arith, nat_tests, digit_value, digit_glyph, digits_onto, filter, filter_map, list_any, position, position_or_len, Text}
+use Rattle.yaml_base.proofs.Common.{Step, node_met_again, first_of_each, shared_nodes, numbered_name, anchor_of}
+use Rattle.std.{proofs.lemmas.List.Quantifiers.position-Some, proofs.lemmas.Str.digit_value_digit, specs.Str.Parse.digits_value_after}
+use Rattle.yaml_base.specs.graphs.Meetings.{decimal_digits}
 
 -- a list has a number
 abbrev pub has : ℕ → List ℕ → Bool

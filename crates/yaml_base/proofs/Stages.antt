@@ -1,18 +1,14 @@
 -- A stage allows and refuses what the partial tree does that it stands for.
-use Rattle.std.proofs.Common.{◌≡◌, refl, sym, ap, subst, ◌∙◌}
-use Rattle.std.specs.Option.{option_or}
-use Rattle.std.specs.Prelude.{ℕ, suc, Bool, true, false, not, ◌&&◌, nat_lt, Option, None, Some, List, [], ◌∷◌, length, is_none, option_and_then}
-use Rattle.yaml_base.specs.Settings.{Encoding, Effective}
-use Rattle.yaml_base.specs.Event.{TagDirective, DocumentStart, Event, stream_start, stream_end, document_start, document_end, alias, scalar, sequence_start}
-use Rattle.yaml_base.specs.Event.{sequence_end, mapping_start, mapping_end}
-use Rattle.yaml_base.specs.Grammar.{Node, alias_node, scalar_node, no_nodes, nodes_and, no_pairs, pairs_and, Documents, no_documents, documents_and, Level}
-use Rattle.yaml_base.specs.Grammar.{at_item, at_key, at_value, Partial, before_stream, between_documents, within_document, after_root, after_stream, with_node}
-use Rattle.yaml_base.specs.Grammar.{closed, push_within, push, pushed, partial_of}
-use Rattle.yaml_base.specs.Refusal.{some_if, name_or_tag_fault, content_fault, expected, begins_collection, ends_collection, open_levels, most_open}
-use Rattle.yaml_base.specs.Refusal.{refusal_at, refusal}
-use Rattle.yaml_base.specs.Layout.{Standing, Role, as_item, as_key, as_value, is_key, first_standing}
-use Rattle.yaml_base.specs.Steps.{Frame, Stage, at_stream, at_document, at_node, at_document_end, at_nothing, role_after, stage_after, step, ends_next, steps}
-use Rattle.yaml_base.specs.Steps.{is_item, node_allowed, stage_allows, stage_expected, open_frames, stage_refusal}
+use Rattle.yaml_base.proofs.Common.{suc, ℕ, is_none, option_and_then, Option, None, Some, nat_lt, length, Bool, false, not, true, ◌&&◌, List, [], ◌∷◌, refl}
+use Rattle.yaml_base.proofs.Common.{◌≡◌, ap, subst, sym, ◌∙◌, option_or, TagDirective, DocumentStart, Event, stream_start, stream_end, document_start}
+use Rattle.yaml_base.proofs.Common.{document_end, alias, scalar, sequence_start, sequence_end, mapping_start, mapping_end, Node, alias_node, scalar_node}
+use Rattle.yaml_base.proofs.Common.{no_nodes, nodes_and, no_pairs, pairs_and, Documents, no_documents, documents_and, Level, at_item, at_key, at_value}
+use Rattle.yaml_base.proofs.Common.{Partial, before_stream, between_documents, within_document, after_root, after_stream, with_node, closed, push_within}
+use Rattle.yaml_base.proofs.Common.{push, pushed, partial_of, first_standing, Standing, Role, as_item, as_key, as_value, is_key, some_if, name_or_tag_fault}
+use Rattle.yaml_base.proofs.Common.{content_fault, expected, most_open, begins_collection, ends_collection, open_levels, refusal_at, refusal, Encoding}
+use Rattle.yaml_base.proofs.Common.{Effective, Frame, Stage, at_stream, at_document, at_node, at_document_end, at_nothing, stage_after, step, ends_next}
+use Rattle.yaml_base.proofs.Common.{steps}
+use Rattle.yaml_base.specs.Steps.{role_after, is_item, node_allowed, stage_allows, stage_expected, open_frames, stage_refusal}
 use Rattle.yaml_base.specs.declared.errors.yaml_error_t.TheVariants.{TooDeep}
 
 -- a frame awaits what a level does

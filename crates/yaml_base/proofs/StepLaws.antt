@@ -1,18 +1,14 @@
 -- The pieces of a list, event by event, are those of its tree's layout.
-use Rattle.std.proofs.Common.{◌≡◌, refl, sym, ap, ◌∙◌, append_assoc, append-nil}
-use Rattle.std.specs.Prelude.{ℕ, Bool, true, false, List, [], ◌∷◌, ◌++◌}
-use Rattle.yaml_base.specs.Settings.{Effective}
-use Rattle.yaml_base.specs.Event.{TagDirective, Event, stream_end, document_start, document_end, sequence_start, sequence_end, mapping_start, mapping_end}
-use Rattle.yaml_base.specs.Tags.{directives_in_force}
-use Rattle.yaml_base.specs.Grammar.{Node, alias_node, scalar_node, sequence_node, mapping_node, Nodes, no_nodes, nodes_and, Pairs, no_pairs, pairs_and}
-use Rattle.yaml_base.specs.Grammar.{Document, Documents, no_documents, documents_and, Stream, node_events, nodes_events, pairs_events, document_events}
-use Rattle.yaml_base.specs.Grammar.{documents_events, stream_events}
-use Rattle.yaml_base.specs.Layout.{Piece, Standing, RenderedPieces, one_piece, then_pieces, Role, as_item, as_key, as_value, is_undented, entries_column}
-use Rattle.yaml_base.specs.Layout.{has_no_nodes, has_no_pairs, is_simple, is_simple_at, start_piece, is_written_in_flow, square, curly, end_piece, entry_place}
-use Rattle.yaml_base.specs.Layout.{root_place, render_node, render_nodes, render_pairs, document_start_piece, document_end_piece, render_document}
-use Rattle.yaml_base.specs.Layout.{has_no_documents}
-use Rattle.yaml_base.specs.Layout.{render_documents, first_standing, stream_start_piece, stream_end_piece, layout}
-use Rattle.yaml_base.specs.Steps.{Frame, at_stream, at_document, at_node, at_nothing, next_place, stage_after, step, ends_next, Steps, then_steps, steps}
+use Rattle.yaml_base.proofs.Common.{ℕ, Bool, false, true, List, [], ◌++◌, ◌∷◌, refl, ◌≡◌, append-nil, append_assoc, ap, sym, ◌∙◌, TagDirective, Event}
+use Rattle.yaml_base.proofs.Common.{stream_end, document_start, document_end, sequence_start, sequence_end, mapping_start, mapping_end, Node, alias_node}
+use Rattle.yaml_base.proofs.Common.{scalar_node, Nodes, sequence_node, Pairs, mapping_node, no_nodes, nodes_and, no_pairs, pairs_and, Document, Documents}
+use Rattle.yaml_base.proofs.Common.{no_documents, documents_and, Stream, node_events, nodes_events, pairs_events, document_events, documents_events}
+use Rattle.yaml_base.proofs.Common.{stream_events, document_start_piece, document_end_piece, root_place, render_document, has_no_documents, render_documents}
+use Rattle.yaml_base.proofs.Common.{first_standing, stream_end_piece, layout, Piece, Standing, RenderedPieces, one_piece, then_pieces, start_piece}
+use Rattle.yaml_base.proofs.Common.{is_written_in_flow, square, curly, entry_place, render_node, render_nodes, render_pairs, Role, as_item, as_key, as_value}
+use Rattle.yaml_base.proofs.Common.{is_undented, entries_column, has_no_nodes, has_no_pairs, is_simple, is_simple_at, Effective, Frame, at_stream}
+use Rattle.yaml_base.proofs.Common.{at_document, at_node, at_nothing, next_place, stage_after, step, ends_next, Steps, then_steps, steps, directives_in_force}
+use Rattle.yaml_base.specs.Layout.{stream_start_piece, end_piece}
 
 -- pieces of a tree, and then steps from where they leave off
 abbrev after_pieces : RenderedPieces → (Standing → Steps) → Steps

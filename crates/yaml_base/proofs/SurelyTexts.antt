@@ -1,23 +1,14 @@
 -- A text that is surely one means a text by both schemas.
-use Rattle.std.proofs.Common.{◌≡◌, ◌⊎◌, inl, inr, refl, sym, ap, ◌∙◌}
-use Rattle.std.proofs.lemmas.Bool.{true≢false, and_cases, and_left, or_parts, eqb-true, not-false, not-true}
-use Rattle.std.specs.List.{list_all, list_any}
-use Rattle.std.specs.Prelude.{ℕ, Bool, true, false, Option, None, Some, List, [], ◌∷◌, ◌++◌, ◌==◌, ◌||◌, ◌&&◌, not, is_some, ⊤, if◌then◌else◌}
-use Rattle.yaml_base.specs.Characters.{Text}
-use Rattle.yaml_base.specs.Words.{named, is_word}
-use Rattle.yaml_base.specs.values.Resolved.{Resolved, meant_text, first_reading, words_of_core, words_of_repository, words_of_11, is_decimal}
-use Rattle.yaml_base.specs.values.Resolved.{is_point, is_exponent_letter}
-use Rattle.yaml_base.specs.values.Resolved.{is_plus_or_minus, is_negative, first_meets, past_sign, are_digits}
-use Rattle.yaml_base.specs.values.SchemaCore.{core_integer, core_based, core_decimal, resolved_by_core}
-use Rattle.yaml_base.specs.values.SchemaOf11.{is_underscore, are_grouped, based_11, past, timestamp_11, numbers_11, resolved_by_11}
-use Rattle.yaml_base.specs.values.SurelyText.{is_reserved, is_symbol, precedes_number, names_base, begins_based, is_based, begins_number, in_number}
-use Rattle.yaml_base.specs.values.SurelyText.{is_number_letter}
-use Rattle.yaml_base.specs.values.SurelyText.{is_numeric, is_doubtful, is_surely_text, SurelyTextIsText}
+use Rattle.yaml_base.proofs.Common.{ℕ, if◌then◌else◌, ⊤, ◌==◌, Option, None, Bool, false, not, true, ◌&&◌, ◌||◌, List, [], ◌∷◌, ◌⊎◌, refl, ◌≡◌, eqb-true}
+use Rattle.yaml_base.proofs.Common.{true≢false, inl, inr, ap, sym, ◌∙◌, and_cases, and_left, or_parts, not-false, not-true, list_all, list_any, Text, named}
+use Rattle.yaml_base.proofs.Common.{Resolved, meant_text, first_reading, words_of_core, words_of_11, is_point, is_exponent_letter, is_plus_or_minus}
+use Rattle.yaml_base.proofs.Common.{is_decimal, first_meets, past_sign, is_negative, are_digits, core_integer, core_based, core_decimal, resolved_by_core}
+use Rattle.yaml_base.proofs.Common.{is_underscore, are_grouped, based_11, past, timestamp_11, numbers_11, resolved_by_11, is_reserved, is_symbol, is_based}
+use Rattle.yaml_base.proofs.Common.{is_number_letter, in_number, is_numeric}
 use Rattle.yaml_base.proofs.SchemaWords.{named_unlike}
-use Rattle.yaml_base.proofs.no_numbers.NoNumbers.{NoNumber, off, past_cons}
-use Rattle.yaml_base.proofs.no_numbers.NumbersBegin.{begins_digits, without_begin}
-use Rattle.yaml_base.proofs.no_numbers.NumbersWithin.{with_others}
-use Rattle.yaml_base.proofs.no_numbers.NumbersHoldDigits.{without_digits}
+use Rattle.yaml_base.proofs.no_numbers.{NoNumbers.NoNumber, NoNumbers.off, NoNumbers.past_cons, NumbersBegin.begins_digits, NumbersBegin.without_begin}
+use Rattle.yaml_base.proofs.no_numbers.{NumbersHoldDigits.without_digits, NumbersWithin.with_others}
+use Rattle.yaml_base.specs.values.SurelyText.{precedes_number, names_base, begins_based, begins_number, SurelyTextIsText}
 
 -- ---- words
 

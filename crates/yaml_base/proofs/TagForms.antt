@@ -1,19 +1,13 @@
 -- The forms of handles and tags: what they consist of, and how a tag is spelled by the directives in force.
-use Rattle.std.proofs.Common.{◌≡◌, ℕ, Bool, true, false, cond, not, Option, Some, None, List, [], ◌∷◌, ◌++◌, refl, sym, ◌∙◌, ap, ◌⊎◌, inl, inr, append_assoc}
-use Rattle.std.proofs.lemmas.Bool.{eqb-true, and_parts, or_parts, not-false}
-use Rattle.std.proofs.lemmas.Slice.Eq.{bytes_eq-Decides}
-use Rattle.std.specs.Prelude.{◌==◌, codes, bytes_eq, option_map}
-use Rattle.std.specs.List.{list_all}
-use lib.Utf8.{scalar, scalars}
-use Rattle.yaml_base.specs.Characters.{Text, is_alpha}
-use Rattle.yaml_base.specs.Event.{TagDirective}
-use Rattle.yaml_base.specs.reading.ReadTags.{prefix_among, directives_assumed, without_closing_angle}
-use Rattle.yaml_base.specs.Tags.{exclamation_mark, last_from, without_last, handle_fault, directive_fault, gives_handle, next_directive_fault}
-use Rattle.yaml_base.specs.Tags.{directives_fault_after}
-use Rattle.yaml_base.specs.Tags.{directives_fault, directives_in_force, behind, Spelling, shorthand, verbatim, spelling_by, spelling, spelled}
-use Rattle.yaml_base.proofs.NoFaults.{neither, not_given}
-use Rattle.yaml_base.specs.declared.errors.yaml_error_t.TheVariants.{TagHandleStart, TagHandleEnd, TagHandleAlphabet, DuplicateDirective}
-use Rattle.yaml_base.specs.declared.errors.yaml_error_t.{yaml_error_t}
+use Rattle.yaml_base.proofs.Common.{ℕ, ◌==◌, option_map, bytes_eq, Option, None, Some, codes, Bool, cond, false, not, true, List, [], ◌++◌, ◌∷◌, ◌⊎◌, refl}
+use Rattle.yaml_base.proofs.Common.{◌≡◌, eqb-true, append_assoc, inl, inr, ap, sym, ◌∙◌, and_parts, or_parts, not-false, bytes_eq-Decides, list_all, scalars}
+use Rattle.yaml_base.proofs.Common.{Text, is_alpha, TagDirective, exclamation_mark, handle_fault, directive_fault, gives_handle, next_directive_fault}
+use Rattle.yaml_base.proofs.Common.{directives_fault_after, directives_fault, directives_in_force, Spelling, shorthand, verbatim, spelling, prefix_among}
+use Rattle.yaml_base.proofs.Common.{directives_assumed, without_closing_angle}
+use lib.Utf8.{scalar}
+use Rattle.yaml_base.{proofs.NoFaults.neither, proofs.NoFaults.not_given, specs.declared.errors.yaml_error_t.yaml_error_t}
+use Rattle.yaml_base.specs.Tags.{last_from, without_last, behind, spelling_by}
+use Rattle.yaml_base.specs.declared.errors.yaml_error_t.TheVariants.{DuplicateDirective, TagHandleAlphabet, TagHandleEnd, TagHandleStart}
 
 -- Ends of tags
 

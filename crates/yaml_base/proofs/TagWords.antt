@@ -1,13 +1,8 @@
 -- A written tag is one word: it holds no white space, and it is never the bare tag.
-use Rattle.std.proofs.Common.{◌≡◌, ℕ, Bool, true, false, ◌||◌, None, List, [], ◌∷◌, ◌++◌, refl, sym, ◌∙◌, ap, inl, inr, arith}
-use Rattle.std.proofs.lemmas.Bool.{and_parts, or_parts, or_from}
-use Rattle.std.proofs.lemmas.Bool.Decides.{nat_tests}
-use Rattle.std.specs.List.{list_all, list_any}
-use Rattle.yaml_base.specs.Characters.{Text, is_alpha, is_blank, is_break}
-use Rattle.yaml_base.specs.Event.{TagDirective}
-use Rattle.yaml_base.specs.Percent.{percent_escaped, suffix_escaped}
-use Rattle.yaml_base.specs.Tags.{exclamation_mark, handle_fault, directives_fault, directives_in_force, Spelling, spelling, spelled}
-use Rattle.yaml_base.proofs.PercentLaws.{stands_written, separates, escaped_stands, suffix_stands, suffix_begins, written_never_separates}
+use Rattle.yaml_base.proofs.Common.{ℕ, None, Bool, false, true, ◌||◌, List, [], ◌++◌, ◌∷◌, refl, ◌≡◌, inl, inr, ap, sym, ◌∙◌, arith, and_parts, or_parts}
+use Rattle.yaml_base.proofs.Common.{or_from, nat_tests, list_all, list_any, Text, is_alpha, is_blank, is_break, TagDirective, percent_escaped, suffix_escaped}
+use Rattle.yaml_base.proofs.Common.{exclamation_mark, handle_fault, directives_fault, directives_in_force, Spelling, spelling, spelled}
+use Rattle.yaml_base.proofs.PercentLaws.{stands_written, escaped_stands, suffix_stands, separates, written_never_separates, suffix_begins}
 use Rattle.yaml_base.proofs.TagForms.{IsHandle, handle_form, spelling_is, in_force_found}
 
 any-append : (p : ℕ → Bool) (xs ys : Text) → list_any p xs ≡ false → list_any p ys ≡ false → list_any p (xs ++ ys) ≡ false

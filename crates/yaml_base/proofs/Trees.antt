@@ -1,12 +1,9 @@
 -- A list of events has at most one tree: pushing a tree's events gives the tree back.
-use Rattle.std.proofs.Common.{◌≡◌, refl, sym, ap, ◌∙◌, append_assoc}
-use Rattle.std.specs.Prelude.{Option, Some, List, [], ◌∷◌, ◌++◌, option_and_then}
-use Rattle.yaml_base.specs.Settings.{Encoding}
-use Rattle.yaml_base.specs.Event.{DocumentStart, Collection, Event, stream_end, document_end, sequence_end, mapping_end}
-use Rattle.yaml_base.specs.Grammar.{Node, alias_node, scalar_node, sequence_node, mapping_node, Nodes, no_nodes, nodes_and, Pairs, no_pairs, pairs_and}
-use Rattle.yaml_base.specs.Grammar.{Document, Documents, no_documents, documents_and, Stream, node_events, nodes_events, pairs_events, document_events}
-use Rattle.yaml_base.specs.Grammar.{documents_events, stream_events, Level, at_item, at_key, at_value, between_documents, within_document, after_stream}
-use Rattle.yaml_base.specs.Grammar.{with_node, pushed, partial_of, finished, tree_of}
+use Rattle.yaml_base.proofs.Common.{option_and_then, Option, Some, List, [], ◌++◌, ◌∷◌, refl, ◌≡◌, append_assoc, ap, sym, ◌∙◌, DocumentStart, Collection}
+use Rattle.yaml_base.proofs.Common.{Event, stream_end, document_end, sequence_end, mapping_end, Node, alias_node, scalar_node, Nodes, sequence_node, Pairs}
+use Rattle.yaml_base.proofs.Common.{mapping_node, no_nodes, nodes_and, no_pairs, pairs_and, Document, Documents, no_documents, documents_and, Stream}
+use Rattle.yaml_base.proofs.Common.{node_events, nodes_events, pairs_events, document_events, documents_events, stream_events, Level, at_item, at_key}
+use Rattle.yaml_base.proofs.Common.{at_value, between_documents, within_document, after_stream, with_node, pushed, partial_of, finished, tree_of, Encoding}
 
 -- Pushing a node's events appends the node.
 mutual

@@ -1,18 +1,11 @@
 -- Two trees of one shape, each with the numbers of its own graph: what stands at each place of both, and that the numbers
 -- there belong together.
-use Rattle.std.proofs.Common.{◌≡◌, ◌⊎◌, inl, inr, ℕ, zero, suc, ◌+◌, ◌≤◌, Bool, true, false, cond, Option, List, [], ◌∷◌, ◌++◌}
-use Rattle.std.proofs.Common.{map, refl, sym, ap, ◌∙◌, subst, arith}
-use Rattle.std.specs.Prelude.{⊤, Contains, count_by}
-use Rattle.std.proofs.lemmas.List.{map-append}
-use Rattle.std.proofs.lemmas.List.Elements.{Contains-append_left, Contains-append_right}
-use Rattle.std.proofs.lemmas.List.Sums.{sum_by-append}
-use Rattle.yaml_base.specs.Characters.{Text}
-use Rattle.yaml_base.specs.graphs.Meetings.{Graph, children}
-use Rattle.yaml_base.specs.graphs.Unfolding.{Shape, alias_shape, node_shape, Shapes, no_shapes, shapes_and, Placed, alias_placed, node_placed, PlacedNodes}
-use Rattle.yaml_base.specs.graphs.Unfolding.{none_placed, placed_and, number_at, numbers_at, HasShape, HaveShapes, Occurrence, alias_occurrence}
-use Rattle.yaml_base.specs.graphs.Unfolding.{node_occurrence}
-use Rattle.yaml_base.specs.graphs.Unfolding.{occurrences, occurrences_below, IsReached, child_reached}
-use Rattle.yaml_base.specs.graphs.Isomorphic.{label_at}
+use Rattle.yaml_base.proofs.Common.{suc, zero, ℕ, ◌+◌, ◌≤◌, ⊤, Contains, count_by, Option, Bool, cond, false, true, List, [], map, ◌++◌, ◌∷◌, ◌⊎◌, refl, ◌≡◌}
+use Rattle.yaml_base.proofs.Common.{inl, inr, ap, subst, sym, ◌∙◌, arith, map-append, Contains-append_left, Contains-append_right, sum_by-append, Text}
+use Rattle.yaml_base.proofs.Common.{label_at, Graph, children, Shape, no_shapes, Placed, alias_placed, PlacedNodes, node_placed, none_placed, placed_and}
+use Rattle.yaml_base.proofs.Common.{number_at, numbers_at, HasShape, HaveShapes, Occurrence, alias_occurrence, node_occurrence, occurrences}
+use Rattle.yaml_base.proofs.Common.{occurrences_below, IsReached, child_reached}
+use Rattle.yaml_base.specs.graphs.Unfolding.{alias_shape, Shapes, node_shape, shapes_and}
 
 -- ---- trees with two numbers at each place
 

@@ -1,18 +1,12 @@
 -- The tree of events of a walk's tree: its events are those of the walk's steps, and its shape fits.
-use Rattle.std.proofs.Common.{◌≡◌, ℕ, zero, suc, ◌+◌, Bool, true, false, Option, None, Some, option_map, List, [], ◌∷◌, ◌++◌, length, refl, sym, ap, ◌∙◌, subst}
-use Rattle.std.proofs.Common.{arith, append_assoc, append-nil, length-append}
-use Rattle.std.specs.Prelude.{bytes_eq}
-use Rattle.std.specs.List.{flat_map}
-use Rattle.std.proofs.lemmas.Grind.{flat_map-append}
-use Rattle.yaml_base.specs.Characters.{Text}
-use Rattle.yaml_base.specs.Event.{Event, alias, sequence_end, mapping_end}
-use Rattle.yaml_base.specs.Grammar.{Node, alias_node, scalar_node, sequence_node, mapping_node, Nodes, no_nodes, nodes_and, Pairs, no_pairs, pairs_and}
-use Rattle.yaml_base.specs.Grammar.{node_events, nodes_events, pairs_events}
-use Rattle.yaml_base.specs.graphs.Meetings.{Graph, GraphNode, NumberPair, Held, scalar_held, sequence_held, mapping_held, Step, leaves, node_numbered}
-use Rattle.yaml_base.specs.graphs.Meetings.{numbers_held, numbers_in, children, string_tag, sequence_tag, mapping_tag, opening_event_of, opening_events}
-use Rattle.yaml_base.specs.graphs.Meetings.{closing_event_of, closing_events, anchor_of, step_events}
-use Rattle.yaml_base.specs.graphs.Unfolding.{Placed, alias_placed, node_placed, PlacedNodes, none_placed, placed_and, numbers_at, no_shapes, node_shape_of}
-use Rattle.yaml_base.specs.graphs.Unfolding.{nodes_shapes, pairs_shapes, label_of, HasShape, HaveShapes}
+use Rattle.yaml_base.proofs.Common.{suc, zero, ℕ, ◌+◌, option_map, bytes_eq, Option, None, Some, length, Bool, false, true, List, [], ◌++◌, ◌∷◌, refl, ◌≡◌}
+use Rattle.yaml_base.proofs.Common.{length-append, append-nil, append_assoc, ap, subst, sym, ◌∙◌, arith, flat_map-append, flat_map, Text, Event, alias}
+use Rattle.yaml_base.proofs.Common.{sequence_end, mapping_end, Node, alias_node, scalar_node, Nodes, sequence_node, Pairs, mapping_node, no_nodes, nodes_and}
+use Rattle.yaml_base.proofs.Common.{no_pairs, pairs_and, node_events, nodes_events, pairs_events, NumberPair, Held, scalar_held, sequence_held, mapping_held}
+use Rattle.yaml_base.proofs.Common.{GraphNode, Graph, node_numbered, numbers_held, numbers_in, children, Step, leaves, anchor_of, string_tag, sequence_tag}
+use Rattle.yaml_base.proofs.Common.{mapping_tag, opening_event_of, opening_events, closing_event_of, closing_events, step_events, no_shapes, node_shape_of}
+use Rattle.yaml_base.proofs.Common.{nodes_shapes, pairs_shapes, Placed, alias_placed, PlacedNodes, node_placed, none_placed, placed_and, numbers_at, label_of}
+use Rattle.yaml_base.proofs.Common.{HasShape, HaveShapes}
 use Rattle.yaml_base.proofs.UnfoldTrees.{placed_steps, below_steps, Fits, AllFit}
 
 -- ---- the tree of events

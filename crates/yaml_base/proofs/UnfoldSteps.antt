@@ -1,16 +1,10 @@
 -- What a walk keeps, one step at a time: a node is entered once, it is met again only after that, and whatever is entered
 -- is reached.
-use Rattle.std.proofs.Common.{◌≡◌, inl, inr, ℕ, zero, suc, ◌+◌, ◌==◌, ◌||◌, Bool, true, false, cond, List, [], ◌∷◌, ◌++◌, refl, sym, ap, ◌∙◌, subst, arith}
-use Rattle.std.proofs.Common.{append_assoc, append-nil, ne_eqb}
-use Rattle.std.specs.Prelude.{⊤, Contains, count_by}
-use Rattle.std.specs.List.{list_any, fold}
-use Rattle.std.proofs.Math.Bool.{or-false, or-true}
-use Rattle.std.proofs.lemmas.Bool.{cases_eq, or_cases, eqb-true}
-use Rattle.std.proofs.lemmas.List.Elements.{Contains-append_left, Contains-append_right}
-use Rattle.std.proofs.lemmas.List.Folds.{list_any-append}
-use Rattle.std.proofs.lemmas.List.Sums.{sum_by-append}
-use Rattle.yaml_base.specs.graphs.Meetings.{Graph, Step, enters, leaves, meets_again, children, is_entry_of, steps_from}
-use Rattle.yaml_base.specs.graphs.Unfolding.{IsReached, child_reached}
+use Rattle.yaml_base.proofs.Common.{suc, zero, ℕ, ◌+◌, ⊤, ◌==◌, Contains, count_by, Bool, cond, false, true, ◌||◌, List, [], ◌++◌, ◌∷◌, refl, ◌≡◌, eqb-true}
+use Rattle.yaml_base.proofs.Common.{ne_eqb, append-nil, append_assoc, inl, inr, ap, subst, sym, ◌∙◌, arith, or-true, or_cases, cases_eq, Contains-append_left}
+use Rattle.yaml_base.proofs.Common.{Contains-append_right, list_any-append, sum_by-append, list_any, Graph, children, Step, enters, leaves, meets_again}
+use Rattle.yaml_base.proofs.Common.{is_entry_of, steps_from, IsReached, child_reached}
+use Rattle.std.{proofs.Math.Bool.or-false, specs.List.fold}
 
 -- the steps from a node that was entered before or not
 abbrev pub from_node : ℕ → Graph → List Step → ℕ → Bool → List Step

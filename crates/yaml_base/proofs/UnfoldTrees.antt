@@ -1,17 +1,11 @@
 -- The tree of a walk: an alias where a node is met again, a node with those below it where it is entered.
-use Rattle.std.proofs.Common.{◌≡◌, inl, inr, ℕ, zero, suc, ◌+◌, ◌==◌, ◌<◌, ◌≤◌, ◌||◌, ◌&&◌, nat_le, Bool, true, false, cond, Option, None, Some, unwrap_or}
-use Rattle.std.proofs.Common.{List, [], ◌∷◌, ◌++◌, length, refl, sym, ap, ◌∙◌, subst, arith, append_assoc, append-nil, eq-eqb}
-use Rattle.std.specs.Prelude.{⊤, Contains}
-use Rattle.std.specs.List.{list_any, list_all, filter_map, fold, slice_get}
-use Rattle.std.proofs.Math.Bool.{or-true}
-use Rattle.std.proofs.lemmas.Bool.{cases_eq, or_cases, eqb-true, leb-true}
-use Rattle.std.proofs.lemmas.List.Elements.{Contains-append_cases, filter_map-append}
-use Rattle.std.proofs.lemmas.List.Folds.{list_any-append}
-use Rattle.yaml_base.specs.Characters.{Text}
-use Rattle.yaml_base.specs.graphs.Meetings.{Graph, GraphNode, Step, enters, leaves, meets_again, node_numbered, numbers_held, numbers_in, children, is_entry_of}
-use Rattle.yaml_base.specs.graphs.Meetings.{steps_from, is_whole}
-use Rattle.yaml_base.specs.graphs.Unfolding.{Placed, alias_placed, node_placed, PlacedNodes, none_placed, placed_and, number_at, numbers_at, Occurrence}
-use Rattle.yaml_base.specs.graphs.Unfolding.{alias_occurrence, node_occurrence, occurrences, occurrences_below}
+use Rattle.yaml_base.proofs.Common.{suc, zero, ℕ, ◌+◌, ◌<◌, ◌≤◌, ⊤, ◌==◌, Contains, unwrap_or, Option, None, Some, nat_le, length, Bool, cond, false, true}
+use Rattle.yaml_base.proofs.Common.{◌&&◌, ◌||◌, List, [], ◌++◌, ◌∷◌, refl, ◌≡◌, eq-eqb, eqb-true, leb-true, append-nil, append_assoc, inl, inr, ap, subst}
+use Rattle.yaml_base.proofs.Common.{sym, ◌∙◌, arith, or-true, or_cases, cases_eq, filter_map-append, list_any-append, filter_map, list_all, list_any, Text}
+use Rattle.yaml_base.proofs.Common.{GraphNode, Graph, node_numbered, numbers_held, numbers_in, children, is_whole, Step, enters, leaves, meets_again}
+use Rattle.yaml_base.proofs.Common.{is_entry_of, steps_from, Placed, alias_placed, PlacedNodes, node_placed, none_placed, placed_and, number_at, numbers_at}
+use Rattle.yaml_base.proofs.Common.{Occurrence, alias_occurrence, node_occurrence, occurrences, occurrences_below}
+use Rattle.std.{proofs.lemmas.List.Elements.Contains-append_cases, specs.List.fold, specs.List.slice_get}
 use Rattle.yaml_base.proofs.UnfoldSteps.{from_node, none_added, is_meeting_of}
 
 -- the steps of the walk over a tree

@@ -1,27 +1,15 @@
 -- In canonical mode no layout goes by the styles of events, nor by whether a document's start is implicit.
-use Rattle.std.proofs.Common.{◌≡◌, refl, sym, ap, ◌∙◌, map}
-use Rattle.std.specs.Prelude.{Bool, true, false, ◌||◌, ◌&&◌, not, Option, None, Some, List, [], ◌∷◌, ◌==◌, option_map, unwrap_or, if◌then◌else◌}
-use Rattle.yaml_base.specs.Settings.{Encoding, Settings, Effective, effective}
-use Rattle.yaml_base.specs.Cursor.{render_then}
-use Rattle.yaml_base.specs.Event.{ScalarStyle, any_style, any_layout, TagDirective, DocumentStart, Scalar, Collection, Event}
-use Rattle.yaml_base.specs.Event.{stream_start, stream_end, document_start, document_end, alias, scalar, sequence_start, sequence_end, mapping_start}
-use Rattle.yaml_base.specs.Event.{mapping_end}
-use Rattle.yaml_base.specs.Refusal.{ends_collection}
-use Rattle.yaml_base.specs.scalars.Analysis.{Allowances}
-use Rattle.yaml_base.specs.scalars.Style.{Choice, chosen}
-use Rattle.yaml_base.specs.Grammar.{Stream, stream_events}
-use Rattle.yaml_base.specs.Layout.{Role, as_item, as_key, Place, is_key, is_undented, deeper, is_simple_scalar, is_simple_collection, Piece, Standing}
-use Rattle.yaml_base.specs.Layout.{RenderedPiece}
-use Rattle.yaml_base.specs.Layout.{piece_without_body, scalar_lead, render_body, body_at, open_ended_after, start_piece, render_document_marker}
-use Rattle.yaml_base.specs.Layout.{render_closing_marker, render_if, render_version, render_tag_directives, has_directives, is_explicit, first_standing, layout}
-use Rattle.yaml_base.specs.Steps.{Frame, Stage, at_stream, at_document, at_node, next_place, Stepped, frame_opened, start_step, step, ends_next, Steps}
-use Rattle.yaml_base.specs.Steps.{then_steps, steps, leaf_step}
-use Rattle.yaml_base.specs.Tags.{directives_in_force}
-use Rattle.yaml_base.specs.Pieces.{list_layout}
-use Rattle.yaml_base.specs.Encoding.{cut}
-use Rattle.yaml_base.specs.Output.{encoding_asked, settings_for, bytes_written, output_of}
-use Rattle.yaml_base.proofs.StepLaws.{stream_steps}
-use Rattle.yaml_base.proofs.Trees.{tree_of-stream_events}
+use Rattle.yaml_base.proofs.Common.{if◌then◌else◌, ◌==◌, unwrap_or, option_map, Option, None, Some, Bool, false, not, true, ◌&&◌, ◌||◌, List, [], map, ◌∷◌}
+use Rattle.yaml_base.proofs.Common.{refl, ◌≡◌, ap, sym, ◌∙◌, render_then, cut, ScalarStyle, any_style, any_layout, TagDirective, DocumentStart, Scalar}
+use Rattle.yaml_base.proofs.Common.{Collection, Event, stream_start, stream_end, document_start, document_end, alias, scalar, sequence_start, sequence_end}
+use Rattle.yaml_base.proofs.Common.{mapping_start, mapping_end, Stream, stream_events, render_if, render_closing_marker, render_version}
+use Rattle.yaml_base.proofs.Common.{render_tag_directives, has_directives, is_explicit, render_document_marker, first_standing, layout, Piece, Standing}
+use Rattle.yaml_base.proofs.Common.{RenderedPiece, piece_without_body, render_body, open_ended_after, body_at, start_piece, Role, as_item, as_key, Place}
+use Rattle.yaml_base.proofs.Common.{is_key, is_undented, deeper, is_simple_scalar, is_simple_collection, encoding_asked, settings_for, bytes_written}
+use Rattle.yaml_base.proofs.Common.{output_of, list_layout, ends_collection, Encoding, Settings, Effective, effective, Frame, Stage, at_stream, at_document}
+use Rattle.yaml_base.proofs.Common.{at_node, next_place, Stepped, leaf_step, frame_opened, start_step, step, ends_next, Steps, then_steps, steps}
+use Rattle.yaml_base.proofs.Common.{directives_in_force, Allowances, Choice, chosen}
+use Rattle.yaml_base.{proofs.StepLaws.stream_steps, proofs.Trees.tree_of-stream_events, specs.Layout.scalar_lead}
 
 -- an event of no style; a document's start is implicit
 abbrev pub unstyled : Event → Event

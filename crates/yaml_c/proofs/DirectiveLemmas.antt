@@ -1,10 +1,8 @@
 -- The directives of an array, read one after another.
-use Rattle.std.proofs.Common.{◌≡◌, ℕ, ◌+◌, ◌<◌, length, drop, get_or, refl, sym, ap, ◌∙◌, append_assoc}
-use Rattle.std.proofs.lemmas.List.{at_drop_more}
-use Rattle.std.specs.Prelude.{Option, None, Some, List, [], ◌∷◌, ◌++◌, option_map, option_and_then}
-use Rattle.yaml_base.specs.Event.{TagDirective}
-use Rattle.yaml_c.specs.EventRecords.{directive_of, directives_of}
-use Rattle.yaml_c.specs.declared.records.DirectiveRecord.{DirectiveRecord}
+use Rattle.yaml_c.proofs.Common.{ℕ, ◌+◌, ◌<◌, option_map, Option, None, Some, drop, length, slice_index_or as get_or, List, [], ◌++◌, ◌∷◌, refl, ◌≡◌}
+use Rattle.yaml_c.proofs.Common.{append_assoc, ap, sym, ◌∙◌, at_drop_more, TagDirective, directives_of}
+use Rattle.yaml_base.proofs.Common.{option_and_then}
+use Rattle.yaml_c.specs.{EventRecords.directive_of, declared.records.DirectiveRecord.DirectiveRecord}
 
 -- directives before others
 abbrev pub behind : List TagDirective → Option (List TagDirective) → Option (List TagDirective)

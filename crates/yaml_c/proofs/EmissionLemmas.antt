@@ -1,25 +1,17 @@
 -- The events of an array, given to an emitter one after another.
-use Rattle.std.proofs.Common.{◌≡◌, ℕ, suc, ◌+◌, ◌<◌, ◌≤◌, length, drop, get_or, refl, sym, ap, ◌∙◌, subst, append_assoc, append-nil, inl, inr, arith}
-use Rattle.std.proofs.lemmas.List.{map-append, at_drop_more, at_drop_all, length-append}
-use Rattle.std.specs.Prelude.{◌⊎◌, Option, None, Some, List, [], ◌∷◌, ◌++◌}
-use Rattle.yaml_base.specs.Event.{Event}
-use Rattle.yaml_base.specs.Settings.{Settings}
-use Rattle.yaml_base.specs.scripts.Script.{Numbered}
-use Rattle.yaml_base.specs.declared.errors.yaml_error_t.{yaml_error_t}
+use Rattle.yaml_c.proofs.Common.{ℕ, ◌+◌, ◌<◌, ◌≤◌, Option, None, Some, drop, length, slice_index_or as get_or, List, [], ◌++◌, ◌∷◌, refl, ◌≡◌, append_assoc}
+use Rattle.yaml_c.proofs.Common.{inl, ap, subst, sym, ◌∙◌, at_drop_more, Settings, event_of, events_from, StandsAfter, State, events_in}
+use Rattle.yaml_base.proofs.Common.{suc, ◌⊎◌, length-append, append-nil, inr, arith, map-append, Event}
+use Rattle.yaml_tool.proofs.Common.{RefusesAt, LastLine}
+use Rattle.std.proofs.lemmas.List.{at_drop_all}
+use Rattle.yaml_base.specs.{declared.errors.yaml_error_t.yaml_error_t, scripts.Script.Numbered}
+use Rattle.yaml_c.specs.{Emission.HasAllRead, Emission.EmitsRecords, Emission.FlushesAfter, EventRecords.before_others, declared.events.Emission.Emission}
+use Rattle.yaml_c.specs.{declared.records.DirectiveRecord.DirectiveRecord, declared.records.EventRecord.EventRecord}
+use Rattle.yaml_c.specs.declared.events.Emission.TheVariants.{BadEvent, Done, NoMemory, Refused}
+use Rattle.yaml_emitter.{proofs.standing.KeptDocuments.documents_kept, proofs.standing.KeptDocuments.documents_stay, specs.Promises.Promised}
 use Rattle.yaml_pen.specs.Wrote.{Grows}
-use Rattle.yaml_emitter.proofs.standing.KeptDocuments.{documents_kept, documents_stay}
-use Rattle.yaml_emitter.specs.State.{State}
-use Rattle.yaml_emitter.specs.StandsAfter.{StandsAfter}
-use Rattle.yaml_emitter.specs.Promises.{Promised}
-use Rattle.yaml_tool.specs.Runs.{EndsAt, FlushFails, LastLine, RefusesAt, events_in}
+use Rattle.yaml_tool.{proofs.RunLemmas.flushed_last, specs.Runs.FlushFails, specs.Runs.EndsAt}
 use Rattle.yaml_tool.specs.declared.answers.run_answer_t.TheVariants as run
-use Rattle.yaml_tool.proofs.RunLemmas.{flushed_last}
-use Rattle.yaml_c.specs.EventRecords.{before_others, event_of, events_from}
-use Rattle.yaml_c.specs.Emission.{EmitsRecords, FlushesAfter, HasAllRead}
-use Rattle.yaml_c.specs.declared.records.DirectiveRecord.{DirectiveRecord}
-use Rattle.yaml_c.specs.declared.records.EventRecord.{EventRecord}
-use Rattle.yaml_c.specs.declared.events.Emission.{Emission}
-use Rattle.yaml_c.specs.declared.events.Emission.TheVariants.{Done, Refused, BadEvent, NoMemory}
 
 -- an event and its number
 abbrev pub numbered : ℕ → Event → Numbered

@@ -1,11 +1,8 @@
 -- What a call of `yaml_json` returned is a right answer.
-use Rattle.std.proofs.Common.{◌≡◌, ℕ, Bool, List, Result, Ok, Err, Vec, subst, IfOk, IfErr, OnOk, IfSome}
-use Rattle.yaml_base.specs.Settings.{Settings}
-use Rattle.yaml_json.specs.Failing.{FailsBy, writers_error}
-use Rattle.yaml_json.specs.Refused.{DeniesJson, ExplainsError, HasNamesOnce, IsNotJson}
-use Rattle.yaml_json.specs.Wrote.{IsYamlOf}
-use Rattle.yaml_json.specs.declared.error.JsonError.{JsonError}
-use Rattle.yaml_c.specs.JsonAnswers.{IsAnswer, answer_of}
+use Rattle.yaml_c.proofs.Common.{ℕ, Bool, List, Settings, IsAnswer, answer_of}
+use Rattle.std.proofs.Common.{Err, Ok, Result, Vec, IfSome, IfOk, IfErr, OnOk}
+use Rattle.yaml_json.specs.{Failing.writers_error, Failing.FailsBy, Wrote.IsYamlOf, declared.error.JsonError.JsonError}
+use Rattle.yaml_json.specs.Refused.{DeniesJson, IsNotJson, ExplainsError, HasNamesOnce}
 
 pub right_answer : {A : Type 0} (given : Settings) (flow : Bool) (depth : ℕ) (unique : Bool) (text : List ℕ) (result : Result (Vec ℕ A) JsonError)
     → IfOk result (λ bytes. IsYamlOf given flow depth text bytes.items) → IfErr result (λ error. DeniesJson error → IsNotJson depth text)

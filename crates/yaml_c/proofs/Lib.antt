@@ -1,3 +1,4 @@
+pub mod Common
 pub mod Utf8
 pub mod DirectiveLemmas
 pub mod EmissionLemmas

@@ -1,7 +1,6 @@
 -- Bytes that are UTF-8, and other bytes, as texts.
-use Rattle.std.proofs.Common.{◌≡◌, ℕ, Bool, true, false, None, Some, List, refl, ap, sym, if◌then◌else◌}
-use Rattle.std.proofs.lemmas.Str.{is_utf8-from_IsUtf8, IsUtf8-from_is_utf8}
-use Rattle.std.specs.Str.{chars, IsUtf8, is_utf8}
+use Rattle.yaml_base.proofs.Common.{ℕ, if◌then◌else◌, None, Some, Bool, false, true, List, refl, ◌≡◌, ap, sym, chars}
+use Rattle.std.{proofs.lemmas.Str.IsUtf8-from_is_utf8, proofs.lemmas.Str.is_utf8-from_IsUtf8, specs.Str.IsUtf8, specs.Str.is_utf8}
 use Rattle.yaml_c.specs.Arena.{text_of_bytes}
 
 pub text_of_utf8 : (bytes : List ℕ) → IsUtf8 bytes → Some (chars bytes) ≡ text_of_bytes bytes

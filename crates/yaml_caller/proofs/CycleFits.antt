@@ -1,21 +1,13 @@
 -- The dump of a document that holds itself is accepted and fits, so that nothing but memory can give out.
-use Rattle.std.proofs.Common.{◌≡◌, inl, inr, refl, sym, ap, ◌∙◌, subst, arith, append_assoc}
-use Rattle.std.specs.Prelude.{ℕ, ◌==◌, ◌≤◌, Bool, true, false, None, Some, [], ◌∷◌, ◌++◌, length, codes, Err, if◌then◌else◌}
+use Rattle.yaml_caller.proofs.Common.{ℕ, ◌≤◌, if◌then◌else◌, ◌==◌, None, Some, Err, codes, length, Bool, false, true, [], ◌++◌, ◌∷◌, refl, ◌≡◌, append_assoc}
+use Rattle.yaml_caller.proofs.Common.{inl, inr, ap, subst, sym, ◌∙◌, arith, any_style, block, stream_end, scalar_node, no_documents, documents_and, Stream}
+use Rattle.yaml_caller.proofs.Common.{output_of, most_open, open_count, IsAccepted, Graph, string_tag, mapping_tag, document_event_list, cycle_graph}
+use Rattle.yaml_caller.proofs.Common.{letter_settings, opening, closing, Dumps, StandsAfter, State}
+use Rattle.yaml_base.proofs.Common.{alias_node, mapping_node, no_pairs, pairs_and}
 use Rattle.std.specs.Char.{encode_utf8}
-use Rattle.yaml_base.specs.Event.{any_style, block, stream_end}
-use Rattle.yaml_base.specs.Grammar.{Stream, no_documents, documents_and, no_pairs, pairs_and, alias_node, scalar_node, mapping_node}
-use Rattle.yaml_base.specs.graphs.Meetings.{Graph, string_tag, mapping_tag, decimal_digits, document_event_list}
-use Rattle.yaml_base.specs.Refusal.{IsAccepted, open_count, most_open}
-use Rattle.yaml_base.specs.Output.{output_of}
-use Rattle.yaml_base.specs.declared.errors.yaml_error_t.{yaml_error_t}
-use Rattle.yaml_base.specs.declared.errors.yaml_error_t.TheVariants.{Memory}
-use Rattle.yaml_dump.specs.Dumps.{Dumps, FailsAt, FailsDump, opening, closing}
-use Rattle.yaml_emitter.specs.State.{State}
-use Rattle.yaml_emitter.specs.StandsAfter.{StandsAfter}
-use Rattle.yaml_caller.specs.Letter.{letter_settings}
-use Rattle.yaml_caller.specs.Cycle.{cycle_graph}
-use Rattle.yaml_caller.proofs.Dumped.{dumped_cycle, cycle_events}
-use Rattle.yaml_caller.proofs.OnlyMemory.{Fits, only_memory, open_at_most}
+use Rattle.yaml_base.specs.{declared.errors.yaml_error_t.yaml_error_t, declared.errors.yaml_error_t.TheVariants.Memory, graphs.Meetings.decimal_digits}
+use Rattle.yaml_caller.proofs.{Dumped.dumped_cycle, Dumped.cycle_events, OnlyMemory.Fits, OnlyMemory.only_memory, OnlyMemory.open_at_most}
+use Rattle.yaml_dump.specs.Dumps.{FailsAt, FailsDump}
 
 abbrev cycle_stream : Stream
 cycle_stream =

@@ -1,22 +1,12 @@
 -- What the promises of a dump come to for a document that holds itself.
-use Rattle.std.proofs.Common.{◌≡◌, inl, inr, refl, sym, ap, ◌∙◌, subst}
-use Rattle.std.proofs.lemmas.List.Elements.{All-cons, All-nil}
-use Rattle.std.specs.Prelude.{ℕ, ◌==◌, ◌||◌, Bool, true, false, None, List, [], ◌∷◌, ◌++◌, length, Result, Ok, Err, OnOk, IfOk, Vec, if◌then◌else◌}
+use Rattle.yaml_caller.proofs.Common.{ℕ, if◌then◌else◌, ◌==◌, IfOk, OnOk, None, Result, Err, Ok, Vec, length, Bool, false, true, ◌||◌, List, [], ◌++◌, ◌∷◌}
+use Rattle.yaml_caller.proofs.Common.{refl, ◌≡◌, inl, inr, ap, subst, sym, ◌∙◌, All-nil, All-cons, Text, any_style, block, Event, stream_start, stream_end}
+use Rattle.yaml_caller.proofs.Common.{output_of, held_back, AreDumped, GraphNode, Graph, document_event_list, IsDocument, cycle_graph, cycle_bytes}
+use Rattle.yaml_caller.proofs.Common.{letter_settings, opening, closing, Dumps, StandsAfter, State}
+use Rattle.yaml_base.proofs.Common.{reads_alike, NumberPair, scalar_held, mapping_held}
+use Rattle.yaml_dump.proofs.Common.{EmitsAll}
 use Rattle.std.specs.Char.{encode_utf8}
-use Rattle.yaml_base.specs.Characters.{Text}
-use Rattle.yaml_base.specs.Event.{Event, any_style, block, stream_start, stream_end}
-use Rattle.yaml_base.specs.graphs.Meetings.{NumberPair, GraphNode, Graph, scalar_held, mapping_held, decimal_digits, document_event_list}
-use Rattle.yaml_base.specs.graphs.Dumped.{AreDumped}
-use Rattle.yaml_base.specs.Ready.{held_back}
-use Rattle.yaml_base.specs.Output.{output_of}
-use Rattle.yaml_base.specs.StreamLaw.{reads_alike}
-use Rattle.yaml_base.specs.graphs.Unfolding.{IsDocument}
-use Rattle.yaml_base.specs.declared.errors.yaml_error_t.{yaml_error_t}
-use Rattle.yaml_dump.specs.Dumps.{Dumps, EmitsAll, opening, closing}
-use Rattle.yaml_emitter.specs.State.{State}
-use Rattle.yaml_emitter.specs.StandsAfter.{StandsAfter}
-use Rattle.yaml_caller.specs.Letter.{letter_settings}
-use Rattle.yaml_caller.specs.Cycle.{cycle_bytes, cycle_graph}
+use Rattle.yaml_base.specs.{declared.errors.yaml_error_t.yaml_error_t, graphs.Meetings.decimal_digits}
 
 -- a scalar with a tag
 abbrev pub string_node : Text → Text → GraphNode

@@ -1,32 +1,18 @@
 -- Two graphs are isomorphic exactly where their bytes are the same.
-use Rattle.std.proofs.Common.{◌≡◌, ◌⊎◌, inl, inr, refl, sym, ap, ◌∙◌, subst, arith, ne_eqb, append_assoc, append-nil}
-use Rattle.std.proofs.lemmas.Bool.{eqb-true, false≢true}
-use Rattle.std.proofs.lemmas.List.Elements.{All-cons, All-nil}
-use Rattle.std.proofs.lemmas.Slice.Eq.{bytes_eq-Decides}
-use Rattle.std.specs.Prelude.{ℕ, zero, suc, ◌==◌, Bool, true, false, Decides, Option, None, Some, List, [], ◌∷◌, ◌++◌, length, map, is_none, bytes_eq}
-use Rattle.std.specs.Prelude.{option_map, slice_get, Result, Ok, Err, IsErr, IsErrAnd, IfErr, OnOk, IfOk, Vec, ◌<◌, if◌then◌else◌}
-use Rattle.yaml_base.specs.Settings.{largest_usize}
-use Rattle.yaml_base.specs.Event.{Event, stream_start, stream_end}
-use Rattle.yaml_base.specs.graphs.Meetings.{Graph, GraphNode, node_numbered, numbers_in, is_whole, document_event_list}
-use Rattle.yaml_base.specs.graphs.Unfolding.{label_of, IsReached, first_reached, child_reached, IsDocument}
-use Rattle.yaml_base.specs.graphs.Isomorphic.{label_at, Isomorphic, IsWrittenAlike, bare}
-use Rattle.yaml_base.specs.graphs.Dumped.{AreDumped, GraphsRead}
-use Rattle.yaml_base.specs.values.TypedValues.{typed_settings}
-use Rattle.yaml_base.specs.declared.errors.yaml_error_t.{yaml_error_t}
-use Rattle.yaml_base.specs.declared.errors.yaml_error_t.TheVariants.{WriteError, Memory, TagEmpty, TooDeep}
-use Rattle.yaml_base.proofs.ContentsUnfold.{dumped_stream}
-use Rattle.yaml_base.proofs.GraphRefusals.{refused_so, stream_writable}
-use Rattle.yaml_base.proofs.Twins.{IsIn, in_right}
-use Rattle.yaml_pen.specs.Page.{result_of_error}
-use Rattle.yaml_emitter.specs.State.{State}
-use Rattle.yaml_emitter.specs.StandsAfter.{StandsAfter}
-use Rattle.yaml_emitter.specs.Promises.{Promised, RefusedAt}
-use Rattle.yaml_dump.specs.Dumps.{Dumps, opening, closing}
-use Rattle.yaml_dump.proofs.EqualBytesLemmas.{one_reading, equal_documents}
-use Rattle.yaml_dump.proofs.GraphLemmas.{written_whole}
-use Rattle.yaml_caller.specs.GraphBytes.{graph_events, WritesGraph, AreRefused, IsRefused}
-use Rattle.yaml_caller.proofs.KnownStreams.{told_none}
-use Rattle.yaml_caller.proofs.Dumped.{copy_holds}
+use Rattle.yaml_caller.proofs.Common.{ℕ, ◌<◌, if◌then◌else◌, ◌==◌, Decides, is_none, IsErrAnd, IfOk, IfErr, IsErr, OnOk, bytes_eq, Option, None, Some, Result}
+use Rattle.yaml_caller.proofs.Common.{Err, Ok, Vec, length, Bool, false, true, List, [], map, ◌++◌, ◌∷◌, ◌⊎◌, refl, ◌≡◌, append-nil, append_assoc, inl, inr}
+use Rattle.yaml_caller.proofs.Common.{ap, subst, sym, ◌∙◌, arith, All-nil, All-cons, bytes_eq-Decides, Event, stream_start, stream_end, AreDumped, GraphsRead}
+use Rattle.yaml_caller.proofs.Common.{bare, GraphNode, Graph, document_event_list, IsDocument, typed_settings, graph_events, IsRefused, opening, closing}
+use Rattle.yaml_caller.proofs.Common.{Dumps, RefusedAt, Promised, StandsAfter, State, result_of_error}
+use Rattle.yaml_base.proofs.Common.{suc, zero, option_map, eqb-true, ne_eqb, false≢true, label_at, Isomorphic, node_numbered, numbers_in, is_whole, label_of}
+use Rattle.yaml_base.proofs.Common.{IsReached, first_reached, child_reached}
+use Rattle.std.specs.Prelude.{slice_get}
+use Rattle.yaml_base.{proofs.ContentsUnfold.dumped_stream, proofs.GraphRefusals.refused_so, proofs.GraphRefusals.stream_writable, proofs.Twins.IsIn}
+use Rattle.yaml_base.{proofs.Twins.in_right, specs.Settings.largest_usize, specs.declared.errors.yaml_error_t.yaml_error_t}
+use Rattle.yaml_base.{specs.graphs.Isomorphic.IsWrittenAlike}
+use Rattle.yaml_base.specs.declared.errors.yaml_error_t.TheVariants.{Memory, TagEmpty, TooDeep, WriteError}
+use Rattle.yaml_caller.{proofs.Dumped.copy_holds, proofs.KnownStreams.told_none, specs.GraphBytes.WritesGraph, specs.GraphBytes.AreRefused}
+use Rattle.yaml_dump.proofs.{EqualBytesLemmas.one_reading, EqualBytesLemmas.equal_documents, GraphLemmas.written_whole}
 
 -- ---- a graph and its nodes alone
 

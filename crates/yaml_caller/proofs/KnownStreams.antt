@@ -1,17 +1,10 @@
 -- What the promises of an emitter come to for a whole stream that is known.
-use Rattle.std.proofs.Common.{◌≡◌, refl, sym, ◌∙◌, subst}
-use Rattle.std.specs.Prelude.{ℕ, true, None, Some, List, [], ◌∷◌, codes, Result, Ok, Err, OnOk}
+use Rattle.yaml_caller.proofs.Common.{ℕ, OnOk, None, Some, Result, Err, Ok, codes, true, List, [], ◌∷◌, refl, ◌≡◌, subst, sym, ◌∙◌, Text, any_style}
+use Rattle.yaml_caller.proofs.Common.{TagDirective, Event, stream_start, stream_end, scalar, output_of, held_back, Settings, letter_settings, letter_events}
+use Rattle.yaml_caller.proofs.Common.{Promised, State, result_of_error}
 use Rattle.std.specs.Char.{encode_utf8}
-use Rattle.yaml_base.specs.Characters.{Text}
-use Rattle.yaml_base.specs.Settings.{Settings}
-use Rattle.yaml_base.specs.Event.{TagDirective, Event, any_style, stream_start, stream_end, document_start, document_end, scalar}
-use Rattle.yaml_base.specs.Ready.{held_back}
-use Rattle.yaml_base.specs.Output.{output_of}
-use Rattle.yaml_base.specs.declared.errors.yaml_error_t.{yaml_error_t}
-use Rattle.yaml_pen.specs.Page.{result_of_error}
-use Rattle.yaml_emitter.specs.State.{State}
-use Rattle.yaml_emitter.specs.Promises.{Promised, HasRoom, IsWritten, ends_stream}
-use Rattle.yaml_caller.specs.Letter.{letter_settings, letter_events}
+use Rattle.yaml_base.specs.{Event.document_start, Event.document_end, declared.errors.yaml_error_t.yaml_error_t}
+use Rattle.yaml_emitter.specs.Promises.{HasRoom, ends_stream, IsWritten}
 
 pub told_none : (state : State) → Ok tt ≡ result_of_error state.error → state.error ≡ None
 told_none state is = by state.error is

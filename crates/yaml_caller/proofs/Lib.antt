@@ -1,3 +1,4 @@
+pub mod Common
 pub mod KnownStreams
 pub mod OnlyMemory
 pub mod SameBytes

@@ -1,19 +1,13 @@
 -- What the promises of a writer come to for a list of a word and of nothing.
-use Rattle.std.proofs.Common.{◌≡◌, inl, inr, refl, sym, ap, ap₂, ◌∙◌, subst}
-use Rattle.std.specs.Char.{encode_utf8}
-use Rattle.std.specs.Prelude.{ℕ, Bool, true, false, Option, None, List, [], ◌∷◌, ◌++◌, codes, Result, Ok, Err, is_none, IfOk, Vec}
-use Rattle.yaml_base.specs.Characters.{Text}
-use Rattle.yaml_base.specs.Event.{Event, ScalarStyle, block, plain, single_quoted, scalar, sequence_start, sequence_end}
-use Rattle.yaml_base.specs.Output.{output_of}
-use Rattle.yaml_base.specs.Settings.{Settings}
+use Rattle.yaml_caller.proofs.Common.{ℕ, is_none, IfOk, Option, None, Result, Err, Ok, Vec, codes, Bool, false, true, List, [], ◌++◌, ◌∷◌, refl, ◌≡◌, inl}
+use Rattle.yaml_caller.proofs.Common.{inr, ap, subst, sym, ◌∙◌, Text, block, Event, scalar, output_of, Settings, State}
+use Rattle.yaml_base.proofs.Common.{ScalarStyle, plain, single_quoted, sequence_start, sequence_end}
+use Rattle.std.{proofs.Common.ap₂, specs.Char.encode_utf8}
 use Rattle.yaml_base.specs.values.TypedValues.{null_tag}
-use Rattle.yaml_emitter.specs.State.{State}
 use Rattle.yaml_writer.specs.Given.{default_settings}
-use Rattle.yaml_writer.specs.Writing.{WriterState, AddsEvents, GaveEvent, EndsInnermost, Finishes, StandsTaken, closing, end_event, with_collection}
-use Rattle.yaml_writer.specs.Writing.{null_event, opening}
-use Rattle.yaml_writer.specs.Writing.{sequence_event, tag_or_default, text_event, text_style}
-use Rattle.yaml_writer.specs.declared.kinds.CollectionKind.{CollectionKind}
-use Rattle.yaml_writer.specs.declared.kinds.CollectionKind.TheVariants.{Mapping, Sequence}
+use Rattle.yaml_writer.specs.Writing.{WriterState, opening, closing, tag_or_default, null_event, text_style, text_event, sequence_event, end_event}
+use Rattle.yaml_writer.specs.Writing.{with_collection, StandsTaken, AddsEvents, GaveEvent, EndsInnermost, Finishes}
+use Rattle.yaml_writer.specs.declared.kinds.{CollectionKind.CollectionKind, CollectionKind.TheVariants.Mapping, CollectionKind.TheVariants.Sequence}
 
 -- a scalar without properties
 abbrev bare_scalar : Text → ScalarStyle → Event

@@ -1,22 +1,13 @@
 -- Where a known stream is accepted and fits, nothing but memory can give out; the stream of one letter does.
-use Rattle.std.proofs.Common.{◌≡◌, refl, sym, ap, ◌∙◌, arith, subst, append_assoc, append-nil}
-use Rattle.std.proofs.lemmas.List.{take-append-drop}
-use Rattle.std.proofs.lemmas.List.Sums.{sum_by-append}
-use Rattle.std.specs.Prelude.{ℕ, ◌+◌, ◌-◌, ◌<◌, ◌≤◌, Bool, true, false, cond, ◌&&◌, Option, None, Some, List, [], ◌∷◌, ◌++◌, length, count_by, is_none, codes}
-use Rattle.std.specs.Prelude.{Result, Ok, Err, IfErr, IsErr, IsErrAnd, take, drop}
-use Rattle.std.specs.Char.{encode_utf8}
-use Rattle.yaml_base.specs.Characters.{Text}
-use Rattle.yaml_base.specs.Event.{Event, TagDirective, any_style}
-use Rattle.yaml_base.specs.Grammar.{Stream, no_documents, documents_and, scalar_node}
-use Rattle.yaml_base.specs.Refusal.{IsAccepted, refusal, begins_collection, ends_collection, open_count, most_open}
-use Rattle.yaml_base.specs.Output.{output_of}
-use Rattle.yaml_base.specs.declared.errors.yaml_error_t.{yaml_error_t}
-use Rattle.yaml_base.specs.declared.errors.yaml_error_t.TheVariants.{WriteError, Memory}
-use Rattle.yaml_pen.specs.Page.{result_of_error}
-use Rattle.yaml_emitter.specs.State.{State}
-use Rattle.yaml_emitter.specs.Promises.{Promised, RefusedAt, FillsLimit}
-use Rattle.yaml_caller.specs.Letter.{letter_settings, letter_events}
+use Rattle.yaml_caller.proofs.Common.{ℕ, ◌<◌, ◌≤◌, is_none, IsErrAnd, IfErr, IsErr, Option, None, Some, Result, Err, Ok, codes, length, Bool, false, true}
+use Rattle.yaml_caller.proofs.Common.{List, [], ◌++◌, ◌∷◌, refl, ◌≡◌, append-nil, append_assoc, ap, subst, sym, ◌∙◌, arith, Text, any_style, TagDirective}
+use Rattle.yaml_caller.proofs.Common.{Event, scalar_node, no_documents, documents_and, Stream, output_of, most_open, open_count, IsAccepted, letter_settings}
+use Rattle.yaml_caller.proofs.Common.{letter_events, RefusedAt, Promised, State, result_of_error}
+use Rattle.yaml_base.proofs.Common.{◌+◌, ◌-◌, count_by, drop, take, cond, ◌&&◌, sum_by-append, begins_collection, ends_collection, refusal}
+use Rattle.std.{proofs.lemmas.List.take-append-drop, specs.Char.encode_utf8}
+use Rattle.yaml_base.specs.declared.errors.{yaml_error_t.yaml_error_t, yaml_error_t.TheVariants.Memory, yaml_error_t.TheVariants.WriteError}
 use Rattle.yaml_caller.proofs.KnownStreams.{events_of}
+use Rattle.yaml_emitter.specs.Promises.{FillsLimit}
 
 -- each of some events, after those before it, is refused nowhere
 abbrev unrefused : (before events : List Event) → Bool

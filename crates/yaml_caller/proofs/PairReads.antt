@@ -1,16 +1,8 @@
 -- What the promises of an emitter come to for a mapping of one text to another.
-use Rattle.std.proofs.Common.{◌≡◌, refl, ap, ◌∙◌, subst}
-use Rattle.std.specs.Prelude.{true, false, List, [], Result, Ok, Err, OnOk, IfOk, Vec, ℕ}
-use Rattle.yaml_base.specs.Characters.{Text}
-use Rattle.yaml_base.specs.Event.{TagDirective, Event}
-use Rattle.yaml_base.specs.streams.StreamContent.{agrees}
-use Rattle.yaml_base.specs.streams.StreamReader.{stream_trees}
+use Rattle.yaml_caller.proofs.Common.{ℕ, IfOk, OnOk, Result, Err, Ok, Vec, false, true, List, [], refl, ◌≡◌, ap, subst, ◌∙◌, Text, TagDirective, Event}
+use Rattle.yaml_caller.proofs.Common.{agrees, stream_trees, portable_settings, pair_events, Promised, State, result_of_error}
 use Rattle.yaml_base.specs.declared.errors.yaml_error_t.{yaml_error_t}
-use Rattle.yaml_pen.specs.Page.{result_of_error}
-use Rattle.yaml_emitter.specs.State.{State}
-use Rattle.yaml_emitter.specs.Promises.{Promised}
-use Rattle.yaml_caller.specs.Pair.{pair_with, pair_events, portable_settings, text_scalar}
-use Rattle.yaml_caller.proofs.KnownStreams.{told_none, whole}
+use Rattle.yaml_caller.{proofs.KnownStreams.told_none, proofs.KnownStreams.whole, specs.Pair.text_scalar, specs.Pair.pair_with}
 
 -- the events by what they are equal to
 pub pair_promised : (directives : List TagDirective) (first second : Event) (key value : Text) (state : State) → directives ≡ []

@@ -1,8 +1,6 @@
 -- Values are the same exactly where their bytes are.
-use Rattle.std.proofs.Common.{◌≡◌, sym, ap, ◌∙◌, subst}
-use Rattle.std.proofs.lemmas.Slice.Eq.{bytes_eq-Decides}
-use Rattle.std.specs.Prelude.{ℕ, Bool, Decides, List, bytes_eq}
-use Rattle.yaml_base.specs.values.TypedValues.{TypedValue, ReadsAs, WritesValue, typed_output}
+use Rattle.yaml_caller.proofs.Common.{ℕ, Decides, bytes_eq, Bool, List, ◌≡◌, ap, subst, sym, ◌∙◌, bytes_eq-Decides}
+use Rattle.yaml_base.specs.values.TypedValues.{TypedValue, ReadsAs, typed_output, WritesValue}
 
 pub same_decides : (first second : TypedValue) (first_bytes second_bytes : List ℕ) (answer : Bool) → WritesValue first first_bytes
     → WritesValue second second_bytes

@@ -1,16 +1,17 @@
 -- The nodes that a walk meets again, one more step at a time.
-use Rattle.yaml_dump.proofs.Common.{suc, ◌==◌, unwrap_or, option_map, Option, None, Some, nat_le, length, Bool, false, not, true, ◌&&◌, ◌||◌, List, []}
-use Rattle.yaml_dump.proofs.Common.{map, ◌++◌, ◌∷◌, zero, ℕ, ◌+◌, ◌-◌, ◌<◌, ◌≤◌, drop, get_or, length-append, set, take, cond, append-nil, ◌≢◌, ap}
-use Rattle.yaml_dump.proofs.Common.{refl, subst, sym, ◌∙◌, ◌≡◌, arith, nat_tests, get_or-map, length-map, length-set, get_or-set_other, get_or-set_same}
-use Rattle.yaml_dump.proofs.Common.{map-append, Step, enters, leaves, meets_again, numbered_name, IsNumbered, is_numbered, anchor_of_place, HasPlaces}
-use Rattle.yaml_dump.proofs.Common.{Places, number_in, seen_step, Enters}
-use Rattle.std.proofs.{Common.nat_lt, Common.add-one, Math.Seq.take-append_seam, lemmas.List.take_more, lemmas.List.Elements.filter-append}
-use Rattle.std.proofs.{lemmas.List.Elements.filter_map-append, lemmas.List.Folds.position_or_len_push, lemmas.List.Folds.list_all-map}
-use Rattle.std.proofs.{lemmas.List.Sums.prefix_len-le-length, lemmas.List.Sums.AllPass-from_list_all}
-use Rattle.yaml_dump.specs.{declared.steps.Step.TheVariants.Leaves, declared.steps.Step.TheVariants.MeetsAgain, Events.IsPlaced, Anchors.place_in}
-use Rattle.std.specs.List.{filter, filter_map, position, position_or_len, cons_option}
-use Rattle.yaml_base.specs.graphs.Meetings.{first_of_each, node_met_again, shared_nodes, anchor_of}
+use Rattle.yaml_dump.proofs.Common.{suc, zero, ℕ, ◌+◌, ◌-◌, ◌<◌, ◌≤◌, ◌==◌, unwrap_or, option_map, Option, None, Some, nat_le, drop, length}
+use Rattle.yaml_dump.proofs.Common.{slice_index_or as get_or, slice_set as set, take, Bool, cond, false, not, true, ◌&&◌, ◌||◌, List, [], map, ◌++◌, ◌∷◌, ◌≢◌}
+use Rattle.yaml_dump.proofs.Common.{refl, ◌≡◌, length-append, length-set, get_or-set_other, get_or-set_same, append-nil, ap, subst, sym, ◌∙◌, arith}
+use Rattle.yaml_dump.proofs.Common.{nat_tests, get_or-map, length-map, map-append, Step, enters, leaves, meets_again, numbered_name, IsNumbered, is_numbered}
+use Rattle.yaml_dump.proofs.Common.{anchor_of_place, HasPlaces, Places, number_in, seen_step}
+use Rattle.yaml_base.proofs.Common.{nat_lt, filter_map-append, filter, filter_map, position, position_or_len, node_met_again, first_of_each, shared_nodes}
+use Rattle.yaml_base.proofs.Common.{anchor_of}
+use Rattle.std.{proofs.Common.add-one, proofs.Math.Seq.take-append_seam, proofs.lemmas.List.take_more, proofs.lemmas.List.Elements.filter-append}
+use Rattle.std.{proofs.lemmas.List.Folds.position_or_len_push, proofs.lemmas.List.Folds.list_all-map, proofs.lemmas.List.Sums.prefix_len-le-length}
+use Rattle.std.{proofs.lemmas.List.Sums.AllPass-from_list_all, specs.List.cons_option}
 use Rattle.yaml_base.proofs.SharedNodes.{has, has_first, has_position}
+use Rattle.yaml_dump.specs.{Anchors.place_in, Events.IsPlaced, declared.steps.Step.TheVariants.Enters, declared.steps.Step.TheVariants.Leaves}
+use Rattle.yaml_dump.specs.{declared.steps.Step.TheVariants.MeetsAgain}
 use Rattle.yaml_dump.specs.declared.steps.Step as declared
 
 kept_once : (b c : Bool) (number : ℕ) → cond (not b) (number ∷ []) [] ≡ cond (b || false) [] (number ∷ [])

@@ -1,10 +1,10 @@
 -- Children by their places: pairs take two places each, and whole graphs name their nodes.
-use Rattle.yaml_dump.proofs.Common.{suc, ◌^◌, IfSome, Option, None, Some, nat_le, length, Bool, true, ◌&&◌, List, [], map, ◌∷◌, zero, ℕ, ◌%◌, ◌+◌, ◌/◌}
-use Rattle.yaml_dump.proofs.Common.{◌<◌, ◌≤◌, get_or, ap, refl, sym, ◌∙◌, ◌≡◌, arith, list_all, slice_get, GraphNode, Graph, children, is_whole}
+use Rattle.yaml_dump.proofs.Common.{suc, zero, ℕ, ◌%◌, ◌+◌, ◌/◌, ◌<◌, ◌^◌, ◌≤◌, IfSome, Option, None, Some, nat_le, length, slice_index_or as get_or, Bool}
+use Rattle.yaml_dump.proofs.Common.{true, ◌&&◌, List, [], map, ◌∷◌, refl, ◌≡◌, ap, sym, ◌∙◌, arith, list_all, slice_get, GraphNode, Graph, children, is_whole}
 use Rattle.yaml_dump.proofs.Common.{seen_number, IsNamed}
-use Rattle.yaml_base.{specs.graphs.Meetings.numbers_held, specs.graphs.Meetings.numbers_in, specs.graphs.SeenNodes.seen_pair}
-use Rattle.yaml_base.{specs.declared.nodes.yaml_node_pair_t.yaml_node_pair_t, proofs.UnfoldTrees.both_true}
-use Rattle.std.proofs.lemmas.{Bool.leb-true, Option.slice_get_past, Option.slice_get_within}
+use Rattle.yaml_base.proofs.Common.{leb-true, numbers_held, numbers_in}
+use Rattle.std.proofs.lemmas.Option.{slice_get_within, slice_get_past}
+use Rattle.yaml_base.{proofs.UnfoldTrees.both_true, specs.declared.nodes.yaml_node_pair_t.yaml_node_pair_t, specs.graphs.SeenNodes.seen_pair}
 use Rattle.yaml_dump.specs.WalkState.{pair_numbers}
 
 -- the numbers that are seen in pairs

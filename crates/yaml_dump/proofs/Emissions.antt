@@ -1,12 +1,12 @@
 -- Events emitted one after another.
-use Rattle.yaml_dump.proofs.Common.{if◌then◌else◌, OnOk, Option, None, Some, Result, Err, Ok, length, Bool, false, true, ◌||◌, List, [], map, ◌++◌, ◌∷◌}
-use Rattle.yaml_dump.proofs.Common.{◌≤◌, length-append, append-nil, append_assoc, inl, inr, ap, refl, subst, sym, ◌∙◌, ◌≡◌, arith, false≢true}
-use Rattle.yaml_dump.proofs.Common.{map-append, Event, seen_event, Settings, yaml_error_t, yaml_event_t, EmitsAll, FailsAt, IsBegun, EmitsEach, opening}
-use Rattle.yaml_dump.proofs.Common.{closing, Promised, StandsAfter, State, none_from_result, Grows}
-use Rattle.std.{proofs.Math.Bool.or-true, specs.Prelude.IsErr, specs.Prelude.IsErrAnd, specs.Prelude.OnErr}
-use Rattle.yaml_pen.specs.Page.{result_of_error}
-use Rattle.yaml_emitter.specs.State.{KeepsSet}
-use Rattle.yaml_dump.specs.Dumps.{EmitsDump, FailsDump, has_some}
+use Rattle.yaml_base.proofs.Common.{◌≤◌, if◌then◌else◌, Option, None, Some, length, Bool, false, true, ◌||◌, List, [], map, ◌++◌, ◌∷◌, refl, ◌≡◌}
+use Rattle.yaml_base.proofs.Common.{length-append, append-nil, append_assoc, inl, inr, ap, subst, sym, ◌∙◌, arith, or-true, false≢true, map-append, Event}
+use Rattle.yaml_base.proofs.Common.{Settings}
+use Rattle.yaml_emitter.proofs.Common.{Promised, StandsAfter, State, KeepsSet}
+use Rattle.std.specs.Prelude.{Err, Ok, Result, IsErrAnd, IsErr, OnOk, OnErr}
+use Rattle.yaml_base.specs.{Seen.seen_event, declared.errors.yaml_error_t.yaml_error_t, declared.events.yaml_event_t.yaml_event_t}
+use Rattle.yaml_dump.specs.Dumps.{EmitsAll, FailsAt, IsBegun, EmitsEach, has_some, FailsDump, EmitsDump, opening, closing}
+use Rattle.yaml_pen.{proofs.Writing.none_from_result, specs.Page.result_of_error, specs.Wrote.Grows}
 
 -- what the caller set stays, but for whether the stream was begun
 abbrev pub KeepsButStart : State → State → Type 0

@@ -1,11 +1,10 @@
 -- Documents that were read of the same bytes say the same.
-use Rattle.yaml_dump.proofs.Common.{Some, List, [], ◌∷◌, subst, sym, ◌∙◌, ◌≡◌, dumped_stream, ContentsUnfold, Graph, content_shape, DocumentTree}
-use Rattle.yaml_dump.proofs.Common.{tree_shape, TreesUnfold}
-use Rattle.yaml_base.{specs.reading.Content.DocumentContent, specs.graphs.Isomorphic.AllAreEquivalent, proofs.SameShapes.same_shape}
-use Rattle.yaml_base.{proofs.SameEvents.same_canonical_output}
-use Rattle.yaml_emitter.proofs.{canonical.CanonicalOutput.output_tells, layouts.StreamOutput.output_tells_content}
+use Rattle.yaml_base.proofs.Common.{Some, List, [], ◌∷◌, ◌≡◌, subst, sym, ◌∙◌, Graph, DocumentContent, DocumentTree}
+use Rattle.yaml_base.{proofs.ContentsUnfold.dumped_stream, proofs.SameEvents.same_canonical_output, proofs.SameShapes.same_shape}
+use Rattle.yaml_base.{specs.graphs.Dumped.ContentsUnfold, specs.graphs.Isomorphic.AllAreEquivalent, specs.graphs.Unfolding.content_shape}
+use Rattle.yaml_dump.{proofs.GraphTreeLemmas.dumped_trees_unfold, specs.GraphTrees.tree_shape, specs.GraphTrees.TreesUnfold}
 use Rattle.yaml_dump.specs.EqualBytes.{OneReading, OneReadingBack, EqualBytes, EqualReadableBytes, EqualDocuments}
-use Rattle.yaml_dump.proofs.GraphTreeLemmas.{dumped_trees_unfold}
+use Rattle.yaml_emitter.proofs.{canonical.CanonicalOutput.output_tells, layouts.StreamOutput.output_tells_content}
 
 some_same : {A : Type 0} {a b : A} → Some a ≡ Some b → a ≡ b
 some_same h = cc

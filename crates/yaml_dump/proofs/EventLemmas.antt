@@ -1,10 +1,10 @@
 -- The events of a walk, one more step at a time.
-use Rattle.yaml_dump.proofs.Common.{suc, flat_map, Option, Some, nat_le, length, Bool, false, true, ◌&&◌, List, [], map, ◌++◌, ◌∷◌, ℕ, ◌+◌, ◌-◌, ◌<◌}
-use Rattle.yaml_dump.proofs.Common.{get_or, take, append-nil, ap, refl, sym, ◌∙◌, ◌≡◌, arith, nat_tests, map-append, Text, Event, seen_event}
-use Rattle.yaml_dump.proofs.Common.{seen_events, yaml_event_t, Graph, Step, enters, opening_events, step_events, IsNumbered, is_numbered}
-use Rattle.yaml_dump.proofs.Common.{anchor_of_place, HasPlaces, seen_events_of, number_in, AreNamed, seen_step}
-use Rattle.std.proofs.lemmas.Grind.{flat_map-append}
-use Rattle.yaml_base.specs.graphs.Meetings.{node_numbered}
+use Rattle.yaml_dump.proofs.Common.{suc, ℕ, ◌+◌, ◌-◌, ◌<◌, flat_map, Option, Some, nat_le, length, slice_index_or as get_or, take, Bool, false, true, ◌&&◌}
+use Rattle.yaml_dump.proofs.Common.{List, [], map, ◌++◌, ◌∷◌, refl, ◌≡◌, append-nil, ap, sym, ◌∙◌, arith, nat_tests, map-append, Text, Event, seen_event}
+use Rattle.yaml_dump.proofs.Common.{seen_events, Graph, Step, enters, opening_events, step_events, IsNumbered, is_numbered, anchor_of_place, HasPlaces}
+use Rattle.yaml_dump.proofs.Common.{seen_events_of, number_in, AreNamed, seen_step}
+use Rattle.yaml_base.proofs.Common.{flat_map-append, node_numbered}
+use Rattle.yaml_base.specs.declared.events.yaml_event_t.{yaml_event_t}
 use Rattle.yaml_dump.proofs.AnchorLemmas.{anchor_placed, seen_more}
 use Rattle.yaml_dump.specs.declared.steps.Step as declared
 

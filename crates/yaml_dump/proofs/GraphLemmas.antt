@@ -1,14 +1,15 @@
 -- A document's events unfold its graph, and so does what is read back of them.
-use Rattle.yaml_dump.proofs.Common.{if◌then◌else◌, OnOk, Option, None, Some, Result, Err, Ok, Vec, length, Bool, false, true, List, [], map, ◌++◌, ◌∷◌}
-use Rattle.yaml_dump.proofs.Common.{ℕ, drop, ap, refl, subst, sym, ◌∙◌, ◌≡◌, false≢true, dumped_stream, document_unfolds, Event, stream_end, seen_event}
-use Rattle.yaml_dump.proofs.Common.{seen_events, Settings, yaml_error_t, yaml_event_t, AreDumped, Graph, Step, steps, document_event_list, DocumentTree}
-use Rattle.yaml_dump.proofs.Common.{EmitsAll, EmitsEach, opening, closing, Promised, StandsAfter, State}
-use Rattle.yaml_base.{specs.Ready.written, specs.graphs.Unfolding.IsDocument, specs.graphs.Unfolding.EventsUnfold, specs.graphs.Dumped.GraphsRead}
-use Rattle.yaml_base.{proofs.QueueLaws.stream_written, specs.streams.StreamContent.agrees, specs.streams.StreamReader.stream_trees}
-use Rattle.yaml_dump.specs.{Dumps.ReadsGraphs, Events.walk_events, GraphTrees.GraphsReadBack, GraphTrees.ReadsTrees}
-use Rattle.yaml_emitter.{specs.Promises.HasRoom, specs.Promises.IsWritten, proofs.EndedStreams.ends_last}
-use Rattle.std.{specs.Prelude.IfOk, proofs.Math.Seq.drop-length}
+use Rattle.yaml_dump.proofs.Common.{ℕ, if◌then◌else◌, OnOk, Option, None, Some, Result, Err, Ok, Vec, drop, length, Bool, false, true, List, [], map, ◌++◌}
+use Rattle.yaml_dump.proofs.Common.{◌∷◌, refl, ◌≡◌, ap, subst, sym, ◌∙◌, false≢true, dumped_stream, document_unfolds, Event, stream_end, seen_event}
+use Rattle.yaml_dump.proofs.Common.{seen_events, Settings, AreDumped, Graph, Step, steps, document_event_list, DocumentTree, EmitsAll, EmitsEach, opening}
+use Rattle.yaml_dump.proofs.Common.{closing, Promised, StandsAfter, State}
+use Rattle.yaml_base.proofs.Common.{written, IsDocument, agrees, stream_trees}
+use Rattle.std.{proofs.Math.Seq.drop-length, specs.Prelude.IfOk}
+use Rattle.yaml_base.{proofs.QueueLaws.stream_written, specs.declared.errors.yaml_error_t.yaml_error_t, specs.declared.events.yaml_event_t.yaml_event_t}
+use Rattle.yaml_base.{specs.graphs.Dumped.GraphsRead, specs.graphs.Unfolding.EventsUnfold}
 use Rattle.yaml_dump.proofs.GraphTreeLemmas.{dumped_trees_unfold}
+use Rattle.yaml_dump.specs.{Dumps.ReadsGraphs, Events.walk_events, GraphTrees.GraphsReadBack, GraphTrees.ReadsTrees}
+use Rattle.yaml_emitter.{proofs.EndedStreams.ends_last, specs.Promises.HasRoom, specs.Promises.IsWritten}
 
 -- the events of a document's walk
 pub walk_unfolds : {A E : Type 0} (graph : Graph) (answer : Result (Vec (yaml_event_t A) A) E) (walk : List Step) → IsDocument graph → walk ≡ steps graph

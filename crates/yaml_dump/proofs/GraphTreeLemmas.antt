@@ -1,26 +1,23 @@
 -- Documents that agree with the events of dumped graphs unfold the graphs.
-use Rattle.yaml_dump.proofs.Common.{if◌then◌else◌, ◌==◌, flat_map, unwrap_or, option_map, Option, None, Some, length, Bool, false, not, true, ◌&&◌}
-use Rattle.yaml_dump.proofs.Common.{◌||◌, List, [], map, ◌++◌, ◌∷◌, ap, refl, subst, sym, ◌∙◌, ◌≡◌, false≢true, map-append, list_all, dumped_stream}
-use Rattle.yaml_dump.proofs.Common.{Text, Event, stream_end, document_start, AreDumped, ContentsUnfold, GraphNode, Graph, Step, enters, leaves}
-use Rattle.yaml_dump.proofs.Common.{meets_again, steps, opening_events, step_events, document_event_list, content_shape, DocumentTree, tree_shape}
-use Rattle.yaml_dump.proofs.Common.{TreesUnfold}
-use Rattle.std.proofs.lemmas.{Bool.and_parts, Bool.and_from, Bool.Decides.Decides-int_eq, List.Folds.list_all-append, Slice.Eq.bytes_eq-Decides}
-use Rattle.std.specs.{Ordering.int_eq, Prelude.ℤ, Prelude.⊤, Prelude.bytes_eq}
-use Rattle.yaml_base.specs.Event.{Version, TagDirective, Scalar, document_end, scalar, sequence_start, sequence_end, mapping_start, mapping_end}
-use Rattle.yaml_base.specs.Event.{scalar_tag, collection_tag}
-use Rattle.yaml_base.specs.Grammar.{Node, alias_node, scalar_node, sequence_node, mapping_node, Nodes, no_nodes, nodes_and, Pairs, no_pairs, pairs_and}
-use Rattle.yaml_base.specs.Grammar.{Document, Documents, no_documents, documents_and, Stream, node_events, nodes_events, pairs_events, document_events}
-use Rattle.yaml_base.specs.Grammar.{documents_events, tree_of}
-use Rattle.yaml_base.specs.reading.Content.{content_tag, node_content, nodes_content, pairs_content, document_content, documents_content}
-use Rattle.yaml_base.specs.graphs.Meetings.{Held, scalar_held, sequence_held, mapping_held, string_tag, sequence_tag, mapping_tag, opening_event_of}
-use Rattle.yaml_base.specs.graphs.Meetings.{closing_event_of, closing_events}
-use Rattle.yaml_base.specs.graphs.Unfolding.{NodeKind, scalar_kind, sequence_kind, mapping_kind, Shape, alias_shape, node_shape, Shapes, no_shapes}
-use Rattle.yaml_base.specs.graphs.Unfolding.{shapes_and, Unfolds, contents_shapes, content_pairs_shapes, explicit_tag}
-use Rattle.yaml_base.specs.streams.StreamContent.{Tagging, with_tag, without_tag, Tree, alias_tree, scalar_tree, sequence_tree, mapping_tree, Trees}
-use Rattle.yaml_base.specs.streams.StreamContent.{no_trees, trees_and, TreePairs, no_tree_pairs, tree_pairs_and, is_same_text, tagging_agrees}
-use Rattle.yaml_base.specs.streams.StreamContent.{tree_agrees, trees_agree, tree_pairs_agree, is_same_version, are_same_directives, document_agrees}
-use Rattle.yaml_base.specs.streams.StreamContent.{documents_in_order, documents_agree}
+use Rattle.yaml_dump.proofs.Common.{if◌then◌else◌, ◌==◌, flat_map, unwrap_or, option_map, Option, None, Some, length, Bool, false, not, true, ◌&&◌, ◌||◌}
+use Rattle.yaml_dump.proofs.Common.{List, [], map, ◌++◌, ◌∷◌, refl, ◌≡◌, ap, subst, sym, ◌∙◌, false≢true, map-append, list_all, dumped_stream, Text, Event}
+use Rattle.yaml_dump.proofs.Common.{stream_end, document_start, AreDumped, ContentsUnfold, GraphNode, Graph, Step, enters, leaves, meets_again, steps}
+use Rattle.yaml_dump.proofs.Common.{opening_events, step_events, document_event_list, content_shape, DocumentTree, tree_shape, TreesUnfold}
+use Rattle.yaml_base.proofs.Common.{⊤, bytes_eq, ℤ, and_parts, and_from, Decides-int_eq, list_all-append, bytes_eq-Decides, Version, TagDirective, Scalar}
+use Rattle.yaml_base.proofs.Common.{document_end, scalar, sequence_start, sequence_end, mapping_start, mapping_end, scalar_tag, collection_tag, Node}
+use Rattle.yaml_base.proofs.Common.{alias_node, scalar_node, Nodes, sequence_node, Pairs, mapping_node, no_nodes, nodes_and, no_pairs, pairs_and, Document}
+use Rattle.yaml_base.proofs.Common.{Documents, no_documents, documents_and, Stream, node_events, nodes_events, pairs_events, document_events}
+use Rattle.yaml_base.proofs.Common.{documents_events, tree_of, Held, scalar_held, sequence_held, mapping_held, string_tag, sequence_tag, mapping_tag}
+use Rattle.yaml_base.proofs.Common.{opening_event_of, closing_event_of, closing_events, scalar_kind, sequence_kind, mapping_kind, Shape, no_shapes}
+use Rattle.yaml_base.proofs.Common.{node_content, Tagging, with_tag, without_tag, Tree, alias_tree, scalar_tree, Trees, sequence_tree, TreePairs}
+use Rattle.yaml_base.proofs.Common.{mapping_tree, no_trees, trees_and, no_tree_pairs, tree_pairs_and, document_agrees, documents_in_order}
+use Rattle.std.specs.Ordering.{int_eq}
 use Rattle.yaml_base.proofs.Trees.{tree_of-stream_events}
+use Rattle.yaml_base.specs.graphs.Unfolding.{NodeKind, alias_shape, Shapes, node_shape, shapes_and, explicit_tag, contents_shapes, content_pairs_shapes}
+use Rattle.yaml_base.specs.graphs.Unfolding.{Unfolds}
+use Rattle.yaml_base.specs.reading.Content.{content_tag, nodes_content, pairs_content, document_content, documents_content}
+use Rattle.yaml_base.specs.streams.StreamContent.{is_same_text, tagging_agrees, tree_agrees, trees_agree, tree_pairs_agree, is_same_version}
+use Rattle.yaml_base.specs.streams.StreamContent.{are_same_directives, documents_agree}
 use Rattle.yaml_dump.specs.GraphTrees.{scalar_tag_read, trees_shapes, tree_pairs_shapes, DumpedTreesUnfold}
 
 -- ---- a dumped node has its tag, or that of its kind where none is written

@@ -1,11 +1,10 @@
 -- A name is `id` and its number, which is padded to three digits.
-use Rattle.yaml_dump.proofs.Common.{suc, ◌^◌, ◌==◌, length, Bool, false, true, List, [], ◌++◌, ◌∷◌, zero, ℕ, ◌%◌, ◌-◌, ◌/◌, ◌<◌, eq-eqb, replicate}
-use Rattle.yaml_dump.proofs.Common.{cond, append-nil, ap, refl, subst, sym, ◌∙◌, ◌≡◌, arith, nat_tests, styled_decimal, numbered_name}
-use Rattle.std.proofs.{Common.◌*◌, Math.Nat.pow-suc, lemmas.Fmt.IsAscii-decimal, lemmas.Str.chars-IsAscii, lemmas.Str.IsAscii-append}
-use Rattle.std.proofs.{lemmas.Str.Ascii.IsAscii-nil, lemmas.Str.Ascii.IsAscii-cons}
-use Rattle.yaml_base.specs.{graphs.Meetings.decimal_digits, Settings.largest_usize}
-use Rattle.std.specs.Fmt.{decimal, digits, digits_onto, digit_glyph, format_spec, padded_integral, char_count}
-use Rattle.std.specs.Str.{IsAscii, chars}
+use Rattle.yaml_base.proofs.Common.{suc, zero, ℕ, ◌%◌, ◌*◌, ◌-◌, ◌/◌, ◌<◌, ◌==◌, length, replicate, Bool, cond, false, true, List, [], ◌++◌, ◌∷◌, refl, ◌≡◌}
+use Rattle.yaml_base.proofs.Common.{eq-eqb, append-nil, ap, subst, sym, ◌∙◌, arith, nat_tests, chars-IsAscii, digit_glyph, digits_onto, chars, numbered_name}
+use Rattle.std.{proofs.Math.Nat.pow-suc, proofs.lemmas.Fmt.IsAscii-decimal, proofs.lemmas.Str.IsAscii-append, proofs.lemmas.Str.Ascii.IsAscii-nil}
+use Rattle.std.{proofs.lemmas.Str.Ascii.IsAscii-cons, specs.Prelude.◌^◌, specs.Str.IsAscii}
+use Rattle.std.specs.Fmt.{char_count, decimal, digits, format_spec, padded_integral, styled_decimal}
+use Rattle.yaml_base.specs.{Settings.largest_usize, graphs.Meetings.decimal_digits}
 
 ascii_zeros : (count : ℕ) → IsAscii (replicate count 0x30)
 ascii_zeros zero = IsAscii-nil

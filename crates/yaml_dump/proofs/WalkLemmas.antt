@@ -1,8 +1,9 @@
 -- The visits that a walk still has to end make of its steps those of the whole walk.
-use Rattle.yaml_dump.proofs.Common.{suc, None, Some, length, Bool, false, true, List, [], ◌++◌, ◌∷◌, zero, ℕ, ◌≤◌, drop, length-append, ap, refl, ◌∙◌}
-use Rattle.yaml_dump.proofs.Common.{◌≡◌, arith, list_any, slice_get, Graph, children, enters, leaves, meets_again, is_entry_of, steps_from, Visit}
+use Rattle.yaml_dump.proofs.Common.{suc, zero, ℕ, ◌≤◌, None, Some, drop, length, Bool, false, true, List, [], ◌++◌, ◌∷◌, refl, ◌≡◌, length-append, ap, ◌∙◌}
+use Rattle.yaml_dump.proofs.Common.{arith, list_any, slice_get, Graph, children, enters, leaves, meets_again, is_entry_of, steps_from}
 use Rattle.std.specs.List.{fold}
 use Rattle.yaml_base.proofs.UnfoldSteps.{from_node}
+use Rattle.yaml_dump.specs.declared.walk.Visit.{Visit}
 use Rattle.yaml_base.specs.graphs.Meetings as meetings
 
 -- steps, and then those of visits that are gone on with to their ends, the innermost first; its children are met at most so many nodes deep

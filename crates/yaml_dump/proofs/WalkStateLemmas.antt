@@ -1,16 +1,16 @@
 -- What holds of a standing of a walk, and that each turn keeps it.
-use Rattle.yaml_dump.proofs.Common.{suc, IfSome, Option, None, Some, Vec, length, Bool, false, true, List, [], map, ◌++◌, ◌∷◌, ℕ, ◌+◌, ◌-◌, ◌<◌, ◌≤◌}
-use Rattle.yaml_dump.proofs.Common.{eq-eqb, get_or, replicate, set, cond, reverse, inl, inr, ◌≢◌, ap, refl, subst, sym, ◌∙◌, ◌≡◌, arith, get_or-map}
-use Rattle.yaml_dump.proofs.Common.{length-map, length-set, get_or-set_other, get_or-set_same, list_any, Graph, is_whole, enters, leaves, meets_again}
-use Rattle.yaml_dump.proofs.Common.{is_entry_of, steps_from, steps, IsNamed, number_in, AreNamed, seen_walker, seen_step, Visit}
-use Rattle.std.proofs.{Common.All, Common.◌⊎◌, Common.ne_eqb, lemmas.Bool.cases_eq, lemmas.List.Folds.sum_by-replicate, lemmas.List.Sums.sum_by-set}
-use Rattle.yaml_dump.{specs.declared.steps.Step.Step, proofs.ChildLemmas.child_named, specs.declared.walk.Walker.Walker}
-use Rattle.std.specs.List.{sum_by}
-use Rattle.std.proofs.lemmas.List.{reverse-append, length_push, get_or-replicate, length-replicate}
-use Rattle.std.proofs.lemmas.List.Elements.{All-nil, All-cons, All-head, All-tail, All-push}
-use Rattle.yaml_dump.specs.WalkState.{WalkState, at_start, with_step, push_visit, with_node, with_meeting, with_child, child_of, with_turn}
-use Rattle.yaml_base.proofs.UnfoldSteps.{none_added, one_added}
-use Rattle.yaml_dump.proofs.WalkLemmas.{finish, finish_left, finish_met, finish_again, finish_entered, finish_longer}
+use Rattle.yaml_base.proofs.Common.{suc, ℕ, ◌+◌, ◌-◌, ◌<◌, ◌≤◌, All, Option, None, Some, length, replicate, slice_index_or as get_or, Bool, cond, false, true}
+use Rattle.yaml_base.proofs.Common.{List, [], map, ◌++◌, ◌∷◌, ◌⊎◌, refl, ◌≡◌, eq-eqb, ne_eqb, inl, inr, ap, subst, sym, ◌∙◌, arith, cases_eq, length-map}
+use Rattle.yaml_base.proofs.Common.{All-head, All-tail, list_any, Graph, is_whole, enters, leaves, meets_again, is_entry_of, steps_from}
+use Rattle.std.{proofs.Common.reverse, proofs.Common.set, proofs.Common.◌≢◌, proofs.lemmas.List.Elements.All-nil, proofs.lemmas.List.Elements.All-cons}
+use Rattle.std.{proofs.lemmas.List.Elements.All-push, proofs.lemmas.List.Folds.sum_by-replicate, proofs.lemmas.List.Sums.sum_by-set, specs.List.sum_by}
+use Rattle.std.{specs.Prelude.Vec, specs.Prelude.IfSome}
+use Rattle.std.proofs.lemmas.List.{get_or-replicate, get_or-set_other, get_or-set_same, length-replicate, length-set, reverse-append, length_push, get_or-map}
+use Rattle.yaml_base.{proofs.UnfoldSteps.none_added, proofs.UnfoldSteps.one_added, specs.graphs.Meetings.steps}
+use Rattle.yaml_dump.{proofs.ChildLemmas.child_named, specs.Named.IsNamed, specs.Named.number_in, specs.Named.AreNamed, specs.WalkSteps.seen_step}
+use Rattle.yaml_dump.{specs.declared.steps.Step.Step, specs.declared.walk.Visit.Visit, specs.declared.walk.Walker.Walker}
+use Rattle.yaml_dump.proofs.WalkLemmas.{finish, finish_longer, finish_left, finish_met, finish_again, finish_entered}
+use Rattle.yaml_dump.specs.WalkState.{WalkState, seen_walker, at_start, with_step, push_visit, with_node, with_meeting, child_of, with_child, with_turn}
 use Rattle.yaml_base.specs.graphs.Meetings as meetings
 
 -- how many nodes were not entered yet

@@ -1,12 +1,6 @@
 -- What crates that write whole values need, so that a value's events are an accepted list.
-use Rattle.std.proofs.Common.{◌≡◌, ◌∙◌, arith, subst, sym}
-use Rattle.std.proofs.lemmas.Bool.{and_from}
-use Rattle.std.proofs.lemmas.List.Folds.{list_all-append}
-use Rattle.std.proofs.lemmas.List.Sums.{sum_by-append}
-use Rattle.std.specs.Prelude.{ℕ, zero, suc, ◌+◌, ◌-◌, ◌≤◌, Bool, true, false, cond, List, [], ◌∷◌, ◌++◌, count_by}
-use Rattle.std.specs.List.{list_all}
-use Rattle.yaml_base.specs.Event.{Event}
-use Rattle.yaml_base.specs.Refusal.{is_sound, begins_collection, ends_collection, open_count}
+use Rattle.yaml_base.proofs.Common.{suc, zero, ℕ, ◌+◌, ◌-◌, ◌≤◌, count_by, Bool, cond, false, true, List, [], ◌++◌, ◌∷◌, ◌≡◌, subst, sym, ◌∙◌, arith}
+use Rattle.yaml_base.proofs.Common.{and_from, list_all-append, sum_by-append, list_all, Event, begins_collection, ends_collection, is_sound, open_count}
 
 -- ---- each event is in order
 

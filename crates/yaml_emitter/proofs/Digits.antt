@@ -1,12 +1,7 @@
 -- The digits of integers.
-use Rattle.std.proofs.Common.{◌≡◌, ap, ◌∙◌, arith, w64, Fits, FitsSigned}
-use Rattle.std.proofs.lemmas.Fmt.{IsAscii-decimal, IsAscii-signed}
-use Rattle.std.proofs.lemmas.Str.{chars-IsAscii}
-use Rattle.std.specs.Prelude.{ℕ, ℤ, pos, negsuc, ◌^◌, ◌<◌}
-use Rattle.std.specs.Fmt.{decimal, signed_decimal}
-use Rattle.std.specs.Int.Signed.{mag}
-use Rattle.std.specs.Str.{chars}
-use Rattle.yaml_base.specs.Characters.{Text}
+use Rattle.yaml_emitter.proofs.Common.{ℕ, ◌<◌, negsuc, pos, ℤ, ◌≡◌, FitsSigned, ap, ◌∙◌, arith, chars-IsAscii, chars, Text}
+use Rattle.std.{proofs.Common.Fits, proofs.Common.w64, proofs.lemmas.Fmt.IsAscii-decimal, proofs.lemmas.Fmt.IsAscii-signed, specs.Fmt.decimal}
+use Rattle.std.{specs.Fmt.signed_decimal, specs.Int.Signed.mag, specs.Prelude.◌^◌}
 
 -- an integer of 64 bits
 pub mag_fits : (n : ℤ) → FitsSigned w64 n → mag n < 2 ^ 63

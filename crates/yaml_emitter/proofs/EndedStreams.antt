@@ -1,8 +1,5 @@
 -- A list whose last event is the stream's end ends the stream.
-use Rattle.std.proofs.Common.{◌≡◌, refl, ◌∙◌}
-use Rattle.std.specs.Prelude.{true, List, [], ◌∷◌, ◌++◌}
-use Rattle.yaml_base.specs.Event.{Event, stream_end}
-use Rattle.yaml_emitter.specs.Promises.{ends_stream}
+use Rattle.yaml_emitter.proofs.Common.{true, List, [], ◌++◌, ◌∷◌, refl, ◌≡◌, ◌∙◌, Event, stream_end, ends_stream}
 
 -- more events before the last are passed over
 ends_later : (event next : Event) (rest : List Event) → ends_stream (event ∷ next ∷ rest) ≡ ends_stream (next ∷ rest)

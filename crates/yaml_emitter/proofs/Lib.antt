@@ -1,3 +1,4 @@
+pub mod Common
 pub mod standing
 pub mod events_done
 pub mod layouts

@@ -1,21 +1,12 @@
 -- The events of a JSON value that isn't nested too deep are an accepted list.
-use Rattle.std.proofs.Common.{◌≡◌, refl, sym, arith, subst, append_assoc}
-use Rattle.std.proofs.Math.Nat.{le-max_left, le-max_right}
-use Rattle.std.proofs.lemmas.Bool.{and_from}
-use Rattle.std.specs.Prelude.{ℕ, suc, ◌+◌, ◌≤◌, Bool, true, false, List, [], ◌∷◌, ◌++◌, if◌then◌else◌}
-use Rattle.std.specs.Str.{chars}
-use Rattle.json.specs.Json.{Json, null, boolean, number, string, array, object, Items, no_items, item, Members, no_members, member}
-use Rattle.json.specs.Tree.{depth as nesting, items_depth as items_nesting, members_depth as members_nesting}
-use Rattle.yaml_base.specs.Characters.{Text}
-use Rattle.yaml_base.specs.Event.{Event, scalar, sequence_start, sequence_end, mapping_start, mapping_end}
-use Rattle.yaml_base.specs.values.JsonNumbers.{is_json_integer, yaml_number}
-use Rattle.yaml_base.specs.Refusal.{is_sound, IsAccepted, open_count, most_open}
-use Rattle.yaml_base.specs.values.TypedValues.{int_tag}
+use Rattle.yaml_json.proofs.Common.{suc, ℕ, ◌+◌, ◌≤◌, if◌then◌else◌, Bool, false, true, List, [], ◌++◌, ◌∷◌, refl, ◌≡◌, append_assoc, subst, sym, arith}
+use Rattle.yaml_json.proofs.Common.{le-max_left, le-max_right, and_from, chars, Json, null, boolean, number, string, Items, array, Members, object, no_items}
+use Rattle.yaml_json.proofs.Common.{item, no_members, member, depth as nesting, Text, Event, scalar, sequence_start, sequence_end, mapping_start, mapping_end}
+use Rattle.yaml_json.proofs.Common.{most_open, is_sound, open_count, IsAccepted, is_json_integer, yaml_number, int_tag, word_content, null_content}
+use Rattle.yaml_json.proofs.Common.{bool_content, number_content, text_content, collection_in, json_events, items_events, members_events, number_in, opening}
+use Rattle.yaml_json.proofs.Common.{closing, float_tag}
+use Rattle.json.specs.Tree.{items_depth as items_nesting, members_depth as members_nesting}
 use Rattle.yaml_emitter.proofs.AcceptedLists.{sound, both_sound, Stays, few_open}
-use Rattle.yaml_writer.specs.NumberParts.{number_in}
-use Rattle.yaml_writer.specs.Writing.{closing, float_tag, opening}
-use Rattle.yaml_json.specs.JsonEvents.{bool_content, collection_in, items_events, json_events, members_events, null_content, number_content, text_content}
-use Rattle.yaml_json.specs.JsonEvents.{word_content}
 use Rattle.yaml_json.proofs.Trees.{json_stream, stream_flat}
 
 -- the events of the stream of a value

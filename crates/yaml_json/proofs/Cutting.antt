@@ -1,15 +1,11 @@
 -- Where a text of several ends.
-use Rattle.std.proofs.Common.{◌≡◌, ℕ, zero, suc, ◌+◌, ◌-◌, ◌<◌, ◌≤◌, refl, sym, ap, ap₂, ◌∙◌, subst, append_assoc, append-nil, arith, inl, inr}
-use Rattle.std.proofs.Common.{get_or, take, drop, length-append, drop-cons}
-use Rattle.std.proofs.lemmas.List.{length-drop, length-take-le, take_all, take-append-drop, take-append-le, take_more}
-use Rattle.std.specs.Prelude.{◌⊎◌, Bool, true, false, ◌||◌, Option, None, Some, List, [], ◌∷◌, ◌++◌, length, IsCharBoundary}
-use Rattle.json.specs.Word.{is_operator, is_space}
-use Rattle.yaml_json.specs.declared.cuts.Cut.{Cut}
-use Rattle.yaml_json.specs.declared.cuts.Mode.{Mode}
-use Rattle.yaml_json.specs.declared.cuts.Mode.TheVariants.{Before, Within, InString, AfterBackslash, InWord, Behind}
-use Rattle.yaml_json.specs.declared.cuts.Scan.{Scan}
-use Rattle.yaml_json.specs.Cuts.{CutsAt, HasScanned, Scanned, all_onto}
-use Rattle.yaml_json.specs.Texts.{CutsFirstText, after_byte, scan_first_byte, scan_in_string, scan_within, cut_before, onto_first, texts_after, texts_in}
+use Rattle.yaml_json.proofs.Common.{suc, zero, ℕ, ◌+◌, ◌<◌, ◌≤◌, Option, None, Some, drop, length, slice_index_or as get_or, take, List, [], ◌++◌, ◌∷◌, refl}
+use Rattle.yaml_json.proofs.Common.{◌≡◌, length-append, length-drop, take-append-drop, length-take-le, take_all, append-nil, append_assoc, inl, inr, ap}
+use Rattle.yaml_json.proofs.Common.{subst, sym, ◌∙◌, arith, HasScanned, CutsAt, after_byte, texts_in, CutsFirstText}
+use Rattle.std.proofs.{Common.drop-cons, lemmas.List.take-append-le, lemmas.List.take_more}
+use Rattle.yaml_json.specs.{Cuts.all_onto, Cuts.Scanned, declared.cuts.Cut.Cut, declared.cuts.Mode.Mode, declared.cuts.Scan.Scan}
+use Rattle.yaml_json.specs.Texts.{scan_first_byte, scan_within, scan_in_string, onto_first, cut_before, texts_after}
+use Rattle.yaml_json.specs.declared.cuts.Mode.TheVariants.{AfterBackslash, Before, Behind, InString, InWord, Within}
 
 onto_one_more : (bytes : List ℕ) (byte : ℕ) (texts : List (List ℕ)) → all_onto (bytes ++ byte ∷ []) texts ≡ all_onto bytes (onto_first byte texts)
 onto_one_more [] byte texts = refl

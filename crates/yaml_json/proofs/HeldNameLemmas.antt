@@ -1,19 +1,10 @@
 -- The sets that hold the names of the objects that are open.
-use Rattle.std.proofs.Common.{◌≡◌, ◌-◌, refl, sym, ap, ap₂, ◌∙◌, subst, arith, inl, inr, set, get_or, length-append}
-use Rattle.std.proofs.Math.Seq.{get_or-append_seam, set-append_seam}
-use Rattle.std.proofs.lemmas.Bool.Decides.{Decides-like, same_from_decides}
-use Rattle.std.proofs.lemmas.Map.Text.{is_eq-slice_cmp}
-use Rattle.std.specs.BTreeSet.{BTreeSet, Updates, contains_by}
-use Rattle.std.specs.Borrow.{Bor}
-use Rattle.std.specs.Cmp.Lexicographic.{slice_cmp}
-use Rattle.std.specs.Ordering.{nat_cmp}
-use Rattle.std.specs.declared.cmp.Ordering.{Ordering}
-use Rattle.std.proofs.lemmas.Bool.{both_ways, or_cases, or_parts}
-use Rattle.std.proofs.lemmas.Slice.Eq.{bytes_eq-Decides}
-use Rattle.std.specs.Prelude.{◌⊎◌, ℕ, Bool, true, false, List, [], ◌∷◌, ◌++◌, ◌||◌, bytes_eq, cond, length, not}
-use Rattle.std.specs.List.{list_any}
-use Rattle.yaml_json.specs.HeldNames.{HasNames, HaveNames}
-use Rattle.yaml_json.specs.Names.{IsNewName}
+use Rattle.yaml_base.proofs.Common.{ℕ, ◌-◌, bytes_eq, length, slice_index_or as get_or, Bool, cond, false, not, true, ◌||◌, List, [], ◌++◌, ◌∷◌, refl, ◌≡◌}
+use Rattle.yaml_base.proofs.Common.{length-append, inl, inr, ap, subst, sym, ◌∙◌, arith, or_cases, or_parts, same_from_decides, bytes_eq-Decides, list_any}
+use Rattle.std.{proofs.Common.ap₂, proofs.Common.set, proofs.Math.Seq.get_or-append_seam, proofs.Math.Seq.set-append_seam, proofs.lemmas.Bool.both_ways}
+use Rattle.std.{proofs.lemmas.Bool.Decides.Decides-like, proofs.lemmas.Map.Text.is_eq-slice_cmp, specs.BTreeSet.BTreeSet, specs.BTreeSet.Updates}
+use Rattle.std.{specs.BTreeSet.contains_by, specs.Borrow.Bor, specs.Cmp.Lexicographic.slice_cmp, specs.Ordering.nat_cmp, specs.declared.cmp.Ordering.Ordering}
+use Rattle.yaml_json.specs.{HeldNames.HasNames, HeldNames.HaveNames, Names.IsNewName}
 
 -- a name is new exactly where it is none of those
 pub new_among : (names : List (List ℕ)) (name : List ℕ) → list_any (bytes_eq name) names ≡ false → IsNewName names name

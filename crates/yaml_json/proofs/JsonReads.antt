@@ -1,31 +1,15 @@
 -- What the reader of whole streams finds in the bytes of a stream of JSON values.
-use Rattle.std.proofs.Common.{◌≡◌, sym, ap, ◌∙◌, append_assoc, append-nil}
-use Rattle.std.proofs.lemmas.List.{take_all}
-use Rattle.std.specs.List.{list_all}
-use Rattle.std.specs.Prelude.{ℕ, Bool, true, None, Some, List, [], ◌∷◌, ◌++◌, map}
-use Rattle.json.specs.Json.{Json}
-use Rattle.json.specs.Tree.{HasNumbers}
-use Rattle.yaml_base.specs.Event.{Event}
-use Rattle.yaml_base.specs.Grammar.{Documents, no_documents, documents_and}
-use Rattle.yaml_base.specs.Layout.{root_place}
-use Rattle.yaml_base.specs.Meaning.{has_scalar_texts}
-use Rattle.yaml_base.specs.Output.{bytes_written, settings_for}
-use Rattle.yaml_base.specs.Pieces.{list_layout}
-use Rattle.yaml_base.specs.Refusal.{IsAccepted}
-use Rattle.yaml_base.specs.values.SchemaCore.{resolved_by_core}
-use Rattle.yaml_base.specs.values.SchemaOf11.{resolved_by_11}
-use Rattle.yaml_base.specs.Settings.{Settings, Effective}
-use Rattle.yaml_base.specs.streams.StreamContent.{DocumentTree, Tree}
-use Rattle.yaml_base.specs.streams.StreamReader.{stream_trees}
-use Rattle.yaml_base.specs.Tags.{directives_in_force}
-use Rattle.yaml_base.proofs.stream_documents.StreamWholeReads.{document_trees}
-use Rattle.yaml_base.proofs.stream_nodes.StreamAgrees.{document_tree, node_tree}
+use Rattle.yaml_json.proofs.Common.{ℕ, None, Some, Bool, true, List, [], map, ◌++◌, ◌∷◌, ◌≡◌, take_all, append-nil, append_assoc, ap, sym, ◌∙◌, list_all}
+use Rattle.yaml_json.proofs.Common.{Json, HasNumbers, node_tree, Event, Documents, no_documents, documents_and, has_scalar_texts, IsAccepted, Settings}
+use Rattle.yaml_json.proofs.Common.{Effective, directives_in_force, Tree, resolved_by_core, resolved_by_11, Schema}
+use Rattle.yaml_base.proofs.Common.{root_place, settings_for, bytes_written, list_layout, DocumentTree, stream_trees}
+use Rattle.yaml_base.proofs.{stream_documents.StreamWholeReads.document_trees, stream_nodes.StreamAgrees.document_tree}
 use Rattle.yaml_emitter.proofs.layouts.StreamsReadBack.{stream_found}
-use Rattle.yaml_writer.specs.Writing.{IsStream}
-use Rattle.yaml_json.specs.Means.{AllMean, ReadsAsJson, ReadsAsValues, Schema, plain_document}
-use Rattle.yaml_json.proofs.Meanings.{ReadsScalars, node_means, reads_by_11, reads_by_core}
+use Rattle.yaml_json.proofs.Meanings.{ReadsScalars, reads_by_11, reads_by_core, node_means}
 use Rattle.yaml_json.proofs.Portable.{portable_events}
-use Rattle.yaml_json.proofs.Trees.{all_events, json_document, json_documents, json_node, json_stream, stream_flat, values_of}
+use Rattle.yaml_json.proofs.Trees.{json_node, json_document, json_documents, json_stream, values_of, all_events, stream_flat}
+use Rattle.yaml_json.specs.Means.{AllMean, plain_document, ReadsAsValues, ReadsAsJson}
+use Rattle.yaml_writer.specs.Writing.{IsStream}
 
 -- each number of each value is one
 abbrev pub HaveNumbers : List Json → Type 0

@@ -1,15 +1,11 @@
 -- The names that are kept while the tokens of a value are walked over.
-use Rattle.std.proofs.Common.{◌≡◌, ℕ, suc, refl, sym, ap, ◌∙◌, subst, append_assoc, arith, inl, inr, length-append}
-use Rattle.std.proofs.lemmas.Bool.{both_ways, cases_Bool}
-use Rattle.std.specs.Prelude.{◌⊎◌, Bool, true, false, List, [], ◌∷◌, ◌++◌, length}
-use Rattle.json.specs.Token.{Token}
-use Rattle.yaml_writer.specs.declared.kinds.CollectionKind.{CollectionKind}
-use Rattle.yaml_writer.specs.declared.kinds.CollectionKind.TheVariants.{Mapping, Sequence}
-use Rattle.yaml_json.specs.HeldNames.{AddsName, HaveNames, HoldsNames}
-use Rattle.yaml_json.specs.Names.{IsNewName, NamesOnce, all_names_after, inner_names, names_after, outer_names}
-use Rattle.yaml_json.specs.Walk.{FitsNames, HasUniqueNames, IsScalar, KeepsNames, Keeps, KeepsTo, LeavesNames, closer, opener}
-use Rattle.yaml_json.specs.declared.names.Names.{Names}
-use Rattle.yaml_json.proofs.NameLemmas.{names_after_both, once_both}
+use Rattle.yaml_json.proofs.Common.{ℕ, length, Bool, false, true, List, [], ◌++◌, ◌∷◌, refl, ◌≡◌, length-append, append_assoc, inl, inr, ap, subst, sym, ◌∙◌}
+use Rattle.yaml_json.proofs.Common.{arith, both_ways, Token, HaveNames, HoldsNames, AddsName, IsNewName, inner_names, names_after, NamesOnce, all_names_after}
+use Rattle.yaml_json.proofs.Common.{IsScalar, opener, closer, KeepsNames, FitsNames, Keeps, HasUniqueNames}
+use Rattle.std.proofs.lemmas.Bool.{cases_Bool}
+use Rattle.yaml_json.proofs.NameLemmas.{once_both, names_after_both}
+use Rattle.yaml_json.specs.{Names.outer_names, Walk.KeepsTo, Walk.LeavesNames, declared.names.Names.Names}
+use Rattle.yaml_writer.specs.declared.kinds.{CollectionKind.CollectionKind, CollectionKind.TheVariants.Mapping, CollectionKind.TheVariants.Sequence}
 
 abbrev Taken : Type 0
 Taken = List (List (List ℕ))

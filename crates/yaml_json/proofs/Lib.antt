@@ -1,3 +1,4 @@
+pub mod Common
 pub mod WroteLemmas
 pub mod TokenLemmas
 pub mod Stopping

@@ -1,40 +1,23 @@
 -- What the tree of a JSON value means, wherever each scalar stands.
-use Rattle.std.proofs.Common.{◌≡◌, refl, sym, ap, ◌∙◌, subst, append_assoc, append-nil}
-use Rattle.std.proofs.lemmas.Bool.{and_parts, false≢true}
-use Rattle.std.proofs.lemmas.Slice.Eq.{bytes_eq-Decides}
-use Rattle.std.specs.Prelude.{Bool, true, false, Option, None, List, [], ◌∷◌, ◌++◌, ◌&&◌, bytes_eq, codes, is_some, if◌then◌else◌}
-use Rattle.std.specs.Str.{chars}
-use Rattle.std.specs.Str.Parse.{digits_value}
-use Rattle.json.specs.Json.{Json, null, boolean, number, string, array, object, Items, no_items, item, Members, no_members, member}
-use Rattle.json.specs.Tree.{HasNumbers, ItemsHaveNumbers, MembersHaveNumbers}
-use Rattle.yaml_base.specs.scalars.Analysis.{Allowances, allowances, is_empty}
-use Rattle.yaml_base.specs.Characters.{Text}
-use Rattle.yaml_base.specs.Event.{Scalar, ScalarStyle, any_style, plain, single_quoted, double_quoted, literal, folded, TagDirective}
-use Rattle.yaml_base.specs.Grammar.{scalar_node, Nodes, no_nodes, nodes_and, Pairs, no_pairs, pairs_and}
-use Rattle.yaml_base.specs.values.JsonNumbers.{JsonNumber, fraction_or_default, is_json_integer, is_json_number, json_value, means_number}
-use Rattle.yaml_base.specs.values.JsonNumbers.{number_meant, value_with}
-use Rattle.yaml_base.specs.values.JsonNumbers.{yaml_number}
-use Rattle.yaml_base.specs.Layout.{as_item, as_key, as_value, Place, has_no_nodes, has_no_pairs, is_simple, is_simple_at, is_written_in_flow, entry_place}
-use Rattle.yaml_base.specs.NodeLayout.{charset_of, choice_of}
-use Rattle.yaml_base.specs.Event.{collection_tag, scalar_tag}
-use Rattle.yaml_base.specs.values.Resolved.{Resolved, meant_null, meant_boolean, meant_integer, meant_decimal, meant_text, meant_by_nobody, signed}
-use Rattle.yaml_base.specs.values.SchemaCore.{resolved_by_core}
-use Rattle.yaml_base.specs.values.SchemaOf11.{resolved_by_11}
-use Rattle.yaml_base.specs.Settings.{Effective, escapes_separators}
-use Rattle.yaml_base.specs.streams.StreamContent.{Stood, stood_plain, stood_quoted, Tagging, with_tag, without_tag, Tree, sequence_tree, mapping_tree}
-use Rattle.yaml_base.specs.scalars.Style.{Choice, chosen, is_plain}
-use Rattle.yaml_base.specs.values.TypedValues.{null_tag, bool_tag, int_tag, bool_text}
-use Rattle.yaml_base.proofs.JsonSpelling.{spelling_keeps_value}
-use Rattle.yaml_base.proofs.NumbersRead.{spelling_read}
-use Rattle.yaml_base.proofs.stream_nodes.StreamAgrees.{standing_in, tagging_in, node_tree, nodes_tree, pairs_tree}
-use Rattle.yaml_writer.proofs.PlainLemmas.{plain_texts}
-use Rattle.yaml_writer.proofs.PlainNumbers.{written_numbers}
-use Rattle.yaml_writer.specs.NumberParts.{number_in}
-use Rattle.yaml_writer.specs.Writing.{float_tag, number_tag, text_style}
-use Rattle.yaml_json.specs.JsonEvents.{bool_content, collection_in, null_content, number_content, text_content, word_content}
-use Rattle.yaml_json.specs.Means.{Schema, canonical_tag, scalar_meant, in_order, pairs_in_order, Means, ItemsMean, MembersMean}
-use Rattle.yaml_json.proofs.NumberBridge.{number_is}
-use Rattle.yaml_json.proofs.Trees.{json_node, items_nodes, members_pairs}
+use Rattle.yaml_json.proofs.Common.{if◌then◌else◌, is_some, bytes_eq, Option, None, codes, Bool, false, true, ◌&&◌, List, [], ◌++◌, ◌∷◌, refl, ◌≡◌}
+use Rattle.yaml_json.proofs.Common.{append-nil, append_assoc, ap, subst, sym, ◌∙◌, and_parts, false≢true, bytes_eq-Decides, chars, Json, null, boolean}
+use Rattle.yaml_json.proofs.Common.{number, string, Items, array, Members, object, no_items, item, no_members, member, HasNumbers, node_tree, Text}
+use Rattle.yaml_json.proofs.Common.{ScalarStyle, plain, Scalar, scalar_tag, collection_tag, scalar_node, Nodes, Pairs, no_nodes, nodes_and, no_pairs}
+use Rattle.yaml_json.proofs.Common.{pairs_and, Effective, is_empty, is_plain, Tree, JsonNumber, is_json_number, fraction_or_default, is_json_integer}
+use Rattle.yaml_json.proofs.Common.{yaml_number, resolved_by_core, resolved_by_11, null_tag, bool_tag, int_tag, bool_text, word_content, null_content}
+use Rattle.yaml_json.proofs.Common.{bool_content, number_content, text_content, collection_in, Schema, number_in, float_tag, number_tag, text_style}
+use Rattle.yaml_base.proofs.Common.{digits_value, any_style, single_quoted, double_quoted, literal, folded, TagDirective, charset_of, choice_of}
+use Rattle.yaml_base.proofs.Common.{is_written_in_flow, entry_place, as_item, as_key, as_value, Place, has_no_nodes, has_no_pairs, is_simple, is_simple_at}
+use Rattle.yaml_base.proofs.Common.{Allowances, allowances, Choice, chosen, Stood, stood_plain, stood_quoted, Tagging, with_tag, without_tag, sequence_tree}
+use Rattle.yaml_base.proofs.Common.{mapping_tree, json_value, number_meant, means_number, Resolved, meant_integer, meant_decimal, meant_text, signed}
+use Rattle.json.specs.Tree.{ItemsHaveNumbers, MembersHaveNumbers}
+use Rattle.yaml_base.{proofs.JsonSpelling.spelling_keeps_value, proofs.NumbersRead.spelling_read, specs.Settings.escapes_separators}
+use Rattle.yaml_base.{specs.values.JsonNumbers.value_with, specs.values.Resolved.meant_null, specs.values.Resolved.meant_boolean}
+use Rattle.yaml_base.{specs.values.Resolved.meant_by_nobody}
+use Rattle.yaml_base.proofs.stream_nodes.StreamAgrees.{standing_in, tagging_in, nodes_tree, pairs_tree}
+use Rattle.yaml_json.proofs.{NumberBridge.number_is, Trees.json_node, Trees.items_nodes, Trees.members_pairs}
+use Rattle.yaml_json.specs.Means.{canonical_tag, scalar_meant, in_order, pairs_in_order, Means, ItemsMean, MembersMean}
+use Rattle.yaml_writer.proofs.{PlainLemmas.plain_texts, PlainNumbers.written_numbers}
 
 -- Schemas
 

@@ -1,13 +1,10 @@
 -- That no name comes twice among the tokens of a value is that each object has it once.
-use Rattle.std.proofs.Common.{◌≡◌, ◌<◌, suc, slice_index_or, arith, refl, sym, ap, ◌∙◌, subst, append_assoc, append-nil}
-use Rattle.std.proofs.lemmas.List.Elements.{All-cons, All-nil}
-use Rattle.std.proofs.lemmas.List.Kept.{AllPairs-cons}
-use Rattle.std.specs.Prelude.{◌≢◌, ⊤, ℕ, List, [], ◌∷◌, ◌++◌, All, length}
-use Rattle.json.specs.Token.{Token}
-use Rattle.json.specs.Json.{Json, null, boolean, number, string, array, object, Items, no_items, item, Members, no_members, member}
-use Rattle.json.specs.Strict.{AreDistinct, HasUniqueKeys, ItemsHaveUniqueKeys, MembersHaveUniqueKeys, keys}
-use Rattle.json.specs.Tree.{json_tokens, items_tokens, members_tokens}
-use Rattle.yaml_json.specs.Names.{IsNewName, IsNewNameIn, NamesOnce, all_names_after, names_after}
+use Rattle.yaml_json.proofs.Common.{suc, ℕ, ◌<◌, length, slice_index_or, List, [], ◌++◌, ◌∷◌, refl, ◌≡◌, append-nil, append_assoc, subst, sym, arith, Json}
+use Rattle.yaml_json.proofs.Common.{null, boolean, number, string, Items, array, Members, object, no_items, item, no_members, member, Token, json_tokens}
+use Rattle.yaml_json.proofs.Common.{items_tokens, members_tokens, IsNewName, names_after, NamesOnce, all_names_after}
+use Rattle.yaml_base.proofs.Common.{⊤, All}
+use Rattle.std.{proofs.lemmas.List.Elements.All-nil, proofs.lemmas.List.Elements.All-cons, proofs.lemmas.List.Kept.AllPairs-cons, specs.Prelude.◌≢◌}
+use Rattle.json.specs.Strict.{keys, AreDistinct, HasUniqueKeys, ItemsHaveUniqueKeys, MembersHaveUniqueKeys}
 
 -- some tokens, and then others
 pub once_both : (levels : List (List (List ℕ))) (first second : List Token) → NamesOnce levels first → NamesOnce (all_names_after levels first) second

@@ -1,21 +1,13 @@
 -- What a reader of JSON takes for a number is one by the definition of numbers.
-use Rattle.std.proofs.Common.{◌≡◌, refl, sym, ap, ◌∙◌, subst, append_assoc, append-nil, arith}
-use Rattle.std.proofs.lemmas.Bool.{agree_below_at, and_from, and_parts, eqb-true, false≢true, leb-true, not_from_false, or_right}
-use Rattle.std.proofs.lemmas.List.{take-append-drop}
-use Rattle.std.proofs.lemmas.List.Folds.{length-prefix_len}
-use Rattle.std.proofs.lemmas.List.Sums.{take_while-cons}
-use Rattle.std.specs.Char.{is_ascii_digit}
-use Rattle.std.specs.List.{list_all, prefix_len, take_while}
-use Rattle.std.specs.Prelude.{ℕ, Bool, true, false, cond, Option, None, Some, [], ◌∷◌, ◌++◌, ◌==◌, ◌||◌, ◌&&◌, not, codes, drop, length, nat_le}
-use Rattle.std.specs.Prelude.{option_and_then, take, if◌then◌else◌}
+use Rattle.yaml_json.proofs.Common.{ℕ, if◌then◌else◌, ◌==◌, option_and_then, Option, None, Some, codes, drop, length, take, Bool, cond, false, not, true}
+use Rattle.yaml_json.proofs.Common.{◌&&◌, ◌||◌, [], ◌++◌, ◌∷◌, refl, ◌≡◌, eqb-true, take-append-drop, append-nil, append_assoc, ap, subst, sym, ◌∙◌, arith}
+use Rattle.yaml_json.proofs.Common.{and_parts, and_from, not_from_false, false≢true, list_all, Text, JsonNumber, minus, are_digits, number_found, number_in}
+use Rattle.yaml_json.proofs.Common.{IsNumber}
+use Rattle.yaml_base.proofs.Common.{nat_le, leb-true, or_right, agree_below_at, take_while-cons, take_while, is_word, JsonExponent, is_decimal}
+use Rattle.std.{proofs.lemmas.List.Folds.length-prefix_len, specs.Char.is_ascii_digit, specs.List.prefix_len}
+use Rattle.json.specs.Word.{after_digits, after_minus, after_sign, after_whole, after_fraction, after_exponent, after_number}
+use Rattle.yaml_base.specs.values.JsonNumbers.{is_whole, exponent_text}
 use Rattle.json.specs.Print as json
-use Rattle.json.specs.Word.{after_digits, after_exponent, after_fraction, after_minus, after_number, after_sign, after_whole}
-use Rattle.yaml_base.specs.Characters.{Text}
-use Rattle.yaml_base.specs.values.JsonNumbers.{JsonExponent, JsonNumber, exponent_text, is_whole, minus}
-use Rattle.yaml_base.specs.values.Resolved.{are_digits, is_decimal}
-use Rattle.yaml_base.specs.Words.{is_word}
-use Rattle.yaml_writer.specs.NumberParts.{IsNumber, number_in}
-use Rattle.yaml_writer.proofs.PartLemmas.{number_found}
 
 -- Parts that were passed over
 

@@ -1,28 +1,13 @@
 -- Of the events of a JSON value none is refused but for its depth.
-use Rattle.std.proofs.Common.{◌≡◌, refl, sym, ap, ◌∙◌, arith, subst, append_assoc, inl, inr}
-use Rattle.std.proofs.lemmas.Bool.{and_parts, cases_lt}
-use Rattle.std.proofs.lemmas.List.Folds.{list_all-append}
-use Rattle.std.specs.Prelude.{ℕ, ◌<◌, Bool, true, false, not, ◌&&◌, nat_lt, Option, None, Some, List, [], ◌∷◌, ◌++◌, length, is_none, option_and_then}
-use Rattle.std.specs.Prelude.{unwrap_or}
-use Rattle.std.specs.List.{list_all}
-use Rattle.std.specs.Option.{option_or}
-use Rattle.json.specs.Json.{Json}
-use Rattle.json.specs.Tree.{depth as nesting}
-use Rattle.yaml_base.proofs.Completions.{prefix_is_partial, pushed-append}
-use Rattle.yaml_base.proofs.NoFaults.{is_none_none, neither}
-use Rattle.yaml_base.proofs.Trees.{stream_pushed}
-use Rattle.yaml_base.specs.Event.{Event}
-use Rattle.yaml_base.specs.Grammar.{Partial, Stream, after_stream, before_stream, partial_of, push, pushed}
-use Rattle.yaml_base.specs.Prefix.{IsPrefix}
-use Rattle.yaml_base.specs.Refusal.{IsAccepted, begins_collection, content_fault, depth_fault, expected, some_if, is_sound, most_open, name_or_tag_fault}
-use Rattle.yaml_base.specs.Refusal.{open_levels, place_fault, refusal, refusal_at}
-use Rattle.yaml_base.specs.Settings.{Settings}
-use Rattle.yaml_base.specs.declared.errors.yaml_error_t.{yaml_error_t}
-use Rattle.yaml_base.specs.declared.errors.yaml_error_t.TheVariants.{TooDeep}
-use Rattle.yaml_emitter.specs.Promises.{RefusedAt}
-use Rattle.yaml_emitter.specs.State.{State}
-use Rattle.yaml_json.proofs.Accepting.{json_accepted, stream_of, stream_sound}
-use Rattle.yaml_json.proofs.Trees.{json_stream, stream_flat}
+use Rattle.yaml_json.proofs.Common.{ℕ, ◌<◌, is_none, unwrap_or, option_and_then, Option, None, Some, length, Bool, false, not, true, ◌&&◌, List, [], ◌++◌}
+use Rattle.yaml_json.proofs.Common.{◌∷◌, refl, ◌≡◌, append_assoc, inl, inr, ap, subst, sym, ◌∙◌, cases_lt, and_parts, list_all-append, list_all, Json}
+use Rattle.yaml_json.proofs.Common.{depth as nesting, stream_pushed, Event, Stream, after_stream, partial_of, IsPrefix, most_open, begins_collection}
+use Rattle.yaml_json.proofs.Common.{is_sound, IsAccepted, Settings, RefusedAt, State}
+use Rattle.yaml_base.proofs.Common.{nat_lt, option_or, Partial, before_stream, push, pushed, some_if, name_or_tag_fault, content_fault, expected, place_fault}
+use Rattle.yaml_base.proofs.Common.{open_levels, depth_fault, refusal_at, refusal}
+use Rattle.yaml_base.{proofs.Completions.pushed-append, proofs.Completions.prefix_is_partial, proofs.NoFaults.neither, proofs.NoFaults.is_none_none}
+use Rattle.yaml_base.{specs.declared.errors.yaml_error_t.yaml_error_t, specs.declared.errors.yaml_error_t.TheVariants.TooDeep}
+use Rattle.yaml_json.proofs.{Accepting.stream_of, Accepting.stream_sound, Accepting.json_accepted, Trees.json_stream, Trees.stream_flat}
 
 -- ---- a fault that is returned is that of the depth, where there is no other
 

@@ -1,34 +1,18 @@
 -- The events of JSON values are written alike in every mode.
-use Rattle.std.proofs.Common.{◌≡◌, refl, sym, ap, ◌∙◌, append_assoc, append-nil}
-use Rattle.std.proofs.lemmas.Bool.{and_from, and_right, false≢true, not_from_false, or_from}
-use Rattle.std.specs.List.{list_any}
-use Rattle.std.specs.Prelude.{ℕ, Bool, true, false, Option, Some, List, [], ◌∷◌, ◌++◌, ◌||◌, ◌&&◌, codes, is_some, map, not, option_map, unwrap_or}
-use Rattle.std.specs.Prelude.{if◌then◌else◌}
-use Rattle.std.specs.Str.{chars}
-use Rattle.json.specs.Json.{Json, null, boolean, number, string, array, object, Items, no_items, item, Members, no_members, member}
-use Rattle.json.specs.Tree.{HasNumbers}
-use Rattle.yaml_base.specs.scalars.Analysis.{is_empty}
-use Rattle.yaml_base.specs.Characters.{Text}
-use Rattle.yaml_base.specs.Event.{Scalar}
-use Rattle.yaml_base.specs.Grammar.{Document, Documents, no_documents, documents_and, scalar_node, Nodes, no_nodes, nodes_and, Pairs, no_pairs, pairs_and}
-use Rattle.yaml_base.specs.Grammar.{Stream, tree_of}
-use Rattle.yaml_base.specs.values.JsonNumbers.{JsonNumber, exponent_spelled, fraction_or_default, is_json_integer, is_json_number, minus, yaml_number}
-use Rattle.yaml_base.specs.Layout.{is_explicit}
-use Rattle.yaml_base.specs.Event.{scalar_tag, collection_tag}
-use Rattle.yaml_base.specs.values.Resolved.{are_digits}
-use Rattle.yaml_base.specs.streams.StreamContent.{documents_in_order}
-use Rattle.yaml_base.specs.StreamLaw.{are_portable, document_has_flow_indicator, loses_document, reads_alike, is_written_as_nothing, node_has_flow_indicator}
-use Rattle.yaml_base.specs.StreamLaw.{nodes_have_flow_indicator, pairs_have_flow_indicator, tag_has_flow_indicator}
-use Rattle.yaml_base.specs.scalars.Style.{is_plain, requested_style}
-use Rattle.yaml_base.specs.Tags.{directives_in_force}
-use Rattle.yaml_base.specs.values.TypedValues.{null_tag, bool_tag, int_tag, bool_text}
+use Rattle.yaml_json.proofs.Common.{ℕ, if◌then◌else◌, is_some, unwrap_or, Option, Some, codes, Bool, false, not, true, ◌&&◌, ◌||◌, List, [], map, ◌++◌, ◌∷◌}
+use Rattle.yaml_json.proofs.Common.{refl, ◌≡◌, append-nil, append_assoc, ap, sym, ◌∙◌, and_from, not_from_false, false≢true, list_any, chars, Json, null}
+use Rattle.yaml_json.proofs.Common.{boolean, number, string, Items, array, Members, object, no_items, item, no_members, member, HasNumbers, Text, Scalar}
+use Rattle.yaml_json.proofs.Common.{scalar_tag, collection_tag, scalar_node, Nodes, Pairs, no_nodes, nodes_and, no_pairs, pairs_and, Document, Documents}
+use Rattle.yaml_json.proofs.Common.{no_documents, documents_and, Stream, directives_in_force, is_empty, is_plain, JsonNumber, is_json_number, minus}
+use Rattle.yaml_json.proofs.Common.{fraction_or_default, is_json_integer, yaml_number, are_digits, null_tag, bool_tag, int_tag, bool_text, word_content}
+use Rattle.yaml_json.proofs.Common.{number_content, text_content, collection_in, number_in, float_tag, number_tag}
+use Rattle.yaml_base.proofs.Common.{option_map, and_right, or_from, tree_of, is_explicit, is_written_as_nothing, loses_document, document_has_flow_indicator}
+use Rattle.yaml_base.proofs.Common.{are_portable, reads_alike, requested_style, documents_in_order, exponent_spelled}
 use Rattle.yaml_base.proofs.Trees.{tree_of-stream_events}
-use Rattle.yaml_writer.proofs.SpellingLemmas.{whole_digits}
-use Rattle.yaml_writer.specs.NumberParts.{number_in}
-use Rattle.yaml_writer.specs.Writing.{float_tag, number_tag}
-use Rattle.yaml_json.specs.JsonEvents.{collection_in, number_content, text_content, word_content}
+use Rattle.yaml_base.specs.StreamLaw.{tag_has_flow_indicator, node_has_flow_indicator, nodes_have_flow_indicator, pairs_have_flow_indicator}
 use Rattle.yaml_json.proofs.NumberBridge.{number_is}
-use Rattle.yaml_json.proofs.Trees.{all_events, items_nodes, json_document, json_documents, json_node, json_stream, members_pairs, stream_flat, values_of}
+use Rattle.yaml_json.proofs.Trees.{json_node, items_nodes, members_pairs, json_document, json_documents, json_stream, values_of, all_events, stream_flat}
+use Rattle.yaml_writer.proofs.SpellingLemmas.{whole_digits}
 
 -- Nothing is lost
 

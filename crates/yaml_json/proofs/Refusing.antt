@@ -1,32 +1,19 @@
 -- Why the walk over the tokens of a value is stopped by them.
-use Rattle.std.proofs.Common.{◌≡◌, ℕ, suc, ◌+◌, ◌-◌, ◌<◌, ◌≤◌, refl, sym, ap, ◌∙◌, subst, append_assoc, append-nil, arith, inl, inr}
-use Rattle.std.proofs.lemmas.List.{append_cancel_right}
-use Rattle.std.proofs.Math.Nat.{le-max_left, le-max_right}
-use Rattle.std.specs.Prelude.{◌⊎◌, Bool, true, max, Option, None, Some, option_and_then, List, [], ◌∷◌, ◌++◌, length, Result, Ok, Err, IfErr}
-use Rattle.json.specs.Token.{Token}
-use Rattle.json.specs.Json.{Json, value, skip_value, read_key}
-use Rattle.json.specs.Lex.{tokens}
-use Rattle.json.specs.Tree.{depth as nesting, json_tokens}
-use Rattle.json.proofs.Grammar.{left, members_no_key, value_is}
-use Rattle.json.proofs.Nesting.{value-depth}
+use Rattle.yaml_json.proofs.Common.{suc, ℕ, ◌+◌, ◌-◌, ◌<◌, ◌≤◌, IfErr, None, Some, Result, Err, Ok, length, Bool, true, List, [], ◌++◌, ◌∷◌, ◌⊎◌, refl, ◌≡◌}
+use Rattle.yaml_json.proofs.Common.{append-nil, append_assoc, inl, inr, ap, subst, sym, ◌∙◌, arith, le-max_left, le-max_right, append_cancel_right, left}
+use Rattle.yaml_json.proofs.Common.{value_is, members_no_key, value-depth, Json, read_key, value, skip_value, tokens, Token, json_tokens, depth as nesting}
+use Rattle.yaml_json.proofs.Common.{IsPrefix, NoneGoesOn, IsNewName, inner_names, NamesOnce, all_names_after, RefusesText, BreaksOff, OpensTooDeep}
+use Rattle.yaml_json.proofs.Common.{NamesTwice, ExplainsError, unwind, Stands, opener, HasUniqueNames, RefusesToken, RefusesFirst, WhyStopped}
+use Rattle.std.specs.Prelude.{max}
 use Rattle.json.proofs.Printed.Trees.{value-json_tokens}
-use Rattle.yaml_base.specs.Prefix.{IsPrefix}
-use Rattle.yaml_writer.specs.declared.kinds.CollectionKind.{CollectionKind}
-use Rattle.yaml_writer.specs.declared.kinds.CollectionKind.TheVariants.{Mapping, Sequence}
-use Rattle.yaml_json.specs.Begins.{NoneGoesOn}
-use Rattle.yaml_json.specs.Refused.{BreaksOff, DeniesJson, IsNotJson, NamesTwice, OpensTooDeep, RefusesText, ExplainsError}
-use Rattle.yaml_json.specs.Names.{IsNewName, NamesOnce, all_names_after, inner_names}
-use Rattle.yaml_json.specs.Walk.{BeginsNone, HasUniqueNames, IsNotDeep, IsOpener, IsScalar, Refuses, RefusesFirst, RefusesToken, MatchesStop, Stands}
-use Rattle.yaml_json.specs.Walk.{WhyStopped}
-use Rattle.yaml_json.specs.Walk.{opener, unwind}
-use Rattle.yaml_json.specs.declared.error.JsonError.{JsonError}
+use Rattle.yaml_json.{proofs.TokenLemmas.value_spelled, specs.Refused.DeniesJson, specs.Refused.IsNotJson, specs.Walk.BeginsNone, specs.Walk.MatchesStop}
+use Rattle.yaml_json.{specs.declared.error.JsonError.JsonError, specs.declared.values.Stop.Stop}
+use Rattle.yaml_json.proofs.NameLemmas.{once_first, once_second, once_is_unique, unique_is_once}
+use Rattle.yaml_json.proofs.Walking.{unwind_none, unwind_inner, Awaits, opener_too_deep, next_stands_at, closes_value, closes_allowed, value_begins_at}
+use Rattle.yaml_json.proofs.Walking.{value_closes, Awaiting, awaiting_named}
+use Rattle.yaml_writer.specs.declared.kinds.{CollectionKind.CollectionKind, CollectionKind.TheVariants.Mapping, CollectionKind.TheVariants.Sequence}
 use Rattle.yaml_json.specs.declared.error.JsonError.TheVariants as errors
-use Rattle.yaml_json.specs.declared.values.Stop.{Stop}
 use Rattle.yaml_json.specs.declared.values.Stop.TheVariants as stops
-use Rattle.yaml_json.proofs.NameLemmas.{once_first, once_is_unique, once_second, unique_is_once}
-use Rattle.yaml_json.proofs.TokenLemmas.{value_spelled}
-use Rattle.yaml_json.proofs.Walking.{Awaiting, Awaits, next_stands_at, opener_too_deep, unwind_inner, unwind_none, value_begins_at, value_closes}
-use Rattle.yaml_json.proofs.Walking.{awaiting_named, closes_allowed, closes_value}
 
 -- ---- no value goes on
 

@@ -1,14 +1,9 @@
 -- What a writer was given when it failed.
-use Rattle.std.proofs.Common.{◌≡◌, subst, sym, ◌∙◌, inl, inr}
-use Rattle.std.specs.Prelude.{◌⊎◌, Option, None, Some, Err, List, [], ◌∷◌, ◌++◌, IfSome}
-use Rattle.yaml_base.specs.Event.{Event}
-use Rattle.yaml_base.specs.declared.errors.yaml_error_t.{yaml_error_t}
-use Rattle.yaml_base.specs.declared.errors.yaml_error_t.TheVariants.{Memory}
-use Rattle.yaml_emitter.proofs.standing.StandingMore.{some_from_result}
-use Rattle.yaml_writer.specs.Writing.{AddsEvents, EndsInnermost, Failed, GaveEvent, StandsTaken, WriterState, end_event, with_collection}
-use Rattle.yaml_writer.specs.declared.kinds.CollectionKind.{CollectionKind}
-use Rattle.yaml_json.specs.Failing.{FailedAt, FailedWith}
+use Rattle.yaml_json.proofs.Common.{IfSome, Option, None, Some, Err, List, [], ◌++◌, ◌∷◌, ◌⊎◌, ◌≡◌, inl, inr, subst, sym, ◌∙◌, Event, some_from_result}
+use Rattle.yaml_json.proofs.Common.{FailedWith, FailedAt, WriterState, end_event, with_collection, StandsTaken, AddsEvents, GaveEvent, EndsInnermost}
+use Rattle.yaml_base.specs.declared.errors.{yaml_error_t.yaml_error_t, yaml_error_t.TheVariants.Memory}
 use Rattle.yaml_json.proofs.WroteLemmas.{adds_then, none_more, same_last}
+use Rattle.yaml_writer.specs.{Writing.Failed, declared.kinds.CollectionKind.CollectionKind}
 
 -- what is said of an error, where there is one
 pub if_some : {P Q : yaml_error_t → Type 0} (found : Option yaml_error_t) → ((error : yaml_error_t) → P error → Q error) → IfSome found P → IfSome found Q

@@ -1,18 +1,12 @@
 -- The stops of the walk, turn by turn.
-use Rattle.std.proofs.Common.{◌≡◌, ℕ, sym, ap, ◌∙◌, subst, append_assoc}
-use Rattle.std.specs.Prelude.{Bool, true, false, List, [], ◌∷◌, ◌++◌}
-use Rattle.json.specs.Token.{Token}
-use Rattle.yaml_writer.specs.declared.kinds.CollectionKind.{CollectionKind}
-use Rattle.yaml_writer.specs.declared.kinds.CollectionKind.TheVariants.{Mapping, Sequence}
-use Rattle.yaml_json.specs.Walk.{FitsNames, KeepsNames, Refuses, RefusesFirst, RefusesToken, WhyStopped}
-use Rattle.yaml_json.specs.declared.values.Spot.{Spot}
-use Rattle.yaml_json.specs.declared.values.Stop.{Stop}
-use Rattle.yaml_json.specs.declared.values.Stop.TheVariants as stops
-use Rattle.yaml_json.specs.HeldNames.{AddsName, HoldsNames}
-use Rattle.yaml_json.specs.declared.names.Names.{Names}
+use Rattle.yaml_json.proofs.Common.{ℕ, Bool, false, true, List, [], ◌++◌, ◌∷◌, ◌≡◌, append_assoc, ap, subst, sym, ◌∙◌, Token, HoldsNames, AddsName, FitsNames}
+use Rattle.yaml_json.proofs.Common.{RefusesToken, RefusesFirst, WhyStopped, Refuses}
 use Rattle.yaml_json.proofs.KeepingNames.{keeps_name, name_again, names_once}
-use Rattle.yaml_json.proofs.Refusing.{IsNoKey, first_refused, key_refused, name_refused, no_member_left}
-use Rattle.yaml_json.proofs.Walking.{awaiting_item, awaiting_named, awaiting_no_item}
+use Rattle.yaml_json.proofs.Refusing.{first_refused, IsNoKey, no_member_left, key_refused, name_refused}
+use Rattle.yaml_json.proofs.Walking.{awaiting_item, awaiting_no_item, awaiting_named}
+use Rattle.yaml_json.specs.declared.{names.Names.Names, values.Spot.Spot, values.Stop.Stop}
+use Rattle.yaml_writer.specs.declared.kinds.{CollectionKind.CollectionKind, CollectionKind.TheVariants.Mapping, CollectionKind.TheVariants.Sequence}
+use Rattle.yaml_json.specs.declared.values.Stop.TheVariants as stops
 
 -- ---- the first token of a value
 

@@ -1,34 +1,17 @@
 -- What the writer was given while the tokens of a value are walked over.
-use Rattle.std.proofs.Common.{◌≡◌, ℕ, ◌-◌, ◌<◌, refl, sym, ap, ◌∙◌, subst, append_assoc, append-nil, arith, inl, inr}
-use Rattle.std.proofs.lemmas.List.{append_cancel_right}
+use Rattle.yaml_json.proofs.Common.{ℕ, ◌-◌, ◌<◌, Err, length, take, Bool, List, [], ◌++◌, ◌∷◌, ◌⊎◌, refl, ◌≡◌, append-nil, append_assoc, inl, inr, ap, subst}
+use Rattle.yaml_json.proofs.Common.{sym, ◌∙◌, arith, append_cancel_right, left_some, value, skip_value, Token, json_tokens, Event, BeginsValue, FailedWith}
+use Rattle.yaml_json.proofs.Common.{FailedAt, token_events, tokens_events, Stands, IsScalar, opener, closer, KeepsNames, BeganValue, BeginFailed}
+use Rattle.yaml_json.proofs.Common.{BeganFirstValue, FirstFailed, WhyStopped, Refuses, WalkProgress, IsBare, WroteEvent, start_event, StartsCollection, Ends}
+use Rattle.yaml_json.proofs.Common.{WriterState, end_event, StandsTaken, AddsEvents, EndsInnermost}
 use Rattle.std.proofs.Math.Seq.{take-append_seam}
-use Rattle.std.specs.Prelude.{◌⊎◌, Bool, Option, None, Some, Result, Err, List, [], ◌∷◌, ◌++◌, length, take}
-use Rattle.json.specs.Token.{Token}
-use Rattle.json.specs.Json.{Json, value, skip_value}
-use Rattle.json.specs.Tree.{json_tokens}
-use Rattle.json.proofs.Grammar.{left_some}
-use Rattle.yaml_base.specs.Event.{Event}
-use Rattle.yaml_base.specs.declared.errors.yaml_error_t.{yaml_error_t}
-use Rattle.yaml_base.specs.declared.errors.yaml_error_t.TheVariants.{Memory}
-use Rattle.yaml_emitter.specs.State.{State}
-use Rattle.yaml_writer.specs.Writing.{AddsEvents, EndsInnermost, StandsTaken, WriterState, end_event}
-use Rattle.yaml_writer.specs.declared.kinds.CollectionKind.{CollectionKind}
-use Rattle.yaml_writer.specs.declared.kinds.CollectionKind.TheVariants.{Mapping, Sequence}
-use Rattle.yaml_json.specs.Begins.{BeginsValue}
-use Rattle.yaml_json.specs.Failing.{FailedAt, FailedInValue, FailedWith}
-use Rattle.yaml_json.specs.JsonEvents.{json_events}
-use Rattle.yaml_json.specs.TokenEvents.{token_events, tokens_events}
-use Rattle.yaml_json.specs.Walk.{BeganValue, BeganFirstValue, BeginFailed, Begins, FailsGiving, FirstFailed, Gives, IsScalar, WalkProgress}
-use Rattle.yaml_json.specs.Walk.{StepFailed, Stands, Stepped, Stood}
-use Rattle.yaml_json.specs.Walk.{KeepsNames, Refuses, WhyStopped, closer, opener}
-use Rattle.yaml_json.specs.declared.names.Names.{Names}
-use Rattle.yaml_json.specs.declared.values.Stop.{Stop}
-use Rattle.yaml_json.proofs.KeepingNames.{NamesSoFar}
-use Rattle.yaml_json.specs.Wrote.{Ends, IsBare, StartsCollection, Wrote, WroteEvent, WroteValue, start_event}
-use Rattle.yaml_json.proofs.Stopping.{end_failed, failed_same, failed_then}
-use Rattle.yaml_json.proofs.TokenLemmas.{some_then, value_given, value_spelled}
-use Rattle.yaml_json.proofs.Walking.{Awaiting, awaiting_item, awaiting_named, awaiting_whole, closed_stands, closes_value, longer, next_stands, value_begins}
-use Rattle.yaml_json.proofs.WroteLemmas.{adds_then, ended}
+use Rattle.yaml_base.specs.declared.errors.{yaml_error_t.yaml_error_t, yaml_error_t.TheVariants.Memory}
+use Rattle.yaml_json.{proofs.KeepingNames.NamesSoFar, proofs.Stopping.end_failed, proofs.TokenLemmas.value_spelled, proofs.TokenLemmas.some_then}
+use Rattle.yaml_json.{proofs.TokenLemmas.value_given, proofs.WroteLemmas.adds_then, proofs.WroteLemmas.ended, specs.Failing.FailedInValue}
+use Rattle.yaml_json.{specs.Wrote.WroteValue, specs.declared.names.Names.Names, specs.declared.values.Stop.Stop}
+use Rattle.yaml_json.proofs.Walking.{longer, closed_stands, closes_value, value_begins, awaiting_whole, awaiting_item, awaiting_named, next_stands}
+use Rattle.yaml_json.specs.Walk.{Stood, Gives, FailsGiving, Stepped, StepFailed}
+use Rattle.yaml_writer.specs.declared.kinds.{CollectionKind.CollectionKind, CollectionKind.TheVariants.Mapping, CollectionKind.TheVariants.Sequence}
 
 -- ---- the writer
 

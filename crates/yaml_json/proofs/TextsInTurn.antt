@@ -1,29 +1,14 @@
 -- JSON texts, one after another.
-use Rattle.std.proofs.Common.{◌≡◌, ◌<◌, ◌⊎◌, inl, inr, refl, sym, ap, ◌∙◌, subst, append_assoc, append-nil}
-use Rattle.std.proofs.lemmas.Bool.{eqb-true, false≢true}
-use Rattle.std.proofs.lemmas.List.{map-append, nil_from_length}
-use Rattle.std.proofs.lemmas.List.Concat.{flat_map-append}
-use Rattle.std.specs.Prelude.{ℕ, Bool, true, false, Result, Err, Some, List, [], ◌∷◌, ◌++◌, ◌==◌, flat_map, length, map}
-use Rattle.json.specs.Json.{Json, value}
-use Rattle.json.specs.Lex.{tokens}
-use Rattle.json.specs.Tree.{json_tokens}
-use Rattle.yaml_base.specs.Event.{Event}
+use Rattle.yaml_json.proofs.Common.{ℕ, ◌<◌, ◌==◌, flat_map, Some, Result, Err, length, Bool, false, true, List, [], map, ◌++◌, ◌∷◌, refl, ◌≡◌, eqb-true}
+use Rattle.yaml_json.proofs.Common.{append-nil, append_assoc, inl, inr, ap, subst, sym, ◌∙◌, false≢true, flat_map-append, map-append, Json, value, tokens}
+use Rattle.yaml_json.proofs.Common.{json_tokens, Event, some_from_result, FailedWith, FailedInText, between, events_with_separators, FailedInTexts}
+use Rattle.yaml_json.proofs.Common.{json_events, NamesOnce, ExplainsError, HaveNamesOnce, texts_in, CutsFirstText, tokens_events, IsBare, Wrote, WroteText}
+use Rattle.yaml_json.proofs.Common.{AreJson, parts_events, ReadsTexts, WriterState, PassedEvents}
+use Rattle.std.proofs.lemmas.List.{nil_from_length}
 use Rattle.yaml_base.specs.declared.errors.yaml_error_t.{yaml_error_t}
-use Rattle.yaml_emitter.proofs.standing.StandingMore.{some_from_result}
-use Rattle.yaml_writer.specs.Writing.{PassedEvents, WriterState}
-use Rattle.yaml_json.specs.Failing.{FailedInText, FailedInTexts, FailedWith, between, events_with_separators}
-use Rattle.yaml_json.specs.JsonEvents.{json_events}
-use Rattle.yaml_json.specs.Refused.{HasNamesOnce, HaveNamesOnce, RefusedAmong, ExplainsError}
-use Rattle.yaml_json.specs.Names.{NamesOnce}
-use Rattle.yaml_json.specs.Texts.{CutsFirstText, texts_in}
-use Rattle.yaml_json.specs.TokenEvents.{tokens_events}
-use Rattle.yaml_json.specs.Wrote.{AreJson, IsBare, ReadsTexts, Wrote, WroteText, WroteTexts, parts_events}
-use Rattle.yaml_json.specs.declared.error.JsonError.{JsonError}
-use Rattle.yaml_json.proofs.NameLemmas.{once_is_unique}
-use Rattle.yaml_json.proofs.TokenLemmas.{value_spelled}
-use Rattle.yaml_json.proofs.Stopping.{failed_same, failed_then}
-use Rattle.yaml_json.proofs.WroteLemmas.{wrote_nothing, wrote_same, wrote_then}
-use Rattle.yaml_json.proofs.YamlOf.{last_reads}
+use Rattle.yaml_json.{proofs.NameLemmas.once_is_unique, proofs.Stopping.failed_same, proofs.Stopping.failed_then, proofs.TokenLemmas.value_spelled}
+use Rattle.yaml_json.{proofs.WroteLemmas.wrote_nothing, proofs.WroteLemmas.wrote_then, proofs.WroteLemmas.wrote_same, proofs.YamlOf.last_reads}
+use Rattle.yaml_json.{specs.Refused.HasNamesOnce, specs.Refused.RefusedAmong, specs.Wrote.WroteTexts, specs.declared.error.JsonError.JsonError}
 
 -- the events of some texts, after each of which a document begins, and then those of one more, the last
 pub ends_with : (canonical in_flow : Bool) (parts : List (List ℕ × Json)) (last : List ℕ × Json)

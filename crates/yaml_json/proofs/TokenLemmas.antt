@@ -1,16 +1,11 @@
 -- The tokens of a value that was read, and their events.
-use Rattle.std.proofs.Common.{◌≡◌, ℕ, zero, suc, refl, sym, ap, ap₂, ◌∙◌, subst, append_assoc}
-use Rattle.std.proofs.lemmas.List.Concat.{flat_map-append}
-use Rattle.std.specs.Prelude.{Bool, Option, None, Some, List, [], ◌∷◌, ◌++◌, length, option_and_then}
-use Rattle.std.specs.Str.{chars}
+use Rattle.yaml_json.proofs.Common.{suc, zero, ℕ, option_and_then, Option, None, Some, length, Bool, List, [], ◌++◌, ◌∷◌, refl, ◌≡◌, append_assoc, ap, ap₂}
+use Rattle.yaml_json.proofs.Common.{subst, sym, ◌∙◌, flat_map-append, chars, Json, null, boolean, number, string, Items, array, Members, object, no_items}
+use Rattle.yaml_json.proofs.Common.{item, no_members, member, parse_map, after_end_array, read_key, Token, json_tokens, items_tokens, members_tokens, Event}
+use Rattle.yaml_json.proofs.Common.{scalar, sequence_start, sequence_end, mapping_start, mapping_end, text_content, collection_in, json_events, items_events}
+use Rattle.yaml_json.proofs.Common.{members_events, token_events, tokens_events}
 use Rattle.json.proofs.Grammar.{closed_array, read_key_is}
-use Rattle.json.specs.Token.{Token}
-use Rattle.json.specs.Json.{Json, null, boolean, number, string, array, object, Items, no_items, item, Members, no_members, member, Parse, parse_map}
-use Rattle.json.specs.Json.{after_end_array, read_key, items_step, members_step, items, members, value_with, value}
-use Rattle.json.specs.Tree.{json_tokens, items_tokens, members_tokens}
-use Rattle.yaml_base.specs.Event.{Event, scalar, sequence_start, sequence_end, mapping_start, mapping_end}
-use Rattle.yaml_json.specs.JsonEvents.{collection_in, items_events, json_events, members_events, text_content}
-use Rattle.yaml_json.specs.TokenEvents.{token_events, tokens_events}
+use Rattle.json.specs.Json.{Parse, items_step, value, members_step, items, members, value_with}
 
 -- ---- what was read are the tokens of the value
 

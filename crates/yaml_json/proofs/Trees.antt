@@ -1,16 +1,12 @@
 -- The trees of the events of JSON values.
-use Rattle.std.proofs.Common.{◌≡◌, refl, sym, ap, ◌∙◌, append_assoc, append-nil}
-use Rattle.std.specs.Prelude.{ℕ, Bool, true, None, List, [], ◌∷◌, ◌++◌, flat_map, map}
-use Rattle.std.specs.Str.{chars}
-use Rattle.json.specs.Json.{Json, null, boolean, number, string, array, object, Items, no_items, item, Members, no_members, member}
-use Rattle.yaml_base.specs.Event.{Event, document_end, scalar, sequence_start, sequence_end, mapping_start, mapping_end, stream_end, stream_start}
-use Rattle.yaml_base.specs.Grammar.{Node, scalar_node, sequence_node, mapping_node, Nodes, no_nodes, nodes_and, Pairs, no_pairs, pairs_and, Document, Documents}
-use Rattle.yaml_base.specs.Grammar.{no_documents, documents_and, Stream, node_events, nodes_events, pairs_events, document_events, documents_events}
-use Rattle.yaml_base.specs.Grammar.{stream_events}
-use Rattle.yaml_writer.specs.NumberParts.{number_in}
-use Rattle.yaml_writer.specs.Writing.{closing, opening, plain_start}
-use Rattle.yaml_json.specs.JsonEvents.{bool_content, collection_in, items_events, json_events, members_events, null_content, number_content, text_content}
-use Rattle.yaml_json.specs.Wrote.{parts_events}
+use Rattle.yaml_json.proofs.Common.{ℕ, flat_map, None, Bool, true, List, [], map, ◌++◌, ◌∷◌, refl, ◌≡◌, append-nil, append_assoc, ap, sym, ◌∙◌, chars, Json}
+use Rattle.yaml_json.proofs.Common.{null, boolean, number, string, Items, array, Members, object, no_items, item, no_members, member, Event, scalar}
+use Rattle.yaml_json.proofs.Common.{sequence_start, sequence_end, mapping_start, mapping_end, scalar_node, Nodes, Pairs, no_nodes, nodes_and, no_pairs}
+use Rattle.yaml_json.proofs.Common.{pairs_and, Document, Documents, no_documents, documents_and, Stream, null_content, bool_content, number_content}
+use Rattle.yaml_json.proofs.Common.{text_content, collection_in, json_events, items_events, members_events, parts_events, number_in, opening, closing}
+use Rattle.yaml_base.proofs.Common.{stream_start, stream_end, document_end, Node, sequence_node, mapping_node, node_events, nodes_events, pairs_events}
+use Rattle.yaml_base.proofs.Common.{document_events, documents_events, stream_events}
+use Rattle.yaml_writer.proofs.Common.{plain_start}
 
 -- a value as a node; items and members after others
 abbrev mutual

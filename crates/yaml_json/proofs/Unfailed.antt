@@ -1,26 +1,13 @@
 -- Where an emitter has no error after the events of a value, these and the ends of document and stream are an accepted list.
-use Rattle.std.proofs.Common.{◌≡◌, refl, sym, ap, ap₂, ◌∙◌, arith, append_assoc, inl, inr}
-use Rattle.std.proofs.lemmas.Bool.{cases_lt}
-use Rattle.std.proofs.lemmas.List.{length-append, length-drop, length-take-le, take-append-drop}
-use Rattle.std.proofs.lemmas.List.Sums.{count_by-le-length, sum_by-append}
-use Rattle.std.specs.Prelude.{ℕ, ◌+◌, ◌≤◌, Bool, cond, Some, None, List, [], ◌∷◌, ◌++◌, count_by, drop, length, take}
-use Rattle.json.specs.Json.{Json}
-use Rattle.yaml_base.proofs.OpenCounts.{open_count-levels}
-use Rattle.yaml_base.proofs.QueueLaws.{held_is_short, held_waits, written_within}
-use Rattle.yaml_base.proofs.Trees.{stream_pushed}
-use Rattle.yaml_base.specs.Event.{Event, document_start, mapping_start, sequence_start}
-use Rattle.yaml_base.specs.Grammar.{Stream, after_stream, partial_of}
-use Rattle.yaml_base.specs.Prefix.{IsPrefix}
-use Rattle.yaml_base.specs.Ready.{awaited, written}
-use Rattle.yaml_base.specs.Refusal.{BeginsAccepted, IsAccepted, begins_collection, ends_collection, most_open, open_count}
-use Rattle.yaml_base.specs.Settings.{Settings}
+use Rattle.yaml_json.proofs.Common.{ℕ, ◌+◌, ◌≤◌, None, Some, drop, length, take, Bool, cond, List, [], ◌++◌, ◌∷◌, refl, ◌≡◌, length-append, length-drop}
+use Rattle.yaml_json.proofs.Common.{take-append-drop, length-take-le, append_assoc, inl, inr, ap, ap₂, sym, ◌∙◌, arith, cases_lt, Json, stream_pushed, Event}
+use Rattle.yaml_json.proofs.Common.{sequence_start, mapping_start, Stream, after_stream, partial_of, IsPrefix, most_open, begins_collection, open_count}
+use Rattle.yaml_json.proofs.Common.{IsAccepted, Settings, StateStands, State, json_events, opening, closing}
+use Rattle.std.{proofs.lemmas.List.Sums.sum_by-append, proofs.lemmas.List.Sums.count_by-le-length, specs.Prelude.count_by}
+use Rattle.yaml_base.{proofs.OpenCounts.open_count-levels, proofs.QueueLaws.written_within, proofs.QueueLaws.held_waits, proofs.QueueLaws.held_is_short}
+use Rattle.yaml_base.{specs.Event.document_start, specs.Ready.awaited, specs.Ready.written, specs.Refusal.ends_collection, specs.Refusal.BeginsAccepted}
 use Rattle.yaml_emitter.proofs.standing.StandingPromises.{stands_well}
-use Rattle.yaml_emitter.specs.StandsAfter.{StateStands}
-use Rattle.yaml_emitter.specs.State.{State}
-use Rattle.yaml_writer.specs.Writing.{closing, opening}
-use Rattle.yaml_json.specs.JsonEvents.{json_events}
-use Rattle.yaml_json.proofs.Accepting.{accepted_where, stream_of}
-use Rattle.yaml_json.proofs.Trees.{json_stream, stream_flat}
+use Rattle.yaml_json.proofs.{Accepting.stream_of, Accepting.accepted_where, Trees.json_stream, Trees.stream_flat}
 
 -- ---- at most three events are held back
 

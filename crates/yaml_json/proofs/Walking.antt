@@ -1,20 +1,14 @@
 -- The walk over the tokens of a value: the grammar, with the collections that are open in a list.
-use Rattle.std.proofs.Common.{◌≡◌, ℕ, zero, suc, ◌+◌, ◌-◌, ◌<◌, ◌≤◌, refl, sym, ap, ◌∙◌, subst, append_assoc, append-nil, arith, inl, inr}
-use Rattle.std.specs.Prelude.{◌⊎◌, Bool, true, Option, None, Some, option_and_then, List, [], ◌∷◌, ◌++◌, length}
-use Rattle.json.specs.Token.{Token}
-use Rattle.json.specs.Json.{Json, item, member, items, members, value, skip_value, parse_map, after_end_array, read_key, array, object}
-use Rattle.json.specs.Tree.{depth as nesting, json_tokens}
-use Rattle.json.specs.Reads.{skip_items, skip_members}
-use Rattle.json.proofs.Grammar.{left, left_some, left-parse_map, value_is, value-begin_array, value-begin_object, items_end, items_fail, items_more}
-use Rattle.json.proofs.Grammar.{members_end, members_fail, members_more, members_no_key, skip_value-shorter, read_key-shorter}
-use Rattle.json.proofs.Nesting.{value-depth}
-use Rattle.yaml_writer.specs.declared.kinds.CollectionKind.{CollectionKind}
-use Rattle.yaml_writer.specs.declared.kinds.CollectionKind.TheVariants.{Mapping, Sequence}
-use Rattle.yaml_json.specs.Begins.{BeginsAllowed, BeginsValue}
-use Rattle.yaml_json.specs.Names.{NamesOnce, all_names_after}
-use Rattle.yaml_json.specs.Walk.{Begins, IsScalar, Stands, StandsAt, closer, opener, skip_rest, unwind}
-use Rattle.yaml_json.proofs.NameLemmas.{once_both, once_is_unique}
-use Rattle.yaml_json.proofs.TokenLemmas.{value_spelled}
+use Rattle.yaml_json.proofs.Common.{suc, zero, ℕ, ◌+◌, ◌-◌, ◌<◌, ◌≤◌, option_and_then, Option, None, Some, length, Bool, true, List, [], ◌++◌, ◌∷◌, refl, ◌≡◌}
+use Rattle.yaml_json.proofs.Common.{append-nil, append_assoc, inl, inr, ap, subst, sym, ◌∙◌, arith, left, value_is, members_no_key, left_some, value-depth}
+use Rattle.yaml_json.proofs.Common.{Json, array, object, item, member, parse_map, after_end_array, read_key, value, skip_value, Token, json_tokens}
+use Rattle.yaml_json.proofs.Common.{depth as nesting, BeginsValue, NamesOnce, all_names_after, unwind, Stands, IsScalar, opener, closer}
+use Rattle.json.proofs.Grammar.{left-parse_map, value-begin_array, value-begin_object, read_key-shorter, items_end, items_fail, items_more, members_end}
+use Rattle.json.proofs.Grammar.{members_fail, members_more, skip_value-shorter}
+use Rattle.json.specs.{Json.items, Json.members, Reads.skip_items, Reads.skip_members}
+use Rattle.yaml_json.{proofs.NameLemmas.once_both, proofs.NameLemmas.once_is_unique, proofs.TokenLemmas.value_spelled, specs.Begins.BeginsAllowed}
+use Rattle.yaml_json.{specs.Walk.skip_rest, specs.Walk.StandsAt, specs.Walk.Begins}
+use Rattle.yaml_writer.specs.declared.kinds.{CollectionKind.CollectionKind, CollectionKind.TheVariants.Mapping, CollectionKind.TheVariants.Sequence}
 
 -- ---- the number that bounds the turns plays no part
 

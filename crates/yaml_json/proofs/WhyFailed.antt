@@ -1,33 +1,14 @@
 -- Why a writer failed that was given the events of a text.
-use Rattle.std.proofs.Common.{◌≡◌, ℕ, refl, sym, ap, ◌∙◌, subst, append_assoc, append-nil, arith, inl, inr}
-use Rattle.std.specs.Prelude.{◌⊎◌, Bool, true, Option, None, Some, List, [], ◌∷◌, ◌++◌}
-use Rattle.json.proofs.Nesting.{value-depth}
-use Rattle.json.specs.Json.{Json, value}
-use Rattle.json.specs.Lex.{tokens}
-use Rattle.json.specs.Token.{Token}
-use Rattle.json.specs.Tree.{json_tokens}
-use Rattle.yaml_base.specs.Event.{Event}
-use Rattle.yaml_base.specs.Prefix.{IsPrefix}
-use Rattle.yaml_base.specs.Settings.{Settings}
-use Rattle.yaml_base.specs.declared.errors.yaml_error_t.{yaml_error_t}
-use Rattle.yaml_base.specs.declared.errors.yaml_error_t.TheVariants.{Memory, WriteError}
-use Rattle.yaml_emitter.proofs.standing.StandingMore.{failed_more}
-use Rattle.yaml_emitter.proofs.standing.StandingPromises.{promises_refusal}
-use Rattle.yaml_emitter.specs.Promises.{IsRefusal, RefusedAt}
-use Rattle.yaml_emitter.specs.StandsAfter.{StandsAfter, StateStands}
-use Rattle.yaml_emitter.specs.State.{State}
-use Rattle.yaml_writer.proofs.Overflow.{overflowed}
-use Rattle.yaml_writer.specs.Unfinished.{IsUnfinished, PassesLimit}
-use Rattle.yaml_writer.specs.Writing.{StandsTaken, WriterState, closing, opening}
-use Rattle.yaml_json.specs.Begins.{BeginsValue}
-use Rattle.yaml_json.specs.Failing.{FailedInText, FailsBy, NestsTooDeep, OverLimit}
-use Rattle.yaml_json.specs.JsonEvents.{json_events}
-use Rattle.yaml_json.specs.TokenEvents.{tokens_events}
-use Rattle.yaml_json.specs.Wrote.{WroteText}
-use Rattle.yaml_json.proofs.Accepting.{json_accepted, stream_of}
-use Rattle.yaml_json.proofs.OnlyDepth.{error_is_depth, nests_deeper}
-use Rattle.yaml_json.proofs.TokenLemmas.{some_then, value_given, value_spelled}
-use Rattle.yaml_json.proofs.Unfailed.{unfailed_accepted}
+use Rattle.yaml_json.proofs.Common.{ℕ, Option, None, Some, Bool, true, List, [], ◌++◌, ◌∷◌, ◌⊎◌, refl, ◌≡◌, append-nil, append_assoc, inl, inr, ap, subst}
+use Rattle.yaml_json.proofs.Common.{sym, ◌∙◌, arith, value-depth, Json, value, tokens, Token, json_tokens, Event, IsPrefix, Settings, RefusedAt, StateStands}
+use Rattle.yaml_json.proofs.Common.{State, BeginsValue, FailedInText, json_events, tokens_events, WroteText, WriterState, opening, closing, StandsTaken}
+use Rattle.yaml_emitter.proofs.Common.{IsRefusal, StandsAfter}
+use Rattle.yaml_base.specs.declared.errors.{yaml_error_t.yaml_error_t, yaml_error_t.TheVariants.Memory, yaml_error_t.TheVariants.WriteError}
+use Rattle.yaml_emitter.proofs.standing.{StandingMore.failed_more, StandingPromises.promises_refusal}
+use Rattle.yaml_json.proofs.{Accepting.stream_of, Accepting.json_accepted, OnlyDepth.error_is_depth, OnlyDepth.nests_deeper, TokenLemmas.value_spelled}
+use Rattle.yaml_json.proofs.{TokenLemmas.some_then, TokenLemmas.value_given, Unfailed.unfailed_accepted}
+use Rattle.yaml_json.specs.Failing.{OverLimit, NestsTooDeep, FailsBy}
+use Rattle.yaml_writer.{proofs.Overflow.overflowed, specs.Unfinished.PassesLimit, specs.Unfinished.IsUnfinished}
 
 -- an error is one of memory, the limit's, or the refusal of an event
 which : (error : yaml_error_t) → (error ≡ Memory) ⊎ ((error ≡ WriteError) ⊎ IsRefusal error)

@@ -1,19 +1,13 @@
 -- What a writer was given, call by call.
-use Rattle.std.proofs.Common.{◌≡◌, refl, sym, ap, ap₂, ◌∙◌, subst, append_assoc, append-nil, inl, inr}
-use Rattle.std.specs.Prelude.{ℕ, Bool, false, Option, None, List, [], ◌∷◌, ◌++◌, IfErr, OnOk, Result, Ok, Err, is_none}
-use Rattle.yaml_base.specs.Characters.{Text}
-use Rattle.yaml_base.specs.Event.{CollectionStyle, Event, ScalarStyle, plain, scalar, sequence_start, mapping_start}
-use Rattle.yaml_base.specs.values.JsonNumbers.{JsonNumber, yaml_number}
-use Rattle.yaml_emitter.specs.State.{State}
+use Rattle.yaml_json.proofs.Common.{ℕ, is_none, IfErr, OnOk, Option, None, Result, Err, Ok, Bool, false, List, [], ◌++◌, ◌∷◌, refl, ◌≡◌, append-nil}
+use Rattle.yaml_json.proofs.Common.{append_assoc, inl, inr, ap, ap₂, subst, sym, ◌∙◌, Text, ScalarStyle, plain, Event, scalar, sequence_start, mapping_start}
+use Rattle.yaml_json.proofs.Common.{JsonNumber, yaml_number, State, word_content, number_content, text_content, collection_in, IsBare, Wrote, WroteEvent}
+use Rattle.yaml_json.proofs.Common.{start_event, StartsCollection, Ends, number_found, number_in, IsNumber, WriterState, number_tag, number_event, text_style}
+use Rattle.yaml_json.proofs.Common.{text_event, mapping_event, sequence_event, end_event, with_collection, StandsTaken, AddsEvents, GaveEvent}
+use Rattle.yaml_base.specs.Event.{CollectionStyle}
+use Rattle.yaml_json.specs.JsonEvents.{style_of}
 use Rattle.yaml_writer.proofs.Finishing.{nothing_awaited}
-use Rattle.yaml_writer.proofs.PartLemmas.{number_found}
-use Rattle.yaml_writer.specs.NumberParts.{IsNumber, number_in}
-use Rattle.yaml_writer.specs.Writing.{WriterState, AddsEvents, GaveEvent, StandsTaken, awaits_node, end_event, with_collection, mapping_event}
-use Rattle.yaml_writer.specs.Writing.{number_event, number_tag}
-use Rattle.yaml_writer.specs.Writing.{sequence_event, tag_or_default, text_event, text_style, word_event}
-use Rattle.yaml_writer.specs.declared.kinds.CollectionKind.{CollectionKind}
-use Rattle.yaml_json.specs.JsonEvents.{collection_in, number_content, style_of, text_content, word_content}
-use Rattle.yaml_json.specs.Wrote.{Ends, IsBare, StartsCollection, Wrote, WroteEvent, start_event}
+use Rattle.yaml_writer.specs.{Writing.tag_or_default, Writing.word_event, Writing.awaits_node, declared.kinds.CollectionKind.CollectionKind}
 
 -- no node is awaited
 pub bare_awaits_none : (writer : WriterState) → IsBare writer → awaits_node writer ≡ false

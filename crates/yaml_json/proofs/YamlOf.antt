@@ -1,22 +1,11 @@
 -- The streams of JSON texts.
-use Rattle.std.proofs.Common.{◌≡◌, refl, sym, ◌∙◌, subst, append-nil}
-use Rattle.std.proofs.lemmas.Bool.{and_from}
-use Rattle.std.proofs.lemmas.List.Folds.{list_all-append}
-use Rattle.std.specs.List.{list_all}
-use Rattle.std.specs.Prelude.{ℕ, Bool, true, Some, List, [], ◌∷◌, ◌++◌, flat_map}
+use Rattle.yaml_json.proofs.Common.{ℕ, flat_map, Some, Bool, true, List, [], ◌++◌, ◌∷◌, refl, ◌≡◌, append-nil, subst, sym, ◌∙◌, and_from, list_all-append}
+use Rattle.yaml_json.proofs.Common.{list_all, Json, value, tokens, HasNumbers, Event, has_scalar_texts, Settings, json_events, Wrote, WroteText, AreJson}
+use Rattle.yaml_json.proofs.Common.{parts_events, ReadsTexts, WriterState, opening, closing, StandsTaken}
 use Rattle.json.proofs.Numbered.{ArePrintableOrBad-tokens, value-HasNumbers}
-use Rattle.json.specs.Json.{Json, value}
-use Rattle.json.specs.Lex.{tokens}
-use Rattle.json.specs.Tree.{HasNumbers}
-use Rattle.yaml_base.specs.Event.{Event}
-use Rattle.yaml_base.specs.Meaning.{has_scalar_texts}
-use Rattle.yaml_base.specs.Settings.{Settings}
-use Rattle.yaml_writer.specs.Writing.{Finishes, StandsTaken, WriterState, closing, opening}
-use Rattle.yaml_json.specs.JsonEvents.{json_events}
-use Rattle.yaml_json.specs.Sent.{AddsTaking}
-use Rattle.yaml_json.specs.Wrote.{AreJson, IsYamlOf, IsYamlOfTexts, ReadsTexts, Wrote, WroteText, parts_events}
-use Rattle.yaml_json.proofs.JsonReads.{HaveNumbers, reads_as_json, reads_as_values}
-use Rattle.yaml_json.proofs.Trees.{values_of}
+use Rattle.yaml_json.{proofs.JsonReads.HaveNumbers, proofs.JsonReads.reads_as_values, proofs.JsonReads.reads_as_json, proofs.Trees.values_of}
+use Rattle.yaml_json.{specs.Sent.AddsTaking, specs.Wrote.IsYamlOfTexts, specs.Wrote.IsYamlOf}
+use Rattle.yaml_writer.specs.Writing.{Finishes}
 
 -- each number of a value that was read is one
 text_has_numbers : (depth : ℕ) (text : List ℕ) (json : Json) → value depth (tokens text) ≡ Some (json, []) → HasNumbers json

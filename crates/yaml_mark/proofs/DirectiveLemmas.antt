@@ -1,15 +1,7 @@
 -- What the bytes of directives say of their characters.
-use Rattle.std.proofs.Common.{◌≡◌, ℕ, ◌||◌, List, [], ◌∷◌, refl, sym, ◌∙◌, ap, map}
-use Rattle.std.proofs.lemmas.Bool.Decides.{same_from_decides}
-use Rattle.std.proofs.lemmas.Slice.Eq.{bytes_eq-Decides}
-use Rattle.std.proofs.lemmas.Str.{encodes-chars, IsUtf8-string_bytes}
-use Rattle.std.specs.Prelude.{IsUtf8, bytes_eq, string_bytes}
-use Rattle.std.specs.List.{list_any}
-use Rattle.std.specs.Str.{chars}
-use lib.Utf8.{encodes}
+use Rattle.yaml_mark.proofs.Common.{ℕ, IsUtf8, bytes_eq, string_bytes, encode_utf8_all as encodes, ◌||◌, List, [], map, ◌∷◌, refl, ◌≡◌, ap, sym, ◌∙◌}
+use Rattle.yaml_mark.proofs.Common.{same_from_decides, bytes_eq-Decides, encodes-chars, IsUtf8-string_bytes, list_any, chars, seen_directive, gives_handle}
 use Rattle.yaml_base.specs.declared.directives.yaml_tag_directive_t.{yaml_tag_directive_t}
-use Rattle.yaml_base.specs.Seen.{seen_directive}
-use Rattle.yaml_base.specs.Tags.{gives_handle}
 
 same_characters : (xs ys : List ℕ) → IsUtf8 xs → IsUtf8 ys → chars xs ≡ chars ys → xs ≡ ys
 same_characters xs ys u v e = sym (encodes-chars xs u) ∙ ap encodes e ∙ encodes-chars ys v

@@ -1,29 +1,20 @@
 -- Escaping by bytes is escaping by characters.
-use Rattle.std.proofs.Common.{◌≡◌, ℕ, suc, ◌+◌, ◌/◌, ◌%◌, ◌<◌, ◌≤◌, Bool, true, false, cond, ◌&&◌, ◌||◌}
-use Rattle.std.proofs.Common.{Option, Some, None, MatchOption, Bor, Result, Ok, Err, List, [], ◌∷◌, ◌++◌, refl, sym, ◌∙◌, ap, subst, ⊎_elim}
-use Rattle.std.proofs.Common.{inl, inr, true≢false, length, take, drop, get_or, append-nil, arith, lit<}
-use Rattle.std.proofs.lemmas.Bool.{and_from, and_parts, cases_lt, ne_eqb, leb-true, not-true}
-use Rattle.std.proofs.lemmas.Bool.Decides.{nat_tests}
-use Rattle.std.proofs.lemmas.Grind.{flat_map-append}
-use Rattle.std.proofs.lemmas.List.{take_more, take_all, take-append-drop}
-use Rattle.std.proofs.lemmas.List.Sums.{passes_at_first, prefix_len-le-length}
-use Rattle.std.proofs.lemmas.Str.{chars-IsAscii, encodes-chars, encode_ascii, chars_past_char, IsUtf8-drop, IsUtf8-from_ascii, IsUtf8-past_char}
-use Rattle.std.proofs.lemmas.Str.{IsCharBoundary-before_ascii, IsCharBoundary-end, IsCharBoundary-from_take}
-use Rattle.std.proofs.lemmas.Str.Ascii.{IsAscii-cons, IsAscii-nil}
-use Rattle.std.specs.Prelude.{◌==◌, ◌≢◌, nat_le, IsUtf8, flat_map, not, codes, if◌then◌else◌}
-use Rattle.std.specs.List.{list_all, list_any, position_or_len, prefix_len}
-use Rattle.std.specs.Str.{IsAscii, IsCharBoundary, chars}
-use lib.Utf8.{encode, encodes}
-use Rattle.yaml_base.specs.Characters.{Text, hex_digit, is_among, is_break, space}
-use Rattle.yaml_base.specs.Cursor.{Cursor, Rendered, render_text, render_then, render_name, indicator, space_if, column_after}
-use Rattle.yaml_base.specs.Indicators.{Indicator, render_indicator}
-use Rattle.yaml_base.specs.Percent.{is_tag_character, byte_escaped, character_written, percent_escaped, is_suffix_character, suffix_escaped, prefix_escaped}
-use Rattle.yaml_base.specs.Tags.{exclamation_mark}
-use Rattle.yaml_base.specs.declared.errors.yaml_error_t.{yaml_error_t}
-use Rattle.yaml_pen.specs.Page.{Page}
-use Rattle.yaml_pen.specs.Wrote.{Wrote}
-use Rattle.yaml_pen.proofs.Composing.{wrote_as, wrote_cut, wrote_then, wrote_text_then}
-use Rattle.yaml_mark.specs.Escaping.{IsPrefixRun}
+use Rattle.yaml_mark.proofs.Common.{suc, ℕ, ◌%◌, ◌+◌, ◌<◌, ◌==◌, flat_map, MatchOption, IsUtf8, Option, None, Some, Err, Ok, drop, length}
+use Rattle.yaml_mark.proofs.Common.{slice_index_or as get_or, take, encode_utf8_all as encodes, Bool, cond, false, not, true, ◌||◌, List, [], ◌++◌, ◌∷◌, ◌≢◌}
+use Rattle.yaml_mark.proofs.Common.{refl, ◌≡◌, ne_eqb, lit<, take-append-drop, ⊎_elim, ap, subst, sym, ◌∙◌, arith, cases_lt, and_parts, and_from}
+use Rattle.yaml_mark.proofs.Common.{prefix_len-le-length, encode_ascii, IsCharBoundary-before_ascii, IsUtf8-past_char, encodes-chars, chars_past_char}
+use Rattle.yaml_mark.proofs.Common.{list_all, list_any, position_or_len, IsCharBoundary, chars, Text, is_break, hex_digit, render_text, Indicator}
+use Rattle.yaml_mark.proofs.Common.{is_tag_character, byte_escaped, percent_escaped, suffix_escaped, prefix_escaped, exclamation_mark, IsPrefixRun}
+use Rattle.yaml_mark.proofs.Common.{wrote_text_then, wrote_cut, Wrote}
+use Rattle.yaml_base.proofs.Common.{◌/◌, ◌≤◌, if◌then◌else◌, codes, nat_le, ◌&&◌, leb-true, true≢false, append-nil, inl, inr, not-true, nat_tests}
+use Rattle.yaml_base.proofs.Common.{flat_map-append, chars-IsAscii, is_among, space, Cursor, Rendered, render_then, column_after, space_if, indicator}
+use Rattle.yaml_base.proofs.Common.{character_written, is_suffix_character}
+use Rattle.std.{proofs.Common.Bor, proofs.Common.Result, proofs.lemmas.List.take_all, proofs.lemmas.List.take_more, proofs.lemmas.List.Sums.passes_at_first}
+use Rattle.std.{proofs.lemmas.Str.Ascii.IsAscii-nil, proofs.lemmas.Str.Ascii.IsAscii-cons, specs.List.prefix_len, specs.Str.IsAscii}
+use Rattle.std.proofs.lemmas.Str.{IsUtf8-drop, IsUtf8-from_ascii, IsCharBoundary-end, IsCharBoundary-from_take}
+use lib.Utf8.{encode}
+use Rattle.yaml_base.specs.{Cursor.render_name, Indicators.render_indicator, declared.errors.yaml_error_t.yaml_error_t}
+use Rattle.yaml_pen.{proofs.Composing.wrote_then, proofs.Composing.wrote_as, specs.Page.Page}
 
 tag_character_is_ascii : (c : ℕ) → is_tag_character c ≡ true → c < 128
 tag_character_is_ascii c h = grind (arith, nat_tests)

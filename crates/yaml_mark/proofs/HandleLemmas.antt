@@ -1,22 +1,14 @@
 -- What a text's bytes say of the refusals of names and handles, which go by its characters.
-use Rattle.std.proofs.Common.{◌≡◌, ◌≢◌, ℕ, ◌<◌, Bool, true, false, cond, Option, Some, None, List, [], ◌∷◌, ◌++◌, refl, sym, ◌∙◌, ap, subst, length, get_or}
-use Rattle.std.proofs.Common.{arith, lit<}
-use Rattle.std.proofs.lemmas.Bool.{eqb-true, ne_eqb}
-use Rattle.std.proofs.lemmas.List.{length-append}
-use Rattle.std.proofs.lemmas.Grind.{common_steps}
-use Rattle.std.proofs.Math.Seq.{take-append_seam}
-use Rattle.std.proofs.lemmas.Str.{chars-nil, encodes-chars, encode_ascii, encodes-append, chars_past_char, IsUtf8-past_char, IsUtf8-take}
-use Rattle.std.proofs.lemmas.Str.{IsCharBoundary-before_ascii, chars-append}
-use Rattle.std.specs.Prelude.{◌==◌, IsUtf8}
-use Rattle.std.specs.List.{list_all}
-use Rattle.std.specs.Option.{option_or}
-use Rattle.std.specs.Str.{chars}
-use lib.Utf8.{encode, encodes}
-use Rattle.yaml_base.specs.Characters.{Text, is_alpha}
-use Rattle.yaml_base.specs.Tags.{name_fault, handle_fault, prefix_fault, exclamation_mark, last_from, without_last}
+use Rattle.yaml_mark.proofs.Common.{ℕ, ◌<◌, ◌==◌, IsUtf8, Option, None, Some, length, slice_index_or as get_or, encode_utf8 as encode}
+use Rattle.yaml_mark.proofs.Common.{encode_utf8_all as encodes, Bool, cond, false, true, List, [], ◌++◌, ◌∷◌, ◌≢◌, refl, ◌≡◌, eqb-true, ne_eqb, lit<}
+use Rattle.yaml_mark.proofs.Common.{length-append, ap, subst, sym, ◌∙◌, arith, take-append_seam, chars-nil, encode_ascii, encodes-append}
+use Rattle.yaml_mark.proofs.Common.{IsCharBoundary-before_ascii, IsUtf8-past_char, encodes-chars, chars-append, chars_past_char, list_all, Text}
+use Rattle.yaml_mark.proofs.Common.{exclamation_mark}
+use Rattle.yaml_base.proofs.Common.{option_or, is_alpha, name_fault, handle_fault, prefix_fault}
+use Rattle.std.{proofs.lemmas.Grind.common_steps, proofs.lemmas.Str.IsUtf8-take, specs.Str.chars}
 use Rattle.yaml_base.proofs.TagForms.{last-append, without_last-append, prefix_and_last}
-use Rattle.yaml_base.specs.declared.errors.yaml_error_t.TheVariants.{TagHandleEmpty, TagHandleStart, TagHandleEnd, TagHandleAlphabet, TagPrefixEmpty}
-use Rattle.yaml_base.specs.declared.errors.yaml_error_t.{yaml_error_t}
+use Rattle.yaml_base.specs.{Tags.last_from, Tags.without_last, declared.errors.yaml_error_t.yaml_error_t}
+use Rattle.yaml_base.specs.declared.errors.yaml_error_t.TheVariants.{TagHandleAlphabet, TagHandleEmpty, TagHandleEnd, TagHandleStart, TagPrefixEmpty}
 
 nothing : (bytes : List ℕ) → (length bytes == 0) ≡ true → bytes ≡ []
 nothing [] h = refl

@@ -1,3 +1,4 @@
+pub mod Common
 pub mod HandleLemmas
 pub mod DirectiveLemmas
 pub mod TagLemmas

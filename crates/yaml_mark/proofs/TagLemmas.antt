@@ -1,29 +1,18 @@
 -- What a tag's bytes say of its spelling, which goes by characters.
-use Rattle.std.proofs.Common.{◌≡◌, ℕ, suc, ◌+◌, ◌<◌, Bool, true, false, cond, not, Option, Some, None, List, [], ◌∷◌, ◌++◌, refl, sym, ◌∙◌, ap, subst, length}
-use Rattle.std.proofs.Common.{take, drop, get_or, ⊎_elim, map, append_assoc, arith}
-use Rattle.std.proofs.lemmas.Bool.{eq-eqb, lt-ltb, ltb-true, le-ltb, and_parts, and_from, cases_lt}
-use Rattle.std.proofs.lemmas.Bool.Decides.{same_from_decides}
-use Rattle.std.proofs.lemmas.List.{length-append, take-append-drop, length-drop, length-map}
-use Rattle.std.proofs.lemmas.Option.{slice_get-map, slice_get_read, slice_get_within}
-use Rattle.std.proofs.lemmas.Slice.Eq.{bytes_eq-Decides}
-use Rattle.std.proofs.lemmas.Str.{encodes-chars, scalars-chars, chars-encodes, encodes-append, chars-append, IsUtf8-string_bytes, IsUtf8-past_char}
-use Rattle.std.proofs.lemmas.Str.{IsCharBoundary-at_seam, length-le-encodes}
-use Rattle.std.proofs.Math.Seq.{take-append_seam, drop-append_seam}
-use Rattle.std.specs.Bool.{Decides}
-use Rattle.std.specs.Prelude.{◌==◌, IsUtf8, bytes_eq, nat_lt, string_bytes, is_some, position, slice_get, option_map, MatchOption}
-use Rattle.std.specs.List.{starts_with, position_or_len}
-use Rattle.std.specs.Str.{chars, IsCharBoundary}
+use Rattle.yaml_mark.proofs.Common.{suc, ℕ, ◌+◌, ◌<◌, ◌==◌, slice_get, position, MatchOption, IsUtf8, bytes_eq, Option, None, Some, string_bytes, drop}
+use Rattle.yaml_mark.proofs.Common.{length, slice_index_or as get_or, take, encode_utf8 as encode, encode_utf8_all as encodes, Bool, cond, false, not, true}
+use Rattle.yaml_mark.proofs.Common.{List, [], map, ◌++◌, ◌∷◌, refl, ◌≡◌, length-append, take-append-drop, ⊎_elim, ap, subst, sym, ◌∙◌, arith}
+use Rattle.yaml_mark.proofs.Common.{take-append_seam, cases_lt, and_parts, and_from, same_from_decides, bytes_eq-Decides, encodes-append, IsUtf8-past_char}
+use Rattle.yaml_mark.proofs.Common.{encodes-chars, chars-append, IsUtf8-string_bytes, position_or_len, IsCharBoundary, chars, Text, seen_directive, fits}
+use Rattle.yaml_base.proofs.Common.{is_some, option_map, nat_lt, eq-eqb, le-ltb, lt-ltb, ltb-true, append_assoc, length-map, chars-encodes, length-le-encodes}
+use Rattle.yaml_base.proofs.Common.{scalars, TagDirective, tag_fault, Spelling, shorthand, verbatim, spelling}
+use Rattle.std.{proofs.Math.Seq.drop-append_seam, proofs.lemmas.List.length-drop, proofs.lemmas.Option.slice_get_within, proofs.lemmas.Option.slice_get_read}
+use Rattle.std.{proofs.lemmas.Option.slice_get-map, proofs.lemmas.Str.IsCharBoundary-at_seam, proofs.lemmas.Str.scalars-chars, specs.Bool.Decides}
+use Rattle.std.{specs.List.starts_with}
 use lib.Dec.{eqb}
-use lib.Utf8.{scalars, encode, encodes}
-use Rattle.yaml_base.specs.declared.directives.yaml_tag_directive_t.{yaml_tag_directive_t}
-use Rattle.yaml_base.specs.Characters.{Text}
-use Rattle.yaml_base.specs.Event.{TagDirective}
-use Rattle.yaml_base.specs.Seen.{seen_directive}
-use Rattle.yaml_base.specs.Tags.{tag_fault, behind, Spelling, shorthand, verbatim, spelling_by, spelling}
-use Rattle.yaml_base.proofs.TagForms.{behind-whole, behind_begins, scalars_behind}
-use Rattle.yaml_mark.proofs.HandleLemmas.{characters_begin, no_characters}
-use Rattle.yaml_mark.specs.Spelled.{fits, begins_and_is_shorter, IsCutAt}
-use Rattle.yaml_base.specs.declared.errors.yaml_error_t.TheVariants.{TagEmpty}
+use Rattle.yaml_base.{proofs.TagForms.behind-whole, proofs.TagForms.behind_begins, proofs.TagForms.scalars_behind, specs.Tags.behind, specs.Tags.spelling_by}
+use Rattle.yaml_base.{specs.declared.directives.yaml_tag_directive_t.yaml_tag_directive_t, specs.declared.errors.yaml_error_t.TheVariants.TagEmpty}
+use Rattle.yaml_mark.{proofs.HandleLemmas.no_characters, proofs.HandleLemmas.characters_begin, specs.Spelled.begins_and_is_shorter, specs.Spelled.IsCutAt}
 
 -- By bytes and by characters.
 

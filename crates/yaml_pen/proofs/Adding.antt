@@ -1,12 +1,7 @@
 -- Bytes that are appended to those of a text are decoded as text that is appended.
-use Rattle.std.proofs.Common.{◌≡◌, refl, sym, ◌∙◌, ap, ℕ, true, Option, Some, List, [], ◌∷◌, ◌++◌, append_assoc}
-use Rattle.std.specs.Str.{all_scalars}
-use Rattle.std.proofs.lemmas.Bool.{and_parts, and_from}
-use Rattle.yaml_base.specs.Characters.{Text}
-use Rattle.yaml_base.specs.Settings.{Encoding}
-use Rattle.yaml_base.specs.Encoding.{character_bytes, text_bytes, encode, bom_text}
-use Rattle.yaml_base.specs.Decode.{decode}
-use Rattle.yaml_base.proofs.Decoding.{decode-encode}
+use Rattle.yaml_base.proofs.Common.{ℕ, Option, Some, true, List, [], ◌++◌, ◌∷◌, refl, ◌≡◌, append_assoc, ap, sym, ◌∙◌, and_parts, and_from, all_scalars, Text}
+use Rattle.yaml_base.proofs.Common.{encode, Encoding}
+use Rattle.yaml_base.{proofs.Decoding.decode-encode, specs.Decode.decode, specs.Encoding.character_bytes, specs.Encoding.text_bytes, specs.Encoding.bom_text}
 
 pub text_bytes-append : (e : Encoding) (xs ys : Text) → text_bytes e (xs ++ ys) ≡ text_bytes e xs ++ text_bytes e ys
 text_bytes-append e [] ys = refl

@@ -1,16 +1,9 @@
 -- A text of ASCII is its bytes.
-use Rattle.std.proofs.Common.{◌≡◌, ap, sym, refl, subst, ◌∙◌, true, ℕ, ◌<◌, ◌≤◌, List, [], ◌∷◌, length, get_or, inl, inr, arith}
-use Rattle.std.proofs.lemmas.Bool.{cases_lt}
-use Rattle.std.proofs.lemmas.Bool.Decides.{nat_tests}
-use Rattle.std.proofs.lemmas.List.{length-append}
-use Rattle.std.proofs.lemmas.Str.{IsUtf8-from_ascii, byte_from_char, chars-IsAscii, length-encode, scalars-chars}
-use Rattle.std.proofs.lemmas.Str.Ascii.{IsAscii-cons, IsAscii-nil}
-use Rattle.std.specs.Char.{len_utf8}
-use Rattle.std.specs.Prelude.{IsUtf8}
-use Rattle.std.specs.Str.{IsAscii, all_scalars, chars}
+use Rattle.yaml_pen.proofs.Common.{ℕ, ◌<◌, ◌≤◌, IsUtf8, length, slice_index_or as get_or, true, List, [], ◌∷◌, refl, ◌≡◌, length-append, inl, inr, ap, subst}
+use Rattle.yaml_pen.proofs.Common.{sym, ◌∙◌, arith, cases_lt, nat_tests, IsUtf8-from_ascii, scalars-chars, chars-IsAscii, len_utf8, IsAscii, all_scalars}
+use Rattle.yaml_pen.proofs.Common.{chars, text_bytes, utf8}
+use Rattle.std.proofs.lemmas.{Str.length-encode, Str.byte_from_char, Str.Ascii.IsAscii-nil, Str.Ascii.IsAscii-cons}
 use lib.Utf8.{encode, encodes}
-use Rattle.yaml_base.specs.Encoding.{text_bytes}
-use Rattle.yaml_base.specs.Settings.{utf8}
 use Rattle.yaml_pen.proofs.Writing.{utf8-bytes}
 
 pub ascii-bytes : (bytes : List ℕ) → IsAscii bytes → bytes ≡ text_bytes utf8 bytes

@@ -1,11 +1,7 @@
 -- A text has as many characters as bytes that begin one.
-use Rattle.std.proofs.Common.{◌≡◌, refl, sym, ap, ◌∙◌, arith, add-one, inl, inr, IsUtf8, get_or, le-ltb, lt-ltb, length, take, take-suc}
-use Rattle.std.proofs.lemmas.Bool.{cases_lt}
-use Rattle.std.proofs.lemmas.Bool.Decides.{nat_tests}
-use Rattle.std.proofs.lemmas.Str.{encodes-chars}
-use Rattle.std.specs.Fmt.{is_char_start}
-use Rattle.std.specs.Prelude.{ℕ, Bool, true, false, List, [], ◌∷◌, ◌++◌, ◌+◌, ◌/◌, ◌%◌, ◌<◌, ◌≤◌, if◌then◌else◌}
-use Rattle.std.specs.Str.{chars}
+use Rattle.yaml_pen.proofs.Common.{ℕ, ◌+◌, ◌<◌, ◌≤◌, if◌then◌else◌, IsUtf8, length, slice_index_or as get_or, take, Bool, false, true, List, [], ◌++◌, ◌∷◌}
+use Rattle.yaml_pen.proofs.Common.{refl, ◌≡◌, inl, inr, ap, sym, ◌∙◌, add-one, arith, cases_lt, nat_tests, encodes-chars, is_char_start, chars}
+use Rattle.std.{proofs.Common.le-ltb, proofs.Common.lt-ltb, proofs.Common.take-suc, specs.Prelude.◌%◌, specs.Prelude.◌/◌}
 use lib.Utf8.{encode, encodes, next}
 use mir.Val.{bool_byte}
 

@@ -1,17 +1,10 @@
 -- How calls that write compose: one after another, a failure on the way, and changes of the cursor between.
-use Rattle.std.proofs.Common.{◌≡◌, ◌==◌, refl, sym, ◌∙◌, ap, subst, ℕ, Option, None, Some, Result, Ok, Err, [], ◌∷◌, ◌++◌, IsSome, IsErr, IsErrAnd}
-use Rattle.std.proofs.Common.{append_assoc, append-nil, if◌then◌else◌}
-use Rattle.std.proofs.lemmas.Bool.{false≢true}
-use Rattle.std.proofs.lemmas.Result.{err_from_is_err_and}
-use Rattle.yaml_base.specs.Characters.{Text, line_feed}
-use Rattle.yaml_base.specs.Settings.{Encoding, LineBreak}
-use Rattle.yaml_base.specs.LineBreaks.{with_breaks_written, break_text}
-use Rattle.yaml_base.specs.Cursor.{Cursor, Rendered, render_then, render_nothing, render_text}
-use Rattle.yaml_base.proofs.Prefixes.{prefix_itself, prefix_then, prefix_same}
-use Rattle.yaml_base.specs.declared.errors.yaml_error_t.{yaml_error_t}
-use Rattle.yaml_pen.specs.Page.{Page, IsReady, result_of_error}
-use Rattle.yaml_pen.specs.Wrote.{Wrote, WroteAll, Flushed, Grows, named_text}
-use Rattle.yaml_pen.proofs.Writing.{none_from_result, column_after-append}
+use Rattle.yaml_pen.proofs.Common.{ℕ, if◌then◌else◌, ◌==◌, IsSome, Option, None, Some, Result, Err, Ok, [], ◌++◌, ◌∷◌, refl, ◌≡◌, append-nil, append_assoc}
+use Rattle.yaml_pen.proofs.Common.{ap, subst, sym, ◌∙◌, false≢true, prefix_same, Text, line_feed, Cursor, Rendered, render_nothing, render_then, render_text}
+use Rattle.yaml_pen.proofs.Common.{break_text, with_breaks_written, Encoding, LineBreak, Page, IsReady, result_of_error, named_text, Wrote}
+use Rattle.std.proofs.{Common.IsErrAnd, Common.IsErr, lemmas.Result.err_from_is_err_and}
+use Rattle.yaml_base.{proofs.Prefixes.prefix_itself, proofs.Prefixes.prefix_then, specs.declared.errors.yaml_error_t.yaml_error_t}
+use Rattle.yaml_pen.{proofs.Writing.column_after-append, proofs.Writing.none_from_result, specs.Wrote.Grows, specs.Wrote.WroteAll, specs.Wrote.Flushed}
 
 -- line breaks are written part by part
 pub with_breaks_written-append : (setting : LineBreak) (xs ys : Text)

@@ -1,9 +1,7 @@
 -- A text that is cut between two of its characters.
-use Rattle.std.proofs.Common.{◌≡◌, ◌∙◌, sym, ap, ℕ, ◌+◌, ◌<◌, ◌≤◌, zero, suc, List, [], ◌∷◌, ◌++◌, IsUtf8, arith, drop, length, take}
-use Rattle.std.proofs.lemmas.List.{take-append-drop}
-use Rattle.std.proofs.lemmas.Str.{IsCharBoundary-past_char, IsUtf8-take, chars-append, len_utf8_bounds}
-use Rattle.std.specs.Char.{len_utf8}
-use Rattle.std.specs.Str.{IsCharBoundary, chars, encode_utf8_all}
+use Rattle.std.{proofs.lemmas.List.take-append-drop, specs.Char.len_utf8, specs.Str.IsCharBoundary, specs.Str.chars, specs.Str.encode_utf8_all}
+use Rattle.std.proofs.Common.{List, [], ap, arith, drop, length, suc, sym, take, zero, ℕ, ◌++◌, ◌+◌, ◌<◌, ◌∙◌, ◌∷◌, ◌≡◌, ◌≤◌, IsUtf8}
+use Rattle.std.proofs.lemmas.Str.{IsUtf8-take, len_utf8_bounds, IsCharBoundary-past_char, chars-append}
 
 -- its characters are those of both parts
 pub chars-cut : (bytes prefix back : List ℕ) (place : ℕ) → IsUtf8 bytes → IsCharBoundary bytes place → prefix ≡ take place bytes → back ≡ drop place bytes

@@ -1,3 +1,4 @@
+pub mod Common
 pub mod Outlets
 pub mod Adding
 pub mod Starting

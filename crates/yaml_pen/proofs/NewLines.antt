@@ -1,9 +1,9 @@
 -- A new line is a break where one is needed, and then spaces.
-use Rattle.std.proofs.Common.{◌≡◌, sym, ◌∙◌, ap, true, ℕ, ◌+◌, ◌-◌, ◌≤◌, zero, suc, Bool, inl, inr, [], ◌∷◌, ◌++◌, replicate, if◌then◌else◌, arith}
-use Rattle.std.proofs.lemmas.Bool.{cases_Bool, or_parts, ltb-false}
-use Rattle.yaml_base.specs.Characters.{Text, line_feed, space}
-use Rattle.yaml_base.specs.Cursor.{Cursor, Rendered, render_then, render_nothing, render_text, breaks_line, column_after}
-use Rattle.yaml_pen.specs.Lines.{line_begun, render_line_break, spaces_to}
+use Rattle.yaml_base.proofs.Common.{suc, zero, ℕ, ◌+◌, ◌-◌, ◌≤◌, if◌then◌else◌, replicate, Bool, true, [], ◌++◌, ◌∷◌, ◌≡◌, inl, inr, ap, sym, ◌∙◌, arith}
+use Rattle.yaml_base.proofs.Common.{or_parts, Text, line_feed, space, Cursor, Rendered, render_nothing, render_then, column_after, breaks_line}
+use Rattle.std.proofs.lemmas.Bool.{ltb-false, cases_Bool}
+use Rattle.yaml_base.specs.Cursor.{render_text}
+use Rattle.yaml_pen.specs.Lines.{render_line_break, spaces_to, line_begun}
 
 pub column_after-spaces : (count column : ℕ) → column_after (replicate count space) column ≡ column + count
 column_after-spaces zero column = omega arith

@@ -1,13 +1,9 @@
 -- What is flushed of a buffer is added to the output.
-use Rattle.std.proofs.Common.{◌≡◌, sym, ◌∙◌, ap, subst, ℕ, ◌≤◌, ◌+◌, ◌-◌, Result, Ok, Err, List, ◌++◌, length, take, append_assoc, arith}
-use Rattle.std.proofs.Math.Seq.{take-append-add}
-use Rattle.std.proofs.lemmas.List.{length-append}
-use Rattle.yaml_base.specs.Encoding.{cut}
-use Rattle.yaml_base.specs.Prefix.{IsPrefix}
-use Rattle.yaml_base.specs.declared.errors.yaml_error_t.{yaml_error_t}
-use Rattle.yaml_base.specs.declared.errors.yaml_error_t.TheVariants.{WriteError, Memory}
-use Rattle.yaml_base.proofs.Prefixes.{prefix_same, prefix_cut}
-use Rattle.yaml_pen.specs.Outlet.{FlushesBuffer, whole_output}
+use Rattle.yaml_base.proofs.Common.{ℕ, ◌+◌, ◌-◌, ◌≤◌, length, take, List, ◌++◌, ◌≡◌, length-append, append_assoc, ap, subst, sym, ◌∙◌, arith, cut}
+use Rattle.std.proofs.{Common.Err, Common.Ok, Common.Result, Math.Seq.take-append-add}
+use Rattle.yaml_base.{proofs.Prefixes.prefix_same, proofs.Prefixes.prefix_cut, specs.Prefix.IsPrefix, specs.declared.errors.yaml_error_t.yaml_error_t}
+use Rattle.yaml_base.{specs.declared.errors.yaml_error_t.TheVariants.Memory, specs.declared.errors.yaml_error_t.TheVariants.WriteError}
+use Rattle.yaml_pen.specs.Outlet.{whole_output, FlushesBuffer}
 
 pub last_flushes_grows : (buffer before after : List ℕ) (limit : ℕ) (answer : Result (Unit {0}) yaml_error_t) → length before ≤ limit
     → FlushesBuffer buffer before after limit answer → IsPrefix before after

@@ -1,14 +1,7 @@
 -- Spaces are characters of ASCII, and none is a break.
-use Rattle.std.proofs.Common.{◌≡◌, ◌<◌, ◌∙◌, ◌∷◌, refl, ap, false, ℕ, zero, suc, replicate, arith}
-use Rattle.std.proofs.lemmas.List.Elements.{All-replicate}
-use Rattle.std.proofs.lemmas.Str.Ascii.{IsAscii-from_all}
-use Rattle.std.specs.List.{list_any}
-use Rattle.std.specs.Str.{IsAscii}
-use Rattle.yaml_base.specs.Characters.{is_break, line_feed, space}
-use Rattle.yaml_base.specs.Cursor.{render_text}
-use Rattle.yaml_base.specs.LineBreaks.{with_breaks_written}
-use Rattle.yaml_base.specs.Settings.{LineBreak, line_feed_break}
-use Rattle.yaml_pen.specs.Page.{Page}
+use Rattle.yaml_pen.proofs.Common.{suc, zero, ℕ, ◌<◌, replicate, false, ◌∷◌, refl, ◌≡◌, ap, ◌∙◌, arith, list_any, IsAscii, line_feed, space, is_break}
+use Rattle.yaml_pen.proofs.Common.{render_text, with_breaks_written, LineBreak, line_feed_break, Page}
+use Rattle.std.proofs.lemmas.{List.Elements.All-replicate, Str.Ascii.IsAscii-from_all}
 use Rattle.yaml_pen.proofs.Writing.{Names, unbroken-written}
 
 -- each is below 128

@@ -1,19 +1,9 @@
 -- A pen that wrote no byte has no text.
-use Rattle.std.proofs.Common.{◌≡◌, refl, sym, ◌∙◌, ap, ℕ, true, false, Bool, Option, None, Some, List, [], min, unwrap_or, if◌then◌else◌}
-use Rattle.std.specs.Str.{all_scalars}
-use Rattle.std.proofs.lemmas.Str.{chars-nil}
-use Rattle.std.proofs.lemmas.Bool.{false≢true}
-use Rattle.yaml_base.specs.Characters.{Text, byte_order_mark}
-use Rattle.yaml_base.specs.Settings.{Encoding, line_feed_break, utf8, utf16_little, utf16_big}
-use Rattle.yaml_base.specs.Encoding.{encode, character_bytes}
-use Rattle.yaml_base.specs.Cursor.{column_after}
-use Rattle.yaml_base.specs.Seen.{seen_encoding, seen_break}
-use Rattle.yaml_base.specs.declared.encodings.yaml_encoding_t.{yaml_encoding_t}
-use Rattle.yaml_base.specs.declared.encodings.yaml_break_t.{yaml_break_t}
-use Rattle.yaml_pen.specs.Page.{Page, IsFlushedOutput, has_bom}
-use Rattle.yaml_pen.specs.Outlet.{Bytes, IsSound}
-use Rattle.yaml_pen.specs.Pen.{page_of, IsPen}
-use Rattle.yaml_base.specs.Decode.{decode}
+use Rattle.yaml_pen.proofs.Common.{min, ℕ, if◌then◌else◌, unwrap_or, Option, None, Some, Bool, false, true, List, [], refl, ◌≡◌, ap, sym, ◌∙◌, false≢true}
+use Rattle.yaml_pen.proofs.Common.{chars-nil, all_scalars, Text, column_after, character_bytes, encode, seen_encoding, seen_break, Encoding, utf8}
+use Rattle.yaml_pen.proofs.Common.{utf16_little, utf16_big, line_feed_break, Bytes, IsSound, Page, has_bom, IsFlushedOutput, page_of, IsPen}
+use Rattle.yaml_base.specs.{Characters.byte_order_mark, Decode.decode, declared.encodings.yaml_break_t.yaml_break_t}
+use Rattle.yaml_base.specs.{declared.encodings.yaml_encoding_t.yaml_encoding_t}
 
 pub decode-nil : (encoding : Option Encoding) → decode encoding [] ≡ []
 unfolding decode

@@ -1,27 +1,14 @@
 -- What it does to a pen that its bytes grow by those of a text.
-use Rattle.std.proofs.Common.{◌≡◌, refl, sym, ◌∙◌, ap, ℕ, ◌==◌, ◌+◌, true, false, Bool, Option, None, Some, Ok, List, [], ◌∷◌, ◌++◌, IsSome, IsUtf8, arith}
-use Rattle.std.proofs.Common.{length, min, unwrap_or, if◌then◌else◌, append-nil, subst}
-use Rattle.std.specs.List.{list_any}
-use Rattle.std.specs.Str.{all_scalars, chars, encode_utf8_all}
+use Rattle.yaml_pen.proofs.Common.{min, ℕ, ◌+◌, if◌then◌else◌, ◌==◌, unwrap_or, IsSome, IsUtf8, Option, None, Some, Ok, length, Bool, false, true, List, []}
+use Rattle.yaml_pen.proofs.Common.{◌++◌, ◌∷◌, refl, ◌≡◌, append-nil, ap, subst, sym, ◌∙◌, arith, and_from, or_parts, false≢true, encodes-chars, list_any}
+use Rattle.yaml_pen.proofs.Common.{all_scalars, chars, encode_utf8_all, Text, line_feed, is_break, Cursor, Rendered, column_after, render_text, decode}
+use Rattle.yaml_pen.proofs.Common.{character_bytes, text_bytes, encode, break_text, with_breaks_written, IsPrefix, seen_encoding, seen_break, Encoding, utf8}
+use Rattle.yaml_pen.proofs.Common.{utf16_little, utf16_big, LineBreak, line_feed_break, Bytes, IsSound, Page, has_bom, IsReady, result_of_error}
+use Rattle.yaml_pen.proofs.Common.{IsFlushedOutput, page_of, IsPen, named_text, Wrote}
 use Rattle.std.specs.Char.{IsScalar}
-use Rattle.std.proofs.lemmas.Bool.{false≢true, and_from, or_parts}
-use Rattle.std.proofs.lemmas.Str.{encodes-chars}
-use Rattle.yaml_base.specs.Characters.{Text, is_break, line_feed}
-use Rattle.yaml_base.specs.Settings.{Encoding, utf8, utf16_little, utf16_big, LineBreak, carriage_return_break, line_feed_break, both_break}
-use Rattle.yaml_base.specs.Encoding.{encode, character_bytes, text_bytes}
-use Rattle.yaml_base.specs.LineBreaks.{break_text, with_breaks_written}
-use Rattle.yaml_base.specs.Cursor.{Cursor, Rendered, column_after, next_column, render_text}
-use Rattle.yaml_base.specs.Prefix.{IsPrefix}
-use Rattle.yaml_base.specs.Seen.{seen_encoding, seen_break}
-use Rattle.yaml_base.specs.declared.encodings.yaml_encoding_t.{yaml_encoding_t}
-use Rattle.yaml_base.specs.declared.encodings.yaml_break_t.{yaml_break_t}
-use Rattle.yaml_base.specs.declared.errors.yaml_error_t.{yaml_error_t}
-use Rattle.yaml_pen.specs.Page.{Page, IsReady, IsFlushedOutput, has_bom, result_of_error}
-use Rattle.yaml_pen.specs.Wrote.{Wrote, named_text}
-use Rattle.yaml_pen.specs.Outlet.{Bytes, IsSound, Appended}
-use Rattle.yaml_pen.specs.Pen.{page_of, IsPen}
-use Rattle.yaml_base.specs.Decode.{decode}
-use Rattle.yaml_pen.proofs.Adding.{AreText, AreText-grown, decode-grown}
+use Rattle.yaml_base.specs.{Cursor.next_column, Settings.carriage_return_break, Settings.both_break, declared.encodings.yaml_break_t.yaml_break_t}
+use Rattle.yaml_base.specs.{declared.encodings.yaml_encoding_t.yaml_encoding_t, declared.errors.yaml_error_t.yaml_error_t}
+use Rattle.yaml_pen.{proofs.Adding.AreText, proofs.Adding.decode-grown, proofs.Adding.AreText-grown, specs.Outlet.Appended}
 
 pub column_after-append : (xs ys : Text) (column : ℕ) → column_after (xs ++ ys) column ≡ column_after ys (column_after xs column)
 column_after-append [] ys column = refl

@@ -1,14 +1,8 @@
 -- A text that is being written, part by part: a prefix of it is written, the rest is left.
-use Rattle.std.proofs.Common.{◌≡◌, ◌==◌, ◌||◌, ◌∙◌, refl, sym, ap, subst, ℕ, false, Result, Ok, Err, [], ◌∷◌, ◌++◌, append_assoc, append-nil}
-use Rattle.std.proofs.lemmas.Bool.{or_parts}
-use Rattle.std.specs.List.{list_any}
-use Rattle.yaml_base.specs.Characters.{Text, is_break, line_feed}
-use Rattle.yaml_base.specs.Cursor.{render_text}
-use Rattle.yaml_base.specs.declared.errors.yaml_error_t.{yaml_error_t}
-use Rattle.yaml_pen.specs.Page.{Page}
-use Rattle.yaml_pen.specs.Wrote.{Wrote}
-use Rattle.yaml_pen.proofs.Writing.{line_feed-break}
-use Rattle.yaml_pen.proofs.Composing.{wrote_text_then, wrote_cut}
+use Rattle.std.{proofs.lemmas.Bool.or_parts, specs.List.list_any}
+use Rattle.std.proofs.Common.{Err, Ok, Result, [], ap, append-nil, append_assoc, false, refl, subst, sym, ℕ, ◌++◌, ◌||◌, ◌∙◌, ◌∷◌, ◌≡◌, ◌==◌}
+use Rattle.yaml_base.specs.{Characters.Text, Characters.line_feed, Characters.is_break, Cursor.render_text, declared.errors.yaml_error_t.yaml_error_t}
+use Rattle.yaml_pen.{proofs.Composing.wrote_text_then, proofs.Composing.wrote_cut, proofs.Writing.line_feed-break, specs.Page.Page, specs.Wrote.Wrote}
 
 pub record WrotePrefix (all left : Text) (before after : Page) : Type 0 where
   pub prefix : Text

@@ -1,15 +1,12 @@
 -- All styles are looked at in one loop over a value's characters.
-use Rattle.std.proofs.Common.{◌≡◌, refl, sym, ap, ◌∙◌, IsUtf8, chars}
-use Rattle.std.proofs.lemmas.Bool.{and_left, and_parts, and_right, eqb-true, not-true, or_from, or_parts}
-use Rattle.std.proofs.lemmas.List.{nil_from_length}
-use Rattle.std.proofs.lemmas.Str.{chars-nil, chars_past_char}
-use Rattle.std.specs.Char.{encode_utf8}
-use Rattle.std.specs.List.{list_all}
-use Rattle.std.specs.Prelude.{ℕ, Bool, true, false, List, [], ◌∷◌, ◌++◌, ◌==◌, ◌||◌, ◌&&◌, codes, length, not, if◌then◌else◌}
-use Rattle.yaml_base.specs.scalars.Analysis.{Charset, begins_with, ends_word, is_empty, is_gap, is_key_or_comment, is_special, is_trailing_space}
-use Rattle.yaml_base.specs.Characters.{Text, is_among, is_ascii, is_break, is_printable, is_space, line_separator, paragraph_separator, space, tab}
-use Rattle.yaml_scalar.specs.Barred.{Barred, barred_by, barred_by_space, barred_in, either, is_quiet, none_barred, with_indicator}
-use Rattle.yaml_scalar.specs.WholeRuns.{last_from}
+use Rattle.yaml_scalar.proofs.Common.{ℕ, if◌then◌else◌, ◌==◌, chars, IsUtf8, codes, length, Bool, false, not, true, ◌&&◌, ◌||◌, List, [], ◌++◌, ◌∷◌, refl}
+use Rattle.yaml_scalar.proofs.Common.{◌≡◌, eqb-true, ap, sym, ◌∙◌, and_parts, and_right, or_parts, or_from, not-true, nil_from_length, chars-nil}
+use Rattle.yaml_scalar.proofs.Common.{chars_past_char, encode_utf8, list_all, Text, is_among, line_separator, paragraph_separator, space, tab, is_ascii}
+use Rattle.yaml_scalar.proofs.Common.{is_space, is_break, is_printable, Charset, begins_with, is_empty, is_gap, ends_word, is_special, is_trailing_space}
+use Rattle.yaml_scalar.proofs.Common.{Barred, barred_by, barred_in, none_barred, either, is_quiet, barred_by_space, last_from}
+use Rattle.yaml_base.proofs.Common.{and_left}
+use Rattle.yaml_base.specs.scalars.Analysis.{is_key_or_comment}
+use Rattle.yaml_scalar.specs.Barred.{with_indicator}
 
 pub or_none : (b : Bool) → (b || false) ≡ b
 or_none true = refl

@@ -1,26 +1,15 @@
 -- Characters between double quotes whose texts are written at once: they are of ASCII, and none becomes a fold.
-use Rattle.std.proofs.Common.{◌≡◌, ◌∙◌, refl, ap, sym, subst, append_assoc, append-nil, arith, Result, Ok, Err, IsErr, IsErrAnd, chars}
-use Rattle.std.specs.Borrow.{Bor}
-use Rattle.std.proofs.lemmas.Bool.{and_from, and_parts, not-true}
-use Rattle.std.proofs.lemmas.Bool.Decides.{nat_tests}
-use Rattle.std.proofs.lemmas.List.Folds.{list_all-append}
-use Rattle.std.proofs.lemmas.Result.{err_from_is_err_and}
-use Rattle.std.specs.List.{list_all}
-use Rattle.std.specs.Prelude.{ℕ, Bool, true, false, Option, Some, List, [], ◌∷◌, ◌++◌, ◌||◌, ◌&&◌, not, nat_lt, if◌then◌else◌}
-use Rattle.yaml_base.specs.Characters.{Text, is_ascii, is_space}
-use Rattle.yaml_base.specs.Cursor.{Cursor, Rendered, column_after, is_past_width, render_text, render_then}
-use Rattle.yaml_base.specs.scalars.DoubleQuoted.{character_text, double_fold, double_inside, escape_text, may_fold, needs_escape}
-use Rattle.yaml_pen.proofs.Writing.{column_after-append}
+use Rattle.yaml_scalar.proofs.Common.{ℕ, if◌then◌else◌, chars, Option, Some, Result, Err, Ok, nat_lt, Bool, false, not, true, ◌&&◌, ◌||◌, List, [], ◌++◌, ◌∷◌}
+use Rattle.yaml_scalar.proofs.Common.{refl, ◌≡◌, append-nil, append_assoc, ap, subst, sym, ◌∙◌, arith, and_parts, and_from, not-true, nat_tests}
+use Rattle.yaml_scalar.proofs.Common.{list_all-append, list_all, Text, is_ascii, is_space, Cursor, Rendered, render_then, column_after, render_text}
+use Rattle.yaml_scalar.proofs.Common.{is_past_width, escape_text, needs_escape, character_text, may_fold, double_fold, double_inside, Page, Wrote, AreBatched}
+use Rattle.yaml_scalar.proofs.Common.{is_plain, last_from}
+use Rattle.std.{proofs.Common.IsErrAnd, proofs.Common.IsErr, proofs.lemmas.Result.err_from_is_err_and, specs.Borrow.Bor}
 use Rattle.yaml_base.specs.declared.errors.yaml_error_t.{yaml_error_t}
-use Rattle.yaml_pen.specs.Page.{Page}
-use Rattle.yaml_pen.specs.Wrote.{Wrote}
-use Rattle.yaml_scalar.specs.EscapeBytes.{is_plain}
-use Rattle.yaml_scalar.specs.Batch.{AreBatched, WroteBatch, characters_text, is_batched}
-use Rattle.yaml_scalar.specs.WholeRuns.{last_from}
-use Rattle.yaml_scalar.proofs.EscapeBytes.{escape-plain}
-use Rattle.yaml_scalar.proofs.StillToWrite.{StillToWrite, still_as, still_failed, still_rest, still_same}
-use Rattle.yaml_scalar.proofs.Unbroken.{unescaped}
-use Rattle.yaml_scalar.proofs.WholeRuns.{last-more}
+use Rattle.yaml_pen.proofs.Writing.{column_after-append}
+use Rattle.yaml_scalar.proofs.{EscapeBytes.escape-plain, Unbroken.unescaped, WholeRuns.last-more}
+use Rattle.yaml_scalar.proofs.StillToWrite.{StillToWrite, still_rest, still_failed, still_same, still_as}
+use Rattle.yaml_scalar.specs.Batch.{is_batched, characters_text, WroteBatch}
 
 -- the texts of one character more
 characters-more : (unicode : Bool) (prefix : Text) (c : ℕ)

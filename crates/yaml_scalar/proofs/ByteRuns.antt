@@ -1,21 +1,13 @@
 -- Runs of bytes of no class are runs of characters that pass a test.
-use Rattle.std.proofs.Common.{◌≡◌, refl, sym, ap, subst, ◌∙◌, arith, inl, inr, true≢false, IsUtf8}
-use Rattle.std.proofs.lemmas.Bool.{agree_below, agree_below_at, and_from, and_parts, cases_lt, eqb-true, le-ltb, lt-ltb}
-use Rattle.std.proofs.lemmas.Bool.Decides.{nat_tests}
-use Rattle.std.proofs.Math.Bool.{and-true}
-use Rattle.std.proofs.lemmas.List.{take_all, take_more}
-use Rattle.std.proofs.lemmas.List.Folds.{list_all-append, list_all_at}
-use Rattle.std.proofs.lemmas.Str.{IsUtf8-take, chars_from_encodes, encode_ascii, encodes-chars, scalars-chars}
-use Rattle.std.specs.Int.Bits.{bit_and}
-use Rattle.std.specs.List.{list_all}
-use Rattle.std.specs.Prelude.{ℕ, Bool, true, false, List, [], ◌∷◌, ◌==◌, ◌||◌, ◌&&◌, not, ◌+◌, ◌-◌, ◌/◌, ◌%◌, ◌<◌, ◌≤◌, ◌⊎◌, codes, length, slice_index, take}
-use Rattle.std.specs.Str.{IsCharBoundary, chars}
-use lib.Utf8.{scalar, scalars, encode, encodes, next, scalar_cases}
-use Rattle.yaml_base.specs.Characters.{Text, is_among, is_break, is_printable}
-use Rattle.yaml_scalar.specs.Barred.{is_quiet}
-use Rattle.yaml_scalar.specs.declared.classes.TheConstants.{CLASSES}
-use Rattle.yaml_scalar.specs.ByteClasses.{IsFreeRun, ImpliesTest, four_are_free, is_free}
-use Rattle.yaml_scalar.specs.WholeRuns.{IsRun, last_from, stays_in_line, stays_where}
+use Rattle.yaml_scalar.proofs.Common.{ℕ, ◌%◌, ◌+◌, ◌-◌, ◌/◌, ◌<◌, ◌≤◌, ◌==◌, slice_index, IsUtf8, codes, length, take, encode_utf8_all as encodes, Bool}
+use Rattle.yaml_scalar.proofs.Common.{false, not, true, ◌&&◌, ◌||◌, List, [], ◌∷◌, ◌⊎◌, refl, ◌≡◌, eqb-true, le-ltb, lt-ltb, take_all, true≢false, inl, inr}
+use Rattle.yaml_scalar.proofs.Common.{ap, subst, sym, ◌∙◌, arith, and-true, and_parts, and_from, agree_below_at, nat_tests, list_all-append, IsUtf8-take}
+use Rattle.yaml_scalar.proofs.Common.{encodes-chars, scalars-chars, list_all, IsCharBoundary, Text, is_among, is_break, is_printable, is_quiet, is_free}
+use Rattle.yaml_scalar.proofs.Common.{IsFreeRun, ImpliesTest, stays_where, stays_in_line, last_from, IsRun}
+use Rattle.std.{proofs.lemmas.Bool.cases_lt, proofs.lemmas.Bool.agree_below, proofs.lemmas.List.take_more, proofs.lemmas.List.Folds.list_all_at}
+use Rattle.std.{proofs.lemmas.Str.encode_ascii, proofs.lemmas.Str.chars_from_encodes, specs.Int.Bits.bit_and, specs.Str.chars}
+use lib.Utf8.{encode, next, scalar, scalar_cases, scalars}
+use Rattle.yaml_scalar.specs.{ByteClasses.four_are_free, declared.classes.TheConstants.CLASSES}
 
 -- one byte more, and four
 free_more : (classes : ℕ) (bytes : List ℕ) (place : ℕ) → place < length bytes → is_free classes (slice_index bytes place) ≡ true

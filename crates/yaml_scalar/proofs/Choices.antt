@@ -1,14 +1,9 @@
 -- The style of a value that only double quotes can write doesn't depend on its breaks.
-use Rattle.std.proofs.Common.{◌≡◌, ◌∙◌, refl, sym, ap}
-use Rattle.std.proofs.lemmas.Bool.{and_parts}
-use Rattle.std.specs.Prelude.{Bool, true, false, [], ◌∷◌, ◌||◌, ◌&&◌, not, if◌then◌else◌}
-use Rattle.yaml_base.specs.scalars.Analysis.{Allowances, Charset, allowances, begins_unlike_plain, is_empty}
-use Rattle.yaml_base.specs.Characters.{Text}
-use Rattle.yaml_base.specs.Event.{ScalarStyle, any_style, plain, single_quoted, double_quoted, literal, folded}
-use Rattle.yaml_base.specs.scalars.Style.{Choice, chosen, fits_plain, is_plain, requested_style, fitting_style, quoted_style}
-use Rattle.yaml_scalar.specs.Barred.{Barred, all_styles, allowed_by, barred_in}
-use Rattle.yaml_scalar.specs.ScalarData.{ChooseAlike}
-use Rattle.yaml_scalar.proofs.Barred.{or_none}
+use Rattle.yaml_scalar.proofs.Common.{if◌then◌else◌, Bool, false, not, true, ◌&&◌, ◌||◌, [], ◌∷◌, refl, ◌≡◌, ap, sym, ◌∙◌, and_parts, Text, Charset}
+use Rattle.yaml_scalar.proofs.Common.{Allowances, is_empty, begins_unlike_plain, allowances, Choice, chosen, Barred, barred_in, allowed_by}
+use Rattle.yaml_base.proofs.Common.{ScalarStyle, any_style, plain, single_quoted, double_quoted, literal, folded, is_plain, requested_style, quoted_style}
+use Rattle.yaml_base.proofs.Common.{fitting_style, fits_plain}
+use Rattle.yaml_scalar.{proofs.Barred.or_none, specs.Barred.all_styles, specs.ScalarData.ChooseAlike}
 
 -- what a value allows is what its characters don't bar
 pub allowed_whole : (charset : Charset) (value : Text) → allowances charset value ≡ allowed_by (barred_in charset value) value

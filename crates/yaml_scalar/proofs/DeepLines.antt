@@ -1,12 +1,9 @@
 -- Texts whose lines after the first stand at least so many spaces deep, and in which no space stands before a break: how they
 -- are put together.
-use Rattle.std.proofs.Common.{◌≡◌, ◌≤◌, refl, sym, ap, ◌∙◌, ℕ, zero, suc, [], ◌∷◌, ◌++◌, Bool, true, false, arith}
-use Rattle.std.specs.Prelude.{◌==◌, not, replicate}
-use Rattle.std.proofs.lemmas.Bool.{and_from, eqb-true, false≢true, or_left, or_right}
-use Rattle.yaml_base.specs.Characters.{Text, space}
-use Rattle.yaml_base.specs.LineBreaks.{is_read_break}
-use Rattle.yaml_base.specs.reading.TidyText.{begins_with_blank_line, begins_with_break, begins_with_deep_line, begins_with_spaces, has_deep_lines}
-use Rattle.yaml_base.specs.reading.TidyText.{has_no_space_before_break}
+use Rattle.yaml_scalar.proofs.Common.{suc, zero, ℕ, ◌≤◌, ◌==◌, replicate, Bool, false, not, true, [], ◌++◌, ◌∷◌, refl, ◌≡◌, eqb-true, ap, sym, ◌∙◌, arith}
+use Rattle.yaml_scalar.proofs.Common.{and_from, or_left, or_right, false≢true, Text, space, is_read_break, begins_with_spaces, begins_with_blank_line}
+use Rattle.yaml_scalar.proofs.Common.{begins_with_deep_line, has_deep_lines, begins_with_break}
+use Rattle.yaml_base.proofs.Common.{has_no_space_before_break}
 
 -- neither a space nor a break of a reader
 pub record Ink (breaks12 : Bool) (c : ℕ) : Type 0 where

@@ -1,26 +1,17 @@
 -- What stands between double quotes reads as the value, and its later lines are indented.
-use Rattle.std.proofs.Common.{◌≡◌, ◌⊎◌, refl, subst, sym, ◌∙◌, ap, arith, append-nil, append_assoc, inl, inr}
-use Rattle.std.proofs.lemmas.Bool.{true≢false, and_parts, and_right, eqb-true, lt-ltb, or_left, or_right}
-use Rattle.std.proofs.lemmas.Bool.Decides.{nat_tests}
-use Rattle.std.proofs.Math.Utf8.{scalar}
-use Rattle.std.specs.Prelude.{ℕ, zero, suc, Bool, true, false, not, Option, None, Some, List, [], ◌∷◌, ◌++◌, ◌==◌, ◌||◌, ◌&&◌, ◌+◌, ◌≤◌, replicate}
-use Rattle.std.specs.Prelude.{if◌then◌else◌}
-use Rattle.std.specs.Str.{all_scalars}
-use Rattle.yaml_base.specs.Characters.{Text, carriage_return, is_blank, is_break, is_printable, is_space, line_feed, line_separator, next_line}
-use Rattle.yaml_base.specs.Characters.{paragraph_separator, space}
-use Rattle.yaml_base.specs.Cursor.{Cursor, Rendered, breaks_line, column_after, is_past_width, render_text, render_then}
-use Rattle.yaml_base.specs.scalars.DoubleQuoted.{backslash, character_text, double_fold, double_inside, double_quoted_body, escape_text, is_other, may_fold}
-use Rattle.yaml_base.specs.scalars.DoubleQuoted.{needs_escape, quote, render_quote, space_kept}
-use Rattle.yaml_base.specs.LineBreaks.{is_indented_text, is_rendered_text, is_read_break, with_breaks_written, with_line_breaks_read}
-use Rattle.yaml_base.specs.Settings.{LineBreak}
-use Rattle.yaml_base.specs.reading.ReadDouble.{QuotedReading, between, double_quoted_prefix, quoted_from, read_double, value_alone, with_unit}
-use Rattle.yaml_base.specs.reading.ReadFolding.{FoldUnit, FoldState, folding_read, fold_state_of, fold_state_text, itself, literal_blank}
-use Rattle.yaml_base.specs.reading.ReadFolding.{literal_break, prepend_unit}
-use Rattle.yaml_base.proofs.BreakLaws.{breaks-round, indented-written, rendered-append}
+use Rattle.yaml_scalar.proofs.Common.{suc, zero, ℕ, ◌+◌, ◌≤◌, if◌then◌else◌, ◌==◌, Option, None, Some, replicate, Bool, false, not, true, ◌&&◌, ◌||◌, List}
+use Rattle.yaml_scalar.proofs.Common.{[], ◌++◌, ◌∷◌, ◌⊎◌, refl, ◌≡◌, eqb-true, lt-ltb, true≢false, append-nil, append_assoc, inl, inr, ap, subst, sym, ◌∙◌}
+use Rattle.yaml_scalar.proofs.Common.{arith, scalar, and_parts, and_right, or_left, or_right, nat_tests, all_scalars, breaks-round, rendered-append}
+use Rattle.yaml_scalar.proofs.Common.{indented-written, Text, line_feed, carriage_return, next_line, line_separator, paragraph_separator, space, is_space}
+use Rattle.yaml_scalar.proofs.Common.{is_blank, is_break, is_printable, Cursor, Rendered, render_then, column_after, render_text, breaks_line, is_past_width}
+use Rattle.yaml_scalar.proofs.Common.{with_breaks_written, with_line_breaks_read, is_read_break, is_rendered_text, is_indented_text, LineBreak, between}
+use Rattle.yaml_scalar.proofs.Common.{with_unit, quoted_from, read_double, FoldUnit, literal_blank, literal_break, itself, FoldState, fold_state_text}
+use Rattle.yaml_scalar.proofs.Common.{prepend_unit, fold_state_of, folding_read, quote, backslash, escape_text, needs_escape, character_text, is_other}
+use Rattle.yaml_scalar.proofs.Common.{may_fold, space_kept, double_fold, double_inside, render_quote, double_quoted_body}
+use Rattle.yaml_base.specs.reading.ReadDouble.{QuotedReading, double_quoted_prefix, value_alone}
 use Rattle.yaml_scalar.proofs.EscapesRead.{escape-reads}
-use Rattle.yaml_scalar.proofs.Unbroken.{character-long, character-unbroken, is_unbroken, unbroken-column, unbroken-indented, unbroken-rendered}
-use Rattle.yaml_scalar.proofs.Unbroken.{unbroken-replicate}
-use Rattle.yaml_scalar.proofs.Unbroken.{unescaped}
+use Rattle.yaml_scalar.proofs.Unbroken.{is_unbroken, unbroken-replicate, unbroken-column, unbroken-rendered, unbroken-indented, unescaped, character-unbroken}
+use Rattle.yaml_scalar.proofs.Unbroken.{character-long}
 
 -- a printable character other than a space is no blank
 no-blank : (c : ℕ) → is_printable c ≡ true → is_space c ≡ false → is_blank c ≡ false

@@ -1,14 +1,9 @@
 -- An escape is short, of ASCII, and holds no break.
-use Rattle.std.proofs.Common.{◌≡◌, refl, ◌∙◌, arith, ltb-true}
-use Rattle.std.proofs.lemmas.Bool.{agree_below_at, and_from, and_parts, not-true, or_from}
-use Rattle.std.proofs.lemmas.List.Folds.{list_all-append}
-use Rattle.std.specs.List.{list_all, list_any}
-use Rattle.std.specs.Prelude.{ℕ, zero, suc, Bool, true, false, not, Option, None, Some, List, [], ◌∷◌, ◌==◌, ◌&&◌, ◌/◌, ◌%◌, ◌≤◌, nat_le, nat_lt, length}
-use Rattle.std.specs.Prelude.{if◌then◌else◌}
-use Rattle.std.specs.Str.{IsAscii}
-use Rattle.yaml_base.specs.Characters.{Text, hex_digit, hex_digits, is_break}
-use Rattle.yaml_base.specs.scalars.DoubleQuoted.{ShortEscape, escape_after_backslash, escape_text, letter_among, short_escapes}
-use Rattle.yaml_scalar.specs.EscapeBytes.{is_plain}
+use Rattle.yaml_scalar.proofs.Common.{suc, zero, ℕ, ◌%◌, ◌/◌, ◌≤◌, if◌then◌else◌, ◌==◌, Option, None, Some, nat_le, nat_lt, length, Bool, false, not, true}
+use Rattle.yaml_scalar.proofs.Common.{◌&&◌, List, [], ◌∷◌, refl, ◌≡◌, ◌∙◌, arith, and_parts, and_from, or_from, agree_below_at, not-true, list_all-append}
+use Rattle.yaml_scalar.proofs.Common.{list_all, list_any, IsAscii, Text, is_break, hex_digit, hex_digits, ShortEscape, short_escapes, letter_among}
+use Rattle.yaml_scalar.proofs.Common.{escape_after_backslash, escape_text, is_plain}
+use Rattle.yaml_base.proofs.Common.{ltb-true}
 
 pub plain-unbroken : (text : Text) → list_all is_plain text ≡ true → list_any is_break text ≡ false
 plain-unbroken [] h = refl

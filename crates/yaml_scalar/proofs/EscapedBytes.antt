@@ -1,9 +1,5 @@
 -- What is escaped of ASCII, by the classes of bytes.
-use Rattle.std.proofs.Common.{◌≡◌, refl}
-use Rattle.std.proofs.lemmas.Bool.{agree_below_at}
-use Rattle.std.specs.Prelude.{ℕ, Bool, true, false, ◌<◌, not}
-use Rattle.yaml_base.specs.scalars.DoubleQuoted.{needs_escape}
-use Rattle.yaml_scalar.specs.ByteClasses.{is_free}
+use Rattle.yaml_scalar.proofs.Common.{ℕ, ◌<◌, Bool, false, not, true, refl, ◌≡◌, agree_below_at, needs_escape, is_free}
 
 -- by computing
 pub escaped_below : (unicode : Bool) (b : ℕ) → b < 128 → not (is_free 73 b) ≡ needs_escape unicode b

@@ -1,14 +1,10 @@
 -- What is written for a character between double quotes reads as that character.
-use Rattle.std.proofs.Common.{◌≡◌, refl, ap, arith, append_assoc, inl, inr}
-use Rattle.std.proofs.lemmas.Bool.{agree_below_at, and_parts, eqb-true, leb-true}
-use Rattle.std.proofs.lemmas.Bool.Decides.{nat_tests}
-use Rattle.std.proofs.Math.Utf8.{scalar_cases, scalar}
-use Rattle.std.specs.Prelude.{ℕ, zero, suc, Bool, true, false, Option, None, Some, List, [], ◌∷◌, ◌++◌, ◌==◌, ◌&&◌, ◌+◌, ◌*◌, ◌/◌, ◌%◌, ◌<◌, ◌≤◌, nat_le}
-use Rattle.std.specs.Prelude.{if◌then◌else◌}
-use Rattle.yaml_base.specs.Characters.{Text, hex_digit, hex_digits}
-use Rattle.yaml_base.specs.scalars.DoubleQuoted.{ShortEscape, escape_after_backslash, escape_text, letter_among, short_escapes}
-use Rattle.yaml_base.specs.reading.ReadDouble.{after_backslash, between, digit_meaning, is_scalar_number, letter_meaning, quoted_from, with_unit, within_digits}
-use Rattle.yaml_base.specs.reading.ReadFolding.{itself}
+use Rattle.yaml_scalar.proofs.Common.{suc, zero, ℕ, ◌%◌, ◌+◌, ◌/◌, ◌<◌, ◌≤◌, if◌then◌else◌, ◌==◌, Option, None, Some, nat_le, Bool, false, true, ◌&&◌, List}
+use Rattle.yaml_scalar.proofs.Common.{[], ◌++◌, ◌∷◌, refl, ◌≡◌, eqb-true, leb-true, append_assoc, inl, inr, ap, arith, scalar, and_parts, agree_below_at}
+use Rattle.yaml_scalar.proofs.Common.{nat_tests, Text, hex_digit, hex_digits, between, with_unit, quoted_from, itself, ShortEscape, short_escapes}
+use Rattle.yaml_scalar.proofs.Common.{letter_among, escape_after_backslash, escape_text}
+use Rattle.std.{proofs.Math.Utf8.scalar_cases, specs.Prelude.◌*◌}
+use Rattle.yaml_base.specs.reading.ReadDouble.{after_backslash, within_digits, letter_meaning, digit_meaning, is_scalar_number}
 
 -- an answer is there and is this number
 abbrev is_answer : Option ℕ → ℕ → Bool

@@ -1,12 +1,7 @@
 -- A text's first characters, as they are taken one after another.
-use Rattle.std.proofs.Common.{◌≡◌, ◌∙◌, refl, sym, ap, true≢false, ℕ, List, [], ◌∷◌, ◌++◌, length, IsUtf8, chars}
-use Rattle.std.proofs.lemmas.Bool.{eqb-true}
-use Rattle.std.proofs.lemmas.Str.{IsUtf8-past_char, chars-nil, chars_past_char}
-use Rattle.std.specs.Char.{encode_utf8}
-use Rattle.std.specs.Prelude.{true, false, ◌==◌, ◌||◌, ◌&&◌}
-use Rattle.yaml_base.specs.scalars.Analysis.{begins_like_marker, begins_unlike_plain}
-use Rattle.yaml_base.specs.Characters.{Text}
-use Rattle.yaml_scalar.specs.Barred.{is_ordinary}
+use Rattle.yaml_scalar.proofs.Common.{ℕ, ◌==◌, chars, IsUtf8, length, false, true, ◌&&◌, ◌||◌, List, [], ◌++◌, ◌∷◌, refl, ◌≡◌, eqb-true, true≢false, ap, sym}
+use Rattle.yaml_scalar.proofs.Common.{◌∙◌, chars-nil, IsUtf8-past_char, chars_past_char, encode_utf8, Text, begins_like_marker, begins_unlike_plain}
+use Rattle.yaml_scalar.proofs.Common.{is_ordinary}
 use Rattle.yaml_scalar.proofs.ByteRuns.{false_unless}
 
 no-characters : (bs : List ℕ) → length bs ≡ 0 → chars bs ≡ []

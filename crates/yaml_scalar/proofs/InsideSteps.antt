@@ -1,20 +1,10 @@
 -- What stands between double quotes is written one character after another, and runs of those that stay whole.
-use Rattle.std.proofs.Common.{◌≡◌, refl, ap, ◌∙◌, arith, chars}
-use Rattle.std.proofs.lemmas.Bool.{and_from, and_parts, not-false, not-true}
-use Rattle.std.proofs.lemmas.Bool.Decides.{nat_tests}
-use Rattle.std.specs.List.{list_all}
-use Rattle.std.specs.Prelude.{ℕ, Bool, true, false, Option, None, Some, List, [], ◌∷◌, ◌==◌, ◌||◌, ◌&&◌, not, nat_lt, if◌then◌else◌}
-use Rattle.yaml_base.specs.Characters.{Text, is_ascii, is_break, is_printable, is_space}
-use Rattle.yaml_base.specs.Cursor.{Cursor, Rendered, is_past_width, next_column, render_text, render_then}
-use Rattle.yaml_base.specs.scalars.DoubleQuoted.{backslash, character_text, double_character, double_fold, double_inside, escape_text, may_fold, needs_escape}
-use Rattle.yaml_base.specs.scalars.DoubleQuoted.{quote}
-use Rattle.yaml_pen.specs.Page.{Page}
-use Rattle.yaml_scalar.proofs.RunsWritten.{StandAlone}
-use Rattle.yaml_scalar.proofs.StillToWrite.{StillToWrite}
-use Rattle.yaml_scalar.proofs.Unbroken.{unescaped}
-use Rattle.yaml_scalar.proofs.WholeRuns.{no_fold}
-use Rattle.yaml_scalar.specs.EscapeBytes.{is_plain}
-use Rattle.yaml_scalar.specs.WholeRuns.{has_limit, stays, stays_where}
+use Rattle.yaml_scalar.proofs.Common.{ℕ, if◌then◌else◌, ◌==◌, chars, Option, None, Some, nat_lt, Bool, false, not, true, ◌&&◌, ◌||◌, List, [], ◌∷◌, refl, ◌≡◌}
+use Rattle.yaml_scalar.proofs.Common.{ap, ◌∙◌, arith, and_parts, and_from, not-false, not-true, nat_tests, list_all, Text, is_ascii, is_space, is_break}
+use Rattle.yaml_scalar.proofs.Common.{is_printable, Cursor, Rendered, render_then, next_column, render_text, is_past_width, quote, backslash, escape_text}
+use Rattle.yaml_scalar.proofs.Common.{needs_escape, character_text, may_fold, double_fold, double_character, double_inside, Page, is_plain, has_limit}
+use Rattle.yaml_scalar.proofs.Common.{stays_where, stays}
+use Rattle.yaml_scalar.proofs.{RunsWritten.StandAlone, StillToWrite.StillToWrite, Unbroken.unescaped, WholeRuns.no_fold}
 
 -- what is still to be written between the quotes: these bytes' characters, after a character or at the start
 abbrev pub StillInside : (unicode : Bool) (limit : Option ℕ) (indent : ℕ) (value : Text) (before : Option ℕ) (bytes : List ℕ) (start here : Page) → Type 0

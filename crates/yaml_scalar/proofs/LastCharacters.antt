@@ -1,14 +1,9 @@
 -- The last characters of a text say how it ends.
-use Rattle.std.proofs.Common.{◌≡◌, refl, sym, ap, subst, ◌∙◌, append-nil, append_assoc}
-use Rattle.std.proofs.lemmas.List.{take_at}
-use Rattle.std.proofs.lemmas.Str.{IsCharBoundary-at_seam, IsUtf8-encode, IsUtf8-take, chars-append, chars-encodes}
-use Rattle.std.proofs.Math.Utf8.{scalar}
-use Rattle.std.specs.Prelude.{ℕ, true, false, List, [], ◌∷◌, ◌++◌, encode_utf8, if◌then◌else◌, length, take}
-use Rattle.std.specs.Str.{chars, IsUtf8}
-use Rattle.yaml_base.specs.Characters.{Text, is_break}
-use Rattle.yaml_base.specs.scalars.BlockHeader.{without_break, one_break, more_breaks, ending}
+use Rattle.yaml_scalar.proofs.Common.{ℕ, if◌then◌else◌, length, take, false, true, List, [], ◌++◌, ◌∷◌, refl, ◌≡◌, append-nil, append_assoc, ap, subst, sym}
+use Rattle.yaml_scalar.proofs.Common.{◌∙◌, scalar, IsUtf8-encode, IsUtf8-take, Text, is_break, without_break, one_break, more_breaks, ending, last_from}
+use Rattle.yaml_base.proofs.Common.{encode_utf8, chars-encodes, chars}
+use Rattle.std.{proofs.lemmas.List.take_at, proofs.lemmas.Str.IsCharBoundary-at_seam, proofs.lemmas.Str.chars-append, specs.Str.IsUtf8}
 use Rattle.yaml_scalar.proofs.WholeRuns.{last-more}
-use Rattle.yaml_scalar.specs.WholeRuns.{last_from}
 
 -- one more character
 ending-further : (a b c : ℕ) (xs : Text) → ending (a ∷ (xs ++ b ∷ c ∷ [])) ≡ ending (xs ++ b ∷ c ∷ [])

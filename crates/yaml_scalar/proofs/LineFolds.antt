@@ -1,18 +1,11 @@
 -- Folding reads the lines of plain and single-quoted text as the value.
-use Rattle.std.proofs.Common.{◌≡◌, refl, sym, ap, ◌∙◌, subst, ℕ, suc, zero, [], ◌∷◌, ◌++◌, Bool, true, false}
-use Rattle.std.specs.Prelude.{Option, ◌==◌, ◌||◌, ◌&&◌, not, if◌then◌else◌, map}
-use Rattle.std.proofs.lemmas.Bool.{eqb-true, or_parts, and_from, and_parts, not-true, not-false, not_from_false}
-use Rattle.std.specs.List.{list_any}
-use Rattle.yaml_base.specs.LineBreaks.{is_rendered_text}
-use Rattle.std.proofs.Math.Bool.{and-false}
-use Rattle.yaml_base.specs.Characters.{Text, carriage_return, next_line, is_break, is_space, is_printable, line_feed, space}
-use Rattle.yaml_base.specs.Cursor.{Cursor, is_past_width}
-use Rattle.yaml_base.specs.scalars.Analysis.{Charset, is_empty, is_special, begins_with, somewhere, bars_single_quoted}
-use Rattle.yaml_base.specs.scalars.Plain.{Kind, spaces, breaks, others, kind_of, is_same_kind, indentation}
-use Rattle.yaml_base.specs.reading.ReadFolding.{FoldUnit, literal_blank, literal_break, itself, unit_of, FoldState, run_read, fold_state_text}
-use Rattle.yaml_base.specs.reading.ReadFolding.{fold_state_of, prepend_unit}
-use Rattle.yaml_base.specs.reading.ReadFolding.{folding_read}
-use Rattle.yaml_scalar.specs.LineSteps.{begins_kind, step_text}
+use Rattle.yaml_scalar.proofs.Common.{suc, zero, ℕ, if◌then◌else◌, ◌==◌, Option, Bool, false, not, true, ◌&&◌, ◌||◌, [], map, ◌++◌, ◌∷◌, refl, ◌≡◌, eqb-true}
+use Rattle.yaml_scalar.proofs.Common.{ap, subst, sym, ◌∙◌, and-false, and_parts, and_from, or_parts, not_from_false, not-false, not-true, list_any, Text}
+use Rattle.yaml_scalar.proofs.Common.{line_feed, carriage_return, next_line, space, is_space, is_break, is_printable, Cursor, is_past_width, is_rendered_text}
+use Rattle.yaml_scalar.proofs.Common.{FoldUnit, literal_blank, literal_break, itself, unit_of, FoldState, fold_state_text, prepend_unit, fold_state_of}
+use Rattle.yaml_scalar.proofs.Common.{folding_read, Charset, somewhere, begins_with, is_empty, is_special, bars_single_quoted, Kind, spaces, breaks, others}
+use Rattle.yaml_scalar.proofs.Common.{kind_of, is_same_kind, indentation, begins_kind, step_text}
+use Rattle.yaml_base.specs.reading.ReadFolding.{run_read}
 use Rattle.yaml_scalar.proofs.LineTexts.{bare_steps}
 
 -- what a reader takes a character of a kind for

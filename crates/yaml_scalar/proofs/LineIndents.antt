@@ -1,18 +1,10 @@
 -- Each nonempty line of plain and single-quoted text after the first begins with two spaces.
-use Rattle.std.proofs.Common.{◌≡◌, refl, ℕ, suc, zero, ◌≤◌, [], ◌∷◌, ◌++◌, Bool, true, false, append_assoc, arith}
-use Rattle.std.specs.Prelude.{Option, ◌==◌, ◌||◌, ◌&&◌, not, if◌then◌else◌}
-use Rattle.std.proofs.lemmas.Bool.{and_from, or_right, eqb-true}
-use Rattle.std.proofs.Math.Bool.{and-false}
-use Rattle.yaml_base.specs.Characters.{Text, is_break, is_space, line_feed, space}
-use Rattle.yaml_base.specs.Cursor.{Cursor, render_text, is_past_width}
-use Rattle.yaml_base.specs.scalars.Analysis.{is_empty}
-use Rattle.yaml_base.specs.LineBreaks.{begins_indented, is_indented_text}
-use Rattle.yaml_base.specs.scalars.Plain.{Kind, spaces, breaks, others, kind_of, is_same_kind, indentation}
+use Rattle.yaml_scalar.proofs.Common.{suc, zero, ℕ, ◌≤◌, if◌then◌else◌, ◌==◌, Option, Bool, false, not, true, ◌&&◌, ◌||◌, [], ◌++◌, ◌∷◌, refl, ◌≡◌, eqb-true}
+use Rattle.yaml_scalar.proofs.Common.{append_assoc, arith, and-false, and_from, or_right, Text, line_feed, space, is_space, is_break, Cursor, render_text}
+use Rattle.yaml_scalar.proofs.Common.{is_past_width, begins_indented, is_indented_text, is_empty, Kind, spaces, breaks, others, kind_of, is_same_kind}
+use Rattle.yaml_scalar.proofs.Common.{indentation, begins_kind, step_text, render_steps}
 use Rattle.yaml_base.proofs.BreakLaws.{break-begins}
-use Rattle.yaml_scalar.proofs.Unbroken.{unbroken-indented, unbroken-replicate}
-use Rattle.yaml_scalar.specs.LineSteps.{begins_kind, step_text, render_steps}
-use Rattle.yaml_scalar.proofs.LineRuns.{WritesEach}
-use Rattle.yaml_scalar.proofs.LineFolds.{spaces_only, breaks_only}
+use Rattle.yaml_scalar.proofs.{LineFolds.spaces_only, LineFolds.breaks_only, LineRuns.WritesEach, Unbroken.unbroken-replicate, Unbroken.unbroken-indented}
 
 -- indentation begins a line
 indentation-begins : (indent : ℕ) → 2 ≤ indent → (text : Text) → begins_indented (indentation indent ++ text) ≡ true

@@ -1,13 +1,10 @@
 -- Plain and single-quoted lines rendered character by character, and that this is their layout by runs.
-use Rattle.std.proofs.Common.{◌≡◌, refl, sym, ap, ◌∙◌, subst, ℕ, List, [], ◌∷◌, ◌++◌, Bool, true, false, append_assoc}
-use Rattle.std.specs.Prelude.{Option, ◌==◌, ◌||◌, ◌&&◌, not}
+use Rattle.yaml_base.proofs.Common.{ℕ, ◌==◌, Option, Bool, false, not, true, ◌&&◌, ◌||◌, List, [], ◌++◌, ◌∷◌, refl, ◌≡◌, append_assoc, ap, subst, sym, ◌∙◌}
+use Rattle.yaml_base.proofs.Common.{Text, is_break, Cursor, Rendered, render_nothing, render_then, column_after, is_past_width, is_empty, runs, render_runs}
 use Rattle.std.proofs.Math.Bool.{and-false, and-true, or-false}
-use Rattle.yaml_base.specs.Characters.{Text, is_break}
-use Rattle.yaml_base.specs.Cursor.{Cursor, Rendered, render_nothing, render_then, render_text, column_after, is_past_width}
-use Rattle.yaml_base.specs.scalars.Analysis.{is_empty}
-use Rattle.yaml_scalar.specs.LineSteps.{begins_kind, step_text, render_steps}
-use Rattle.yaml_scalar.proofs.Unbroken.{is_unbroken}
-use Rattle.yaml_base.specs.scalars.Plain.{Kind, spaces, breaks, others, kind_of, is_same_kind, Run, cons_run, runs, indentation, run_text, is_last, render_runs}
+use Rattle.yaml_base.specs.Cursor.{render_text}
+use Rattle.yaml_base.specs.scalars.Plain.{Kind, spaces, breaks, others, kind_of, is_same_kind, Run, cons_run, indentation, run_text, is_last}
+use Rattle.yaml_scalar.{proofs.Unbroken.is_unbroken, specs.LineSteps.begins_kind, specs.LineSteps.step_text, specs.LineSteps.render_steps}
 
 -- texts are written character by character, and each but `'` stands for itself
 pub record WritesEach (written : Text → Text) : Type 0 where

@@ -1,13 +1,7 @@
 -- The text of plain and single-quoted lines before quotes are doubled: each character is the value's, or of a break or indentation.
-use Rattle.std.proofs.Common.{◌≡◌, refl, sym, ap, ◌∙◌, subst, ℕ, suc, zero, [], ◌∷◌, ◌++◌, Bool, true, false}
-use Rattle.std.specs.Prelude.{Option, ◌==◌, ◌&&◌, not, if◌then◌else◌}
-use Rattle.std.specs.List.{list_any}
-use Rattle.std.proofs.lemmas.Bool.{eqb-true, or_parts}
-use Rattle.std.proofs.lemmas.List.Folds.{list_any-append}
-use Rattle.yaml_base.specs.Characters.{Text, line_feed, space}
-use Rattle.yaml_base.specs.Cursor.{Cursor, render_text, is_past_width}
-use Rattle.yaml_base.specs.scalars.Plain.{Kind, spaces, breaks, others, kind_of, is_same_kind, indentation}
-use Rattle.yaml_scalar.specs.LineSteps.{step_text, render_steps}
+use Rattle.yaml_scalar.proofs.Common.{suc, zero, ℕ, if◌then◌else◌, ◌==◌, Option, Bool, false, not, true, ◌&&◌, [], ◌++◌, ◌∷◌, refl, ◌≡◌, eqb-true, ap, subst}
+use Rattle.yaml_scalar.proofs.Common.{sym, ◌∙◌, or_parts, list_any-append, list_any, Text, line_feed, space, Cursor, render_text, is_past_width, Kind, spaces}
+use Rattle.yaml_scalar.proofs.Common.{breaks, others, kind_of, is_same_kind, indentation, step_text, render_steps}
 use Rattle.yaml_scalar.proofs.LineRuns.{WritesEach}
 
 -- the lines with each character as it is; the cursor is that of the text as it is written

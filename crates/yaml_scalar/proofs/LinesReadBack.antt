@@ -1,24 +1,12 @@
 -- What a writer of plain or single-quoted scalars wrote reads back.
-use Rattle.std.proofs.lemmas.Int.{ints}
-use Rattle.std.proofs.Common.{◌≡◌, refl, ap, ◌∙◌, ℕ, ◌≤◌, [], ◌∷◌, ◌++◌, Bool, true, false, Ok, Err, Result, IfOk, arith, pos, negsuc, ℤ, ◌≤ℤ◌}
-use Rattle.std.specs.Prelude.{Option, Some, ◌&&◌, not, if◌then◌else◌}
-use Rattle.std.specs.List.{list_all}
-use Rattle.yaml_base.specs.scalars.Analysis.{Charset, allows_plain, allows_single_quoted}
-use Rattle.yaml_base.specs.Characters.{Text, is_space, space}
-use Rattle.yaml_base.specs.Cursor.{Cursor, Rendered, space_if, render_text, render_then}
-use Rattle.yaml_base.specs.LineBreaks.{is_indented_text, with_breaks_written, with_line_breaks_read}
-use Rattle.yaml_base.specs.scalars.Plain.{plain_body, render_plain}
-use Rattle.yaml_base.specs.reading.ReadPlain.{read_plain}
-use Rattle.yaml_base.specs.reading.ReadSingle.{read_single}
-use Rattle.yaml_base.specs.Settings.{LineBreak}
-use Rattle.yaml_base.specs.scalars.SingleQuoted.{single_quoted_body, render_single_quoted}
+use Rattle.yaml_scalar.proofs.Common.{ℕ, ◌≤◌, if◌then◌else◌, IfOk, Option, Some, Result, Err, Ok, negsuc, pos, ℤ, ◌≤ℤ◌, Bool, false, not, true, ◌&&◌, []}
+use Rattle.yaml_scalar.proofs.Common.{◌++◌, ◌∷◌, refl, ◌≡◌, ap, ◌∙◌, arith, ints, list_all, Text, space, is_space, Cursor, Rendered, render_then, render_text}
+use Rattle.yaml_scalar.proofs.Common.{space_if, with_breaks_written, with_line_breaks_read, is_indented_text, LineBreak, read_plain, read_single, Charset}
+use Rattle.yaml_scalar.proofs.Common.{allows_plain, allows_single_quoted, plain_body, render_plain, single_quoted_body, render_single_quoted, wrote_all, Page}
+use Rattle.yaml_scalar.proofs.Common.{natural, Wrote, ReadsBack}
 use Rattle.yaml_base.specs.declared.errors.yaml_error_t.{yaml_error_t}
-use Rattle.yaml_pen.specs.Page.{Page, natural}
-use Rattle.yaml_pen.specs.Wrote.{Wrote}
-use Rattle.yaml_pen.proofs.Composing.{with_breaks_written-append, wrote_all}
-use Rattle.yaml_scalar.specs.ReadsBack.{ReadsBack}
-use Rattle.yaml_scalar.proofs.PlainReads.{plain-indented, plain-reads}
-use Rattle.yaml_scalar.proofs.SingleReads.{single-indented, single-reads}
+use Rattle.yaml_pen.proofs.Composing.{with_breaks_written-append}
+use Rattle.yaml_scalar.proofs.{PlainReads.plain-reads, PlainReads.plain-indented, SingleReads.single-reads, SingleReads.single-indented}
 
 -- an `i32` of two or more
 pub two_or_more : (n : ℤ) → pos 2 ≤ℤ n → 2 ≤ natural n

@@ -1,20 +1,9 @@
 -- Lines written character by character are the lines by runs, and between quotes the single-quoted layout.
-use Rattle.std.proofs.Common.{◌≡◌, refl, sym, subst, ℕ, [], ◌∷◌, ◌++◌, Bool, true, false, Result}
-use Rattle.std.specs.Prelude.{Option, ◌==◌, ◌&&◌, if◌then◌else◌}
-use Rattle.std.proofs.lemmas.Bool.{eqb-true}
-use Rattle.yaml_base.specs.Characters.{Text}
-use Rattle.yaml_base.specs.Cursor.{Cursor, Rendered, indicator, space_if, render_text, render_then}
-use Rattle.yaml_base.specs.scalars.Plain.{Kind, spaces, runs, render_runs}
-use Rattle.yaml_base.specs.scalars.SingleQuoted.{quotes_doubled, single_quote, render_single_quoted}
+use Rattle.yaml_scalar.proofs.Common.{ℕ, if◌then◌else◌, ◌==◌, Option, Result, Bool, false, true, ◌&&◌, [], ◌++◌, ◌∷◌, refl, ◌≡◌, eqb-true, subst, sym, Text}
+use Rattle.yaml_scalar.proofs.Common.{Cursor, Rendered, render_then, render_text, space_if, indicator, Kind, spaces, runs, render_runs, quotes_doubled}
+use Rattle.yaml_scalar.proofs.Common.{single_quote, render_single_quoted, wrote_as, Page, Wrote, written_as, render_steps}
 use Rattle.yaml_base.specs.declared.errors.yaml_error_t.{yaml_error_t}
-use Rattle.yaml_pen.specs.Page.{Page}
-use Rattle.yaml_pen.specs.Wrote.{Wrote}
-use Rattle.yaml_pen.proofs.Composing.{wrote_as}
-use Rattle.yaml_scalar.specs.LineSteps.{render_steps, written_as}
-use Rattle.yaml_scalar.proofs.StillToWrite.{StillToWrite}
-use Rattle.yaml_scalar.proofs.LineRuns.{WritesEach, runs_by_steps}
-use Rattle.yaml_scalar.proofs.SingleReads.{doubled_writes}
-use Rattle.yaml_scalar.proofs.PlainReads.{itself_writes}
+use Rattle.yaml_scalar.proofs.{LineRuns.WritesEach, LineRuns.runs_by_steps, PlainReads.itself_writes, SingleReads.doubled_writes, StillToWrite.StillToWrite}
 
 -- `'` is written twice
 quote_text_by :

@@ -1,23 +1,12 @@
 -- A plain body reads as its value, and its later lines are indented.
-use Rattle.std.proofs.Common.{◌≡◌, refl, ap, ◌∙◌, ℕ, ◌≤◌, [], ◌∷◌, ◌++◌, Bool, true, false, append-nil}
-use Rattle.std.specs.Prelude.{Option, Some, ◌&&◌, map}
-use Rattle.std.proofs.lemmas.Bool.{and_parts, or_parts, or_from, not-true}
-use Rattle.std.proofs.Math.Bool.{and-false}
-use Rattle.yaml_base.specs.Characters.{Text, is_break, is_space}
-use Rattle.yaml_base.specs.Cursor.{Cursor}
-use Rattle.yaml_base.specs.Settings.{LineBreak}
-use Rattle.yaml_base.specs.LineBreaks.{is_indented_text, is_rendered_text, with_breaks_written, with_line_breaks_read}
-use Rattle.yaml_base.specs.scalars.Analysis.{Charset, allows_plain, bars_plain, bars_single_quoted, begins_unlike_plain, begins_with, is_empty, somewhere}
-use Rattle.yaml_base.specs.scalars.Plain.{plain_body, spaces}
-use Rattle.yaml_base.specs.reading.ReadFolding.{unit_of, folding_read}
-use Rattle.yaml_base.specs.reading.ReadPlain.{begins_no_plain, holds_no_plain, read_plain}
-use Rattle.yaml_base.proofs.BreakLaws.{breaks-round, indented-written}
-use Rattle.yaml_scalar.specs.LineSteps.{render_steps}
-use Rattle.yaml_scalar.proofs.LineRuns.{WritesEach, runs_by_steps}
-use Rattle.yaml_scalar.proofs.LineTexts.{bare_steps, bare_written, any_bare}
+use Rattle.yaml_scalar.proofs.Common.{ℕ, ◌≤◌, Option, Some, Bool, false, true, ◌&&◌, [], map, ◌++◌, ◌∷◌, refl, ◌≡◌, append-nil, ap, ◌∙◌, and-false, and_parts}
+use Rattle.yaml_scalar.proofs.Common.{or_parts, or_from, not-true, breaks-round, indented-written, Text, is_space, is_break, Cursor, with_breaks_written}
+use Rattle.yaml_scalar.proofs.Common.{with_line_breaks_read, is_rendered_text, is_indented_text, LineBreak, unit_of, folding_read, begins_no_plain}
+use Rattle.yaml_scalar.proofs.Common.{holds_no_plain, read_plain, Charset, somewhere, begins_with, is_empty, begins_unlike_plain, bars_plain}
+use Rattle.yaml_scalar.proofs.Common.{bars_single_quoted, allows_plain, spaces, plain_body, render_steps}
+use Rattle.yaml_scalar.proofs.{LineIndents.lines_indented, LineRuns.WritesEach, LineRuns.runs_by_steps, LineTexts.bare_steps, LineTexts.any_bare}
+use Rattle.yaml_scalar.proofs.{LineTexts.bare_written, PlainStarts.lines_hold, PlainStarts.lines_full, PlainStarts.lines_begin}
 use Rattle.yaml_scalar.proofs.LineFolds.{folding_reads, is_return, no_returns, rendered_without_returns}
-use Rattle.yaml_scalar.proofs.LineIndents.{lines_indented}
-use Rattle.yaml_scalar.proofs.PlainStarts.{lines_begin, lines_full, lines_hold}
 
 -- plain characters are written one by one
 pub itself_writes : WritesEach (λ text. text)

@@ -1,16 +1,12 @@
 -- Where plain lines begin as the value does, and hold no indicator that plain text may not hold.
-use Rattle.std.proofs.Common.{◌≡◌, refl, sym, ap, ◌∙◌, subst, ℕ, suc, zero, [], ◌∷◌, ◌++◌, Bool, true, false, true≢false}
-use Rattle.std.specs.Prelude.{Option, ◌==◌, ◌||◌, ◌&&◌, not, if◌then◌else◌, codes}
-use Rattle.std.proofs.lemmas.Bool.{eqb-true, or_parts, or_from}
-use Rattle.std.proofs.Math.Bool.{and-false, and-true, and_assoc}
-use Rattle.yaml_base.specs.Characters.{Text, is_among, is_blank, is_break, is_space, line_feed, space}
-use Rattle.yaml_base.specs.Cursor.{Cursor, render_text, is_past_width}
-use Rattle.yaml_base.specs.scalars.Analysis.{Charset, bars_plain, begins_like_marker, begins_unlike_plain, begins_with, ends_word, is_empty, is_gap, somewhere}
-use Rattle.yaml_base.specs.scalars.Plain.{Kind, spaces, breaks, others, kind_of, is_same_kind, indentation}
-use Rattle.yaml_base.specs.reading.ReadPlain.{begins_no_plain, begins_with_three, begins_white, begins_with_hash, holds_no_plain, is_read_white}
-use Rattle.yaml_scalar.specs.LineSteps.{begins_kind, step_text}
-use Rattle.yaml_scalar.proofs.LineTexts.{bare_steps}
-use Rattle.yaml_scalar.proofs.LineFolds.{spaces_only, breaks_only}
+use Rattle.yaml_scalar.proofs.Common.{suc, zero, ℕ, if◌then◌else◌, ◌==◌, Option, codes, Bool, false, not, true, ◌&&◌, ◌||◌, [], ◌++◌, ◌∷◌, refl, ◌≡◌}
+use Rattle.yaml_scalar.proofs.Common.{eqb-true, true≢false, ap, subst, sym, ◌∙◌, and-false, and-true, or_parts, or_from, Text, is_among, line_feed, space}
+use Rattle.yaml_scalar.proofs.Common.{is_space, is_blank, is_break, Cursor, render_text, is_past_width, is_read_white, begins_no_plain, holds_no_plain}
+use Rattle.yaml_scalar.proofs.Common.{Charset, somewhere, begins_with, is_empty, is_gap, ends_word, begins_like_marker, begins_unlike_plain, bars_plain, Kind}
+use Rattle.yaml_scalar.proofs.Common.{spaces, breaks, others, kind_of, is_same_kind, indentation, begins_kind, step_text}
+use Rattle.yaml_base.proofs.Common.{begins_white, begins_with_three, begins_with_hash}
+use Rattle.std.proofs.Math.Bool.{and_assoc}
+use Rattle.yaml_scalar.proofs.{LineFolds.spaces_only, LineFolds.breaks_only, LineTexts.bare_steps}
 
 -- what a reader takes for white space is a gap to a writer
 gap_by :

@@ -1,17 +1,9 @@
 -- A double-quoted scalar is written quote, inside, quote; and what that means.
-use Rattle.std.proofs.Common.{◌≡◌, refl, IfOk, Ok, Err}
-use Rattle.std.specs.Prelude.{ℕ, ◌≤◌, Bool, true, false, Option, None, Result, [], ◌∷◌}
-use Rattle.std.specs.Str.{all_scalars}
-use Rattle.yaml_base.specs.Characters.{Text}
-use Rattle.yaml_base.specs.Cursor.{Cursor, Rendered, indicator, render_then}
-use Rattle.yaml_base.specs.scalars.DoubleQuoted.{double_inside, double_quoted_body, render_double_quoted, quote, render_quote}
-use Rattle.yaml_base.specs.reading.ReadDouble.{read_double}
+use Rattle.yaml_scalar.proofs.Common.{ℕ, ◌≤◌, IfOk, Option, None, Result, Err, Ok, Bool, false, true, [], ◌∷◌, refl, ◌≡◌, all_scalars, Text, Cursor, Rendered}
+use Rattle.yaml_scalar.proofs.Common.{render_then, indicator, read_double, quote, double_inside, render_quote, double_quoted_body, render_double_quoted, Page}
+use Rattle.yaml_scalar.proofs.Common.{Wrote, ReadsBack}
 use Rattle.yaml_base.specs.declared.errors.yaml_error_t.{yaml_error_t}
-use Rattle.yaml_pen.specs.Page.{Page}
-use Rattle.yaml_pen.specs.Wrote.{Wrote}
-use Rattle.yaml_scalar.specs.ReadsBack.{ReadsBack}
-use Rattle.yaml_scalar.proofs.DoubleReads.{double-indented, double-reads}
-use Rattle.yaml_scalar.proofs.LinesReadBack.{body_back}
+use Rattle.yaml_scalar.proofs.{DoubleReads.double-reads, DoubleReads.double-indented, LinesReadBack.body_back}
 
 -- from the opening quote, with its lead, to the closing quote
 abbrev pub double_steps : (unicode : Bool) (limit : Option ℕ) (indent : ℕ) (value : Text) → Cursor → Rendered

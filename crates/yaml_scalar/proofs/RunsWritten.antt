@@ -1,19 +1,10 @@
 -- A loop that writes a character, and the run that follows it, in turn.
-use Rattle.std.proofs.Common.{◌≡◌, refl, ap, sym, ◌∙◌, chars, IsUtf8}
-use Rattle.std.proofs.lemmas.Bool.{and_parts}
-use Rattle.std.proofs.lemmas.List.{nil_from_length}
-use Rattle.std.proofs.lemmas.Str.{chars-nil, chars_past_char}
-use Rattle.std.specs.Char.{encode_utf8}
-use Rattle.std.specs.List.{list_all}
-use Rattle.std.specs.Prelude.{ℕ, Bool, true, Ok, Err, List, [], ◌∷◌, ◌++◌, drop, length, take}
-use Rattle.yaml_base.specs.Characters.{Text}
-use Rattle.yaml_base.specs.Cursor.{Cursor, Rendered, next_column, render_text, render_then}
+use Rattle.yaml_scalar.proofs.Common.{ℕ, chars, IsUtf8, Err, Ok, length, take, Bool, true, List, [], ◌++◌, ◌∷◌, refl, ◌≡◌, ap, sym, ◌∙◌, and_parts}
+use Rattle.yaml_scalar.proofs.Common.{nil_from_length, chars-nil, chars_past_char, encode_utf8, list_all, Text, Cursor, Rendered, render_then, next_column}
+use Rattle.yaml_scalar.proofs.Common.{render_text, chars-cut, Page, Wrote, last_from, IsRun}
+use Rattle.yaml_base.proofs.Common.{drop}
 use Rattle.yaml_base.specs.declared.errors.yaml_error_t.{yaml_error_t}
-use Rattle.yaml_pen.proofs.Cuts.{chars-cut}
-use Rattle.yaml_pen.specs.Page.{Page}
-use Rattle.yaml_pen.specs.Wrote.{Wrote}
-use Rattle.yaml_scalar.proofs.StillToWrite.{StillToWrite, still_as, still_failed, still_rest, still_same}
-use Rattle.yaml_scalar.specs.WholeRuns.{IsRun, last_from}
+use Rattle.yaml_scalar.proofs.StillToWrite.{StillToWrite, still_rest, still_failed, still_same, still_as}
 
 -- in a layout of what follows a character, those that pass a test stand for themselves, at each column
 pub record StandAlone (after : ℕ → Text → Cursor → Rendered) (test : ℕ → Bool) (cursor : Cursor) : Type 0 where

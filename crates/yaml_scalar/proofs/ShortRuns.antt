@@ -1,23 +1,9 @@
 -- A short text of ASCII is rendered as it is.
-use Rattle.std.proofs.Common.{◌≡◌, ◌∙◌, ap, sym, append-nil, IsUtf8}
-use Rattle.std.proofs.lemmas.List.{take_all}
-use Rattle.std.proofs.lemmas.Str.{encodes-IsAscii, encodes-chars}
-use Rattle.std.specs.List.{list_all}
-use Rattle.std.specs.Prelude.{◌≤◌, ℕ, Bool, true, false, Option, None, List, [], length}
-use Rattle.std.specs.Str.{chars}
-use Rattle.yaml_base.specs.Characters.{Text}
-use Rattle.yaml_base.specs.Cursor.{Cursor, Rendered, render_text}
-use Rattle.yaml_base.specs.scalars.DoubleQuoted.{double_inside}
-use Rattle.yaml_base.specs.scalars.Plain.{spaces}
-use Rattle.yaml_scalar.specs.ByteClasses.{IsFreeRun, ImpliesTest}
-use Rattle.yaml_scalar.specs.EscapeBytes.{is_plain}
-use Rattle.yaml_scalar.specs.LineSteps.{render_steps, written_as}
-use Rattle.yaml_scalar.specs.ShortRuns.{IsShortLine, IsShortRun, most_short}
-use Rattle.yaml_scalar.specs.WholeRuns.{stays}
-use Rattle.yaml_scalar.proofs.ByteRuns.{free_passes}
-use Rattle.yaml_scalar.proofs.EscapeBytes.{plain-ascii}
-use Rattle.yaml_scalar.proofs.InsideSteps.{inside_stays}
-use Rattle.yaml_scalar.proofs.StaysInLine.{line_at}
+use Rattle.yaml_scalar.proofs.Common.{ℕ, ◌≤◌, IsUtf8, Option, None, length, Bool, false, true, List, [], ◌≡◌, take_all, append-nil, ap, sym, ◌∙◌}
+use Rattle.yaml_scalar.proofs.Common.{encodes-chars, list_all, Text, Cursor, Rendered, render_text, double_inside, spaces, IsFreeRun, ImpliesTest, is_plain}
+use Rattle.yaml_scalar.proofs.Common.{written_as, render_steps, most_short, IsShortRun, IsShortLine, stays}
+use Rattle.std.{proofs.lemmas.Str.encodes-IsAscii, specs.Str.chars}
+use Rattle.yaml_scalar.proofs.{ByteRuns.free_passes, EscapeBytes.plain-ascii, InsideSteps.inside_stays, StaysInLine.line_at}
 
 -- characters of ASCII are bytes
 plain_bytes : (text : List ℕ) → IsUtf8 text → list_all is_plain (chars text) ≡ true → chars text ≡ text

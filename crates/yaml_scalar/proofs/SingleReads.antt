@@ -1,24 +1,13 @@
 -- A single-quoted body reads as its value, and its later lines are indented.
-use Rattle.std.proofs.Common.{◌≡◌, refl, sym, ap, ◌∙◌, ℕ, ◌≤◌, [], ◌∷◌, ◌++◌, Bool, true, false, append_assoc}
-use Rattle.std.specs.Prelude.{Option, Some, ◌==◌, if◌then◌else◌, map, option_map}
-use Rattle.std.specs.List.{list_any}
-use Rattle.std.proofs.lemmas.Bool.{eqb-true, not-true, or_parts}
-use Rattle.std.proofs.lemmas.List.Folds.{list_any-append}
-use Rattle.yaml_base.specs.Characters.{Text, is_break}
-use Rattle.yaml_base.specs.Cursor.{Cursor}
-use Rattle.yaml_base.specs.Settings.{LineBreak}
-use Rattle.yaml_base.specs.LineBreaks.{is_indented_text, is_rendered_text, with_breaks_written, with_line_breaks_read}
-use Rattle.yaml_base.specs.scalars.Analysis.{Charset, allows_single_quoted}
-use Rattle.yaml_base.specs.scalars.Plain.{spaces}
-use Rattle.yaml_base.specs.scalars.SingleQuoted.{quotes_doubled, single_quote, single_quoted_body}
-use Rattle.yaml_base.specs.reading.ReadFolding.{unit_of, folding_read}
-use Rattle.yaml_base.specs.reading.ReadSingle.{unquoted, read_single}
-use Rattle.yaml_base.proofs.BreakLaws.{breaks-round, indented-written, rendered-append}
-use Rattle.yaml_scalar.proofs.Unbroken.{is_unbroken}
-use Rattle.yaml_scalar.proofs.LineRuns.{WritesEach, runs_by_steps}
-use Rattle.yaml_scalar.proofs.LineTexts.{bare_steps, bare_written, any_bare, any_cond}
+use Rattle.yaml_scalar.proofs.Common.{ℕ, ◌≤◌, if◌then◌else◌, ◌==◌, option_map, Option, Some, Bool, false, true, [], map, ◌++◌, ◌∷◌, refl, ◌≡◌, eqb-true}
+use Rattle.yaml_scalar.proofs.Common.{append_assoc, ap, sym, ◌∙◌, or_parts, not-true, list_any-append, list_any, breaks-round, rendered-append}
+use Rattle.yaml_scalar.proofs.Common.{indented-written, Text, is_break, Cursor, with_breaks_written, with_line_breaks_read, is_rendered_text}
+use Rattle.yaml_scalar.proofs.Common.{is_indented_text, LineBreak, unit_of, folding_read, read_single, Charset, allows_single_quoted, spaces, quotes_doubled}
+use Rattle.yaml_scalar.proofs.Common.{single_quote, single_quoted_body}
+use Rattle.yaml_base.proofs.Common.{unquoted}
+use Rattle.yaml_scalar.proofs.{LineIndents.lines_indented, LineRuns.WritesEach, LineRuns.runs_by_steps, Unbroken.is_unbroken}
 use Rattle.yaml_scalar.proofs.LineFolds.{folding_reads, is_return, no_returns, rendered_without_returns}
-use Rattle.yaml_scalar.proofs.LineIndents.{lines_indented}
+use Rattle.yaml_scalar.proofs.LineTexts.{bare_steps, any_cond, any_bare, bare_written}
 
 -- quotes are doubled part by part
 doubled-joined : (prefix rest : Text) → quotes_doubled (prefix ++ rest) ≡ quotes_doubled prefix ++ quotes_doubled rest

@@ -1,20 +1,13 @@
 -- Tests that spare printable ASCII and LF: what a style writes holds no character that meets such a test, where the value's
 -- own characters that stand raw don't.
-use Rattle.std.proofs.Common.{◌≡◌, refl, ap, ◌∙◌, ℕ, zero, suc, [], ◌∷◌, ◌++◌, Bool, true, false, arith}
-use Rattle.std.specs.Prelude.{Option, None, Some, List, ◌==◌, ◌&&◌, ◌/◌, ◌%◌, nat_le, replicate, if◌then◌else◌}
-use Rattle.std.specs.List.{list_all, list_any}
-use Rattle.std.proofs.lemmas.Bool.{agree_below_at, and_from, and_parts}
-use Rattle.std.proofs.lemmas.List.Folds.{list_all-append}
-use Rattle.yaml_base.specs.Characters.{Text, is_between, hex_digit, hex_digits, is_space, line_feed, space}
-use Rattle.yaml_base.specs.Cursor.{Cursor, breaks_line, is_past_width, new_line, render_text}
-use Rattle.yaml_base.specs.scalars.DoubleQuoted.{ShortEscape, backslash, character_text, double_character, double_fold, double_inside, double_quoted_body}
-use Rattle.yaml_base.specs.scalars.DoubleQuoted.{escape_after_backslash, escape_text, letter_among, may_fold, needs_escape, quote, render_quote, short_escapes}
-use Rattle.yaml_base.specs.scalars.DoubleQuoted.{space_kept}
-use Rattle.yaml_base.specs.scalars.Plain.{plain_body, spaces}
-use Rattle.yaml_base.specs.scalars.SingleQuoted.{quotes_doubled, single_quote, single_quoted_body}
-use Rattle.yaml_scalar.proofs.LineTexts.{any_bare, any_both, any_cond, any_indentation, any_one}
-use Rattle.yaml_scalar.proofs.PlainReads.{body-lines}
-use Rattle.yaml_scalar.proofs.SingleReads.{any_doubled, body-inside, inside}
+use Rattle.yaml_scalar.proofs.Common.{suc, zero, ℕ, ◌%◌, ◌/◌, if◌then◌else◌, ◌==◌, Option, None, Some, nat_le, replicate, Bool, false, true, ◌&&◌, List, []}
+use Rattle.yaml_scalar.proofs.Common.{◌++◌, ◌∷◌, refl, ◌≡◌, ap, ◌∙◌, arith, and_parts, and_from, agree_below_at, list_all-append, list_all, list_any, Text}
+use Rattle.yaml_scalar.proofs.Common.{is_between, line_feed, space, is_space, hex_digit, hex_digits, Cursor, render_text, breaks_line, new_line}
+use Rattle.yaml_scalar.proofs.Common.{is_past_width, quote, backslash, ShortEscape, short_escapes, letter_among, escape_after_backslash, escape_text}
+use Rattle.yaml_scalar.proofs.Common.{needs_escape, character_text, may_fold, space_kept, double_fold, double_character, double_inside, render_quote}
+use Rattle.yaml_scalar.proofs.Common.{double_quoted_body, spaces, plain_body, quotes_doubled, single_quote, single_quoted_body}
+use Rattle.yaml_scalar.proofs.{PlainReads.body-lines, SingleReads.inside, SingleReads.body-inside, SingleReads.any_doubled}
+use Rattle.yaml_scalar.proofs.LineTexts.{any_cond, any_both, any_one, any_indentation, any_bare}
 
 -- a printable character of ASCII other than the space
 abbrev pub is_graph : ℕ → Bool

@@ -1,21 +1,13 @@
 -- Block scalars hold no character that meets a test which spares printable ASCII and LF, where their values hold none; so a
 -- value that a style allows is written without a special character.
-use Rattle.std.proofs.Common.{◌≡◌, refl, ap, ◌∙◌, ℕ, ◌≤◌, [], ◌∷◌, ◌++◌, List, Bool, true, false, arith}
-use Rattle.std.specs.Prelude.{Option, ◌==◌, ◌&&◌, ◌+◌, not, replicate, if◌then◌else◌}
-use Rattle.std.specs.List.{list_any}
-use Rattle.std.proofs.lemmas.Bool.{and_from, le-leb, not-true, or_parts}
-use Rattle.yaml_base.specs.scalars.Analysis.{Charset, allows_block, allows_plain, allows_single_quoted, bars_block, bars_single_quoted, begins_with, is_special}
-use Rattle.yaml_base.specs.scalars.Analysis.{somewhere}
-use Rattle.yaml_base.specs.Characters.{Text, is_break, is_space, line_feed, space}
-use Rattle.yaml_base.specs.Cursor.{Cursor}
-use Rattle.yaml_base.specs.scalars.BlockHeader.{Ending, without_break, one_break, more_breaks, ending, begins_blank, ending_hint, block_body}
-use Rattle.yaml_base.specs.scalars.Lines.{Part, line, line_break, begun, parts}
-use Rattle.yaml_base.specs.scalars.Literal.{indented, literal_body}
-use Rattle.yaml_base.specs.scalars.Folded.{cut_from, cut_line, folded_body, folded_parts, folds, next_line_unindented}
-use Rattle.yaml_scalar.proofs.blocks.BlockReads.{block-text, digit_text, block_indicator_of}
-use Rattle.yaml_scalar.proofs.LineTexts.{any_both, any_one}
-use Rattle.yaml_scalar.proofs.PlainReads.{plain_bars, plain_is_single}
-use Rattle.yaml_scalar.proofs.Sparing.{Spares, is_graph, lacks_spaces}
+use Rattle.yaml_scalar.proofs.Common.{ℕ, ◌+◌, ◌≤◌, if◌then◌else◌, ◌==◌, Option, replicate, Bool, false, not, true, ◌&&◌, List, [], ◌++◌, ◌∷◌, refl, ◌≡◌}
+use Rattle.yaml_scalar.proofs.Common.{le-leb, ap, ◌∙◌, arith, and_from, or_parts, not-true, list_any, Text, line_feed, space, is_space, is_break, Cursor}
+use Rattle.yaml_scalar.proofs.Common.{Charset, somewhere, begins_with, is_special, bars_single_quoted, bars_block, allows_plain, allows_single_quoted}
+use Rattle.yaml_scalar.proofs.Common.{allows_block, Ending, without_break, one_break, more_breaks, ending, begins_blank, ending_hint, block_body, folds}
+use Rattle.yaml_scalar.proofs.Common.{cut_from, cut_line, next_line_unindented, folded_parts, folded_body, Part, line, line_break, begun, parts, indented}
+use Rattle.yaml_scalar.proofs.Common.{literal_body}
+use Rattle.yaml_scalar.proofs.{LineTexts.any_both, LineTexts.any_one, PlainReads.plain_is_single, PlainReads.plain_bars, Sparing.is_graph, Sparing.Spares}
+use Rattle.yaml_scalar.proofs.{Sparing.lacks_spaces, blocks.BlockReads.block-text, blocks.BlockReads.digit_text, blocks.BlockReads.block_indicator_of}
 
 -- a digit
 pub one_digit : (n : ℕ) → n ≤ 9 → is_graph (48 + n) ≡ true

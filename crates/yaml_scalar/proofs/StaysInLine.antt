@@ -1,21 +1,11 @@
 -- A character that stays in its line is rendered as itself.
-use Rattle.std.proofs.Common.{◌≡◌, ◌∙◌, refl, ap, arith, subst, sym, IsUtf8}
-use Rattle.std.proofs.lemmas.Bool.{and_parts, not-true, or_parts}
-use Rattle.std.proofs.lemmas.Bool.Decides.{nat_tests}
-use Rattle.std.proofs.lemmas.List.{length-take-le}
-use Rattle.std.proofs.lemmas.Str.{IsUtf8-take, encodes-chars, length-le-encodes}
-use Rattle.std.specs.List.{list_all}
-use Rattle.std.specs.Str.{IsCharBoundary, chars}
-use lib.Utf8.{encodes}
-use Rattle.std.specs.Prelude.{ℕ, zero, suc, Bool, true, false, Option, None, Some, List, [], ◌∷◌, ◌++◌, ◌==◌, ◌||◌, ◌&&◌, ◌+◌, ◌<◌, ◌≤◌, length, take}
-use Rattle.std.specs.Prelude.{if◌then◌else◌}
-use Rattle.yaml_base.specs.Characters.{Text, is_break, is_space}
-use Rattle.yaml_base.specs.Cursor.{Cursor, Rendered, is_past_width, next_column, render_text, render_then}
-use Rattle.yaml_base.specs.scalars.Plain.{Kind, spaces, breaks, others, kind_of}
-use Rattle.yaml_scalar.specs.LineSteps.{step_text, render_steps, written_as}
-use Rattle.yaml_scalar.specs.WholeRuns.{HasRoom, IsLineRun, last_from, stays_in_line}
-use Rattle.yaml_scalar.proofs.LinesWritten.{written_each}
-use Rattle.yaml_scalar.proofs.RunsWritten.{RunStands}
+use Rattle.yaml_scalar.proofs.Common.{suc, zero, ℕ, ◌+◌, ◌<◌, ◌≤◌, if◌then◌else◌, ◌==◌, IsUtf8, Option, None, Some, length, take, encode_utf8_all as encodes}
+use Rattle.yaml_scalar.proofs.Common.{Bool, false, true, ◌&&◌, ◌||◌, List, [], ◌++◌, ◌∷◌, refl, ◌≡◌, length-take-le, ap, subst, sym, ◌∙◌, arith, and_parts}
+use Rattle.yaml_scalar.proofs.Common.{or_parts, not-true, nat_tests, IsUtf8-take, encodes-chars, list_all, IsCharBoundary, Text, is_space, is_break, Cursor}
+use Rattle.yaml_scalar.proofs.Common.{Rendered, render_then, next_column, render_text, is_past_width, Kind, spaces, breaks, others, kind_of, written_as}
+use Rattle.yaml_scalar.proofs.Common.{step_text, render_steps, stays_in_line, last_from, HasRoom}
+use Rattle.yaml_base.proofs.Common.{length-le-encodes, chars}
+use Rattle.yaml_scalar.{proofs.LinesWritten.written_each, proofs.RunsWritten.RunStands, specs.WholeRuns.IsLineRun}
 
 -- it is no break, no space that may become a fold, and no quote that is doubled
 pub record Stays (folds quotes : Bool) (c : ℕ) : Type 0 where

@@ -1,12 +1,7 @@
 -- A loop that writes: what is still to be written after what has been.
-use Rattle.std.proofs.Common.{◌≡◌, subst, sym}
-use Rattle.std.specs.Prelude.{Result, Ok, Err}
-use Rattle.yaml_base.specs.Characters.{Text}
-use Rattle.yaml_base.specs.Cursor.{Cursor, Rendered, render_then}
+use Rattle.yaml_scalar.proofs.Common.{Result, Err, Ok, ◌≡◌, subst, sym, Text, Cursor, Rendered, render_then, wrote_then, wrote_failed, wrote_as, Page, Wrote}
+use Rattle.yaml_pen.proofs.Common.{IsReady}
 use Rattle.yaml_base.specs.declared.errors.yaml_error_t.{yaml_error_t}
-use Rattle.yaml_pen.proofs.Composing.{wrote_as, wrote_failed, wrote_then}
-use Rattle.yaml_pen.specs.Page.{Page, IsReady}
-use Rattle.yaml_pen.specs.Wrote.{Wrote}
 
 -- whatever writes the rest from here has written the whole from the start
 pub record StillToWrite (rest whole : Cursor → Rendered) (start here : Page) : Type 0 where

@@ -1,22 +1,13 @@
 -- Block scalars have deep lines: each line after the header holds a character that is no space, and stands at its indentation.
-use Rattle.std.proofs.Common.{◌≡◌, ◌≤◌, refl, sym, ap, ◌∙◌, ℕ, zero, suc, List, [], ◌∷◌, ◌++◌, Bool, true, false, append_assoc, ◌⊎◌, inl, inr}
-use Rattle.std.specs.Prelude.{Option, ◌==◌, ◌||◌, ◌&&◌, ◌+◌, not, replicate, if◌then◌else◌}
-use Rattle.std.proofs.lemmas.Bool.{and_from, true≢false, not-true, or_parts, or_right}
-use Rattle.yaml_base.specs.scalars.Analysis.{Charset, allows_block, bars_block, begins_with, is_empty, somewhere}
-use Rattle.yaml_base.specs.Characters.{Text, is_break, is_space, line_feed, space}
-use Rattle.yaml_base.specs.Cursor.{Cursor}
-use Rattle.yaml_base.specs.scalars.BlockHeader.{Ending, without_break, one_break, more_breaks, ending, begins_blank, ending_hint, block_body}
-use Rattle.yaml_base.specs.scalars.Folded.{cut_from, cut_line, folded_body, folded_parts, folds, next_line_unindented}
-use Rattle.yaml_base.specs.LineBreaks.{is_read_break}
-use Rattle.yaml_base.specs.scalars.Lines.{Part, line, line_break, begun, parts}
-use Rattle.yaml_base.specs.scalars.Literal.{indented, literal_body}
-use Rattle.yaml_base.specs.reading.TidyText.{begins_with_blank_line, begins_with_deep_line, begins_with_spaces, has_deep_lines}
-use Rattle.yaml_scalar.proofs.blocks.BlockFolds.{fold-spaced}
-use Rattle.yaml_scalar.proofs.blocks.BlockReads.{block-text, digit_text, ordinary, block_indicator_of}
-use Rattle.yaml_scalar.proofs.DeepLines.{Unbroken, deep_after, deep_break, deep_unbroken, enough_spaces, space_unbroken, spaces_unbroken}
-use Rattle.yaml_scalar.proofs.Sparing.{is_graph}
-use Rattle.yaml_scalar.proofs.SparingBlocks.{one_digit}
-use Rattle.yaml_scalar.proofs.TidyQuoted.{graph_no_break}
+use Rattle.yaml_scalar.proofs.Common.{suc, zero, ℕ, ◌+◌, ◌≤◌, if◌then◌else◌, ◌==◌, Option, replicate, Bool, false, not, true, ◌&&◌, ◌||◌, List, [], ◌++◌, ◌∷◌}
+use Rattle.yaml_scalar.proofs.Common.{◌⊎◌, refl, ◌≡◌, true≢false, append_assoc, inl, inr, ap, sym, ◌∙◌, and_from, or_parts, or_right, not-true, Text}
+use Rattle.yaml_scalar.proofs.Common.{line_feed, space, is_space, is_break, Cursor, is_read_break, begins_with_spaces, begins_with_blank_line}
+use Rattle.yaml_scalar.proofs.Common.{begins_with_deep_line, has_deep_lines, Charset, somewhere, begins_with, is_empty, bars_block, allows_block, Ending}
+use Rattle.yaml_scalar.proofs.Common.{without_break, one_break, more_breaks, ending, begins_blank, ending_hint, block_body, folds, cut_from, cut_line}
+use Rattle.yaml_scalar.proofs.Common.{next_line_unindented, folded_parts, folded_body, Part, line, line_break, begun, parts, indented, literal_body}
+use Rattle.yaml_scalar.proofs.{Sparing.is_graph, SparingBlocks.one_digit, TidyQuoted.graph_no_break, blocks.BlockFolds.fold-spaced}
+use Rattle.yaml_scalar.proofs.DeepLines.{Unbroken, space_unbroken, enough_spaces, deep_break, deep_unbroken, spaces_unbroken, deep_after}
+use Rattle.yaml_scalar.proofs.blocks.BlockReads.{ordinary, block-text, digit_text, block_indicator_of}
 
 module _ (breaks12 : Bool) where
   -- some character of a text is no space

@@ -1,26 +1,17 @@
 -- Plain and single-quoted texts are tidy: their lines after the first stand at their indentation, and no space stands before a
 -- break; a plain text has no blank and no break at its edges.
-use Rattle.std.proofs.Common.{◌≡◌, ◌≤◌, refl, sym, ap, ◌∙◌, subst, ℕ, [], ◌∷◌, ◌++◌, Bool, true, false, append-nil, append_assoc}
-use Rattle.std.specs.Prelude.{Option, ◌==◌, ◌||◌, ◌&&◌, not, if◌then◌else◌}
-use Rattle.std.proofs.lemmas.Bool.{and_from, and_parts, eqb-true, false≢true, true≢false, not-true, or_from, or_parts}
-use Rattle.yaml_base.specs.scalars.Analysis.{Charset, allows_plain, allows_single_quoted, bars_plain, bars_single_quoted, begins_unlike_plain, begins_with}
-use Rattle.yaml_base.specs.scalars.Analysis.{is_empty, is_special, somewhere}
-use Rattle.yaml_base.specs.Characters.{Text, is_break, is_space, line_feed, space}
-use Rattle.yaml_base.specs.Cursor.{Cursor, render_text, is_past_width}
-use Rattle.yaml_base.specs.LineBreaks.{is_read_break}
-use Rattle.yaml_base.specs.scalars.Plain.{Kind, spaces, breaks, others, kind_of, is_same_kind, indentation, plain_body}
-use Rattle.yaml_base.specs.reading.ReadPlain.{is_read_white}
-use Rattle.yaml_base.specs.scalars.SingleQuoted.{quotes_doubled, single_quote, single_quoted_body}
-use Rattle.yaml_base.specs.reading.TidyText.{begins_with_break, ends_white, has_clean_edges}
-use Rattle.yaml_scalar.specs.LineSteps.{begins_kind, step_text, render_steps}
-use Rattle.yaml_scalar.proofs.blocks.BlockReads.{ordinary}
-use Rattle.yaml_scalar.proofs.DeepLines.{AllInk, BeginsInk, Ink, IsEven, deep_break, even_break, even_ink, even_line, even_nothing, even_space, ink_unbroken}
-use Rattle.yaml_scalar.proofs.DeepLines.{space_unbroken}
-use Rattle.yaml_scalar.proofs.LineFolds.{breaks_only, spaces_only}
-use Rattle.yaml_scalar.proofs.LineIndents.{others_only}
-use Rattle.yaml_scalar.proofs.LineRuns.{runs_by_steps}
-use Rattle.yaml_scalar.proofs.PlainReads.{itself_writes, plain_bars, plain_begins, plain_is_single}
-use Rattle.yaml_scalar.proofs.SingleReads.{doubled_writes}
+use Rattle.yaml_scalar.proofs.Common.{ℕ, ◌≤◌, if◌then◌else◌, ◌==◌, Option, Bool, false, not, true, ◌&&◌, ◌||◌, [], ◌++◌, ◌∷◌, refl, ◌≡◌, eqb-true, true≢false}
+use Rattle.yaml_scalar.proofs.Common.{append-nil, append_assoc, ap, subst, sym, ◌∙◌, and_parts, and_from, or_parts, or_from, not-true, false≢true, Text}
+use Rattle.yaml_scalar.proofs.Common.{line_feed, space, is_space, is_break, Cursor, render_text, is_past_width, is_read_break, is_read_white}
+use Rattle.yaml_scalar.proofs.Common.{begins_with_break, Charset, somewhere, begins_with, is_empty, is_special, begins_unlike_plain, bars_plain}
+use Rattle.yaml_scalar.proofs.Common.{bars_single_quoted, allows_plain, allows_single_quoted, Kind, spaces, breaks, others, kind_of, is_same_kind}
+use Rattle.yaml_scalar.proofs.Common.{indentation, plain_body, quotes_doubled, single_quote, single_quoted_body, begins_kind, step_text, render_steps}
+use Rattle.yaml_base.proofs.Common.{ends_white, has_clean_edges}
+use Rattle.yaml_scalar.proofs.{LineFolds.spaces_only, LineFolds.breaks_only, LineIndents.others_only, LineRuns.runs_by_steps, SingleReads.doubled_writes}
+use Rattle.yaml_scalar.proofs.{blocks.BlockReads.ordinary}
+use Rattle.yaml_scalar.proofs.DeepLines.{Ink, BeginsInk, AllInk, space_unbroken, ink_unbroken, deep_break, IsEven, even_ink, even_space, even_break}
+use Rattle.yaml_scalar.proofs.DeepLines.{even_line, even_nothing}
+use Rattle.yaml_scalar.proofs.PlainReads.{itself_writes, plain_is_single, plain_bars, plain_begins}
 
 -- Kinds.
 

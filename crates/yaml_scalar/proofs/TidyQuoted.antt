@@ -1,20 +1,13 @@
 -- A double-quoted body is tidy: each of its lines after the first stands at its indentation and goes on with a character that is
 -- no space, and no space stands before a break.
-use Rattle.std.proofs.Common.{◌≡◌, ◌≤◌, refl, sym, subst, ap, ◌∙◌, ℕ, [], ◌∷◌, ◌++◌, Bool, true, false, append_assoc, inl, inr, arith}
-use Rattle.std.proofs.lemmas.Bool.{and_parts, and_right, eqb-true, true≢false}
-use Rattle.std.proofs.lemmas.Bool.Decides.{nat_tests}
-use Rattle.std.specs.Prelude.{Option, None, Some, ◌&&◌, ◌==◌, replicate, if◌then◌else◌}
-use Rattle.std.specs.List.{list_all}
-use Rattle.yaml_base.specs.Characters.{Text, is_space, line_feed, space}
-use Rattle.yaml_base.specs.Cursor.{Cursor, Rendered, breaks_line, is_past_width, render_text, render_then}
-use Rattle.yaml_base.specs.scalars.DoubleQuoted.{backslash, character_text, double_fold, double_inside, double_quoted_body, escape_text, is_other, may_fold}
-use Rattle.yaml_base.specs.scalars.DoubleQuoted.{needs_escape, quote, space_kept}
-use Rattle.yaml_base.specs.LineBreaks.{is_read_break}
-use Rattle.yaml_base.specs.reading.TidyText.{begins_with_break}
-use Rattle.yaml_scalar.proofs.DeepLines.{AllInk, BeginsInk, Ink, IsEven, even_ink, even_line, even_nothing, even_space, ink_unbroken, space_unbroken}
-use Rattle.yaml_scalar.proofs.DoubleReads.{Fits, fits-breaks, fits-character, kept-column, may-fold-other, no-read-break, quoted_cursor, space-text}
-use Rattle.yaml_scalar.proofs.Sparing.{escape_graph, is_graph}
-use Rattle.yaml_scalar.proofs.Unbroken.{unescaped}
+use Rattle.yaml_scalar.proofs.Common.{ℕ, ◌≤◌, if◌then◌else◌, ◌==◌, Option, None, Some, replicate, Bool, false, true, ◌&&◌, [], ◌++◌, ◌∷◌, refl, ◌≡◌, eqb-true}
+use Rattle.yaml_scalar.proofs.Common.{true≢false, append_assoc, inl, inr, ap, subst, sym, ◌∙◌, arith, and_parts, and_right, nat_tests, list_all, Text}
+use Rattle.yaml_scalar.proofs.Common.{line_feed, space, is_space, Cursor, Rendered, render_then, render_text, breaks_line, is_past_width, is_read_break}
+use Rattle.yaml_scalar.proofs.Common.{begins_with_break, quote, backslash, escape_text, needs_escape, character_text, is_other, may_fold, space_kept}
+use Rattle.yaml_scalar.proofs.Common.{double_fold, double_inside, double_quoted_body}
+use Rattle.yaml_scalar.proofs.{Sparing.is_graph, Sparing.escape_graph, Unbroken.unescaped}
+use Rattle.yaml_scalar.proofs.DeepLines.{Ink, BeginsInk, AllInk, space_unbroken, ink_unbroken, IsEven, even_ink, even_space, even_line, even_nothing}
+use Rattle.yaml_scalar.proofs.DoubleReads.{no-read-break, space-text, may-fold-other, Fits, fits-breaks, kept-column, fits-character, quoted_cursor}
 
 -- printable ASCII breaks no line
 pub graph_no_break : (breaks12 : Bool) (c : ℕ) → is_graph c ≡ true → is_read_break breaks12 c ≡ false

@@ -1,14 +1,9 @@
 -- Texts without a break: what they do to a column and to a text's lines; and that no written character holds one.
-use Rattle.std.proofs.Common.{◌≡◌, refl, arith}
-use Rattle.std.proofs.lemmas.Bool.{agree_below_at, and_from, and_parts, not-false, not-true, or_left}
-use Rattle.std.specs.Prelude.{ℕ, zero, suc, Bool, true, false, not, Option, None, Some, List, [], ◌∷◌, ◌++◌, ◌==◌, ◌||◌, ◌&&◌, ◌+◌, ◌/◌, ◌%◌, ◌≤◌, nat_le}
-use Rattle.std.specs.Prelude.{length, replicate, if◌then◌else◌}
-use Rattle.yaml_base.specs.Characters.{Text, carriage_return, hex_digit, hex_digits, is_ascii, is_break, is_printable, line_feed, line_separator, next_line}
-use Rattle.yaml_base.specs.Characters.{paragraph_separator, space}
-use Rattle.yaml_base.specs.Cursor.{column_after}
-use Rattle.yaml_base.specs.scalars.DoubleQuoted.{ShortEscape, backslash, character_text, escape_after_backslash, escape_text, letter_among, needs_escape, quote}
-use Rattle.yaml_base.specs.scalars.DoubleQuoted.{short_escapes}
-use Rattle.yaml_base.specs.LineBreaks.{is_indented_text, is_rendered_text}
+use Rattle.yaml_scalar.proofs.Common.{suc, zero, ℕ, ◌%◌, ◌+◌, ◌/◌, ◌≤◌, if◌then◌else◌, ◌==◌, Option, None, Some, nat_le, length, replicate, Bool, false, not}
+use Rattle.yaml_scalar.proofs.Common.{true, ◌&&◌, ◌||◌, List, [], ◌++◌, ◌∷◌, refl, ◌≡◌, arith, and_parts, and_from, or_left, agree_below_at, not-false}
+use Rattle.yaml_scalar.proofs.Common.{not-true, Text, line_feed, carriage_return, next_line, line_separator, paragraph_separator, space, is_ascii, is_break}
+use Rattle.yaml_scalar.proofs.Common.{is_printable, hex_digit, hex_digits, column_after, is_rendered_text, is_indented_text, quote, backslash, ShortEscape}
+use Rattle.yaml_scalar.proofs.Common.{short_escapes, letter_among, escape_after_backslash, escape_text, needs_escape, character_text}
 
 -- no character of the text is a break
 abbrev pub is_unbroken : Text → Bool

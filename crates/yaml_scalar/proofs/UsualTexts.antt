@@ -1,23 +1,12 @@
 -- Usual texts: every style may hold them.
-use Rattle.std.proofs.Common.{◌≡◌, ◌∙◌, refl, ap, arith, subst, sym, append-nil, true≢false, IsUtf8}
-use Rattle.std.proofs.lemmas.Bool.{and_parts, leb-true, not-true}
-use Rattle.std.proofs.lemmas.Str.{chars-nil}
-use Rattle.std.specs.List.{list_all}
-use Rattle.std.specs.Str.{chars}
-use Rattle.std.specs.Prelude.{ℕ, Bool, true, false, Option, List, [], ◌∷◌, ◌==◌, ◌-◌, ◌<◌, ◌||◌, ◌&&◌, not, length, slice_index, if◌then◌else◌}
-use Rattle.yaml_base.specs.scalars.Analysis.{Allowances, Charset, allowances, begins_with, is_empty}
-use Rattle.yaml_base.specs.Characters.{Text, is_between, is_space, space}
-use Rattle.yaml_base.specs.Cursor.{Cursor}
-use Rattle.yaml_scalar.specs.Barred.{Barred, allowed_by, barred_by, barred_in, either, is_ordinary, is_quiet, none_barred}
-use Rattle.yaml_scalar.specs.ByteClasses.{ImpliesTest, is_free}
-use Rattle.yaml_scalar.specs.EscapeBytes.{is_plain}
-use Rattle.yaml_scalar.specs.ShortRuns.{IsShortLine, IsShortRun}
-use Rattle.yaml_scalar.specs.UsualTexts.{IsUsual, all_allowed, has_usual_ends, is_usual_character}
-use Rattle.yaml_scalar.specs.WholeRuns.{HasRoom, last_from, stays_in_line}
-use Rattle.yaml_scalar.proofs.Barred.{quiet_run}
-use Rattle.yaml_scalar.proofs.ByteRuns.{ascii_only_tells, free_characters}
-use Rattle.yaml_scalar.proofs.Choices.{allowed_whole}
-use Rattle.yaml_scalar.proofs.FirstCharacters.{ordinary_plain}
+use Rattle.yaml_scalar.proofs.Common.{ℕ, ◌-◌, ◌<◌, if◌then◌else◌, ◌==◌, slice_index, IsUtf8, Option, length, Bool, false, not, true, ◌&&◌, ◌||◌, List, []}
+use Rattle.yaml_scalar.proofs.Common.{◌∷◌, refl, ◌≡◌, leb-true, true≢false, append-nil, ap, subst, sym, ◌∙◌, arith, and_parts, not-true, chars-nil, list_all}
+use Rattle.yaml_scalar.proofs.Common.{Text, is_between, space, is_space, Cursor, Charset, Allowances, begins_with, is_empty, allowances, Barred, barred_by}
+use Rattle.yaml_scalar.proofs.Common.{barred_in, none_barred, either, is_ordinary, is_quiet, allowed_by, is_free, ImpliesTest, is_plain, IsShortRun}
+use Rattle.yaml_scalar.proofs.Common.{IsShortLine, has_usual_ends, is_usual_character, stays_in_line, last_from, HasRoom}
+use Rattle.yaml_base.proofs.Common.{chars}
+use Rattle.yaml_scalar.proofs.{Barred.quiet_run, ByteRuns.free_characters, ByteRuns.ascii_only_tells, Choices.allowed_whole, FirstCharacters.ordinary_plain}
+use Rattle.yaml_scalar.specs.UsualTexts.{all_allowed, IsUsual}
 
 -- the last byte is the one at the last place
 pub last_at : (before first : ℕ) (rest : List ℕ) → last_from before (first ∷ rest) ≡ slice_index (first ∷ rest) (length rest)

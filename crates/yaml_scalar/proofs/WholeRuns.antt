@@ -1,13 +1,8 @@
 -- Runs of characters: the empty one, their last characters, and that they hold no break.
-use Rattle.std.proofs.Common.{◌≡◌, refl, sym, ap, ◌∙◌, arith, subst, IsUtf8}
-use Rattle.std.proofs.lemmas.Bool.{and_parts}
-use Rattle.std.proofs.lemmas.List.{length-take-le, take-take}
-use Rattle.std.proofs.lemmas.Str.{IsCharBoundary-from_take, IsCharBoundary-start, IsUtf8-take, chars-nil}
-use Rattle.std.specs.List.{list_all, list_any}
-use Rattle.std.specs.Prelude.{ℕ, Bool, Option, None, Some, true, false, List, [], ◌∷◌, ◌++◌, ◌||◌, ◌&&◌, ◌≤◌, length, take}
-use Rattle.std.specs.Str.{IsCharBoundary, chars}
-use Rattle.yaml_base.specs.Characters.{Text, is_break}
-use Rattle.yaml_scalar.specs.WholeRuns.{IsRun, has_limit, last_from}
+use Rattle.yaml_scalar.proofs.Common.{ℕ, ◌≤◌, IsUtf8, Option, None, Some, length, take, Bool, false, true, ◌&&◌, ◌||◌, List, [], ◌++◌, ◌∷◌, refl, ◌≡◌}
+use Rattle.yaml_scalar.proofs.Common.{length-take-le, ap, subst, sym, ◌∙◌, arith, and_parts, chars-nil, IsUtf8-take, list_all, list_any, IsCharBoundary, Text}
+use Rattle.yaml_scalar.proofs.Common.{is_break, has_limit, last_from, IsRun}
+use Rattle.std.{proofs.lemmas.List.take-take, proofs.lemmas.Str.IsCharBoundary-from_take, proofs.lemmas.Str.IsCharBoundary-start, specs.Str.chars}
 
 pub last-more : (before : ℕ) (prefix : Text) (c : ℕ) → last_from before (prefix ++ c ∷ []) ≡ c
 last-more before [] c = refl

@@ -1,20 +1,9 @@
 -- The bytes of a document are UTF-8.
-use Rattle.std.proofs.Common.{◌≡◌, sym, ap, ◌∙◌}
-use Rattle.std.proofs.lemmas.List.{take_all}
-use Rattle.std.proofs.lemmas.Str.{IsUtf8-had}
-use Rattle.std.specs.List.{All}
-use Rattle.std.specs.Prelude.{ℕ, List, ◌++◌, Result, Ok, Err, IfOk, Vec, IsUtf8}
-use mathlib.Core.Logic.{∥∥₁_map}
-use Rattle.yaml_base.proofs.Decoding.{text_bytes-utf8}
-use Rattle.yaml_base.specs.Characters.{Text}
-use Rattle.yaml_base.specs.Encoding.{text_bytes}
-use Rattle.yaml_base.specs.Event.{Event}
-use Rattle.yaml_base.specs.Output.{bytes_written, settings_for}
-use Rattle.yaml_base.specs.Pieces.{list_layout}
-use Rattle.yaml_base.specs.Settings.{utf8}
-use Rattle.yaml_writer.specs.Given.{default_settings}
-use Rattle.yaml_writer.specs.Writing.{IsStream, opening, closing}
-use Rattle.yaml_serde.specs.Documents.{IsWriterEvent, IsDocument}
+use Rattle.yaml_serde.proofs.Common.{ℕ, IfOk, Result, Err, Ok, Vec, List, ◌++◌, ◌≡◌, ap, sym, ◌∙◌, All, ∥∥₁_map, Text, Event, IsWriterEvent, IsDocument}
+use Rattle.yaml_serde.proofs.Common.{default_settings, opening, closing, IsStream}
+use Rattle.yaml_base.proofs.Common.{settings_for, bytes_written, list_layout, utf8}
+use Rattle.std.{proofs.lemmas.List.take_all, proofs.lemmas.Str.IsUtf8-had, specs.Prelude.IsUtf8}
+use Rattle.yaml_base.{proofs.Decoding.text_bytes-utf8, specs.Encoding.text_bytes}
 
 -- a document round some events
 abbrev all_of : List Event → List Event

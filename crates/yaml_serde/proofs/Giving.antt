@@ -1,28 +1,17 @@
 -- A document goes on with each call of its writer.
-use Rattle.std.proofs.Common.{◌≡◌, ◌<◌, ◌≤◌, inl, inr, refl, sym, ap, ◌∙◌, subst, append_assoc, append-nil, arith}
-use Rattle.std.proofs.Math.Seq.{take-length}
-use Rattle.std.proofs.lemmas.List.{length-append, length-take, take-append-le}
-use Rattle.std.proofs.lemmas.List.Elements.{All-append, All-cons, All-nil}
-use Rattle.std.specs.Io.KnownBytes.{Appends}
-use Rattle.std.specs.List.{All}
-use Rattle.std.specs.Prelude.{IfOk, Vec, ◌⊎◌, ℕ, Bool, true, false, Option, None, Some, List, [], ◌∷◌, ◌++◌, Result, Ok, Err, OnOk, IfErr, length, take}
-use mathlib.Core.Logic.{∥∥₁_map}
-use Rattle.yaml_base.specs.Characters.{Text}
-use Rattle.yaml_base.specs.Event.{Event}
-use Rattle.yaml_base.specs.Settings.{Settings}
-use Rattle.yaml_base.specs.declared.errors.yaml_error_t.{yaml_error_t}
-use Rattle.yaml_base.specs.declared.errors.yaml_error_t.TheVariants.{Memory}
-use Rattle.yaml_pen.proofs.Composing.{grows_itself, grows_then}
-use Rattle.yaml_pen.specs.Wrote.{Grows}
-use Rattle.yaml_emitter.specs.State.{State}
-use Rattle.yaml_writer.specs.Writing.{WriterState, AddsEvent, GaveEvent, Failed, EndsInnermost, Finishes, IsStream, NodeExpected, StandsTaken, TakesBytes}
-use Rattle.yaml_writer.specs.Writing.{awaits_node, closing, end_event, opening, with_collection}
-use Rattle.yaml_writer.specs.declared.kinds.CollectionKind.{CollectionKind}
-use Rattle.yaml_serde.specs.Documents.{AppendsDocument, GaveEvents, GivesEvents, IsWriterEvent, IsDocument, end_call}
-use Rattle.yaml_serde.specs.Outlets.{Handed, HandsOn, HasGiven, Stands, is_kept}
-use Rattle.yaml_serde.specs.declared.outlet.Outlet.{Outlet}
-use Rattle.yaml_serde.specs.declared.outlet.Outlet.TheVariants.{Sink}
-use Rattle.yaml_serde.proofs.Handing.{appends_then, kept_none}
+use Rattle.yaml_serde.proofs.Common.{ℕ, ◌<◌, ◌≤◌, IfOk, OnOk, Option, None, Some, Result, Err, Ok, Vec, length, take, Bool, false, true, List, [], ◌++◌, ◌∷◌}
+use Rattle.yaml_serde.proofs.Common.{refl, ◌≡◌, append-nil, append_assoc, ap, subst, sym, ◌∙◌, arith, Appends, All, ∥∥₁_map, Text, Event, Settings, State}
+use Rattle.yaml_serde.proofs.Common.{grows_itself, Grows, IsWriterEvent, IsDocument, AppendsDocument, GivesEvents, is_kept, Handed, HandsOn, WriterState}
+use Rattle.yaml_serde.proofs.Common.{opening, closing, with_collection, awaits_node, StandsTaken, TakesBytes, IsStream, Finishes}
+use Rattle.yaml_base.proofs.Common.{◌⊎◌, length-append, inl, inr}
+use Rattle.yaml_writer.proofs.Common.{end_event, AddsEvent, GaveEvent}
+use Rattle.std.{proofs.Math.Seq.take-length, proofs.lemmas.List.length-take, proofs.lemmas.List.take-append-le, proofs.lemmas.List.Elements.All-nil}
+use Rattle.std.{proofs.lemmas.List.Elements.All-cons, proofs.lemmas.List.Elements.All-append, specs.Prelude.IfErr}
+use Rattle.yaml_base.specs.declared.errors.{yaml_error_t.yaml_error_t, yaml_error_t.TheVariants.Memory}
+use Rattle.yaml_pen.proofs.Composing.{grows_then}
+use Rattle.yaml_serde.{proofs.Handing.appends_then, proofs.Handing.kept_none, specs.Documents.end_call, specs.Documents.GaveEvents, specs.Outlets.HasGiven}
+use Rattle.yaml_serde.{specs.Outlets.Stands, specs.declared.outlet.Outlet.Outlet, specs.declared.outlet.Outlet.TheVariants.Sink}
+use Rattle.yaml_writer.specs.{Writing.NodeExpected, Writing.Failed, Writing.EndsInnermost, declared.kinds.CollectionKind.CollectionKind}
 
 -- ---- the emitter
 

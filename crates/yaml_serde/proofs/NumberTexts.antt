@@ -1,24 +1,15 @@
 -- Texts that are numbers of JSON: what is printed of integers and of finite floats.
-use Rattle.std.proofs.Common.{◌≡◌, refl, sym, ap, ap₂, ◌∙◌, append-nil, append_assoc, arith, get_or, FitsSigned}
-use mir.Syntax.{w128}
-use Rattle.std.proofs.lemmas.Bool.{and_from, or_right, not_from_false, lt-ltb, eqb-true}
-use Rattle.std.proofs.lemmas.Fmt.{decimal_digit, decimal_by_steps_wide, decimal_is_IsNumeral_wide}
-use Rattle.std.proofs.lemmas.List.{nil_from_length}
-use Rattle.std.specs.Char.{digit_value}
-use Rattle.std.specs.Fmt.{decimal, sign_text, signed_decimal}
-use Rattle.std.specs.Int.Signed.{mag}
-use Rattle.std.specs.List.{list_all}
-use Rattle.std.specs.Prelude.{ℕ, zero, suc, ℤ, pos, negsuc, ◌+◌, ◌/◌, ◌%◌, ◌^◌, ◌<◌, ◌≤◌, Bool, true, false, Option, None, Some, [], ◌∷◌, ◌++◌, ◌==◌, ◌||◌}
-use Rattle.std.specs.Prelude.{◌&&◌, not, length, slice_index, codes, if◌then◌else◌}
-use Rattle.std.specs.Str.Parse.{AllDigits}
+use Rattle.yaml_serde.proofs.Common.{ℕ, ◌<◌, ◌≤◌, Option, None, Some, pos, length, Bool, false, true, [], ◌++◌, ◌∷◌, refl, ◌≡◌, append-nil, append_assoc, ap}
+use Rattle.yaml_serde.proofs.Common.{sym, ◌∙◌, arith, signed_decimal, w128, Text, HasNumber}
+use Rattle.std.{proofs.Common.FitsSigned, proofs.Common.ap₂, proofs.Common.get_or, proofs.lemmas.Fmt.decimal_by_steps_wide}
+use Rattle.std.{proofs.lemmas.Fmt.decimal_is_IsNumeral_wide, proofs.lemmas.Fmt.decimal_digit, proofs.lemmas.List.nil_from_length, specs.Char.digit_value}
+use Rattle.std.{specs.Fmt.decimal, specs.Fmt.sign_text, specs.Int.Signed.mag, specs.List.list_all, specs.Str.Parse.AllDigits}
+use Rattle.std.proofs.lemmas.Bool.{eqb-true, lt-ltb, and_from, or_right, not_from_false}
+use Rattle.std.specs.Prelude.{codes, negsuc, not, suc, zero, ℤ, ◌%◌, ◌&&◌, ◌+◌, ◌/◌, ◌^◌, ◌||◌, if◌then◌else◌, slice_index, ◌==◌}
 use Rattle.fast_float.specs.Text.{Parts, exponent_text as printed_exponent}
 use Rattle.ryu.specs.Plain.{IsPlain, IsPlainNumber}
-use Rattle.yaml_base.proofs.NumberCuts.{some_digits}
-use Rattle.yaml_base.specs.Characters.{Text}
-use Rattle.yaml_base.specs.values.JsonNumbers.{JsonExponent, JsonNumber, exponent_text, is_json_number, is_whole, json_text, minus}
-use Rattle.yaml_base.specs.values.Resolved.{are_digits, is_decimal}
-use Rattle.yaml_base.specs.Words.{is_word}
-use Rattle.yaml_serde.specs.Numbers.{HasNumber}
+use Rattle.yaml_base.{proofs.NumberCuts.some_digits, specs.Words.is_word, specs.values.Resolved.is_decimal, specs.values.Resolved.are_digits}
+use Rattle.yaml_base.specs.values.JsonNumbers.{JsonExponent, JsonNumber, is_whole, is_json_number, minus, exponent_text, json_text}
 
 -- ---- digits
 

@@ -1,9 +1,9 @@
 -- A text goes on from character to character; what was passed over is its prefix.
-use Rattle.yaml_tool.proofs.Common.{ℕ, ◌==◌, List, [], ◌++◌, ◌∷◌, ◌-◌, drop, length, length-append, take, append-nil, append_assoc, ap, refl, subst}
-use Rattle.yaml_tool.proofs.Common.{sym, ◌∙◌, ◌≡◌, arith, nat_tests, take-append-drop, list_any-append, chars-nil, encodes-append, IsUtf8-take}
-use Rattle.yaml_tool.proofs.Common.{IsUtf8-past_char, chars_from_encodes, encodes-chars, chars-append, chars_past_char, encode_utf8, list_any, IsUtf8}
-use Rattle.yaml_tool.proofs.Common.{chars, encode_utf8_all, IsFree, prefix_of}
-use Rattle.std.proofs.{lemmas.List.take_at, lemmas.List.drop_at, Math.Nat.sub_self, lemmas.Str.IsCharBoundary-at_seam}
+use Rattle.yaml_tool.proofs.Common.{ℕ, ◌-◌, ◌==◌, drop, length, take, List, [], ◌++◌, ◌∷◌, refl, ◌≡◌, length-append, take-append-drop, append-nil}
+use Rattle.yaml_tool.proofs.Common.{append_assoc, ap, subst, sym, ◌∙◌, arith, nat_tests, list_any-append, chars-nil, encodes-append, IsUtf8-take}
+use Rattle.yaml_tool.proofs.Common.{IsUtf8-past_char, chars_from_encodes, encodes-chars, chars-append, chars_past_char, encode_utf8, list_any, IsUtf8, chars}
+use Rattle.yaml_tool.proofs.Common.{encode_utf8_all, IsFree, prefix_of}
+use Rattle.std.proofs.{Math.Nat.sub_self, lemmas.List.drop_at, lemmas.List.take_at, lemmas.Str.IsCharBoundary-at_seam}
 use Rattle.std.specs.Str.{IsCharBoundary}
 use Rattle.yaml_tool.specs.Cuts.{EndsIn}
 

@@ -1,7 +1,7 @@
 -- A text that is cut at the first of a character is cut at each of them, piece by piece.
-use Rattle.yaml_tool.proofs.Common.{ℕ, ◌==◌, None, List, [], ◌++◌, ◌∷◌, Bool, false, true, ◌||◌, ap, refl, ◌∙◌, ◌≡◌, arith, nat_tests, onto_first, Text}
+use Rattle.yaml_tool.proofs.Common.{ℕ, ◌==◌, None, Bool, false, true, ◌||◌, List, [], ◌++◌, ◌∷◌, refl, ◌≡◌, ap, ◌∙◌, arith, nat_tests, onto_first, Text}
 use Rattle.yaml_tool.proofs.Common.{version_of, IsFree, IsCut, cut_at}
-use Rattle.std.proofs.Common.{cond}
+use Rattle.yaml_base.proofs.Common.{cond}
 
 -- neither of two tests
 pub neither : (a b : Bool) → (a || b) ≡ false → (a ≡ false) × (b ≡ false)

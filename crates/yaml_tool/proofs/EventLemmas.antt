@@ -1,11 +1,10 @@
 -- A line's fields, read one after another, are those that the notation asks for.
-use Rattle.yaml_tool.proofs.Common.{Option, None, Some, List, [], map, ◌++◌, ◌∷◌, option_map, option_and_then, Bool, append_assoc, ap, refl, sym, ◌∙◌}
-use Rattle.yaml_tool.proofs.Common.{◌≡◌, map-append, Text, Event, seen_directive, Field, bare, quoted, prepend_field, HasField}
-use Rattle.yaml_tool.specs.{declared.events.CollectionKind.CollectionKind, Events.start_of, Fields.field_of}
-use Rattle.yaml_base.specs.{Event.TagDirective, Event.ScalarStyle, Event.CollectionStyle, Words.named}
-use Rattle.yaml_base.specs.{declared.directives.yaml_tag_directive_t.yaml_tag_directive_t}
-use Rattle.yaml_base.specs.scripts.Script.{flags, scalar_styles, text_or_none, scalar_of, scalar_with, collection_of, collection_with}
-use Rattle.yaml_base.specs.scripts.Script.{collection_styles, directives_of}
+use Rattle.yaml_base.proofs.Common.{option_map, option_and_then, Option, None, Some, Bool, List, [], map, ◌++◌, ◌∷◌, refl, ◌≡◌, append_assoc, ap, sym, ◌∙◌}
+use Rattle.yaml_base.proofs.Common.{map-append, Text, ScalarStyle, TagDirective, Event, named}
+use Rattle.yaml_base.specs.{Event.CollectionStyle, Seen.seen_directive, declared.directives.yaml_tag_directive_t.yaml_tag_directive_t}
+use Rattle.yaml_base.specs.scripts.Script.{Field, bare, quoted, flags, text_or_none, scalar_styles, directives_of, collection_styles, scalar_with, scalar_of}
+use Rattle.yaml_base.specs.scripts.Script.{collection_with, collection_of}
+use Rattle.yaml_tool.specs.{Events.start_of, Fields.prepend_field, Fields.HasField, Fields.field_of, declared.events.CollectionKind.CollectionKind}
 
 -- the field that stands for a choice is read as it
 choice_read : (choice : Option Text) → text_or_none (field_of choice) ≡ Some choice

@@ -1,12 +1,11 @@
 -- A line is cut at its first separator, character by character, and read field by field.
-use Rattle.yaml_tool.proofs.Common.{ℕ, ◌==◌, Option, None, Some, List, [], ◌++◌, ◌∷◌, ◌≤◌, if◌then◌else◌, length, Bool, false, true, ap, refl, subst}
-use Rattle.yaml_tool.proofs.Common.{sym, ◌∙◌, ◌≡◌, arith, nat_tests, onto_first, IsUtf8, chars, Text, outside, separates, pieces_from}
-use Rattle.yaml_tool.proofs.Common.{field_read, field_and, fields_read, IsFree, prefix_of, SkipsTo, prepend_to_first_piece, SkipsRunTo, later_fields}
-use Rattle.yaml_tool.proofs.Common.{prepend_field, HasField}
+use Rattle.yaml_tool.proofs.Common.{ℕ, ◌≤◌, if◌then◌else◌, ◌==◌, Option, None, Some, length, Bool, false, true, List, [], ◌++◌, ◌∷◌, refl, ◌≡◌, ap, subst}
+use Rattle.yaml_tool.proofs.Common.{sym, ◌∙◌, arith, nat_tests, onto_first, IsUtf8, chars, Text, outside, separates, pieces_from, field_read, field_and}
+use Rattle.yaml_tool.proofs.Common.{fields_read, IsFree, prefix_of, SkipsTo, prepend_to_first_piece, SkipsRunTo, later_fields, prepend_field, HasField}
 use Rattle.std.specs.{Borrow.Bor, Option.is_some}
 use Rattle.yaml_base.specs.scripts.Script.{inside, escaped, state_after, cut_before, read_fields}
+use Rattle.yaml_tool.proofs.CharacterLemmas.{ends_in_itself, PassedEvents, passed_to, empty_prefix, run_passed, run_prefix}
 use Rattle.yaml_tool.proofs.CutLemmas.{neither}
-use Rattle.yaml_tool.proofs.CharacterLemmas.{PassedEvents, passed_to, ends_in_itself, empty_prefix, run_prefix, run_passed}
 use Rattle.yaml_base.specs.scripts.Script as notation
 
 attached_one : (prefix : Text) (c : ℕ) (pieces : List Text)

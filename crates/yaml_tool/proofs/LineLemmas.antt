@@ -1,12 +1,10 @@
 -- What lines say, by their first field and by their bytes.
-use Rattle.yaml_tool.proofs.Common.{ℕ, ◌==◌, Option, None, Some, List, [], ◌∷◌, if◌then◌else◌, option_map, option_and_then, Bool, false, true, ap, refl}
-use Rattle.yaml_tool.proofs.Common.{sym, ◌∙◌, ◌≡◌, arith, nat_tests, list_any, IsUtf8, chars, Text, Event, line_read, Field, bare, quoted, fields_read}
-use Rattle.yaml_tool.proofs.Common.{IsFree, prepend_field}
-use Rattle.std.{specs.Option.option_or, specs.Str.is_utf8, proofs.lemmas.Str.is_utf8-from_IsUtf8, proofs.lemmas.Str.IsUtf8-from_is_utf8}
-use Rattle.yaml_tool.specs.{Events.event_word, Events.event_by, declared.words.EventName.EventName}
-use Rattle.yaml_base.specs.scripts.Script.{Setting, Line, says_nothing, sets, gives, setting_of, setting_line, event_of, line_of, line_understood}
-use Rattle.yaml_base.specs.scripts.Script.{number_sign}
-use Rattle.yaml_base.specs.Characters.{carriage_return}
+use Rattle.yaml_base.proofs.Common.{ℕ, if◌then◌else◌, ◌==◌, option_map, option_and_then, Option, None, Some, Bool, false, true, List, [], ◌∷◌, refl, ◌≡◌, ap}
+use Rattle.yaml_base.proofs.Common.{sym, ◌∙◌, arith, nat_tests, list_any, option_or, chars, Text, carriage_return, Event}
+use Rattle.std.{proofs.lemmas.Str.IsUtf8-from_is_utf8, proofs.lemmas.Str.is_utf8-from_IsUtf8, specs.Str.IsUtf8, specs.Str.is_utf8}
+use Rattle.yaml_base.specs.scripts.Script.{Setting, number_sign, Line, says_nothing, sets, gives, setting_of, Field, bare, quoted, fields_read, event_of}
+use Rattle.yaml_base.specs.scripts.Script.{setting_line, line_of, line_read, line_understood}
+use Rattle.yaml_tool.specs.{Cuts.IsFree, Events.event_word, Events.event_by, Fields.prepend_field, declared.words.EventName.EventName}
 use Rattle.yaml_tool.specs.declared.words.EventName.TheVariants as name
 
 -- the name of an event sets nothing

@@ -1,8 +1,8 @@
 -- A number is read digit by digit, and no further than its greatest value.
-use Rattle.yaml_tool.proofs.Common.{ℕ, Option, None, Some, List, [], ◌∷◌, ◌*◌, ◌+◌, ◌<◌, ◌≤◌, if◌then◌else◌, Bool, false, true, refl, subst, sym, ◌≡◌}
-use Rattle.yaml_tool.proofs.Common.{arith, nat_tests, digit_value, number_after}
-use Rattle.std.{proofs.Common.◌&&◌, proofs.Common.nat_le, proofs.Common.nat_lt, proofs.Math.Nat.mul-le-mul_left, specs.List.list_all}
-use Rattle.std.{specs.Char.is_digit, specs.Str.Parse.digits_value_after}
+use Rattle.yaml_tool.proofs.Common.{ℕ, ◌*◌, ◌+◌, ◌<◌, ◌≤◌, if◌then◌else◌, Option, None, Some, Bool, false, true, List, [], ◌∷◌, refl, ◌≡◌, subst, sym, arith}
+use Rattle.yaml_tool.proofs.Common.{nat_tests, digit_value, number_after}
+use Rattle.yaml_base.proofs.Common.{nat_le, nat_lt, ◌&&◌, list_all}
+use Rattle.std.{proofs.Math.Nat.mul-le-mul_left, specs.Char.is_digit, specs.Str.Parse.digits_value_after}
 
 lt_true : (a b : ℕ) → a < b → nat_lt a b ≡ true
 lt_true a b h = grind (arith, nat_tests)

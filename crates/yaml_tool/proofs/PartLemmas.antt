@@ -1,8 +1,9 @@
 -- A script that is read part by part: what is left with what was read is the whole.
-use Rattle.yaml_tool.proofs.Common.{ℕ, IfSome, Option, None, Some, List, [], ◌++◌, ap, subst, sym, ◌∙◌, ◌≡◌, Script, script_of, ReadsAll, IsFault}
-use Rattle.yaml_tool.proofs.Common.{IsFaultOf, run_answer_t, BadLine, Done, NoMemory, ReadFailed, Refused, WriteFailed, ScriptError}
-use Rattle.yaml_tool.specs.{declared.parts.ScriptPrefix.ScriptPrefix, Scripts.script_with, Scripts.ContinuesScript}
-use Rattle.std.specs.{Prelude.⊤, Io.KnownBytes.Consumes, Io.KnownBytes.Keeps, Io.KnownBytes.IsAtEnd}
+use Rattle.yaml_tool.proofs.Common.{ℕ, IfSome, Option, None, Some, List, [], ◌++◌, ◌≡◌, ap, subst, sym, ◌∙◌, Script, script_of, ReadsAll, IsFault, IsFaultOf}
+use Rattle.std.specs.{Io.KnownBytes.Keeps, Io.KnownBytes.Consumes, Io.KnownBytes.IsAtEnd, Prelude.⊤}
+use Rattle.yaml_tool.specs.Scripts.{script_with, ContinuesScript}
+use Rattle.yaml_tool.specs.declared.{answers.run_answer_t.run_answer_t, parts.ScriptPrefix.ScriptPrefix, scripts.ScriptError.ScriptError}
+use Rattle.yaml_tool.specs.declared.answers.run_answer_t.TheVariants.{BadLine, Done, NoMemory, ReadFailed, Refused, WriteFailed}
 
 -- at the end of the input the whole script was read
 pub reads_at_end : (answer : run_answer_t) (left : Option (List ℕ)) → IsAtEnd left → ReadsAll answer left

@@ -1,13 +1,14 @@
 -- The events of a script given to an emitter, one after another.
-use Rattle.yaml_tool.proofs.Common.{ℕ, IfSome, Option, None, Some, Err, List, [], map, ◌++◌, ◌∷◌, append_assoc, ap, subst, sym, ◌∙◌, ◌≡◌, map-append}
-use Rattle.yaml_tool.proofs.Common.{Appends, seen_event, Settings, yaml_error_t, Numbered, understood, script_of, StandsAfter, State, events_in}
-use Rattle.yaml_tool.proofs.Common.{RefusesAt, LastLine, seen_numbered, run_answer_t, BadLine, Done, NoMemory, ReadFailed, Refused, WriteFailed}
+use Rattle.yaml_tool.proofs.Common.{ℕ, IfSome, Option, None, Some, Err, List, [], map, ◌++◌, ◌∷◌, ◌≡◌, append_assoc, ap, subst, sym, ◌∙◌, map-append, Appends}
+use Rattle.yaml_tool.proofs.Common.{seen_event, Settings, Numbered, understood, script_of, StandsAfter, State, events_in, RefusesAt, LastLine, seen_numbered}
+use Rattle.yaml_base.proofs.Common.{inr}
+use Rattle.yaml_emitter.proofs.Common.{Promised}
+use Rattle.yaml_base.specs.declared.errors.yaml_error_t.{yaml_error_t}
+use Rattle.yaml_emitter.{proofs.standing.KeptDocuments.documents_kept, proofs.standing.KeptDocuments.documents_stay, specs.Promises.HasAllBytes}
 use Rattle.yaml_pen.specs.{Page.result_of_error, Wrote.Grows}
-use Rattle.std.proofs.Common.{inr}
-use Rattle.yaml_emitter.proofs.standing.KeptDocuments.{documents_kept, documents_stay}
-use Rattle.yaml_emitter.specs.Promises.{HasAllBytes, Promised}
-use Rattle.yaml_tool.specs.declared.scripts.NumberedEvent.{NumberedEvent}
-use Rattle.yaml_tool.specs.Runs.{EmitsAll, Emits, EndsAt, FlushesLast, AnswersEvents, AnswersScript, WritesNothing}
+use Rattle.yaml_tool.specs.Runs.{EmitsAll, Emits, AnswersEvents, AnswersScript, WritesNothing, EndsAt, FlushesLast}
+use Rattle.yaml_tool.specs.declared.{answers.run_answer_t.run_answer_t, scripts.NumberedEvent.NumberedEvent}
+use Rattle.yaml_tool.specs.declared.answers.run_answer_t.TheVariants.{BadLine, Done, NoMemory, ReadFailed, Refused, WriteFailed}
 
 -- what an answer says of a script's events it says of the bytes that were left
 pub tells_all : (left : Option (List ℕ)) (given : Settings) (all : List Numbered) (answer : run_answer_t) (old new : Option (List ℕ))

@@ -1,12 +1,11 @@
 -- A script is understood line by line.
-use Rattle.yaml_tool.proofs.Common.{ℕ, Option, None, Some, Err, List, [], ◌++◌, ◌∷◌, suc, ◌+◌, ◌<◌, Result, length, length-append, append-nil}
-use Rattle.yaml_tool.proofs.Common.{append_assoc, ap, refl, subst, sym, ◌∙◌, ◌≡◌, add-one, arith, IfErr, line_feed, Script, understood, IsFree, IsCut}
-use Rattle.yaml_tool.proofs.Common.{cut_at, IsFaultOf, script_after_lines, ScriptError}
-use Rattle.std.{specs.Result.IsErr, specs.Result.IsErrAnd, proofs.Common.Ok}
-use Rattle.yaml_base.specs.scripts.Script.{ScriptState, bad_line, unset, settings_of, script_from}
-use Rattle.yaml_tool.specs.declared.scripts.ScriptError.TheVariants.{BadLine, OutOfMemory}
-use Rattle.yaml_tool.specs.Scripts.{after_line, LeavesLastLine, IsFaultAt}
-use Rattle.yaml_tool.proofs.CutLemmas.{cut_free, cut_cut}
+use Rattle.yaml_tool.proofs.Common.{suc, ℕ, ◌+◌, ◌<◌, Option, None, Some, Result, Err, length, List, [], ◌++◌, ◌∷◌, refl, ◌≡◌, length-append, append-nil}
+use Rattle.yaml_tool.proofs.Common.{append_assoc, ap, subst, sym, ◌∙◌, add-one, arith, IfErr, line_feed, Script, understood, IsFree, IsCut, cut_at, IsFaultOf}
+use Rattle.yaml_tool.proofs.Common.{script_after_lines}
+use Rattle.std.{proofs.Common.Ok, specs.Result.IsErr, specs.Result.IsErrAnd}
+use Rattle.yaml_base.specs.scripts.Script.{bad_line, unset, settings_of, ScriptState, script_from}
+use Rattle.yaml_tool.{proofs.CutLemmas.cut_free, proofs.CutLemmas.cut_cut, specs.Scripts.after_line, specs.Scripts.IsFaultAt, specs.Scripts.LeavesLastLine}
+use Rattle.yaml_tool.specs.declared.scripts.{ScriptError.ScriptError, ScriptError.TheVariants.BadLine, ScriptError.TheVariants.OutOfMemory}
 
 -- what a script's line and those behind it come to
 goes_on : ℕ → List (List ℕ) → Option ScriptState → Script

@@ -1,13 +1,13 @@
 -- What a search of bytes tells of the prefix before the byte that it found.
-use Rattle.yaml_tool.proofs.Common.{ℕ, ◌==◌, List, [], ◌++◌, ◌∷◌, suc, ◌+◌, ◌-◌, ◌<◌, ◌≤◌, drop, length, take, Bool, false, true, ◌||◌, append-nil, ap}
-use Rattle.yaml_tool.proofs.Common.{refl, subst, sym, ◌∙◌, ◌≡◌, add-one, arith, nat_tests, take-append-drop, list_any-append, IsUtf8-take}
-use Rattle.yaml_tool.proofs.Common.{encodes-chars, encode_utf8, list_any, IsUtf8, chars, encode_utf8_all, Nowhere, NoneBefore, Passes, is_byte2}
-use Rattle.yaml_tool.proofs.Common.{line_feed, IsFree, IsCut, SkipsTo}
-use Rattle.std.{proofs.Common.zero, proofs.Common.take_all, proofs.Common.le_refl, specs.Prelude.slice_index, proofs.Math.Seq.drop-cons}
-use Rattle.std.{proofs.lemmas.Bool.eqb-true, proofs.lemmas.Bool.false≢true, proofs.lemmas.List.take_rest, proofs.lemmas.List.Folds.list_any_more}
-use Rattle.yaml_tool.proofs.{CutLemmas.neither, CharacterLemmas.take_seam, CharacterLemmas.ends_at_seam}
-use Rattle.std.proofs.lemmas.Str.{encode_ascii, IsUtf8-drop, IsUtf8-nil, IsCharBoundary-before_ascii}
+use Rattle.yaml_tool.proofs.Common.{suc, ℕ, ◌+◌, ◌-◌, ◌<◌, ◌≤◌, ◌==◌, drop, length, take, Bool, false, true, ◌||◌, List, [], ◌++◌, ◌∷◌, refl, ◌≡◌}
+use Rattle.yaml_tool.proofs.Common.{take-append-drop, append-nil, ap, subst, sym, ◌∙◌, add-one, arith, nat_tests, list_any-append, IsUtf8-take, encodes-chars}
+use Rattle.yaml_tool.proofs.Common.{encode_utf8, list_any, IsUtf8, chars, encode_utf8_all, Nowhere, NoneBefore, Passes, is_byte2, line_feed, IsFree, IsCut}
+use Rattle.yaml_tool.proofs.Common.{SkipsTo}
+use Rattle.yaml_base.proofs.Common.{zero, slice_index, eqb-true, false≢true}
+use Rattle.std.proofs.{Common.le_refl, Common.take_all, Math.Seq.drop-cons, lemmas.List.take_rest, lemmas.List.Folds.list_any_more}
+use Rattle.std.proofs.lemmas.Str.{IsUtf8-drop, encode_ascii, IsCharBoundary-before_ascii, IsUtf8-nil}
 use Rattle.memchr.specs.Find.{is_byte}
+use Rattle.yaml_tool.proofs.{CharacterLemmas.take_seam, CharacterLemmas.ends_at_seam, CutLemmas.neither}
 
 not_true : (b : Bool) → ¬ (b ≡ true) → b ≡ false
 not_true true h = absurd (h refl)

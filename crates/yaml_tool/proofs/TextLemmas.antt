@@ -1,11 +1,12 @@
 -- A text is read turn by turn: `\u{..}` is cut at its closing brace.
-use Rattle.yaml_tool.proofs.Common.{ℕ, ◌==◌, Option, None, Some, List, [], ◌++◌, ◌∷◌, if◌then◌else◌, option_map, length, Bool, false, append-nil}
-use Rattle.yaml_tool.proofs.Common.{append_assoc, ap, refl, subst, sym, ◌∙◌, ◌≡◌, chars-nil, encodes-append, chars_from_encodes, encodes-chars}
-use Rattle.yaml_tool.proofs.Common.{chars-append, IsUtf8-string_bytes, encode_utf8, IsUtf8, chars, encode_utf8_all, string_bytes, Text, seen_text}
-use Rattle.yaml_tool.proofs.Common.{backslash, at_character, text_from, IsFree, IsCut, prefix_of, SkipsTo}
-use Rattle.yaml_tool.{specs.Texts.ReadsOn, proofs.CutLemmas.neither, proofs.CharacterLemmas.passed_to}
+use Rattle.yaml_tool.proofs.Common.{ℕ, if◌then◌else◌, ◌==◌, option_map, Option, None, Some, length, Bool, false, List, [], ◌++◌, ◌∷◌, refl, ◌≡◌, append-nil}
+use Rattle.yaml_tool.proofs.Common.{append_assoc, ap, subst, sym, ◌∙◌, chars-nil, encodes-append, chars_from_encodes, encodes-chars, chars-append}
+use Rattle.yaml_tool.proofs.Common.{IsUtf8-string_bytes, encode_utf8, IsUtf8, chars, encode_utf8_all, string_bytes, Text, seen_text, at_character, text_from}
+use Rattle.yaml_tool.proofs.Common.{IsFree, IsCut, prefix_of, SkipsTo}
 use Rattle.std.specs.Prelude.{String}
-use Rattle.yaml_base.specs.scripts.Script.{goes_on, stands_for, ends, fails, at_escape, at_digits, at_brace, numbered_step, quotation_mark, text_step}
+use Rattle.yaml_base.specs.scripts.Script.{quotation_mark, backslash, at_escape, at_brace, at_digits, goes_on, stands_for, ends, fails, numbered_step}
+use Rattle.yaml_base.specs.scripts.Script.{text_step}
+use Rattle.yaml_tool.{proofs.CharacterLemmas.passed_to, proofs.CutLemmas.neither, specs.Texts.ReadsOn}
 use Rattle.yaml_base.specs.scripts.Script as notation
 
 -- what a turn and the characters behind it are read as

@@ -1,13 +1,10 @@
 -- The events of a value that isn't nested too deep are an accepted list.
-use Rattle.std.proofs.Common.{◌≡◌, refl, sym, ap, ◌∙◌, arith, subst, append_assoc}
-use Rattle.std.proofs.Math.Nat.{le-max_left, le-max_right}
-use Rattle.std.specs.Prelude.{ℕ, suc, ◌+◌, ◌≤◌, true, max, List, [], ◌∷◌, ◌++◌}
-use Rattle.yaml_base.specs.Event.{Event, stream_end, document_end, sequence_end, mapping_end}
-use Rattle.yaml_base.specs.Grammar.{node_events, nodes_events, pairs_events}
-use Rattle.yaml_base.specs.Refusal.{IsAccepted, open_count, most_open}
-use Rattle.yaml_base.specs.values.TypedValues.{TypedValue, null_value, bool_value, int_value, text_value, list_value, map_value, TypedValues, no_values}
-use Rattle.yaml_base.specs.values.TypedValues.{values_and, TypedPairs, no_value_pairs, value_pairs_and, nesting, values_nesting, value_pairs_nesting}
-use Rattle.yaml_base.specs.values.TypedValues.{most_nested, value_node, value_nodes, value_pairs, value_stream, value_events}
+use Rattle.yaml_value.proofs.Common.{max, suc, ℕ, ◌+◌, ◌≤◌, true, List, [], ◌++◌, ◌∷◌, refl, ◌≡◌, append_assoc, ap, subst, sym, ◌∙◌, arith, le-max_left}
+use Rattle.yaml_value.proofs.Common.{le-max_right, Event, node_events, nodes_events, pairs_events, IsAccepted, TypedValue, null_value, bool_value, int_value}
+use Rattle.yaml_value.proofs.Common.{text_value, TypedValues, list_value, TypedPairs, map_value, no_values, values_and, no_value_pairs, value_pairs_and}
+use Rattle.yaml_value.proofs.Common.{nesting, values_nesting, value_pairs_nesting, most_nested, value_node, value_nodes, value_pairs, value_stream}
+use Rattle.yaml_value.proofs.Common.{value_events}
+use Rattle.yaml_base.proofs.Common.{stream_end, document_end, sequence_end, mapping_end, most_open, open_count}
 use Rattle.yaml_emitter.proofs.AcceptedLists.{sound, both_sound, Stays, few_open}
 
 -- ---- each event is in order

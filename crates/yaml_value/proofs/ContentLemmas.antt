@@ -1,23 +1,16 @@
 -- A value's content tells the value, and is the content of its events.
-use Rattle.std.proofs.Common.{◌≡◌, refl, sym, ap, ap₂, ◌∙◌, arith}
-use Rattle.std.proofs.lemmas.Bool.Decides.{nat_tests}
-use Rattle.std.proofs.lemmas.Fmt.{decimal_by_steps, decimal_is_IsNumeral}
-use Rattle.std.specs.Prelude.{ℕ, suc, ℤ, pos, negsuc, ◌+◌, ◌%◌, ◌^◌, ◌<◌, ◌==◌, Bool, true, false, cond, None, Some, List, [], ◌∷◌, ◌++◌, codes, bytes_eq}
-use Rattle.std.specs.Prelude.{option_map}
-use Rattle.std.specs.Fmt.{decimal, signed_decimal}
-use Rattle.std.specs.Int.Signed.{mag}
-use Rattle.std.specs.Str.Parse.{digits_value}
-use Rattle.std.proofs.Math.IntN.{neg_ℤ}
-use Rattle.yaml_base.specs.Characters.{Text}
-use Rattle.yaml_base.specs.reading.Content.{ScalarTag, tagged, untagged, Content, alias_content, scalar_content, sequence_content, mapping_content, Contents}
-use Rattle.yaml_base.specs.reading.Content.{no_contents, contents_and, ContentPairs, no_content_pairs, content_pairs_and, DocumentContent, node_content}
-use Rattle.yaml_base.specs.reading.Content.{nodes_content, pairs_content, documents_content, content_of}
-use Rattle.yaml_base.specs.values.TypedValues.{TypedValue, null_value, bool_value, int_value, text_value, list_value, map_value, TypedValues, no_values}
-use Rattle.yaml_base.specs.values.TypedValues.{values_and, TypedPairs, no_value_pairs, value_pairs_and, null_tag, bool_tag, int_tag, bool_text, value_content}
-use Rattle.yaml_base.specs.values.TypedValues.{values_content, value_pairs_content, typed_content, Has64Bits, Have64Bits, PairsHave64Bits, value_node}
-use Rattle.yaml_base.specs.values.TypedValues.{value_nodes, value_pairs, value_stream, value_events}
-use Rattle.yaml_base.specs.graphs.Meetings.{sequence_tag, mapping_tag}
+use Rattle.yaml_value.proofs.Common.{suc, ℕ, ◌+◌, ◌<◌, Some, codes, Bool, false, true, List, [], ◌++◌, ◌∷◌, refl, ◌≡◌, ap, ap₂, sym, ◌∙◌, arith, nat_tests}
+use Rattle.yaml_value.proofs.Common.{signed_decimal, Text, sequence_tag, mapping_tag, TypedValue, null_value, bool_value, int_value, text_value, TypedValues}
+use Rattle.yaml_value.proofs.Common.{list_value, TypedPairs, map_value, no_values, values_and, no_value_pairs, value_pairs_and, null_tag, bool_tag, int_tag}
+use Rattle.yaml_value.proofs.Common.{bool_text, Has64Bits, Have64Bits, PairsHave64Bits, value_node, value_nodes, value_pairs, value_stream, value_events}
+use Rattle.yaml_base.proofs.Common.{◌%◌, ◌==◌, option_map, bytes_eq, None, negsuc, pos, ℤ, cond, digits_value, tagged, untagged, Content, scalar_content}
+use Rattle.yaml_base.proofs.Common.{sequence_content, mapping_content, no_contents, contents_and, no_content_pairs, content_pairs_and, DocumentContent}
+use Rattle.yaml_base.proofs.Common.{node_content}
+use Rattle.std.{proofs.Math.IntN.neg_ℤ, proofs.lemmas.Fmt.decimal_by_steps, proofs.lemmas.Fmt.decimal_is_IsNumeral, specs.Fmt.decimal, specs.Int.Signed.mag}
+use Rattle.std.{specs.Prelude.◌^◌}
 use Rattle.yaml_base.proofs.Trees.{tree_of-stream_events}
+use Rattle.yaml_base.specs.reading.Content.{ScalarTag, alias_content, Contents, ContentPairs, nodes_content, pairs_content, documents_content, content_of}
+use Rattle.yaml_base.specs.values.TypedValues.{value_content, values_content, value_pairs_content, typed_content}
 
 -- ---- a reader of contents, by which no two values have the same
 

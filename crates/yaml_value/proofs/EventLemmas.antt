@@ -1,19 +1,11 @@
 -- Events of scalars, and events after others.
-use Rattle.std.proofs.Common.{◌≡◌, sym, ap, ap₂, ◌∙◌, subst, append_assoc}
-use Rattle.std.proofs.lemmas.List.{map-append}
-use Rattle.std.specs.Prelude.{ℕ, ◌+◌, ◌<◌, List, [], ◌∷◌, ◌++◌, length, take, get_or, Result, OnOk}
+use Rattle.yaml_value.proofs.Common.{ℕ, ◌+◌, ◌<◌, OnOk, Result, length, slice_index_or as get_or, take, List, [], ◌++◌, ◌∷◌, ◌≡◌, append_assoc, ap, ap₂}
+use Rattle.yaml_value.proofs.Common.{subst, sym, ◌∙◌, map-append, chars, Text, Event, node_events, nodes_events, pairs_events, seen_events, TypedPairs}
+use Rattle.yaml_value.proofs.Common.{values_and, value_pairs_and, Has64Bits, Have64Bits, PairsHave64Bits, value_node, value_nodes, value_pairs, seen_value}
+use Rattle.yaml_value.proofs.Common.{seen_values, seen_pairs}
 use Rattle.std.proofs.lemmas.Result.{on_ok_weaker}
-use Rattle.std.specs.Str.{chars}
-use Rattle.yaml_base.specs.Characters.{Text}
-use Rattle.yaml_base.specs.Event.{Event}
-use Rattle.yaml_base.specs.Grammar.{node_events, nodes_events, pairs_events}
-use Rattle.yaml_base.specs.Seen.{seen_event, seen_events}
-use Rattle.yaml_base.specs.values.TypedValues.{TypedPairs, tagged_node, values_and, value_pairs_and, value_node, value_nodes, value_pairs, Has64Bits}
-use Rattle.yaml_base.specs.values.TypedValues.{Have64Bits, PairsHave64Bits}
-use Rattle.yaml_base.specs.declared.events.yaml_event_t.{yaml_event_t}
-use Rattle.yaml_value.specs.SeenValues.{seen_value, seen_values, seen_pairs}
-use Rattle.yaml_value.specs.declared.value.Value.{Value}
-use Rattle.yaml_value.proofs.SeenLemmas.{seen_values-more, seen_pairs-more}
+use Rattle.yaml_base.specs.{Seen.seen_event, declared.events.yaml_event_t.yaml_event_t, values.TypedValues.tagged_node}
+use Rattle.yaml_value.{proofs.SeenLemmas.seen_values-more, proofs.SeenLemmas.seen_pairs-more, specs.declared.value.Value.Value}
 
 -- a scalar by the characters of its tag and text
 pub scalar_pushed : {T E : Type 0} (answer : Result T E) (before after : List Event) (tag_bytes text_bytes tag text : Text) → chars tag_bytes ≡ tag

@@ -1,3 +1,4 @@
+pub mod Common
 pub mod AcceptedLemmas
 pub mod ContentLemmas
 pub mod EventLemmas

@@ -1,18 +1,13 @@
 -- What is seen of values, one level at a time and one item after another.
-use Rattle.std.proofs.Common.{◌≡◌, ◌⊎◌, inl, inr, refl, sym, ap, ap₂, ◌∙◌, arith}
-use Rattle.std.proofs.Math.Bool.{and-true, and_assoc}
-use Rattle.std.proofs.Math.Nat.{le-max_left, le-max_right, min-eq_left, min-eq_right}
-use Rattle.std.proofs.lemmas.Bool.{cases_lt}
-use Rattle.std.proofs.lemmas.Bool.Decides.{nat_tests}
-use Rattle.std.proofs.lemmas.List.{take_more, take_all, map-append}
-use Rattle.std.proofs.lemmas.List.Folds.{list_all-map, list_all_more, list_all_at}
-use Rattle.std.specs.Prelude.{ℕ, ◌+◌, ◌<◌, ◌≤◌, Bool, true, false, ◌&&◌, nat_le, max, min, List, [], ◌∷◌, ◌++◌, length, map, take, get_or}
-use Rattle.std.specs.List.{list_all}
-use Rattle.yaml_base.specs.values.TypedValues.{TypedValue, TypedValues, no_values, values_and, TypedPairs, no_value_pairs, value_pairs_and, nesting}
-use Rattle.yaml_base.specs.values.TypedValues.{values_nesting, value_pairs_nesting, value_count, values_count, value_pairs_count}
-use Rattle.yaml_value.specs.SeenValues.{values_of, pairs_of, seen_value, seen_values, seen_pairs}
+use Rattle.yaml_value.proofs.Common.{max, min, ℕ, ◌+◌, ◌<◌, ◌≤◌, nat_le, length, slice_index_or as get_or, take, Bool, false, true, ◌&&◌, List, [], map, ◌++◌}
+use Rattle.yaml_value.proofs.Common.{◌∷◌, ◌⊎◌, refl, ◌≡◌, take_all, inr, ap, ap₂, sym, ◌∙◌, arith, le-max_left, le-max_right, nat_tests, map-append, list_all}
+use Rattle.yaml_value.proofs.Common.{largest_usize, TypedValue, TypedValues, TypedPairs, no_values, values_and, no_value_pairs, value_pairs_and, values_count}
+use Rattle.yaml_value.proofs.Common.{value_pairs_count, nesting, values_nesting, value_pairs_nesting, values_of, pairs_of, seen_value, seen_values}
+use Rattle.yaml_value.proofs.Common.{seen_pairs}
+use Rattle.std.proofs.{Common.inl, Math.Bool.and-true, Math.Bool.and_assoc, Math.Nat.min-eq_left, Math.Nat.min-eq_right, lemmas.Bool.cases_lt}
+use Rattle.std.proofs.{lemmas.List.take_more, lemmas.List.Folds.list_all-map, lemmas.List.Folds.list_all_more, lemmas.List.Folds.list_all_at}
+use Rattle.yaml_base.specs.values.TypedValues.{value_count}
 use Rattle.yaml_value.specs.declared.value.Value.{Value}
-use Rattle.yaml_base.specs.Settings.{largest_usize}
 
 values_of-append : (before : TypedValues) (first second : List TypedValue) → values_of before (first ++ second) ≡ values_of (values_of before first) second
 values_of-append before [] second = refl

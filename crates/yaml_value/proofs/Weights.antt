@@ -1,9 +1,8 @@
 -- What is inside a value weighs less than the value: so its events are pushed in finite time.
-use Rattle.std.proofs.Common.{◌≡◌, ◌+◌, ◌<◌, ◌≤◌, sym, subst, arith}
-use Rattle.std.specs.Prelude.{ℕ, zero, suc, List, [], ◌∷◌, length, map, get_or}
-use Rattle.yaml_base.specs.values.TypedValues.{TypedValue, list_value, map_value, TypedValues, no_values, values_and, TypedPairs, no_value_pairs}
-use Rattle.yaml_base.specs.values.TypedValues.{value_pairs_and}
-use Rattle.yaml_value.specs.SeenValues.{values_of, pairs_of, seen_value, seen_values, seen_pairs}
+use Rattle.yaml_value.proofs.Common.{suc, ℕ, ◌+◌, ◌<◌, ◌≤◌, length, slice_index_or as get_or, List, [], map, ◌∷◌, ◌≡◌, subst, sym, arith, TypedValue}
+use Rattle.yaml_value.proofs.Common.{TypedValues, list_value, TypedPairs, map_value, no_values, values_and, no_value_pairs, value_pairs_and, values_of}
+use Rattle.yaml_value.proofs.Common.{pairs_of, seen_value, seen_values, seen_pairs}
+use Rattle.yaml_base.proofs.Common.{zero}
 use Rattle.yaml_value.specs.declared.value.Value.{Value}
 
 abbrev mutual

@@ -1,23 +1,14 @@
 -- What it comes to that the events of a value are emitted.
-use Rattle.std.proofs.Common.{◌≡◌, ◌⊎◌, inl, inr, refl, sym, ap, ◌∙◌, arith, subst, append_assoc}
-use Rattle.std.proofs.lemmas.Bool.{cases_lt}
-use Rattle.std.proofs.lemmas.Bool.Decides.{nat_tests}
-use Rattle.std.proofs.lemmas.List.{length-take-le}
+use Rattle.yaml_value.proofs.Common.{ℕ, ◌<◌, ◌≤◌, IfErr, OnOk, Result, nat_le, length, false, true, List, [], ◌++◌, ◌∷◌, ◌⊎◌, refl, ◌≡◌, append_assoc, inr}
+use Rattle.yaml_value.proofs.Common.{ap, subst, sym, ◌∙◌, arith, nat_tests, Event, IsAccepted, largest_usize, TypedValue, nesting, most_nested, Has64Bits}
+use Rattle.yaml_value.proofs.Common.{value_events, typed_settings, WritesValue}
+use Rattle.yaml_emitter.proofs.Common.{RefusedAt, State}
+use Rattle.yaml_dump.proofs.Common.{EmitsAll, FailsAt, EmitsEach}
 use Rattle.std.proofs.lemmas.Result.{IfOk-weaker}
-use Rattle.std.specs.Prelude.{◌↔◌, ℕ, ◌<◌, ◌≤◌, nat_le, true, false, Result, Ok, Err, OnOk, IfOk, IfErr, Vec, List, [], ◌∷◌, ◌++◌, length, take}
-use Rattle.yaml_base.specs.Event.{Event}
-use Rattle.yaml_base.specs.Refusal.{IsAccepted}
-use Rattle.yaml_base.specs.Pieces.{list_layout}
-use Rattle.yaml_base.specs.Output.{settings_for, bytes_written}
-use Rattle.yaml_base.specs.values.TypedValues.{TypedValue, nesting, most_nested, typed_settings, typed_output, value_events, Has64Bits, ReadsAs, WritesValue}
-use Rattle.yaml_base.specs.declared.errors.yaml_error_t.{yaml_error_t}
-use Rattle.yaml_base.specs.declared.errors.yaml_error_t.TheVariants.{WriteError, TooDeep, Memory}
-use Rattle.yaml_emitter.specs.State.{State}
-use Rattle.yaml_emitter.specs.Promises.{RefusedAt}
-use Rattle.yaml_dump.specs.Dumps.{EmitsAll, EmitsEach, FailsAt}
-use Rattle.yaml_value.proofs.AcceptedLemmas.{value_accepted}
-use Rattle.yaml_value.proofs.ContentLemmas.{content_of-value_events, stream_tells_value}
-use Rattle.yaml_base.specs.Settings.{largest_usize}
+use Rattle.std.specs.Prelude.{Err, Ok, Vec, ◌↔◌, IfOk}
+use Rattle.yaml_base.specs.{declared.errors.yaml_error_t.yaml_error_t, declared.errors.yaml_error_t.TheVariants.Memory}
+use Rattle.yaml_base.specs.{declared.errors.yaml_error_t.TheVariants.TooDeep, declared.errors.yaml_error_t.TheVariants.WriteError, values.TypedValues.ReadsAs}
+use Rattle.yaml_value.proofs.{AcceptedLemmas.value_accepted, ContentLemmas.stream_tells_value, ContentLemmas.content_of-value_events}
 
 -- all events emitted: the bytes are the value's
 pub value_written : (value : TypedValue) (state : State) → nesting value ≤ most_nested → Has64Bits value

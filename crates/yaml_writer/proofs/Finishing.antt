@@ -1,22 +1,13 @@
 -- What it comes to that a document and its stream are ended.
-use Rattle.std.proofs.Common.{◌≡◌, refl, sym, ap, ap₂, ◌∙◌, arith, subst, append_assoc}
-use Rattle.std.proofs.lemmas.List.{nil_from_length}
-use Rattle.std.specs.Prelude.{ℕ, ◌<◌, ◌≤◌, Bool, true, false, ◌||◌, Option, None, Some, IsSome, is_some, unwrap_or, List, [], ◌∷◌, ◌++◌, length}
-use Rattle.yaml_base.specs.Characters.{Text}
-use Rattle.yaml_base.specs.Event.{Event, stream_end, document_end}
-use Rattle.yaml_base.specs.Refusal.{IsAccepted}
-use Rattle.yaml_base.specs.Settings.{Settings}
+use Rattle.yaml_writer.proofs.Common.{ℕ, ◌<◌, ◌≤◌, is_some, Option, None, Some, length, Bool, false, true, ◌||◌, List, [], ◌++◌, ◌∷◌, refl, ◌≡◌, append_assoc}
+use Rattle.yaml_writer.proofs.Common.{ap, ap₂, subst, sym, ◌∙◌, arith, nil_from_length, Text, Event, stream_end, document_end, IsAccepted, Settings}
+use Rattle.yaml_writer.proofs.Common.{ends_last, IsRefusal, HasRoom, Promised, StandsAfter, State, output_left, RefusesOne, IsUnfinishedBy, WriterState}
+use Rattle.yaml_writer.proofs.Common.{plain_start, closing_by, StandsTaken}
+use Rattle.yaml_emitter.proofs.Common.{RefusedAt, ends_stream}
+use Rattle.std.specs.Prelude.{unwrap_or, IsSome}
 use Rattle.yaml_base.specs.declared.errors.yaml_error_t.{yaml_error_t}
-use Rattle.yaml_pen.specs.Page.{output_left}
-use Rattle.yaml_emitter.specs.State.{State}
-use Rattle.yaml_emitter.specs.StandsAfter.{StandsAfter}
-use Rattle.yaml_emitter.specs.Promises.{Promised, RefusedAt, HasRoom, IsRefusal, ends_stream}
-use Rattle.yaml_emitter.proofs.EndedStreams.{ends_last}
-use Rattle.yaml_writer.specs.Unfinished.{IsUnfinishedBy, RefusesOne}
-use Rattle.yaml_writer.specs.Writing.{IsStream, StandsTaken, WriterState, awaits_node, closing_by, plain_start}
-use Rattle.yaml_writer.proofs.MissingNodes.{misses}
-use Rattle.yaml_writer.proofs.Overflow.{overflowed}
-use Rattle.yaml_writer.proofs.Taken.{taken_and_left}
+use Rattle.yaml_writer.proofs.{MissingNodes.misses, Overflow.overflowed, Taken.taken_and_left}
+use Rattle.yaml_writer.specs.Writing.{awaits_node, IsStream}
 
 -- no node is awaited where there is neither an anchor nor a tag
 pub nothing_awaited : (writer : WriterState) → writer.anchor ≡ None → writer.tag ≡ None → awaits_node writer ≡ false

@@ -1,3 +1,4 @@
+pub mod Common
 pub mod ReservedLemmas
 pub mod TextBytes
 pub mod ValidNumbers

@@ -1,26 +1,17 @@
 -- Only where a node is missing is an event refused as such.
-use Rattle.std.proofs.Common.{◌≡◌, refl, sym, ap, ◌∙◌}
-use Rattle.std.specs.Option.{option_or}
-use Rattle.std.specs.Prelude.{Bool, true, false, not, ◌||◌, ◌&&◌, ◌==◌, nat_lt, length, Option, None, Some, is_none, is_some, List, [], ◌∷◌, ◌++◌}
-use Rattle.std.specs.Prelude.{option_and_then, if◌then◌else◌}
-use Rattle.std.specs.List.{list_all}
-use Rattle.yaml_base.proofs.Accepted.{stands_from_begins}
-use Rattle.yaml_base.proofs.Completions.{pushed-append}
-use Rattle.yaml_base.specs.Characters.{Text, is_alpha}
-use Rattle.yaml_base.specs.Event.{Event, TagDirective, Version, alias, document_start, mapping_start, scalar, sequence_start}
-use Rattle.yaml_base.specs.Grammar.{Partial, before_stream, between_documents, within_document, after_root, after_stream, push, pushed}
-use Rattle.yaml_base.specs.Refusal.{content_fault, depth_fault, expected, some_if, name_or_tag_fault, place_fault}
-use Rattle.yaml_base.specs.Event.{collection_tag}
-use Rattle.yaml_base.specs.Refusal.{begins_collection, most_open, open_levels, properties_fault, refusal_at}
-use Rattle.yaml_base.specs.Event.{scalar_tag}
-use Rattle.yaml_base.specs.scalars.Style.{lacks_tag_and_flags}
-use Rattle.yaml_base.specs.Tags.{alias_fault, anchor_fault, directive_fault, directives_fault_after, gives_handle, handle_fault, name_fault}
-use Rattle.yaml_base.specs.Tags.{equals_integer, last_from, next_directive_fault, prefix_fault, tag_fault, exclamation_mark, version_fault, without_last}
-use Rattle.yaml_base.specs.declared.errors.yaml_error_t.{yaml_error_t}
-use Rattle.yaml_base.specs.declared.errors.yaml_error_t.TheVariants.{AliasAlphabet, AliasEmpty, AnchorAlphabet, AnchorEmpty, DuplicateDirective}
-use Rattle.yaml_base.specs.declared.errors.yaml_error_t.TheVariants.{ExpectedNode, IncompatibleVersion, NoTagNorImplicit, TagHandleAlphabet}
-use Rattle.yaml_base.specs.declared.errors.yaml_error_t.TheVariants.{TagHandleEnd, TagHandleStart, TooDeep}
-use Rattle.yaml_writer.specs.Unfinished.{MissesNode, RefusesOne, awaits_more}
+use Rattle.yaml_base.proofs.Common.{if◌then◌else◌, ◌==◌, is_some, is_none, option_and_then, Option, None, Some, nat_lt, length, Bool, false, not, true, ◌&&◌}
+use Rattle.yaml_base.proofs.Common.{◌||◌, List, [], ◌++◌, ◌∷◌, refl, ◌≡◌, ap, sym, ◌∙◌, list_all, option_or, Text, is_alpha, Version, TagDirective, Event}
+use Rattle.yaml_base.proofs.Common.{document_start, alias, scalar, sequence_start, mapping_start, scalar_tag, collection_tag, Partial, before_stream}
+use Rattle.yaml_base.proofs.Common.{between_documents, within_document, after_root, after_stream, push, pushed, some_if, name_or_tag_fault, content_fault}
+use Rattle.yaml_base.proofs.Common.{expected, place_fault, most_open, begins_collection, open_levels, depth_fault, refusal_at, name_fault, anchor_fault}
+use Rattle.yaml_base.proofs.Common.{alias_fault, tag_fault, version_fault, exclamation_mark, handle_fault, prefix_fault, directive_fault, gives_handle}
+use Rattle.yaml_base.proofs.Common.{next_directive_fault, directives_fault_after, lacks_tag_and_flags}
+use Rattle.yaml_base.{proofs.Accepted.stands_from_begins, proofs.Completions.pushed-append, specs.Refusal.properties_fault, specs.Tags.equals_integer}
+use Rattle.yaml_base.{specs.Tags.last_from, specs.Tags.without_last, specs.declared.errors.yaml_error_t.yaml_error_t}
+use Rattle.yaml_base.specs.declared.errors.yaml_error_t.TheVariants.{AliasAlphabet, AliasEmpty, AnchorAlphabet, AnchorEmpty, DuplicateDirective, ExpectedNode}
+use Rattle.yaml_base.specs.declared.errors.yaml_error_t.TheVariants.{IncompatibleVersion, NoTagNorImplicit, TagHandleAlphabet, TagHandleEnd, TagHandleStart}
+use Rattle.yaml_base.specs.declared.errors.yaml_error_t.TheVariants.{TooDeep}
+use Rattle.yaml_writer.specs.Unfinished.{RefusesOne, awaits_more, MissesNode}
 
 -- a refusal that names no missing node
 abbrev NamesNone : Option yaml_error_t → Type 0

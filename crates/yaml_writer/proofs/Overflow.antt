@@ -1,25 +1,13 @@
 -- The limit gives out only where the bytes of the events pass it.
-use Rattle.std.proofs.Common.{◌≡◌, sym, ap, arith, subst, append-nil}
-use Rattle.std.specs.Prelude.{ℕ, ◌<◌, Option, Some, List, [], ◌∷◌, ◌++◌, length, take}
-use Rattle.yaml_base.specs.Event.{Event}
-use Rattle.yaml_base.specs.Layout.{Piece}
-use Rattle.yaml_base.specs.Output.{settings_for}
-use Rattle.yaml_base.specs.Pieces.{list_layout}
-use Rattle.yaml_base.specs.Ready.{written}
-use Rattle.yaml_base.specs.Refusal.{IsAccepted}
-use Rattle.yaml_base.specs.Settings.{Settings, Effective}
-use Rattle.yaml_base.specs.declared.errors.yaml_error_t.{yaml_error_t}
-use Rattle.yaml_base.specs.declared.errors.yaml_error_t.TheVariants.{WriteError, Memory}
+use Rattle.yaml_writer.proofs.Common.{ℕ, ◌<◌, Option, Some, length, take, List, [], ◌++◌, ◌∷◌, ◌≡◌, append-nil, ap, subst, sym, arith, Event, settings_for}
+use Rattle.yaml_writer.proofs.Common.{list_layout, written, IsAccepted, Settings, Effective, State, PassesLimit}
+use Rattle.yaml_base.proofs.Common.{Piece}
+use Rattle.yaml_emitter.proofs.Common.{BeginsOutput, OutputBegins, HoldsPiecesWith, holds_before, holds_part, StandsCut, StandsStopped, at_event}
+use Rattle.yaml_emitter.proofs.Common.{between_events, StateStands, machine_of, IsUncut}
+use Rattle.yaml_base.specs.declared.errors.{yaml_error_t.yaml_error_t, yaml_error_t.TheVariants.Memory, yaml_error_t.TheVariants.WriteError}
+use Rattle.yaml_emitter.proofs.standing.{Room.more_bytes, StandingFull.promises_full, StandingPromises.stands_failed, StandingPromises.promises_output}
+use Rattle.yaml_emitter.specs.Promises.{StopsWriting, stops_before, stops_within, FillsLimit}
 use Rattle.yaml_pen.specs.Page.{Page, encoded}
-use Rattle.yaml_emitter.proofs.standing.Room.{more_bytes}
-use Rattle.yaml_emitter.proofs.standing.StandingFull.{promises_full}
-use Rattle.yaml_emitter.proofs.standing.StandingPromises.{promises_output, stands_failed}
-use Rattle.yaml_emitter.specs.Promises.{BeginsOutput, FillsLimit, OutputBegins, StopsWriting, stops_before, stops_within}
-use Rattle.yaml_emitter.specs.StandsAfter.{HoldsPiecesWith, StandsCut, StateStands, StandsStopped, holds_before, holds_part, at_event}
-use Rattle.yaml_emitter.specs.StandsAfter.{between_events}
-use Rattle.yaml_emitter.specs.State.{State, machine_of}
-use Rattle.yaml_emitter.specs.Uncut.{IsUncut}
-use Rattle.yaml_writer.specs.Unfinished.{PassesLimit}
 
 not_memory : WriteError ≡ Memory → ⊥
 not_memory is = cc

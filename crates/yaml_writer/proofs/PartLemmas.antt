@@ -1,18 +1,13 @@
 -- A number of JSON has one text, and its text one number: how the parts that are cut out of a text come together.
-use Rattle.std.proofs.Common.{◌≡◌, ◌≢◌, Bor, MatchOption, refl, sym, ap, ◌∙◌, append_assoc, append-nil, arith}
-use Rattle.std.proofs.lemmas.Bool.{true≢false, and_parts, and_from, or_from, not-true, not_from_false, eqb-true, ne_eqb, eq-eqb}
-use Rattle.std.proofs.lemmas.List.Folds.{list_all-append}
-use Rattle.std.specs.List.{list_all}
-use Rattle.std.specs.Prelude.{ℕ, suc, Bool, true, false, Option, None, Some, List, [], ◌∷◌, ◌++◌, ◌<◌, ◌==◌, ◌||◌, not, length, get_or, codes, option_map, ⊤}
-use Rattle.std.specs.Prelude.{if◌then◌else◌}
-use Rattle.yaml_base.specs.Characters.{Text}
-use Rattle.yaml_base.specs.Words.{is_word}
-use Rattle.yaml_base.specs.values.Resolved.{is_decimal, is_negative, past_sign, are_digits}
-use Rattle.yaml_base.specs.values.JsonNumbers.{JsonNumber, JsonExponent, minus, is_whole, is_json_number, exponent_text, json_text}
-use Rattle.yaml_base.proofs.NumberCuts.{digit_unlike, minus_read}
-use Rattle.yaml_writer.specs.NumberParts.{cut_at, past_minus, sign_of, exponent_in, around, exponent_cut, around_point, fraction_cut, number_in, IsNumber}
-use Rattle.yaml_writer.specs.NumberParts.{IsNoNumber, is_fraction, is_exponent}
+use Rattle.yaml_writer.proofs.Common.{suc, ℕ, ◌<◌, if◌then◌else◌, ◌==◌, option_map, Option, None, Some, codes, length, Bool, false, not, true, ◌||◌, List, []}
+use Rattle.yaml_writer.proofs.Common.{◌++◌, ◌∷◌, refl, ◌≡◌, eqb-true, true≢false, append-nil, append_assoc, ap, sym, ◌∙◌, arith, and_parts, and_from, or_from}
+use Rattle.yaml_writer.proofs.Common.{not_from_false, not-true, list_all-append, list_all, digit_unlike, Text, is_word, JsonExponent, JsonNumber, is_whole}
+use Rattle.yaml_writer.proofs.Common.{is_json_number, minus, exponent_text, json_text, is_decimal, are_digits, IsNumber, IsNoNumber, is_fraction, is_exponent}
+use Rattle.yaml_base.proofs.Common.{⊤, slice_index_or as get_or, eq-eqb, ne_eqb, past_sign, is_negative}
+use Rattle.std.proofs.Common.{Bor, ◌≢◌, MatchOption}
+use Rattle.yaml_base.proofs.NumberCuts.{minus_read}
 use Rattle.yaml_writer.proofs.ValidNumbers.{Valid, valid_parts}
+use Rattle.yaml_writer.specs.NumberParts.{cut_at, past_minus, sign_of, exponent_in, around, exponent_cut, around_point, fraction_cut, number_in}
 
 -- Cuts
 

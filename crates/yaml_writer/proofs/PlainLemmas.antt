@@ -1,15 +1,8 @@
 -- Where the texts of a writer stand plain.
-use Rattle.std.proofs.Common.{◌≡◌, refl, sym, ap, ◌∙◌}
-use Rattle.std.specs.List.{list_any}
-use Rattle.std.specs.Prelude.{Bool, true, false, ◌||◌, ◌&&◌, not, if◌then◌else◌}
-use Rattle.yaml_base.proofs.SurelyTexts.{surely_text}
-use Rattle.yaml_base.specs.scalars.Analysis.{Allowances}
-use Rattle.yaml_base.specs.Characters.{Text, is_break}
-use Rattle.yaml_base.specs.Event.{ScalarStyle, any_style, plain, single_quoted, double_quoted, literal, folded}
-use Rattle.yaml_base.specs.scalars.Style.{requested_style, fitting_style, fits_plain}
-use Rattle.yaml_base.specs.values.SurelyText.{is_surely_text}
-use Rattle.yaml_writer.specs.PlainTexts.{PlainTextsAreTexts}
-use Rattle.yaml_writer.specs.Writing.{style_asked}
+use Rattle.yaml_base.proofs.Common.{if◌then◌else◌, Bool, false, not, true, ◌&&◌, ◌||◌, refl, ◌≡◌, ap, sym, ◌∙◌, list_any, Text, is_break, ScalarStyle}
+use Rattle.yaml_base.proofs.Common.{any_style, plain, single_quoted, double_quoted, literal, folded, Allowances, requested_style, fitting_style, fits_plain}
+use Rattle.yaml_base.{proofs.SurelyTexts.surely_text, specs.values.SurelyText.is_surely_text}
+use Rattle.yaml_writer.specs.{PlainTexts.PlainTextsAreTexts, Writing.style_asked}
 
 -- neither quotes nor a block style are plain
 quoted_apart : (single : Bool) → (if single then single_quoted else double_quoted) ≡ plain → ⊥

@@ -1,24 +1,16 @@
 -- Numbers are written plain, and read as themselves.
-use Rattle.std.proofs.Common.{◌≡◌, refl, sym, ap, ◌∙◌, arith}
-use Rattle.std.proofs.lemmas.Bool.{true≢false, and_parts, and_from, and_left, and_right, or_parts, or_from, not-true, not_from_false, ltb-true, agree_below}
-use Rattle.std.proofs.lemmas.Bool.{agree_below_at}
-use Rattle.std.proofs.lemmas.Str.Parse.{digit_from_value}
-use Rattle.std.specs.Char.{digit_value}
-use Rattle.std.specs.List.{list_all, list_any}
-use Rattle.std.specs.Prelude.{ℕ, Bool, true, false, [], ◌∷◌, ◌++◌, ◌==◌, ◌||◌, ◌&&◌, not, length, codes, if◌then◌else◌}
-use Rattle.yaml_base.proofs.NumberCuts.{digit_unlike}
+use Rattle.yaml_writer.proofs.Common.{ℕ, if◌then◌else◌, ◌==◌, codes, length, Bool, false, not, true, ◌&&◌, ◌||◌, [], ◌++◌, ◌∷◌, refl, ◌≡◌, ltb-true}
+use Rattle.yaml_writer.proofs.Common.{true≢false, ap, sym, ◌∙◌, arith, and_parts, and_from, and_left, and_right, or_from, not_from_false, not-true}
+use Rattle.yaml_writer.proofs.Common.{digit_from_value, digit_value, list_all, list_any, digit_unlike, Text, is_among, is_ascii, is_space, is_break, plain}
+use Rattle.yaml_writer.proofs.Common.{Allowances, requested_style, fitting_style, fits_plain, minus, fraction_or_default, is_json_integer, exponent_spelled}
+use Rattle.yaml_writer.proofs.Common.{yaml_number, is_decimal, are_digits}
+use Rattle.yaml_base.proofs.Common.{or_parts, agree_below_at, line_separator, paragraph_separator, is_printable, Charset, somewhere, is_empty, is_special}
+use Rattle.yaml_base.proofs.Common.{allowances, quoted_style, chosen, json_value, means_number, resolved_by_core, resolved_by_11}
+use Rattle.std.proofs.lemmas.Bool.{agree_below}
 use Rattle.yaml_base.proofs.NumbersRead.{numbers_are_read}
-use Rattle.yaml_base.specs.scalars.Analysis.{Allowances, Charset, allowances, allows_plain, bars_plain, begins_like_marker, begins_unlike_plain, begins_with}
-use Rattle.yaml_base.specs.scalars.Analysis.{ends_word, is_empty, is_gap, is_indicator, is_special, somewhere}
-use Rattle.yaml_base.specs.Characters.{Text, is_among, is_ascii, is_break, is_printable, is_space, line_separator, paragraph_separator}
-use Rattle.yaml_base.specs.Event.{plain}
-use Rattle.yaml_base.specs.values.JsonNumbers.{minus, is_json_integer, fraction_or_default, exponent_spelled, json_value, means_number, yaml_number}
-use Rattle.yaml_base.specs.values.Resolved.{is_decimal, are_digits}
-use Rattle.yaml_base.specs.values.SchemaCore.{resolved_by_core}
-use Rattle.yaml_base.specs.values.SchemaOf11.{resolved_by_11}
-use Rattle.yaml_base.specs.scalars.Style.{fits_plain, requested_style, fitting_style, quoted_style, chosen}
+use Rattle.yaml_base.specs.scalars.Analysis.{begins_with, is_gap, ends_word, begins_like_marker, is_indicator, begins_unlike_plain, bars_plain, allows_plain}
+use Rattle.yaml_writer.proofs.SpellingLemmas.{PassesNumbers, whole_digits, spelling_passes}
 use Rattle.yaml_writer.specs.ReadNumbers.{WrittenNumbersAreRead}
-use Rattle.yaml_writer.proofs.SpellingLemmas.{PassesNumbers, spelling_passes, whole_digits}
 
 -- Characters
 

@@ -1,18 +1,9 @@
 -- The reserved words in groups, by their first characters, and by the first bytes of a text.
-use Rattle.std.proofs.Common.{◌≡◌, ◌<◌, refl, sym, ap, ◌∙◌, arith}
-use Rattle.std.proofs.lemmas.Bool.{true≢false, and_parts, or_from, ltb-true}
-use Rattle.std.proofs.lemmas.List.Folds.{list_any-append}
-use Rattle.std.proofs.lemmas.List.Sums.{take_while-cons}
-use Rattle.std.proofs.lemmas.Slice.Eq.{bytes_eq-Decides}
-use Rattle.std.specs.Char.{to_ascii_lowercase}
-use Rattle.std.specs.List.{list_all, list_any, slice_split, take_while}
-use Rattle.std.specs.Prelude.{ℕ, zero, suc, Bool, true, false, List, [], ◌∷◌, ◌++◌, ◌==◌, ◌||◌, ◌&&◌, nat_lt, length, map, take, bytes_eq, if◌then◌else◌}
-use Rattle.yaml_base.specs.Characters.{Text, is_ascii, is_space}
-use Rattle.yaml_base.specs.Words.{is_word}
-use Rattle.yaml_base.specs.values.Resolved.{first_meets}
-use Rattle.yaml_base.specs.values.SurelyText.{reserved_words, ascii_prefix}
-use Rattle.yaml_writer.specs.Words.{is_one_of, begins_reserved, null_words, truth_words, answer_words, key_words, float_words, plus_words}
-use Rattle.yaml_writer.specs.Words.{minus_words, is_reserved_word}
+use Rattle.yaml_writer.proofs.Common.{suc, zero, ℕ, ◌<◌, if◌then◌else◌, ◌==◌, nat_lt, length, take, Bool, false, true, ◌&&◌, ◌||◌, List, [], map, ◌++◌, ◌∷◌}
+use Rattle.yaml_writer.proofs.Common.{refl, ◌≡◌, ltb-true, true≢false, ap, sym, ◌∙◌, arith, and_parts, or_from, take_while-cons, to_ascii_lowercase, list_all}
+use Rattle.yaml_writer.proofs.Common.{list_any, take_while, Text, is_ascii, is_space, is_word, first_meets, reserved_words, ascii_prefix, is_reserved_word}
+use Rattle.yaml_base.proofs.Common.{bytes_eq, list_any-append, bytes_eq-Decides, slice_split}
+use Rattle.yaml_writer.specs.Words.{is_one_of, begins_reserved, null_words, truth_words, answer_words, key_words, float_words, plus_words, minus_words}
 
 -- ---- groups
 

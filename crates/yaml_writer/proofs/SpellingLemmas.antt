@@ -1,24 +1,14 @@
 -- Which characters stand in a number's text and in its spelling: ASCII, so by bytes and by characters they are the same; and
 -- when both are the same.
-use Rattle.std.proofs.Common.{◌≡◌, refl, sym, ap, ◌∙◌, append_assoc, append-nil, arith}
-use Rattle.std.proofs.lemmas.Bool.{true≢false, and_parts, and_from, lt-ltb, ltb-true}
-use Rattle.std.proofs.lemmas.List.Folds.{list_all-append}
-use Rattle.std.proofs.lemmas.Str.{chars-IsAscii, encodes-IsAscii, encodes-chars}
-use Rattle.std.proofs.lemmas.Str.Parse.{digit_from_value}
-use Rattle.std.specs.List.{list_all}
-use Rattle.std.specs.Char.{digit_value}
-use Rattle.std.specs.Str.{chars, IsUtf8, encode_utf8_all}
-use Rattle.std.specs.Prelude.{ℕ, Bool, true, false, Option, None, Some, List, [], ◌∷◌, ◌++◌, ◌==◌, ◌||◌, ◌&&◌, not, nat_lt, length, codes, is_some}
-use Rattle.std.specs.Prelude.{if◌then◌else◌}
-use Rattle.yaml_base.specs.Characters.{Text}
-use Rattle.yaml_base.specs.Words.{is_word}
-use Rattle.yaml_base.specs.values.Resolved.{is_decimal, first_meets, are_digits}
-use Rattle.yaml_base.specs.values.JsonNumbers.{JsonNumber, JsonExponent, minus, is_json_number, is_json_integer, exponent_text, exponent_negative}
-use Rattle.yaml_base.specs.values.JsonNumbers.{exponent_spelled, fraction_or_default, json_text, yaml_number}
-use Rattle.yaml_writer.specs.NumberParts.{IsNumber, IsNoNumber, is_fraction, is_exponent}
-use Rattle.yaml_writer.specs.Spellings.{is_spelled, is_spelled_exponent}
-use Rattle.yaml_writer.proofs.ValidNumbers.{Valid, valid_parts}
-use Rattle.yaml_base.proofs.AsciiWords.{is_ascii_text, ascii_of}
+use Rattle.yaml_writer.proofs.Common.{ℕ, if◌then◌else◌, ◌==◌, is_some, Option, None, Some, codes, nat_lt, length, Bool, false, not, true, ◌&&◌, ◌||◌, List}
+use Rattle.yaml_writer.proofs.Common.{[], ◌++◌, ◌∷◌, refl, ◌≡◌, ltb-true, true≢false, append-nil, append_assoc, ap, sym, ◌∙◌, arith, and_parts, and_from}
+use Rattle.yaml_writer.proofs.Common.{list_all-append, encodes-chars, digit_from_value, digit_value, list_all, IsUtf8, encode_utf8_all, Text, is_word}
+use Rattle.yaml_writer.proofs.Common.{JsonExponent, JsonNumber, is_json_number, minus, exponent_text, json_text, fraction_or_default, is_json_integer}
+use Rattle.yaml_writer.proofs.Common.{exponent_spelled, yaml_number, is_decimal, first_meets, are_digits, IsNumber, IsNoNumber, is_fraction, is_exponent}
+use Rattle.yaml_writer.proofs.Common.{is_spelled}
+use Rattle.std.{proofs.lemmas.Bool.lt-ltb, proofs.lemmas.Str.encodes-IsAscii, proofs.lemmas.Str.chars-IsAscii, specs.Str.chars}
+use Rattle.yaml_base.{proofs.AsciiWords.is_ascii_text, proofs.AsciiWords.ascii_of, specs.values.JsonNumbers.exponent_negative}
+use Rattle.yaml_writer.{proofs.ValidNumbers.Valid, proofs.ValidNumbers.valid_parts, specs.Spellings.is_spelled_exponent}
 
 -- Characters
 

@@ -1,18 +1,10 @@
 -- What the calls of a writer come to for what its caller has taken, and what is left.
-use Rattle.std.proofs.Common.{◌≡◌, refl, sym, ap, ◌∙◌, subst}
-use Rattle.std.specs.Prelude.{ℕ, true, Option, None, Some, List, [], ◌∷◌, ◌++◌, Result, Ok, Err, OnOk, IfErr, drop, length}
-use Rattle.yaml_base.proofs.Prefixes.{prefix_same, prefix_then}
-use Rattle.yaml_base.specs.Characters.{Text}
-use Rattle.yaml_base.specs.Event.{Event}
-use Rattle.yaml_base.specs.Settings.{Settings}
-use Rattle.yaml_base.specs.declared.errors.yaml_error_t.{yaml_error_t}
-use Rattle.yaml_pen.proofs.Writing.{none_from_result}
-use Rattle.yaml_pen.specs.Page.{output_left, result_of_error}
-use Rattle.yaml_pen.specs.Wrote.{Grows}
-use Rattle.yaml_emitter.proofs.standing.StandingMore.{some_from_result}
-use Rattle.yaml_emitter.specs.State.{KeepsSet, State, with_all_taken}
-use Rattle.yaml_emitter.specs.StandsAfter.{StandsAfter}
-use Rattle.yaml_writer.specs.Writing.{AddsEvent, AddsEvents, Failed, GaveEvent, PassedEvents, StandsTaken, WriterState}
+use Rattle.yaml_writer.proofs.Common.{ℕ, IfErr, OnOk, Option, None, Some, Result, Err, Ok, drop, length, true, List, [], ◌++◌, ◌∷◌, refl, ◌≡◌, ap, subst, sym}
+use Rattle.yaml_writer.proofs.Common.{◌∙◌, prefix_then, Text, Event, Settings, some_from_result, StandsAfter, State, none_from_result, output_left}
+use Rattle.yaml_writer.proofs.Common.{result_of_error, Grows, WriterState, StandsTaken, AddsEvents, AddsEvent, PassedEvents, GaveEvent}
+use Rattle.yaml_emitter.proofs.Common.{with_all_taken, KeepsSet}
+use Rattle.yaml_base.{proofs.Prefixes.prefix_same, specs.declared.errors.yaml_error_t.yaml_error_t}
+use Rattle.yaml_writer.specs.Writing.{Failed}
 
 -- a call of the emitter keeps what was taken
 pub still_taken : (given : Settings) (all more : List Event) (sent : List ℕ) (before after : State) → StandsTaken given all sent before

@@ -1,21 +1,14 @@
 -- Whether a text is surely one is seen by its bytes: they are its characters up to the first past ASCII, from which on nothing
 -- is looked at but that it is no character of ASCII.
-use Rattle.std.proofs.Common.{◌≡◌, ◌<◌, refl, sym, ap, ◌∙◌, subst, arith, length-append}
-use Rattle.std.proofs.lemmas.Bool.{true≢false, and_left, and_right, and_parts, or_from, eqb-true, ltb-true, leb-true, le-leb}
-use Rattle.std.proofs.lemmas.List.Sums.{take_while-cons}
-use Rattle.std.proofs.lemmas.Str.{char_from_byte, encode_ascii, length-encode, len_utf8_bounds, encodes-chars}
-use Rattle.std.proofs.lemmas.Str.Parse.{digit_from_value}
-use Rattle.std.specs.Char.{digit_value, encode_utf8, to_ascii_lowercase}
-use Rattle.std.specs.List.{list_all, list_any, take_while}
-use Rattle.std.specs.Str.{chars, IsUtf8, encode_utf8_all}
-use Rattle.std.specs.Prelude.{ℕ, Bool, true, false, List, [], ◌∷◌, ◌++◌, ◌==◌, ◌||◌, ◌&&◌, not, codes, length, map, if◌then◌else◌}
-use Rattle.yaml_base.specs.Characters.{Text, is_among, is_ascii, is_blank}
-use Rattle.yaml_base.specs.Words.{is_word}
-use Rattle.yaml_base.specs.values.Resolved.{first_meets, is_decimal, is_point, is_plus_or_minus}
-use Rattle.yaml_base.specs.values.SchemaOf11.{is_colon, past}
-use Rattle.yaml_base.specs.values.SurelyText.{ascii_prefix, reserved_words, is_reserved, is_symbol, precedes_number, begins_based, is_based, begins_number}
-use Rattle.yaml_base.specs.values.SurelyText.{is_number_letter, in_number, is_numeric, is_doubtful}
-use Rattle.yaml_base.proofs.no_numbers.NoNumbers.{past_cons, filled}
+use Rattle.yaml_base.proofs.Common.{ℕ, if◌then◌else◌, ◌==◌, codes, length, Bool, false, not, true, ◌&&◌, ◌||◌, List, [], map, ◌++◌, ◌∷◌, refl, ◌≡◌, eqb-true}
+use Rattle.yaml_base.proofs.Common.{le-leb, leb-true, ltb-true, length-append, true≢false, ap, subst, sym, ◌∙◌, arith, and_parts, and_left, and_right}
+use Rattle.yaml_base.proofs.Common.{or_from, take_while-cons, length-encode, len_utf8_bounds, digit_value, list_all, list_any, take_while, chars}
+use Rattle.yaml_base.proofs.Common.{encode_utf8_all, Text, is_among, is_ascii, is_blank, is_word, is_point, is_plus_or_minus, is_decimal, first_meets}
+use Rattle.yaml_base.proofs.Common.{is_colon, past, is_reserved, is_symbol, is_based, is_number_letter, in_number, is_numeric}
+use Rattle.std.{proofs.lemmas.Str.encode_ascii, proofs.lemmas.Str.char_from_byte, proofs.lemmas.Str.encodes-chars, proofs.lemmas.Str.Parse.digit_from_value}
+use Rattle.std.{specs.Char.encode_utf8, specs.Char.to_ascii_lowercase, specs.Str.IsUtf8}
+use Rattle.yaml_base.proofs.no_numbers.NoNumbers.{filled, past_cons}
+use Rattle.yaml_base.specs.values.SurelyText.{reserved_words, ascii_prefix, precedes_number, begins_based, begins_number, is_doubtful}
 
 -- ---- texts and bytes alike
 

@@ -1,12 +1,8 @@
 -- A number's text is its spelling only where it stands as it is spelled.
-use Rattle.std.proofs.Common.{◌≡◌, refl, ap, ◌∙◌, append_assoc, length-append, arith, ℕ, ◌+◌, Bool, true, false, not, ◌&&◌, ◌||◌, Option, None, Some, [], ◌∷◌}
-use Rattle.std.proofs.Common.{◌++◌, length, codes, ◌⊎◌, inl, inr, ⊎_elim, if◌then◌else◌}
-use Rattle.std.proofs.lemmas.Bool.{true≢false}
-use Rattle.std.proofs.lemmas.List.{append_cancel_left}
-use Rattle.yaml_base.specs.Characters.{Text}
-use Rattle.yaml_base.specs.Words.{is_word}
-use Rattle.yaml_base.specs.values.JsonNumbers.{JsonNumber, JsonExponent, minus, json_text, yaml_number}
-use Rattle.yaml_writer.specs.Spellings.{is_spelled}
+use Rattle.yaml_writer.proofs.Common.{ℕ, if◌then◌else◌, Option, None, Some, codes, length, Bool, false, not, true, ◌&&◌, ◌||◌, [], ◌++◌, ◌∷◌, refl, ◌≡◌}
+use Rattle.yaml_writer.proofs.Common.{length-append, true≢false, append_assoc, inr, ap, ◌∙◌, arith, Text, is_word, JsonExponent, JsonNumber, minus, json_text}
+use Rattle.yaml_writer.proofs.Common.{yaml_number, is_spelled}
+use Rattle.std.{proofs.Common.inl, proofs.Common.⊎_elim, proofs.lemmas.List.append_cancel_left, specs.Prelude.◌+◌, specs.Prelude.◌⊎◌}
 
 -- what is put together otherwise, but to the same, has the same length
 same_length : (prefix point after less rest : Text) → prefix ++ (point ++ after) ≡ prefix ++ less ++ rest

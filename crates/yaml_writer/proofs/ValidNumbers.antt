@@ -1,11 +1,6 @@
 -- The parts of a number of JSON, each as it must be.
-use Rattle.std.proofs.Common.{◌≡◌, refl}
-use Rattle.std.proofs.lemmas.Bool.{and_parts}
-use Rattle.std.specs.Prelude.{Bool, true, Option, None, Some, ◌&&◌}
-use Rattle.yaml_base.specs.Characters.{Text}
-use Rattle.yaml_base.specs.values.JsonNumbers.{JsonNumber, JsonExponent, is_whole, is_json_number}
-use Rattle.yaml_base.specs.values.Resolved.{are_digits}
-use Rattle.yaml_writer.specs.NumberParts.{is_fraction, is_exponent}
+use Rattle.yaml_writer.proofs.Common.{Option, None, Some, Bool, true, ◌&&◌, refl, ◌≡◌, and_parts, Text, JsonExponent, JsonNumber, is_whole, is_json_number}
+use Rattle.yaml_writer.proofs.Common.{are_digits, is_fraction, is_exponent}
 
 -- the tests of which a number's is made
 pub record Valid (number : JsonNumber) : Type 0 where

@@ -1,29 +1,13 @@
 -- A start that waits when the stream is ended: a third event decides what is refused.
-use Rattle.std.proofs.Common.{◌≡◌, refl, sym, ap, ◌∙◌, arith, subst, append_assoc, append-nil}
-use Rattle.std.proofs.lemmas.List.{nil_from_length, length-append}
-use Rattle.std.specs.Prelude.{ℕ, zero, suc, ◌<◌, ◌≤◌, Bool, true, None, Some, Result, Ok, Err, IfErr, OnOk, List, [], ◌∷◌, ◌++◌, drop, length, take}
-use Rattle.yaml_base.specs.Event.{Event, document_end, stream_end}
-use Rattle.yaml_base.specs.Output.{settings_for, bytes_written}
-use Rattle.yaml_base.specs.Pieces.{list_layout}
-use Rattle.yaml_base.specs.Ready.{written}
-use Rattle.yaml_base.specs.Refusal.{BeginsAccepted, IsAccepted}
-use Rattle.yaml_base.specs.Settings.{Settings, Effective}
-use Rattle.yaml_base.specs.declared.errors.yaml_error_t.{yaml_error_t}
-use Rattle.yaml_pen.specs.Page.{result_of_error}
-use Rattle.yaml_pen.proofs.Writing.{none_from_result}
-use Rattle.yaml_emitter.proofs.EndedStreams.{ends_last}
-use Rattle.yaml_emitter.proofs.standing.Standing.{settings_grown}
-use Rattle.yaml_emitter.proofs.standing.StandingEnds.{whole_accepted}
-use Rattle.yaml_emitter.proofs.standing.StandingMore.{some_from_result}
-use Rattle.yaml_emitter.proofs.standing.StandingPromises.{most_few}
-use Rattle.yaml_emitter.specs.Promises.{HasRoom, IsRefusal, Promised, begins_with_start}
-use Rattle.yaml_emitter.specs.StandsAfter.{StandsAfter}
-use Rattle.yaml_emitter.specs.State.{State}
-use Rattle.yaml_writer.proofs.Finishing.{refuses_one}
-use Rattle.yaml_writer.proofs.MissingNodes.{misses}
-use Rattle.yaml_writer.proofs.Overflow.{overflowed}
-use Rattle.yaml_writer.specs.Unfinished.{IsUnfinishedBy, PassesLimit, RefusesOne}
-use Rattle.yaml_writer.specs.Writing.{closing_by}
+use Rattle.yaml_writer.proofs.Common.{suc, zero, ℕ, ◌<◌, ◌≤◌, IfErr, OnOk, None, Some, Result, Err, Ok, drop, length, take, Bool, true, List, [], ◌++◌, ◌∷◌}
+use Rattle.yaml_writer.proofs.Common.{refl, ◌≡◌, length-append, append-nil, append_assoc, ap, subst, sym, ◌∙◌, arith, nil_from_length, Event, stream_end}
+use Rattle.yaml_writer.proofs.Common.{document_end, settings_for, list_layout, written, IsAccepted, Settings, Effective, ends_last, some_from_result}
+use Rattle.yaml_writer.proofs.Common.{IsRefusal, HasRoom, Promised, StandsAfter, State, none_from_result, result_of_error, RefusesOne, PassesLimit}
+use Rattle.yaml_writer.proofs.Common.{IsUnfinishedBy, closing_by}
+use Rattle.yaml_base.specs.{Output.bytes_written, Refusal.BeginsAccepted, declared.errors.yaml_error_t.yaml_error_t}
+use Rattle.yaml_emitter.proofs.standing.{Standing.settings_grown, StandingEnds.whole_accepted, StandingPromises.most_few}
+use Rattle.yaml_emitter.specs.Promises.{begins_with_start}
+use Rattle.yaml_writer.proofs.{Finishing.refuses_one, MissingNodes.misses, Overflow.overflowed}
 
 -- a list that ends behind another's last element but one
 shorter : {A : Type 0} (prefix later all : List A) (last : A) → prefix ++ later ≡ all ++ last ∷ [] → (later ≡ [] → ⊥)

@@ -1,13 +1,8 @@
 -- What no number and no timestamp of a schema is, but for numbers in a base; and conditions that don't hold.
-use Rattle.std.proofs.Common.{◌≡◌, refl, ap, arith}
-use Rattle.std.proofs.lemmas.Bool.{ne_eqb}
-use Rattle.std.specs.Prelude.{ℕ, suc, Bool, true, false, Option, None, List, ◌∷◌, ◌==◌, ◌+◌, drop, if◌then◌else◌}
-use Rattle.std.specs.List.{slice_split, prefix_len}
-use Rattle.yaml_base.specs.Characters.{Text}
-use Rattle.yaml_base.specs.values.Resolved.{is_point, is_exponent_letter, past_sign, is_negative}
-use Rattle.yaml_base.specs.values.SchemaCore.{core_integer, core_decimal}
-use Rattle.yaml_base.specs.values.SchemaOf11.{float_11, octal_11, decimal_11, sixties_11, fine_sixties_11, more_points_11, points_11, is_colon, past}
-use Rattle.yaml_base.specs.values.SchemaOf11.{timestamp_11}
+use Rattle.yaml_base.proofs.Common.{suc, ℕ, ◌+◌, if◌then◌else◌, ◌==◌, Option, None, drop, Bool, false, true, ◌∷◌, refl, ◌≡◌, ne_eqb, ap, arith, slice_split}
+use Rattle.yaml_base.proofs.Common.{Text, is_point, is_exponent_letter, past_sign, is_negative, core_integer, core_decimal, octal_11, decimal_11, is_colon}
+use Rattle.yaml_base.proofs.Common.{sixties_11, fine_sixties_11, float_11, more_points_11, points_11, past, timestamp_11}
+use Rattle.std.specs.List.{prefix_len}
 
 -- neither schema reads a number without a base, and no timestamp
 pub record NoNumber (text : Text) : Type 0 where

@@ -1,17 +1,11 @@
 -- A text that begins with no digit and no point, past its sign, is no number and no timestamp.
-use Rattle.std.proofs.Common.{◌≡◌, refl, sym, ap, ◌∙◌}
-use Rattle.std.proofs.lemmas.Bool.{true≢false, false≢true, and_left, and_right, or_parts, or_from, eqb-true}
-use Rattle.std.proofs.lemmas.List.Sums.{take_while-cons}
-use Rattle.std.proofs.lemmas.List.Splits.{slice_split-cons_no}
-use Rattle.std.specs.List.{slice_split, onto_first, take_while}
-use Rattle.std.specs.Prelude.{ℕ, ℤ, pos, Bool, true, false, Option, None, Some, List, [], ◌∷◌, ◌++◌, ◌==◌, ◌||◌, not, length, if◌then◌else◌}
-use Rattle.yaml_base.specs.Characters.{Text, is_between}
-use Rattle.yaml_base.specs.values.Resolved.{Decimal, is_point, is_exponent_letter, is_decimal, is_plus_or_minus, is_negative, first_meets, past_sign}
-use Rattle.yaml_base.specs.values.Resolved.{are_digits}
-use Rattle.yaml_base.specs.values.Resolved.{counted_digits, decimal_of_digits, times_power_of_ten, scientific, exponent_read}
-use Rattle.yaml_base.specs.values.SchemaCore.{core_mantissa}
-use Rattle.yaml_base.specs.values.SchemaOf11.{is_leading, begins_grouped, are_grouped, octal_11, decimal_11, are_sixtieths, is_colon, fine_sixties_11}
-use Rattle.yaml_base.specs.values.SchemaOf11.{mantissa_11, exponent_11, has_more_points, more_points_11, is_hyphen, in_date, is_date, timestamp_11}
+use Rattle.yaml_base.proofs.Common.{ℕ, if◌then◌else◌, ◌==◌, Option, None, Some, pos, ℤ, length, Bool, false, not, true, ◌||◌, List, [], ◌++◌, ◌∷◌, refl, ◌≡◌}
+use Rattle.yaml_base.proofs.Common.{eqb-true, true≢false, ap, sym, ◌∙◌, and_left, and_right, or_parts, or_from, false≢true, slice_split-cons_no}
+use Rattle.yaml_base.proofs.Common.{take_while-cons, onto_first, slice_split, take_while, Text, is_between, Decimal, is_point, is_exponent_letter}
+use Rattle.yaml_base.proofs.Common.{is_plus_or_minus, is_decimal, first_meets, past_sign, is_negative, are_digits, counted_digits, decimal_of_digits}
+use Rattle.yaml_base.proofs.Common.{exponent_read, times_power_of_ten, scientific, core_mantissa, are_grouped, begins_grouped, is_leading, octal_11}
+use Rattle.yaml_base.proofs.Common.{decimal_11, are_sixtieths, is_colon, fine_sixties_11, mantissa_11, exponent_11, has_more_points, more_points_11}
+use Rattle.yaml_base.proofs.Common.{is_hyphen, is_date, in_date, timestamp_11}
 use Rattle.yaml_base.proofs.no_numbers.NoNumbers.{NoNumber, off, filled}
 
 -- a digit or a point

@@ -1,18 +1,12 @@
 -- A text without a digit is no number and no timestamp, unless it is of points alone.
-use Rattle.std.proofs.Common.{◌≡◌, refl, sym, ap, ◌∙◌}
-use Rattle.std.proofs.lemmas.Bool.{true≢false, and_parts, and_left, and_right, or_parts, or_from, eqb-true}
-use Rattle.std.proofs.lemmas.List.Folds.{list_any-append}
-use Rattle.std.specs.List.{list_all, list_any, slice_split, onto_first, concat}
-use Rattle.std.specs.Prelude.{ℕ, Bool, true, false, None, List, [], ◌∷◌, ◌++◌, ◌==◌, ◌||◌, ◌&&◌, length, if◌then◌else◌}
-use Rattle.yaml_base.specs.Characters.{Text}
-use Rattle.yaml_base.specs.values.Resolved.{is_point, is_exponent_letter, is_plus_or_minus, is_decimal, is_negative, first_meets, past_sign}
-use Rattle.yaml_base.specs.values.Resolved.{decimal_of_digits, exponent_read}
-use Rattle.yaml_base.specs.values.SchemaCore.{core_mantissa}
-use Rattle.yaml_base.specs.values.SchemaOf11.{is_leading, begins_grouped, is_colon, mantissa_11, exponent_11, has_more_points}
-use Rattle.yaml_base.specs.values.SurelyText.{is_number_letter}
+use Rattle.yaml_base.proofs.Common.{ℕ, if◌then◌else◌, ◌==◌, None, length, Bool, false, true, ◌||◌, List, [], ◌++◌, ◌∷◌, refl, ◌≡◌, eqb-true, true≢false, ap}
+use Rattle.yaml_base.proofs.Common.{sym, ◌∙◌, and_parts, and_left, and_right, or_parts, or_from, list_any-append, concat, list_all, list_any, onto_first}
+use Rattle.yaml_base.proofs.Common.{slice_split, Text, is_point, is_exponent_letter, is_plus_or_minus, is_decimal, first_meets, past_sign, is_negative}
+use Rattle.yaml_base.proofs.Common.{decimal_of_digits, exponent_read, core_mantissa, begins_grouped, is_leading, is_colon, mantissa_11, exponent_11}
+use Rattle.yaml_base.proofs.Common.{has_more_points, is_number_letter}
 use Rattle.yaml_base.proofs.no_numbers.NoNumbers.{NoNumber, off, filled}
-use Rattle.yaml_base.proofs.no_numbers.NumbersBegin.{first_part, digits_begin, scientific_begins, more_points_11_begins, octal_11_begins, leading_begins}
-use Rattle.yaml_base.proofs.no_numbers.NumbersBegin.{decimal_11_begins, groups_begin, split_begins, fine_sixties_begin, timestamp_begins}
+use Rattle.yaml_base.proofs.no_numbers.NumbersBegin.{first_part, split_begins, digits_begin, scientific_begins, more_points_11_begins, groups_begin}
+use Rattle.yaml_base.proofs.no_numbers.NumbersBegin.{fine_sixties_begin, octal_11_begins, leading_begins, decimal_11_begins, timestamp_begins}
 
 -- a text holds a digit
 abbrev holds_digit : Text → Bool

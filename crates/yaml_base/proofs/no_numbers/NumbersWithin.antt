@@ -1,23 +1,15 @@
 -- A text that holds a character which stands in no number is no number and no timestamp.
-use Rattle.std.proofs.Common.{◌≡◌, ◌⊎◌, inl, inr, refl, sym, ap, ◌∙◌, arith}
-use Rattle.std.proofs.lemmas.Bool.{true≢false, and_cases, and_left, and_right, or_cases, or_from, or_left, eqb-true, ltb-true, lt-ltb}
-use Rattle.std.proofs.lemmas.List.Folds.{list_all-append}
-use Rattle.std.proofs.lemmas.Slice.Eq.{bytes_eq-Decides}
-use Rattle.std.specs.Char.{digit_value, is_digit}
-use Rattle.std.specs.List.{list_all, slice_split, onto_first, concat}
-use Rattle.std.specs.Prelude.{ℕ, ℤ, pos, Bool, true, false, Option, None, Some, List, [], ◌∷◌, ◌++◌, ◌==◌, ◌||◌, ◌&&◌, not, length, codes, if◌then◌else◌}
-use Rattle.yaml_base.specs.Characters.{Text, is_blank, is_between}
-use Rattle.yaml_base.specs.Words.{is_word}
-use Rattle.yaml_base.specs.values.Resolved.{Decimal, is_point, is_exponent_letter, is_plus_or_minus, is_decimal, is_negative, first_meets, past_sign}
-use Rattle.yaml_base.specs.values.Resolved.{are_digits}
-use Rattle.yaml_base.specs.values.Resolved.{counted_digits, decimal_of_digits, exponent_read, times_power_of_ten, scientific}
-use Rattle.yaml_base.specs.values.SchemaCore.{core_mantissa}
-use Rattle.yaml_base.specs.values.SchemaOf11.{is_underscore, ungrouped, are_grouped, begins_grouped, is_leading, octal_11, decimal_11, is_sixtieth}
-use Rattle.yaml_base.specs.values.SchemaOf11.{are_sixtieths, is_colon, fine_sixties_11, mantissa_11, exponent_11, has_more_points, more_points_11}
-use Rattle.yaml_base.specs.values.SchemaOf11.{past, is_hyphen, is_date, in_clock, is_clock, is_offset, is_zone, is_time, in_date, is_time_after_date}
-use Rattle.yaml_base.specs.values.SchemaOf11.{timestamp_11}
-use Rattle.yaml_base.specs.values.SurelyText.{in_number}
+use Rattle.yaml_base.proofs.Common.{ℕ, if◌then◌else◌, ◌==◌, Option, None, Some, codes, pos, ℤ, length, Bool, false, not, true, ◌&&◌, ◌||◌, List, [], ◌++◌}
+use Rattle.yaml_base.proofs.Common.{◌∷◌, ◌⊎◌, refl, ◌≡◌, eqb-true, lt-ltb, ltb-true, true≢false, inl, inr, ap, sym, ◌∙◌, arith, or_cases, and_cases, and_left}
+use Rattle.yaml_base.proofs.Common.{and_right, or_from, or_left, list_all-append, bytes_eq-Decides, digit_value, concat, list_all, onto_first, slice_split}
+use Rattle.yaml_base.proofs.Common.{Text, is_between, is_blank, is_word, Decimal, is_point, is_exponent_letter, is_plus_or_minus, is_decimal, first_meets}
+use Rattle.yaml_base.proofs.Common.{past_sign, is_negative, are_digits, counted_digits, decimal_of_digits, exponent_read, times_power_of_ten, scientific}
+use Rattle.yaml_base.proofs.Common.{core_mantissa, is_underscore, ungrouped, are_grouped, begins_grouped, is_leading, octal_11, decimal_11, are_sixtieths}
+use Rattle.yaml_base.proofs.Common.{is_colon, fine_sixties_11, mantissa_11, exponent_11, has_more_points, more_points_11, past, is_hyphen, is_time_after_date}
+use Rattle.yaml_base.proofs.Common.{in_date, timestamp_11, in_number}
+use Rattle.std.specs.Char.{is_digit}
 use Rattle.yaml_base.proofs.no_numbers.NoNumbers.{NoNumber, off, filled, past_cons}
+use Rattle.yaml_base.specs.values.SchemaOf11.{is_sixtieth, is_offset, is_zone, in_clock, is_time}
 
 -- a text has the characters of numbers alone
 abbrev within : Text → Bool

@@ -1,11 +1,8 @@
 -- Events for worked rows, in short.
-use Rattle.std.specs.Prelude.{ℤ, true, false, Option, None, Some, List, [], ◌∷◌, ◌++◌}
-use Rattle.yaml_base.specs.Characters.{Text}
-use Rattle.yaml_base.specs.Settings.{Settings, effective}
-use Rattle.yaml_base.specs.Event.{ScalarStyle, any_style, CollectionStyle, Collection, Event, stream_start, stream_end, document_start, document_end, scalar}
-use Rattle.yaml_base.specs.Event.{sequence_start, sequence_end, mapping_start, mapping_end}
-use Rattle.yaml_base.specs.Layout.{text_of}
-use Rattle.yaml_base.specs.Pieces.{list_layout}
+use Rattle.yaml_base.proofs.Common.{Option, None, Some, ℤ, false, true, List, [], ◌++◌, ◌∷◌, Text, ScalarStyle, any_style, Collection, Event, stream_start}
+use Rattle.yaml_base.proofs.Common.{stream_end, document_start, document_end, scalar, sequence_start, sequence_end, mapping_start, mapping_end, text_of}
+use Rattle.yaml_base.proofs.Common.{list_layout, Settings, effective}
+use Rattle.yaml_base.specs.Event.{CollectionStyle}
 
 -- nothing set but an ample limit
 abbrev pub plain_settings : Settings

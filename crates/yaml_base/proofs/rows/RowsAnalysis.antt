@@ -1,10 +1,6 @@
 -- Worked values: what they allow, and the style and the bare tag that are chosen for them.
-use Rattle.std.proofs.Common.{◌≡◌, refl}
-use Rattle.std.specs.Prelude.{Bool, true, false, [], ◌∷◌, codes}
-use Rattle.yaml_base.specs.scalars.Analysis.{Allowances, Charset, allowances}
-use Rattle.yaml_base.specs.Characters.{Text}
-use Rattle.yaml_base.specs.Event.{ScalarStyle, any_style, plain, single_quoted, double_quoted, literal, folded}
-use Rattle.yaml_base.specs.scalars.Style.{Choice, chosen, lacks_tag_and_flags}
+use Rattle.yaml_base.proofs.Common.{codes, Bool, false, true, [], ◌∷◌, refl, ◌≡◌, Text, ScalarStyle, any_style, plain, single_quoted, double_quoted, literal}
+use Rattle.yaml_base.proofs.Common.{folded, Charset, Allowances, allowances, Choice, lacks_tag_and_flags, chosen}
 
 abbrev ascii : Charset
 ascii = record { unicode = false; breaks12 = false }

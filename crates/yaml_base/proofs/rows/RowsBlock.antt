@@ -1,14 +1,7 @@
 -- Worked literal and folded scalars: what is rendered, and that each is read back.
-use Rattle.std.proofs.Common.{◌≡◌, refl}
-use Rattle.std.specs.Prelude.{ℕ, true, false, Option, None, Some, [], ◌∷◌, ◌++◌, codes}
-use Rattle.yaml_base.specs.Characters.{Text, line_separator}
-use Rattle.yaml_base.specs.Settings.{both_break}
-use Rattle.yaml_base.specs.LineBreaks.{with_breaks_written, with_line_breaks_read}
-use Rattle.yaml_base.specs.Cursor.{first_cursor}
-use Rattle.yaml_base.specs.scalars.BlockHeader.{header_open_ended}
-use Rattle.yaml_base.specs.scalars.Literal.{literal_body, render_literal}
-use Rattle.yaml_base.specs.scalars.Folded.{folded_body, render_folded}
-use Rattle.yaml_base.specs.reading.ReadBlock.{read_block}
+use Rattle.yaml_base.proofs.Common.{ℕ, Option, None, Some, codes, false, true, [], ◌++◌, ◌∷◌, refl, ◌≡◌, Text, line_separator, first_cursor}
+use Rattle.yaml_base.proofs.Common.{with_breaks_written, with_line_breaks_read, both_break, read_block}
+use Rattle.yaml_base.specs.scalars.{BlockHeader.header_open_ended, Folded.folded_body, Folded.render_folded, Literal.literal_body, Literal.render_literal}
 
 -- at the root of a stream, with an indent of 2
 abbrev literal_text : Text → Text

@@ -1,11 +1,9 @@
 -- Canonical bytes read back, computed: each row a text or its bytes, and the content.
-use Rattle.std.specs.Prelude.{◌≡◌, pos, true, false, None, Some, [], ◌∷◌, ◌++◌, codes, refl}
-use Rattle.std.specs.Char.{encode_utf8}
-use Rattle.std.specs.Str.{chars, is_utf8}
-use Rattle.yaml_base.specs.Characters.{Text}
-use Rattle.yaml_base.specs.reading.Content.{tagged, untagged, Content, alias_content, scalar_content, sequence_content, mapping_content, no_contents}
-use Rattle.yaml_base.specs.reading.Content.{contents_and, no_content_pairs, content_pairs_and, DocumentContent}
-use Rattle.yaml_base.specs.reading.CanonicalReader.{canonical_content}
+use Rattle.yaml_base.proofs.Common.{None, Some, codes, pos, false, true, [], ◌++◌, ◌∷◌, refl, ◌≡◌, Text, canonical_content, tagged, untagged, Content}
+use Rattle.yaml_base.proofs.Common.{scalar_content, sequence_content, mapping_content, no_contents, contents_and, no_content_pairs, content_pairs_and}
+use Rattle.yaml_base.proofs.Common.{DocumentContent}
+use Rattle.std.specs.{Char.encode_utf8, Str.chars, Str.is_utf8}
+use Rattle.yaml_base.specs.reading.Content.{alias_content}
 
 -- a document without version and directives
 abbrev root : Content → DocumentContent

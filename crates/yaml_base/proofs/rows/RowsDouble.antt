@@ -1,10 +1,6 @@
 -- Worked double-quoted scalars, written and read back: each escape, the borders of the escapes' lengths, folds.
-use Rattle.std.proofs.Common.{◌≡◌, refl}
-use Rattle.std.specs.Prelude.{ℕ, Bool, true, false, Option, None, Some, [], ◌∷◌, ◌++◌, codes}
-use Rattle.yaml_base.specs.Characters.{Text}
-use Rattle.yaml_base.specs.Cursor.{first_cursor}
+use Rattle.yaml_base.proofs.Common.{ℕ, Option, None, Some, codes, Bool, false, true, [], ◌++◌, ◌∷◌, refl, ◌≡◌, Text, first_cursor, read_double}
 use Rattle.yaml_base.specs.scalars.DoubleQuoted.{render_double_quoted}
-use Rattle.yaml_base.specs.reading.ReadDouble.{read_double}
 
 -- a text between two quotes
 abbrev in_quotes : Text → Text

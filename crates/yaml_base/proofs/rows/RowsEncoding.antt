@@ -1,8 +1,6 @@
 -- Texts as bytes, computed.
-use Rattle.std.proofs.Common.{◌≡◌, refl, Some, None, [], ◌∷◌, codes}
+use Rattle.yaml_base.proofs.Common.{None, Some, codes, [], ◌∷◌, refl, ◌≡◌, encode, cut, utf8, utf16_little, utf16_big}
 use Rattle.std.specs.Char.{encode_utf8}
-use Rattle.yaml_base.specs.Settings.{utf8, utf16_little, utf16_big}
-use Rattle.yaml_base.specs.Encoding.{encode, cut}
 
 face_little : encode (Some utf16_little) (0x1F600 ∷ []) ≡ 0xFF ∷ 0xFE ∷ 0x3D ∷ 0xD8 ∷ 0x00 ∷ 0xDE ∷ []
 face_little = refl

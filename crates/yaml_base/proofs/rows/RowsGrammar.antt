@@ -1,16 +1,13 @@
 -- Refusals, places and ready events, computed.
-use Rattle.std.proofs.Common.{◌≡◌, ℕ, Bool, true, false, List, [], ◌∷◌, ◌++◌, Option, Some, None, refl, codes, pos, replicate, map, length, not, nat_lt, ap}
-use Rattle.yaml_base.specs.Characters.{Text}
-use Rattle.yaml_base.specs.Event.{any_style, any_layout, flow, Version, TagDirective, DocumentStart, Collection, Event, stream_start, stream_end}
-use Rattle.yaml_base.specs.Event.{document_start, document_end, alias, scalar, sequence_start, sequence_end, mapping_start, mapping_end}
-use Rattle.yaml_base.specs.Grammar.{Level, within_document, no_documents}
-use Rattle.yaml_base.specs.Refusal.{refusal, refusal_at, some_if, most_open}
-use Rattle.yaml_base.specs.Ready.{written}
-use Rattle.yaml_base.specs.declared.errors.yaml_error_t.TheVariants.{ExpectedStreamStart, ExpectedDocumentStart, ExpectedDocumentEnd, ExpectedNode}
-use Rattle.yaml_base.specs.declared.errors.yaml_error_t.TheVariants.{ExpectedNothing, IncompatibleVersion, TagHandleEmpty, TagHandleStart, TagHandleEnd}
-use Rattle.yaml_base.specs.declared.errors.yaml_error_t.TheVariants.{TagHandleAlphabet, TagPrefixEmpty, DuplicateDirective, AnchorEmpty, AnchorAlphabet}
-use Rattle.yaml_base.specs.declared.errors.yaml_error_t.TheVariants.{AliasEmpty, AliasAlphabet, TagEmpty, NoTagNorImplicit, TooDeep}
+use Rattle.yaml_base.proofs.Common.{Option, None, Some, codes, nat_lt, pos, length, replicate, Bool, false, not, true, List, [], map, ◌++◌, ◌∷◌, refl, ◌≡◌}
+use Rattle.yaml_base.proofs.Common.{ap, Text, any_style, any_layout, flow, Version, TagDirective, DocumentStart, Collection, Event, stream_start, stream_end}
+use Rattle.yaml_base.proofs.Common.{document_start, document_end, alias, scalar, sequence_start, sequence_end, mapping_start, mapping_end, no_documents}
+use Rattle.yaml_base.proofs.Common.{Level, within_document, written, some_if, most_open, refusal_at, refusal}
 use Rattle.yaml_base.specs.declared.errors.yaml_error_t.{yaml_error_t}
+use Rattle.yaml_base.specs.declared.errors.yaml_error_t.TheVariants.{AliasAlphabet, AliasEmpty, AnchorAlphabet, AnchorEmpty, DuplicateDirective}
+use Rattle.yaml_base.specs.declared.errors.yaml_error_t.TheVariants.{ExpectedDocumentEnd, ExpectedDocumentStart, ExpectedNode, ExpectedNothing}
+use Rattle.yaml_base.specs.declared.errors.yaml_error_t.TheVariants.{ExpectedStreamStart, IncompatibleVersion, NoTagNorImplicit, TagEmpty, TagHandleAlphabet}
+use Rattle.yaml_base.specs.declared.errors.yaml_error_t.TheVariants.{TagHandleEmpty, TagHandleEnd, TagHandleStart, TagPrefixEmpty, TooDeep}
 
 abbrev plain_start : DocumentStart
 plain_start = record { version = None; directives = []; implicit = true }

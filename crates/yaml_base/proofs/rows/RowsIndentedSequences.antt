@@ -1,13 +1,8 @@
 -- Worked rows of indented sequences, computed, each beside what is written where they are undented.
-use Rattle.std.specs.Prelude.{◌≡◌, pos, true, false, None, Some, List, [], ◌∷◌, ◌++◌, codes, replicate, refl}
-use Rattle.std.specs.Char.{encode_utf8}
-use Rattle.std.specs.Str.{chars, is_utf8}
-use Rattle.yaml_base.specs.Characters.{Text}
-use Rattle.yaml_base.specs.Settings.{Settings}
-use Rattle.yaml_base.specs.Event.{literal, block, flow, Event, sequence_start, sequence_end}
-use Rattle.yaml_base.specs.streams.StreamContent.{agrees}
-use Rattle.yaml_base.specs.streams.StreamReader.{stream_trees}
-use Rattle.yaml_base.proofs.rows.RowEvents.{plain_settings, canonical_settings, of_indent, leaf, untagged, sequence, mapping, alone, rendered_under, rendered}
+use Rattle.yaml_base.proofs.Common.{None, Some, codes, pos, replicate, false, true, List, [], ◌++◌, ◌∷◌, refl, ◌≡◌, Text, literal, block, flow, Event}
+use Rattle.yaml_base.proofs.Common.{sequence_start, sequence_end, Settings, agrees, stream_trees}
+use Rattle.std.specs.{Char.encode_utf8, Str.chars, Str.is_utf8}
+use Rattle.yaml_base.proofs.rows.RowEvents.{plain_settings, canonical_settings, of_indent, untagged, leaf, sequence, mapping, alone, rendered_under, rendered}
 
 abbrev indented_settings : Settings
 indented_settings = record plain_settings { indented_sequences = true }

@@ -1,11 +1,7 @@
 -- Graphs that are isomorphic, and graphs that aren't.
-use Rattle.std.proofs.Common.{◌≡◌, ◌⊎◌, inl, inr, subst, ap, sym, ◌∙◌, refl, arith, map}
-use Rattle.std.specs.Prelude.{ℕ, zero, suc, true, None, List, [], ◌∷◌, Contains, codes, slice_index}
-use Rattle.yaml_base.specs.Characters.{Text}
-use Rattle.yaml_base.specs.Event.{any_style, block}
-use Rattle.yaml_base.specs.graphs.Meetings.{GraphNode, Graph, scalar_held, sequence_held, string_tag, sequence_tag, children}
-use Rattle.yaml_base.specs.graphs.Unfolding.{IsReached, first_reached, child_reached}
-use Rattle.yaml_base.specs.graphs.Isomorphic.{label_at, Isomorphic}
+use Rattle.yaml_base.proofs.Common.{suc, zero, ℕ, slice_index, Contains, None, codes, true, List, [], map, ◌∷◌, ◌⊎◌, refl, ◌≡◌, inl, inr, ap, subst, sym, ◌∙◌}
+use Rattle.yaml_base.proofs.Common.{arith, Text, any_style, block, label_at, Isomorphic, scalar_held, sequence_held, GraphNode, Graph, children, string_tag}
+use Rattle.yaml_base.proofs.Common.{sequence_tag, IsReached, first_reached, child_reached}
 
 abbrev text : Text → GraphNode
 text value = record { tag = string_tag; held = scalar_held value any_style }

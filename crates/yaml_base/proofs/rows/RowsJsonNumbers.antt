@@ -1,10 +1,7 @@
 -- Numbers of JSON, computed: their text, their spelling in YAML, and what both schemas make of it.
-use Rattle.std.specs.Prelude.{◌≡◌, ℤ, pos, negsuc, Bool, true, false, Option, None, Some, codes, refl}
-use Rattle.yaml_base.specs.Characters.{Text}
-use Rattle.yaml_base.specs.values.Resolved.{Resolved, meant_integer, meant_decimal}
-use Rattle.yaml_base.specs.values.SchemaCore.{resolved_by_core}
-use Rattle.yaml_base.specs.values.SchemaOf11.{resolved_by_11}
-use Rattle.yaml_base.specs.values.JsonNumbers.{JsonNumber, JsonExponent, is_json_number, json_text, json_value, yaml_number, means_number}
+use Rattle.yaml_base.proofs.Common.{Option, None, Some, codes, negsuc, pos, ℤ, Bool, false, true, refl, ◌≡◌, Text, JsonExponent, JsonNumber, is_json_number}
+use Rattle.yaml_base.proofs.Common.{json_value, yaml_number, means_number, Resolved, meant_integer, meant_decimal, resolved_by_core, resolved_by_11}
+use Rattle.yaml_base.specs.values.JsonNumbers.{json_text}
 
 -- a number's text and spelling, and what the spelling means, which is the number's value
 record Row (number : JsonNumber) (text spelling : Text) (meant : Resolved) : Type 0 where

@@ -1,14 +1,8 @@
 -- Worked rows: what the bodies of a layout read as, and that their lines are indented.
-use Rattle.std.proofs.Common.{◌≡◌, refl}
-use Rattle.std.specs.Prelude.{true, pos, Option, None, Some, List, [], ◌∷◌, codes, map}
-use Rattle.yaml_base.specs.Characters.{Text}
-use Rattle.yaml_base.specs.LineBreaks.{is_indented_text}
-use Rattle.yaml_base.specs.Settings.{Settings, both_break, effective}
-use Rattle.yaml_base.specs.Event.{double_quoted, literal, folded, block, flow, Event}
-use Rattle.yaml_base.specs.NodeLayout.{bodies_of}
-use Rattle.yaml_base.specs.Pieces.{list_layout}
-use Rattle.yaml_base.specs.Meaning.{body_written, body_read}
+use Rattle.yaml_base.proofs.Common.{Option, None, Some, codes, pos, true, List, [], map, ◌∷◌, refl, ◌≡◌, Text, double_quoted, literal, folded, block, flow}
+use Rattle.yaml_base.proofs.Common.{Event, bodies_of, is_indented_text, list_layout, both_break, Settings, effective}
 use Rattle.yaml_base.proofs.rows.RowEvents.{plain_settings, of_width, of_indent, untagged, leaf, sequence, mapping, alone}
+use Rattle.yaml_base.specs.Meaning.{body_written, body_read}
 
 abbrev written : Settings → List Event → List Text
 written given events = let s = effective given None in map (body_written s) (bodies_of (list_layout s events))

@@ -1,13 +1,11 @@
 -- Documents of nodes, computed: their meetings and their events.
-use Rattle.std.specs.Prelude.{◌≡◌, ℕ, zero, suc, true, false, Option, None, Some, List, [], ◌∷◌, ◌++◌, length, filter_map, flat_map, codes, refl, slice_get}
-use Rattle.std.specs.Char.{encode_utf8}
-use Rattle.yaml_base.specs.Characters.{Text}
-use Rattle.yaml_base.specs.Event.{Event, DocumentStart, document_start, document_end, alias, scalar, sequence_start, sequence_end, mapping_start, mapping_end}
-use Rattle.yaml_base.specs.Event.{any_style, block}
-use Rattle.yaml_base.specs.Settings.{Settings}
-use Rattle.yaml_base.specs.graphs.Meetings.{NumberPair, GraphNode, Graph, decimal_digits, scalar_held, sequence_held, mapping_held, string_tag, sequence_tag}
-use Rattle.yaml_base.specs.graphs.Meetings.{mapping_tag, meetings, document_event_list}
+use Rattle.yaml_base.proofs.Common.{suc, zero, ℕ, Option, None, Some, codes, length, false, true, List, [], ◌++◌, ◌∷◌, refl, ◌≡◌, Text, any_style, block}
+use Rattle.yaml_base.proofs.Common.{DocumentStart, Event, document_start, document_end, alias, scalar, sequence_start, sequence_end, mapping_start}
+use Rattle.yaml_base.proofs.Common.{mapping_end, Settings, NumberPair, scalar_held, sequence_held, mapping_held, GraphNode, Graph, string_tag, sequence_tag}
+use Rattle.yaml_base.proofs.Common.{mapping_tag, document_event_list}
+use Rattle.std.specs.{Char.encode_utf8, Prelude.slice_get, Prelude.filter_map, Prelude.flat_map}
 use Rattle.yaml_base.proofs.rows.RowEvents.{plain_settings, canonical_settings, stream_of, rendered_under}
+use Rattle.yaml_base.specs.graphs.Meetings.{meetings, decimal_digits}
 
 -- nodes with the tags of their kinds, in a document without directives whose markers are implicit
 abbrev string_of : Text → GraphNode

@@ -1,13 +1,9 @@
 -- Worked rows: the text of beginnings, their completion, and outputs as bytes.
-use Rattle.std.proofs.Common.{◌≡◌, refl}
-use Rattle.std.specs.Prelude.{true, None, Some, [], ◌∷◌, List, codes}
-use Rattle.yaml_base.specs.Characters.{Text}
-use Rattle.yaml_base.specs.Settings.{Settings, effective, utf16_little, utf16_big, both_break}
-use Rattle.yaml_base.specs.Event.{Event, literal, any_layout, block, flow, stream_start, stream_end, sequence_start, sequence_end, mapping_start, mapping_end}
-use Rattle.yaml_base.specs.Ready.{written}
-use Rattle.yaml_base.specs.Pieces.{completion, empty_scalar, text_after}
-use Rattle.yaml_base.specs.Output.{output_of}
+use Rattle.yaml_base.proofs.Common.{None, Some, codes, true, List, [], ◌∷◌, refl, ◌≡◌, Text, literal, any_layout, block, flow, Event, stream_start}
+use Rattle.yaml_base.proofs.Common.{stream_end, sequence_start, sequence_end, mapping_start, mapping_end, output_of, empty_scalar, completion, written}
+use Rattle.yaml_base.proofs.Common.{utf16_little, utf16_big, both_break, Settings, effective}
 use Rattle.yaml_base.proofs.rows.RowEvents.{plain_settings, canonical_settings, unicode_settings, untagged, leaf, in_style, implicit_start, stream_of, alone}
+use Rattle.yaml_base.specs.Pieces.{text_after}
 
 -- the text of the events of a list that are ready
 abbrev ready_text : Settings → List Event → Text

@@ -1,12 +1,7 @@
 -- Plain and single-quoted scalars, computed: what is rendered, and that it reads back.
-use Rattle.std.proofs.Common.{◌≡◌, refl, ℕ, [], ◌∷◌, ◌++◌, false, Option, None, Some}
-use Rattle.std.specs.Prelude.{codes, replicate}
-use Rattle.yaml_base.specs.Characters.{Text}
-use Rattle.yaml_base.specs.Cursor.{Cursor, first_cursor}
-use Rattle.yaml_base.specs.scalars.Plain.{render_plain}
-use Rattle.yaml_base.specs.scalars.SingleQuoted.{render_single_quoted}
-use Rattle.yaml_base.specs.reading.ReadPlain.{read_plain}
-use Rattle.yaml_base.specs.reading.ReadSingle.{read_single}
+use Rattle.yaml_base.proofs.Common.{ℕ, Option, None, Some, codes, replicate, false, [], ◌++◌, ◌∷◌, refl, ◌≡◌, Text, Cursor, first_cursor, read_plain}
+use Rattle.yaml_base.proofs.Common.{read_single}
+use Rattle.yaml_base.specs.scalars.{Plain.render_plain, SingleQuoted.render_single_quoted}
 
 -- a root in a block, indented by 2
 abbrev plain_root : Option ℕ → Text → Text

@@ -1,16 +1,10 @@
 -- Worked rows of portable mode, computed, each beside what is written without it.
-use Rattle.std.specs.Prelude.{◌≡◌, ℕ, zero, suc, true, false, None, Some, List, [], ◌∷◌, ◌++◌, codes, replicate, refl}
-use Rattle.std.specs.Char.{encode_utf8}
-use Rattle.std.specs.Str.{chars, is_utf8}
-use Rattle.yaml_base.specs.Characters.{Text}
-use Rattle.yaml_base.specs.Settings.{Settings, utf16_big, both_break}
-use Rattle.yaml_base.specs.Event.{any_layout, block, flow, Event, document_start, document_end}
-use Rattle.yaml_base.specs.Percent.{suffix_escaped, prefix_escaped}
-use Rattle.yaml_base.specs.Output.{output_of}
-use Rattle.yaml_base.specs.streams.StreamContent.{agrees}
-use Rattle.yaml_base.specs.streams.StreamReader.{stream_trees}
-use Rattle.yaml_base.proofs.rows.RowEvents.{plain_settings, canonical_settings, leaf, tagged, sequence, mapping, implicit_start, document_of, stream_of, alone}
-use Rattle.yaml_base.proofs.rows.RowEvents.{rendered_under, rendered}
+use Rattle.yaml_base.proofs.Common.{suc, zero, ℕ, None, Some, codes, replicate, false, true, List, [], ◌++◌, ◌∷◌, refl, ◌≡◌, Text, any_layout, block, flow}
+use Rattle.yaml_base.proofs.Common.{Event, document_start, document_end, output_of, suffix_escaped, prefix_escaped, utf16_big, both_break, Settings, agrees}
+use Rattle.yaml_base.proofs.Common.{stream_trees}
+use Rattle.std.specs.{Char.encode_utf8, Str.chars, Str.is_utf8}
+use Rattle.yaml_base.proofs.rows.RowEvents.{plain_settings, canonical_settings, leaf, tagged, sequence, mapping, implicit_start, document_of, stream_of}
+use Rattle.yaml_base.proofs.rows.RowEvents.{alone, rendered_under, rendered}
 
 abbrev portable_settings : Settings
 portable_settings = record plain_settings { portable = true }

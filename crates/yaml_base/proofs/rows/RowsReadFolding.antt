@@ -1,10 +1,5 @@
 -- Texts inside quotes and plain texts, computed: what each reads as.
-use Rattle.std.proofs.Common.{◌≡◌, refl, [], ◌∷◌, Bool, true, false, None, Some}
-use Rattle.std.specs.Prelude.{codes, map}
-use Rattle.yaml_base.specs.Characters.{Text}
-use Rattle.yaml_base.specs.reading.ReadFolding.{unit_of, folding_read}
-use Rattle.yaml_base.specs.reading.ReadPlain.{read_plain}
-use Rattle.yaml_base.specs.reading.ReadSingle.{read_single}
+use Rattle.yaml_base.proofs.Common.{None, Some, codes, Bool, false, true, [], map, ◌∷◌, refl, ◌≡◌, Text, unit_of, folding_read, read_plain, read_single}
 
 abbrev read_folded : Bool → Text → Text
 read_folded breaks12 t = folding_read (map (unit_of breaks12) t)

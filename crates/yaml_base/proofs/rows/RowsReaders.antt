@@ -1,18 +1,10 @@
 -- What each reader makes of texts that no right writer writes: no value, or another one than was to be written.
-use Rattle.std.specs.Prelude.{◌≡◌, Bool, true, false, Option, None, Some, List, [], ◌∷◌, ◌++◌, codes, map, refl}
-use Rattle.std.specs.Char.{encode_utf8}
-use Rattle.std.specs.List.{list_all}
-use Rattle.std.specs.Prelude.{is_none}
-use Rattle.std.specs.Str.{chars, is_utf8}
-use Rattle.yaml_base.specs.Characters.{Text, line_separator}
-use Rattle.yaml_base.specs.Event.{TagDirective}
-use Rattle.yaml_base.specs.reading.ReadPlain.{read_plain}
-use Rattle.yaml_base.specs.reading.ReadSingle.{read_single}
-use Rattle.yaml_base.specs.reading.ReadDouble.{read_double}
-use Rattle.yaml_base.specs.reading.ReadBlock.{read_block}
-use Rattle.yaml_base.specs.reading.Content.{ScalarTag, tagged, untagged, Content, scalar_content, sequence_content, mapping_content, no_contents, contents_and}
-use Rattle.yaml_base.specs.reading.Content.{no_content_pairs, content_pairs_and, DocumentContent}
-use Rattle.yaml_base.specs.reading.CanonicalReader.{canonical_content}
+use Rattle.yaml_base.proofs.Common.{is_none, Option, None, Some, codes, Bool, false, true, List, [], map, ◌++◌, ◌∷◌, refl, ◌≡◌, list_all, Text}
+use Rattle.yaml_base.proofs.Common.{line_separator, TagDirective, canonical_content, tagged, untagged, Content, scalar_content, sequence_content}
+use Rattle.yaml_base.proofs.Common.{mapping_content, no_contents, contents_and, no_content_pairs, content_pairs_and, DocumentContent, read_block, read_double}
+use Rattle.yaml_base.proofs.Common.{read_plain, read_single}
+use Rattle.std.specs.{Char.encode_utf8, Str.chars, Str.is_utf8}
+use Rattle.yaml_base.specs.reading.Content.{ScalarTag}
 
 -- a reader reads none of these texts
 abbrev reads_none : (Text → Option Text) → List Text → Bool

@@ -1,10 +1,7 @@
 -- Plain scalars without a tag, computed by both schemas.
-use Rattle.std.specs.Prelude.{◌≡◌, ℤ, pos, negsuc, true, false, List, [], ◌∷◌, map, codes, refl}
-use Rattle.yaml_base.specs.Characters.{Text}
-use Rattle.yaml_base.specs.values.Resolved.{Resolved, meant_null, meant_boolean, meant_integer, meant_decimal, meant_infinity, meant_nan, meant_timestamp}
-use Rattle.yaml_base.specs.values.Resolved.{meant_merge, meant_value, meant_text, meant_by_nobody}
-use Rattle.yaml_base.specs.values.SchemaCore.{resolved_by_core}
-use Rattle.yaml_base.specs.values.SchemaOf11.{resolved_by_11}
+use Rattle.yaml_base.proofs.Common.{codes, negsuc, pos, ℤ, false, true, List, [], map, ◌∷◌, refl, ◌≡◌, Text, Resolved, meant_integer, meant_decimal}
+use Rattle.yaml_base.proofs.Common.{meant_timestamp, meant_text, resolved_by_core, resolved_by_11}
+use Rattle.yaml_base.specs.values.Resolved.{meant_null, meant_boolean, meant_infinity, meant_nan, meant_merge, meant_value, meant_by_nobody}
 
 -- a text, what it means by the type repository of 1.1, and by the core schema
 abbrev Row : Type 0

@@ -1,6 +1,6 @@
 -- What is set, and what it comes to, computed.
-use Rattle.std.specs.Prelude.{◌≡◌, ℕ, ℤ, pos, negsuc, false, Option, None, Some, [], ◌∷◌, map, refl}
-use Rattle.yaml_base.specs.Settings.{effective, utf8, utf16_little, utf16_big, line_feed_break, both_break}
+use Rattle.yaml_base.proofs.Common.{ℕ, Option, None, Some, negsuc, pos, ℤ, false, [], map, ◌∷◌, refl, ◌≡◌, utf8, utf16_little, utf16_big, line_feed_break}
+use Rattle.yaml_base.proofs.Common.{both_break, effective}
 use Rattle.yaml_base.proofs.rows.RowEvents.{plain_settings, of_indent}
 
 -- what an indent comes to

@@ -1,14 +1,12 @@
 -- Trees that don't unfold their graphs: an alias before its node, children exchanged, a style changed, an alias of a node
 -- without an anchor, a node written twice.
-use Rattle.std.proofs.Common.{◌≡◌, subst, sym, ap, refl, arith, ◌∙◌}
-use Rattle.std.specs.Prelude.{ℕ, zero, suc, Bool, true, false, Option, None, Some, List, [], ◌∷◌, slice_index, Contains, count_by, option_map, codes}
-use Rattle.yaml_base.specs.Characters.{Text}
-use Rattle.yaml_base.specs.Event.{ScalarStyle, any_style, double_quoted, block}
-use Rattle.yaml_base.specs.Grammar.{Node, alias_node, scalar_node, sequence_node, no_nodes, nodes_and}
-use Rattle.yaml_base.specs.graphs.Meetings.{Graph, GraphNode, scalar_held, sequence_held, string_tag, sequence_tag, node_numbered, children}
-use Rattle.yaml_base.specs.graphs.Unfolding.{TreeUnfolds, HasShape, node_shape_of, Label, NodeKind, scalar_kind, sequence_kind, mapping_kind, label_of}
-use Rattle.yaml_base.specs.graphs.Unfolding.{AreNamed, Occurrence, alias_occurrence, node_occurrence, has_anchor, is_occurrence_of, number_at, occurrences}
-use Rattle.yaml_base.specs.graphs.Unfolding.{IsReached, first_reached, child_reached, Placed, alias_placed, node_placed, none_placed, placed_and}
+use Rattle.yaml_base.proofs.Common.{suc, zero, ℕ, slice_index, Contains, count_by, option_map, Option, None, Some, codes, Bool, false, true, List, [], ◌∷◌}
+use Rattle.yaml_base.proofs.Common.{refl, ◌≡◌, ap, subst, sym, ◌∙◌, arith, Text, ScalarStyle, any_style, double_quoted, block, Node, alias_node, scalar_node}
+use Rattle.yaml_base.proofs.Common.{sequence_node, no_nodes, nodes_and, scalar_held, sequence_held, GraphNode, Graph, node_numbered, children, string_tag}
+use Rattle.yaml_base.proofs.Common.{sequence_tag, scalar_kind, sequence_kind, mapping_kind, Label, node_shape_of, Placed, alias_placed, node_placed}
+use Rattle.yaml_base.proofs.Common.{none_placed, placed_and, number_at, label_of, HasShape, Occurrence, alias_occurrence, node_occurrence, occurrences}
+use Rattle.yaml_base.proofs.Common.{has_anchor, is_occurrence_of, AreNamed, IsReached, first_reached, child_reached, TreeUnfolds}
+use Rattle.yaml_base.specs.graphs.Unfolding.{NodeKind}
 
 abbrev string_of : Text → GraphNode
 string_of value = record { tag = string_tag; held = scalar_held value any_style }

@@ -1,8 +1,6 @@
 -- Whole streams read, computed: markers, directives, several documents, line breaks and encodings.
-use Rattle.std.specs.Prelude.{◌≡◌, pos, false, true, None, Some, [], ◌∷◌, ◌++◌, codes, refl}
-use Rattle.std.specs.Char.{encode_utf8}
-use Rattle.std.specs.Str.{chars, is_utf8}
-use Rattle.yaml_base.specs.streams.StreamReader.{stream_trees}
+use Rattle.yaml_base.proofs.Common.{None, Some, codes, pos, false, true, [], ◌++◌, ◌∷◌, refl, ◌≡◌, stream_trees}
+use Rattle.std.specs.{Char.encode_utf8, Str.chars, Str.is_utf8}
 use Rattle.yaml_base.proofs.rows.StreamTrees.{document, only, bare_word, in_quotes, of_tag, items, pair, pairs}
 
 no_documents : (stream_trees false [] ≡ Some []) × (stream_trees false (codes "\n\n") ≡ Some [])

@@ -1,11 +1,6 @@
 -- Which lists of events readers of YAML read alike, computed.
-use Rattle.std.specs.Prelude.{◌≡◌, true, false, None, Some, [], ◌∷◌, ◌++◌, codes, refl}
-use Rattle.std.specs.Char.{encode_utf8}
-use Rattle.std.specs.Str.{chars, is_utf8}
-use Rattle.yaml_base.specs.Event.{plain, double_quoted, flow}
-use Rattle.yaml_base.specs.streams.StreamContent.{agrees}
-use Rattle.yaml_base.specs.streams.StreamReader.{stream_trees}
-use Rattle.yaml_base.specs.StreamLaw.{reads_alike}
+use Rattle.yaml_base.proofs.Common.{None, Some, codes, false, true, [], ◌++◌, ◌∷◌, refl, ◌≡◌, plain, double_quoted, flow, reads_alike, agrees, stream_trees}
+use Rattle.std.specs.{Char.encode_utf8, Str.chars, Str.is_utf8}
 use Rattle.yaml_base.proofs.rows.RowEvents.{untagged, leaf, tagged, sequence, document_of, stream_of, alone}
 
 -- a root that is written as nothing, without `---`; not so one in quotes, one after another document, one with a tag, none at all

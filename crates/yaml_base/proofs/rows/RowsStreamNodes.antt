@@ -1,10 +1,7 @@
 -- Streams of one document read, computed: each form of node in each place. Expected trees were worked out by hand.
-use Rattle.std.specs.Prelude.{◌≡◌, false, None, Some, [], ◌∷◌, codes, refl}
-use Rattle.std.specs.Char.{encode_utf8}
-use Rattle.std.specs.Str.{chars, is_utf8}
-use Rattle.yaml_base.specs.streams.StreamContent.{stood_plain, stood_quoted, stood_bare, with_tag, without_tag, alias_tree, scalar_tree, sequence_tree}
-use Rattle.yaml_base.specs.streams.StreamContent.{mapping_tree, no_trees, trees_and, no_tree_pairs, tree_pairs_and}
-use Rattle.yaml_base.specs.streams.StreamReader.{stream_trees}
+use Rattle.yaml_base.proofs.Common.{None, Some, codes, false, [], ◌∷◌, refl, ◌≡◌, stood_plain, stood_quoted, stood_bare, with_tag, without_tag, alias_tree}
+use Rattle.yaml_base.proofs.Common.{scalar_tree, sequence_tree, mapping_tree, no_trees, trees_and, no_tree_pairs, tree_pairs_and, stream_trees}
+use Rattle.std.specs.{Char.encode_utf8, Str.chars, Str.is_utf8}
 use Rattle.yaml_base.proofs.rows.StreamTrees.{only, bare_word, in_quotes, of_tag, items, pair, pairs}
 
 -- Roots

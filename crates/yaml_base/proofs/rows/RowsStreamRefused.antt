@@ -1,8 +1,6 @@
 -- Texts that have no reading as a stream, or another one than it seems, computed.
-use Rattle.std.specs.Prelude.{◌≡◌, false, None, Some, [], ◌∷◌, ◌++◌, codes, refl, replicate}
-use Rattle.std.specs.Char.{encode_utf8}
-use Rattle.std.specs.Str.{chars, is_utf8}
-use Rattle.yaml_base.specs.streams.StreamReader.{stream_trees}
+use Rattle.yaml_base.proofs.Common.{None, Some, codes, replicate, false, [], ◌++◌, ◌∷◌, refl, ◌≡◌, stream_trees}
+use Rattle.std.specs.{Char.encode_utf8, Str.chars, Str.is_utf8}
 use Rattle.yaml_base.proofs.rows.StreamTrees.{only, bare_word, in_quotes, items, pair, pairs}
 
 -- entries one column off: too deep, not deep enough, and an item that goes on the text before it

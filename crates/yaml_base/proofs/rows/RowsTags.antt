@@ -1,19 +1,13 @@
 -- Worked rows of tags, names and directives, computed.
-use Rattle.std.proofs.Common.{◌≡◌, ℕ, pos, Option, Some, None, List, [], ◌∷◌, ◌++◌, refl}
-use Rattle.std.specs.Prelude.{false, codes}
+use Rattle.yaml_base.proofs.Common.{ℕ, Option, None, Some, codes, pos, false, List, [], ◌++◌, ◌∷◌, refl, ◌≡◌, Text, TagDirective, percent_escaped}
+use Rattle.yaml_base.proofs.Common.{anchor_fault, alias_fault, tag_fault, version_fault, directives_fault, directives_in_force, spelling, spelled, tag_read}
+use Rattle.yaml_base.proofs.Common.{percent_read, bare_parsed, name_parsed}
 use Rattle.std.specs.Str.{chars, is_utf8}
 use lib.Utf8.{encode}
-use Rattle.yaml_base.specs.Characters.{Text}
-use Rattle.yaml_base.specs.Event.{TagDirective}
-use Rattle.yaml_base.specs.Percent.{percent_escaped}
-use Rattle.yaml_base.specs.reading.ReadPercent.{percent_read}
-use Rattle.yaml_base.specs.reading.ReadTags.{bare_parsed, name_parsed}
-use Rattle.yaml_base.specs.reading.CanonicalReader.{tag_read}
-use Rattle.yaml_base.specs.Tags.{directives_in_force, spelling, spelled, anchor_fault, alias_fault, version_fault, directives_fault, tag_fault}
-use Rattle.yaml_base.specs.declared.errors.yaml_error_t.TheVariants.{IncompatibleVersion, TagHandleEmpty, TagHandleStart, TagHandleEnd, TagHandleAlphabet}
-use Rattle.yaml_base.specs.declared.errors.yaml_error_t.TheVariants.{TagPrefixEmpty, DuplicateDirective, AnchorEmpty, AnchorAlphabet, AliasEmpty, AliasAlphabet}
-use Rattle.yaml_base.specs.declared.errors.yaml_error_t.TheVariants.{TagEmpty}
 use Rattle.yaml_base.specs.declared.errors.yaml_error_t.{yaml_error_t}
+use Rattle.yaml_base.specs.declared.errors.yaml_error_t.TheVariants.{AliasAlphabet, AliasEmpty, AnchorAlphabet, AnchorEmpty, DuplicateDirective}
+use Rattle.yaml_base.specs.declared.errors.yaml_error_t.TheVariants.{IncompatibleVersion, TagEmpty, TagHandleAlphabet, TagHandleEmpty, TagHandleEnd}
+use Rattle.yaml_base.specs.declared.errors.yaml_error_t.TheVariants.{TagHandleStart, TagPrefixEmpty}
 
 abbrev directive : Text → Text → TagDirective
 directive handle prefix = record { handle = handle; prefix = prefix }

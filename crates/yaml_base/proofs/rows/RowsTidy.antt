@@ -1,8 +1,6 @@
 -- Tidy texts, computed: each row a text in a style inside a block, and whether it is tidy there.
-use Rattle.std.specs.Prelude.{◌≡◌, ℕ, Bool, true, false, Option, None, Some, List, [], ◌∷◌, codes, refl}
-use Rattle.yaml_base.specs.Characters.{Text}
-use Rattle.yaml_base.specs.Event.{any_style, plain, single_quoted, double_quoted, literal, folded}
-use Rattle.yaml_base.specs.reading.TidyText.{is_tidy}
+use Rattle.yaml_base.proofs.Common.{ℕ, Option, None, Some, codes, Bool, false, true, List, [], ◌∷◌, refl, ◌≡◌, Text, any_style, plain, single_quoted}
+use Rattle.yaml_base.proofs.Common.{double_quoted, literal, folded, is_tidy}
 
 -- a text in each of the three flow styles
 abbrev in_flow_styles : Option ℕ → Text → List Bool

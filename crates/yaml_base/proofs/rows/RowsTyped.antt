@@ -1,11 +1,8 @@
 -- Typed values, computed: their bytes, their content, their nesting and their count.
-use Rattle.std.specs.Prelude.{◌≡◌, pos, negsuc, true, false, Some, [], codes, refl}
-use Rattle.std.specs.Char.{encode_utf8}
-use Rattle.std.specs.Fmt.{digits}
-use Rattle.std.specs.Str.{chars, is_utf8}
-use Rattle.yaml_base.specs.reading.CanonicalReader.{canonical_content}
+use Rattle.yaml_base.proofs.Common.{Some, codes, negsuc, pos, false, true, [], refl, ◌≡◌, canonical_content}
+use Rattle.std.specs.{Char.encode_utf8, Fmt.digits, Str.chars, Str.is_utf8}
 use Rattle.yaml_base.specs.values.TypedValues.{TypedValue, null_value, bool_value, int_value, text_value, list_value, map_value, no_values, values_and}
-use Rattle.yaml_base.specs.values.TypedValues.{no_value_pairs, value_pairs_and, typed_content, typed_output, value_count, nesting}
+use Rattle.yaml_base.specs.values.TypedValues.{no_value_pairs, value_pairs_and, typed_content, value_count, nesting, typed_output}
 
 a_null : typed_output null_value ≡ codes "---\n!!null \"null\"\n"
 unfolding encode_utf8

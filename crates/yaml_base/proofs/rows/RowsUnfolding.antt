@@ -1,15 +1,11 @@
 -- Trees that unfold a graph, and trees that don't.
-use Rattle.std.proofs.Common.{◌≡◌, ◌⊎◌, inl, inr, subst, ap, refl, arith}
-use Rattle.std.proofs.lemmas.Bool.Decides.{nat_tests}
-use Rattle.std.specs.Prelude.{ℕ, zero, suc, true, None, Some, [], ◌∷◌, slice_index, Contains, count_by, codes}
-use Rattle.yaml_base.specs.Event.{any_style, block}
-use Rattle.yaml_base.specs.Grammar.{Node, alias_node, scalar_node, sequence_node, mapping_node, no_nodes, nodes_and, no_pairs, pairs_and, document_events}
-use Rattle.yaml_base.specs.reading.Content.{node_content}
-use Rattle.yaml_base.specs.graphs.Meetings.{Graph, scalar_held, sequence_held, mapping_held, string_tag, sequence_tag, mapping_tag, children, decimal_digits}
-use Rattle.yaml_base.specs.graphs.Meetings.{document_event_list}
-use Rattle.yaml_base.specs.graphs.Unfolding.{TreeUnfolds, ContentUnfolds, HasShape, node_shape_of, number_at, node_occurrence, alias_occurrence, IsReached}
-use Rattle.yaml_base.specs.graphs.Unfolding.{first_reached, child_reached, Placed, is_occurrence_of, occurrences, alias_placed, node_placed, none_placed}
-use Rattle.yaml_base.specs.graphs.Unfolding.{placed_and}
+use Rattle.yaml_base.proofs.Common.{suc, zero, ℕ, slice_index, Contains, count_by, None, Some, codes, true, [], ◌∷◌, ◌⊎◌, refl, ◌≡◌, inl, inr, ap, subst}
+use Rattle.yaml_base.proofs.Common.{arith, nat_tests, any_style, block, Node, alias_node, scalar_node, sequence_node, mapping_node, no_nodes, nodes_and}
+use Rattle.yaml_base.proofs.Common.{no_pairs, pairs_and, document_events, scalar_held, sequence_held, mapping_held, Graph, children, string_tag, sequence_tag}
+use Rattle.yaml_base.proofs.Common.{mapping_tag, document_event_list, node_shape_of, Placed, alias_placed, node_placed, none_placed, placed_and, number_at}
+use Rattle.yaml_base.proofs.Common.{HasShape, alias_occurrence, node_occurrence, occurrences, is_occurrence_of, IsReached, first_reached, child_reached}
+use Rattle.yaml_base.proofs.Common.{TreeUnfolds, ContentUnfolds, node_content}
+use Rattle.yaml_base.specs.graphs.Meetings.{decimal_digits}
 
 -- a mapping whose one key is a string, and whose value is the mapping
 abbrev graph : Graph

@@ -1,8 +1,6 @@
 -- Trees of streams for worked rows, in short.
-use Rattle.std.specs.Prelude.{Option, None, Some, List, [], ◌∷◌}
-use Rattle.yaml_base.specs.Characters.{Text}
-use Rattle.yaml_base.specs.streams.StreamContent.{stood_plain, stood_quoted, with_tag, without_tag, Tree, scalar_tree, sequence_tree, mapping_tree, Trees}
-use Rattle.yaml_base.specs.streams.StreamContent.{no_trees, trees_and, TreePairs, no_tree_pairs, tree_pairs_and, DocumentTree}
+use Rattle.yaml_base.proofs.Common.{Option, None, Some, List, [], ◌∷◌, Text, stood_plain, stood_quoted, with_tag, without_tag, Tree, scalar_tree, Trees}
+use Rattle.yaml_base.proofs.Common.{sequence_tree, TreePairs, mapping_tree, no_trees, trees_and, no_tree_pairs, tree_pairs_and, DocumentTree}
 
 -- a document without version and directives
 abbrev pub document : Tree → DocumentTree

@@ -1,37 +1,19 @@
 -- Each document of an accepted list stands: its names and tags by what is accepted, its scalars by their bodies.
-use Rattle.std.proofs.Common.{◌≡◌, ◌≤◌, refl, sym, ap, ◌∙◌, subst, arith}
-use Rattle.std.proofs.lemmas.Bool.{leb-true}
-use Rattle.std.specs.List.{list_all}
-use Rattle.std.specs.Prelude.{ℤ, pos, negsuc, Bool, true, false, Option, None, Some, List, [], ◌∷◌, ◌&&◌, nat_le, if◌then◌else◌}
-use Rattle.yaml_base.specs.Characters.{is_printable}
-use Rattle.yaml_base.specs.Settings.{Encoding, Settings, Effective, effective_indent, effective}
-use Rattle.yaml_base.specs.Event.{Event}
-use Rattle.yaml_base.specs.Tags.{directives_in_force}
-use Rattle.yaml_base.specs.Cursor.{Rendered}
-use Rattle.yaml_base.specs.Grammar.{Documents, no_documents, documents_and, tree_of}
-use Rattle.yaml_base.specs.Refusal.{IsAccepted}
-use Rattle.yaml_base.specs.Layout.{text_of, root_place, has_no_documents, render_documents, first_standing}
-use Rattle.yaml_base.specs.Pieces.{list_layout}
-use Rattle.yaml_base.specs.Output.{bytes_written, text_written}
-use Rattle.yaml_base.specs.reading.ReadBytes.{characters_read}
-use Rattle.yaml_base.specs.Meaning.{has_scalar_texts, has_scalar_values, MeaningIsKept}
-use Rattle.yaml_base.specs.WrittenTexts.{BodiesAreTidy}
-use Rattle.yaml_base.specs.streams.StreamContent.{documents_in_order}
-use Rattle.yaml_base.specs.StreamLaw.{StreamReadsBack, reads_alike}
-use Rattle.yaml_base.proofs.Trees.{tree_of-stream_events}
-use Rattle.yaml_base.proofs.stream_lines.StreamClosed.{margin_cursor}
-use Rattle.yaml_base.proofs.stream_nodes.StreamStands.{BodyStands, BodiesHold}
-use Rattle.yaml_base.proofs.stream_documents.StreamEachDocument.{AllDocuments}
-use Rattle.yaml_base.proofs.stream_nodes.StreamNames.{IsSoundDocument, accepted_names_stand}
-use Rattle.yaml_base.proofs.stream_documents.StreamHeadingLines.{heading_stands}
-use Rattle.yaml_base.proofs.stream_nodes.StreamBodies.{DocumentsHold, roots_stand}
-use Rattle.yaml_base.proofs.stream_keys.StreamSimpleKeys.{simple_keys_fit}
-use Rattle.yaml_base.proofs.stream_nodes.StreamScalarLeaves.{scalars_fit}
-use Rattle.yaml_base.proofs.stream_keys.StreamKeysFit.{keys_fit}
-use Rattle.yaml_base.proofs.stream_documents.StreamRootsStand.{is_on_marker, DocumentsStand}
-use Rattle.yaml_base.proofs.stream_documents.StreamRootLeaves.{root_stands}
-use Rattle.yaml_base.proofs.stream_documents.StreamDocumentTexts.{start_rendered, end_cursor}
-use Rattle.yaml_base.proofs.stream_documents.StreamLawStands.{StreamStands, documents_parts, indent_deep, stream_agrees}
+use Rattle.yaml_base.proofs.Common.{◌≤◌, if◌then◌else◌, Option, None, Some, nat_le, negsuc, pos, ℤ, Bool, false, true, ◌&&◌, List, [], ◌∷◌, refl, ◌≡◌}
+use Rattle.yaml_base.proofs.Common.{leb-true, ap, subst, sym, ◌∙◌, arith, list_all, is_printable, Rendered, Event, Documents, no_documents, documents_and}
+use Rattle.yaml_base.proofs.Common.{tree_of, root_place, has_no_documents, render_documents, first_standing, text_of, has_scalar_values, MeaningIsKept}
+use Rattle.yaml_base.proofs.Common.{has_scalar_texts, text_written, bytes_written, list_layout, IsAccepted, Encoding, Settings, Effective, effective_indent}
+use Rattle.yaml_base.proofs.Common.{effective, reads_alike, directives_in_force, BodiesAreTidy, characters_read, documents_in_order}
+use Rattle.yaml_base.proofs.{Trees.tree_of-stream_events, stream_documents.StreamDocumentTexts.start_rendered}
+use Rattle.yaml_base.proofs.{stream_documents.StreamDocumentTexts.end_cursor, stream_documents.StreamEachDocument.AllDocuments}
+use Rattle.yaml_base.proofs.{stream_documents.StreamHeadingLines.heading_stands, stream_documents.StreamRootLeaves.root_stands}
+use Rattle.yaml_base.proofs.{stream_documents.StreamRootsStand.is_on_marker, stream_documents.StreamRootsStand.DocumentsStand}
+use Rattle.yaml_base.proofs.{stream_keys.StreamKeysFit.keys_fit, stream_keys.StreamSimpleKeys.simple_keys_fit, stream_lines.StreamClosed.margin_cursor}
+use Rattle.yaml_base.proofs.{stream_nodes.StreamBodies.DocumentsHold, stream_nodes.StreamBodies.roots_stand, stream_nodes.StreamNames.IsSoundDocument}
+use Rattle.yaml_base.proofs.{stream_nodes.StreamNames.accepted_names_stand, stream_nodes.StreamScalarLeaves.scalars_fit, stream_nodes.StreamStands.BodyStands}
+use Rattle.yaml_base.proofs.{stream_nodes.StreamStands.BodiesHold}
+use Rattle.yaml_base.proofs.stream_documents.StreamLawStands.{documents_parts, indent_deep, StreamStands, stream_agrees}
+use Rattle.yaml_base.specs.StreamLaw.{StreamReadsBack}
 
 -- Documents
 

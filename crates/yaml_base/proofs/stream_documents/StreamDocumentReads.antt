@@ -1,21 +1,13 @@
 -- One document more of a stream: its directives, its `---` and its root, or a root without `---` at the stream's start.
-use Rattle.std.proofs.Common.{◌≡◌, refl, sym, ap, ◌∙◌, append_assoc, append-nil, subst, arith}
-use Rattle.std.proofs.lemmas.Bool.{false≢true, eqb-true, or_parts}
-use Rattle.std.specs.Prelude.{ℕ, Bool, true, false, Option, None, Some, List, [], ◌∷◌, ◌++◌, ◌==◌, ◌&&◌, not, length, codes, is_some}
-use Rattle.yaml_base.specs.Characters.{Text, line_feed}
-use Rattle.yaml_base.specs.Settings.{Effective}
-use Rattle.yaml_base.specs.Event.{Version, TagDirective, DocumentStart}
-use Rattle.yaml_base.specs.Cursor.{render_then}
-use Rattle.yaml_base.specs.Layout.{has_directives, render_version, render_tag_directives}
-use Rattle.yaml_base.specs.streams.StreamContent.{DocumentTree}
-use Rattle.yaml_base.specs.streams.StreamLines.{lines_of}
-use Rattle.yaml_base.specs.streams.StreamDocuments.{start_marker, Section, Heading, no_heading, heading_of, StreamPlace, after_root, after_heading}
-use Rattle.yaml_base.specs.streams.StreamDocuments.{document_read}
-use Rattle.yaml_base.specs.streams.StreamDocuments.{with_heading, section_by_kind}
-use Rattle.yaml_base.proofs.stream_lines.StreamLineLaws.{is_closed, OneLine}
-use Rattle.yaml_base.proofs.stream_lines.StreamClosed.{margin_cursor, lines_broken, closed_both}
+use Rattle.yaml_base.proofs.Common.{ℕ, ◌==◌, is_some, Option, None, Some, codes, length, Bool, false, not, true, ◌&&◌, List, [], ◌++◌, ◌∷◌, refl, ◌≡◌}
+use Rattle.yaml_base.proofs.Common.{eqb-true, append-nil, append_assoc, ap, subst, sym, ◌∙◌, arith, or_parts, false≢true, Text, line_feed, render_then}
+use Rattle.yaml_base.proofs.Common.{Version, TagDirective, DocumentStart, render_version, render_tag_directives, has_directives, Effective, DocumentTree}
+use Rattle.yaml_base.proofs.Common.{start_marker, Section, Heading, no_heading, heading_of, after_heading, with_heading, section_by_kind, lines_of}
 use Rattle.yaml_base.proofs.stream_documents.StreamRootsStand.{heading_text, HeadingStands}
 use Rattle.yaml_base.proofs.stream_documents.StreamSoFar.{WalkProgress, prefix_alone, one_more, Percents, percents_unmarked, percents_shown, prefix_heading}
+use Rattle.yaml_base.proofs.stream_lines.StreamClosed.{margin_cursor, lines_broken, closed_both}
+use Rattle.yaml_base.proofs.stream_lines.StreamLineLaws.{is_closed, OneLine}
+use Rattle.yaml_base.specs.streams.StreamDocuments.{StreamPlace, after_root, document_read}
 
 -- Ends
 

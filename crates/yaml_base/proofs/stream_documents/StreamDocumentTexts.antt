@@ -1,22 +1,14 @@
 -- The text of a document by itself: its directives, its marker, its root and its end, as one text in place of pieces.
-use Rattle.std.proofs.Common.{◌≡◌, refl, sym, ap, ◌∙◌, append_assoc, append-nil, subst}
-use Rattle.std.proofs.lemmas.Grind.{flat_map-append}
-use Rattle.std.specs.Prelude.{Bool, true, false, Option, None, Some, List, [], ◌∷◌, ◌++◌, ◌==◌, ◌||◌, ◌&&◌, not, codes, if◌then◌else◌}
-use Rattle.yaml_base.specs.Characters.{Text, line_feed}
-use Rattle.yaml_base.specs.Settings.{Effective}
-use Rattle.yaml_base.specs.Event.{Version, TagDirective, DocumentStart}
-use Rattle.yaml_base.specs.Tags.{directives_in_force}
-use Rattle.yaml_base.specs.Cursor.{Cursor, Rendered, new_line, render_then}
-use Rattle.yaml_base.specs.Grammar.{Document}
-use Rattle.yaml_base.specs.Layout.{Piece, piece_text, text_of, Standing, RenderedPiece, RenderedPieces, one_piece, render_node, root_place, render_if}
-use Rattle.yaml_base.specs.Layout.{render_closing_marker}
-use Rattle.yaml_base.specs.Layout.{render_version, render_tag_directives, has_directives, is_explicit, render_document_marker, render_document_start}
-use Rattle.yaml_base.specs.Layout.{document_start_piece, document_end_piece, render_document}
-use Rattle.yaml_base.proofs.stream_nodes.StreamTexts.{node_own, node_joined}
+use Rattle.yaml_base.proofs.Common.{if◌then◌else◌, ◌==◌, Option, None, Some, codes, Bool, false, not, true, ◌&&◌, ◌||◌, List, [], ◌++◌, ◌∷◌, refl, ◌≡◌}
+use Rattle.yaml_base.proofs.Common.{append-nil, append_assoc, ap, subst, sym, ◌∙◌, flat_map-append, Text, line_feed, Cursor, Rendered, render_then, new_line}
+use Rattle.yaml_base.proofs.Common.{Version, TagDirective, DocumentStart, Document, render_if, render_closing_marker, render_version, render_tag_directives}
+use Rattle.yaml_base.proofs.Common.{has_directives, is_explicit, render_document_marker, render_document_start, document_start_piece, document_end_piece}
+use Rattle.yaml_base.proofs.Common.{root_place, render_document, Piece, piece_text, text_of, Standing, RenderedPiece, RenderedPieces, one_piece, render_node}
+use Rattle.yaml_base.proofs.Common.{Effective, directives_in_force}
+use Rattle.yaml_base.proofs.stream_documents.{StreamDocumentReads.dots, StreamDocumentReads.dots_if, StreamRootAdded.marked_text}
+use Rattle.yaml_base.proofs.stream_documents.{StreamRootsStand.root_cursor, StreamRootsStand.render_root, StreamRootsStand.heading_text}
 use Rattle.yaml_base.proofs.stream_lines.StreamClosed.{closing, closed, Settled, new_line_closes, margin_cursor}
-use Rattle.yaml_base.proofs.stream_documents.StreamRootsStand.{root_cursor, render_root, heading_text}
-use Rattle.yaml_base.proofs.stream_documents.StreamDocumentReads.{dots, dots_if}
-use Rattle.yaml_base.proofs.stream_documents.StreamRootAdded.{marked_text}
+use Rattle.yaml_base.proofs.stream_nodes.StreamTexts.{node_own, node_joined}
 
 -- Starts
 

@@ -1,25 +1,13 @@
 -- The documents of a stream, one after another: each that stands is one document more, and the stream may end after them.
-use Rattle.std.proofs.Common.{◌≡◌, ◌≤◌, refl, sym, ap, ◌∙◌, append_assoc, append-nil, subst}
-use Rattle.std.proofs.lemmas.Bool.{true≢false, or_parts}
-use Rattle.std.specs.Prelude.{ℕ, Bool, true, false, List, [], ◌++◌, ◌||◌, ◌&&◌, not, is_some}
-use Rattle.yaml_base.specs.Characters.{Text}
-use Rattle.yaml_base.specs.Settings.{Effective}
-use Rattle.yaml_base.specs.Event.{DocumentStart}
-use Rattle.yaml_base.specs.scalars.Analysis.{is_empty}
-use Rattle.yaml_base.specs.Event.{scalar_tag}
-use Rattle.yaml_base.specs.Grammar.{Node, alias_node, scalar_node, sequence_node, mapping_node, Document}
-use Rattle.yaml_base.specs.Layout.{has_directives, is_explicit}
-use Rattle.yaml_base.specs.streams.StreamContent.{DocumentTree}
-use Rattle.yaml_base.specs.streams.StreamDocuments.{after_root}
-use Rattle.yaml_base.specs.StreamLaw.{is_written_as_nothing}
-use Rattle.yaml_base.proofs.stream_lines.StreamClosed.{closed}
-use Rattle.yaml_base.proofs.stream_nodes.StreamFits.{size}
-use Rattle.yaml_base.proofs.stream_documents.StreamRootsStand.{render_root, heading_text, HeadingStands, RootStands, DocumentStands}
-use Rattle.yaml_base.proofs.stream_documents.StreamRootStood.{root_fits, root_stood}
-use Rattle.yaml_base.proofs.stream_documents.StreamSoFar.{WalkProgress}
+use Rattle.yaml_base.proofs.Common.{ℕ, ◌≤◌, is_some, Bool, false, not, true, ◌&&◌, ◌||◌, List, [], ◌++◌, refl, ◌≡◌, true≢false, append-nil, append_assoc, ap}
+use Rattle.yaml_base.proofs.Common.{subst, sym, ◌∙◌, or_parts, Text, DocumentStart, scalar_tag, Node, alias_node, scalar_node, sequence_node, mapping_node}
+use Rattle.yaml_base.proofs.Common.{Document, has_directives, is_explicit, Effective, is_written_as_nothing, is_empty, DocumentTree}
+use Rattle.yaml_base.{proofs.stream_lines.StreamClosed.closed, proofs.stream_nodes.StreamFits.size, specs.streams.StreamDocuments.after_root}
+use Rattle.yaml_base.proofs.stream_documents.{StreamDocumentTexts.before_root, StreamDocumentTexts.root_part, StreamDocumentTexts.document_text}
+use Rattle.yaml_base.proofs.stream_documents.{StreamRootAdded.with_document, StreamRootAdded.marked_added, StreamRootAdded.unmarked_added}
+use Rattle.yaml_base.proofs.stream_documents.{StreamRootStood.root_fits, StreamRootStood.root_stood, StreamSoFar.WalkProgress}
 use Rattle.yaml_base.proofs.stream_documents.StreamDocumentReads.{Awaits, awaits_ended, dots_if, nothing_headed, headed}
-use Rattle.yaml_base.proofs.stream_documents.StreamRootAdded.{with_document, marked_added, unmarked_added}
-use Rattle.yaml_base.proofs.stream_documents.StreamDocumentTexts.{before_root, root_part, document_text}
+use Rattle.yaml_base.proofs.stream_documents.StreamRootsStand.{render_root, RootStands, heading_text, HeadingStands, DocumentStands}
 
 -- One document more
 

@@ -1,12 +1,6 @@
 -- What holds of each document of a stream, in order.
-use Rattle.std.proofs.Common.{◌≡◌, sym, ◌∙◌}
-use Rattle.std.proofs.lemmas.Bool.{and_parts}
-use Rattle.std.proofs.lemmas.List.Folds.{list_all-append}
-use Rattle.std.specs.List.{list_all}
-use Rattle.std.specs.Prelude.{Bool, true, List, [], ◌∷◌, ◌++◌}
-use Rattle.yaml_base.specs.Event.{Event}
-use Rattle.yaml_base.specs.Grammar.{Document, Documents, no_documents, documents_and, document_events, documents_events}
-use Rattle.yaml_base.specs.streams.StreamContent.{documents_in_order}
+use Rattle.yaml_base.proofs.Common.{Bool, true, List, [], ◌++◌, ◌∷◌, ◌≡◌, sym, ◌∙◌, and_parts, list_all-append, list_all, Event, Document, Documents}
+use Rattle.yaml_base.proofs.Common.{no_documents, documents_and, document_events, documents_events, documents_in_order}
 
 -- P holds of each of some documents
 abbrev pub AllDocuments : (Document → Type 0) → List Document → Type 0

@@ -1,33 +1,18 @@
 -- The lines of a document's directives: each begins with `%`, and they are read as its version and its directives.
-use Rattle.std.proofs.Common.{◌≡◌, refl, sym, ap, ◌∙◌, append_assoc, int_eq, arith, pos, option_and_then, append-nil}
-use Rattle.std.proofs.lemmas.Bool.{or_parts, or_from}
-use Rattle.std.proofs.lemmas.Bool.Decides.{nat_tests}
-use Rattle.std.specs.List.{list_all, list_any}
-use Rattle.std.specs.Prelude.{Bool, true, false, Option, None, Some, List, [], ◌∷◌, ◌++◌, ◌||◌, codes, if◌then◌else◌}
-use Rattle.yaml_base.specs.Characters.{Text, space, line_feed, is_break, is_blank}
-use Rattle.yaml_base.specs.LineBreaks.{is_read_break}
-use Rattle.yaml_base.specs.Settings.{Effective}
-use Rattle.yaml_base.specs.Cursor.{Cursor, Rendered, first_cursor, render_then}
-use Rattle.yaml_base.specs.Event.{Version, TagDirective, DocumentStart}
-use Rattle.yaml_base.specs.Percent.{prefix_escaped}
-use Rattle.yaml_base.specs.Tags.{directives_fault, handle_fault, directives_fault_after, next_directive_fault, directive_fault, gives_handle, prefix_fault}
-use Rattle.yaml_base.specs.Tags.{version_fault}
-use Rattle.yaml_base.specs.Indicators.{render_indicator, yaml_directive, version_1_1, version_1_2}
-use Rattle.yaml_base.specs.Layout.{then_line_end, render_version, render_tag_directives}
-use Rattle.yaml_base.specs.Meaning.{directive_scalars}
-use Rattle.yaml_base.specs.streams.StreamLines.{Line, lines_of, text_of_lines}
-use Rattle.yaml_base.specs.streams.StreamDocuments.{begins_with_percent, heading_of}
-use Rattle.yaml_base.proofs.PercentLaws.{prefix_stands}
-use Rattle.yaml_base.proofs.TagForms.{handle_form}
-use Rattle.yaml_base.proofs.TagWords.{handle_ends_no_word}
-use Rattle.yaml_base.proofs.NoFaults.{neither}
-use Rattle.yaml_base.proofs.stream_lines.StreamLineLaws.{OneLine, one_line_both, is_closed}
-use Rattle.yaml_base.proofs.stream_lines.StreamClosed.{lines_broken, character_line, closed_behind}
-use Rattle.yaml_base.proofs.stream_nodes.StreamProperties.{holds_white}
-use Rattle.yaml_base.proofs.stream_documents.StreamRootsStand.{heading_text, HeadingStands}
-use Rattle.yaml_base.proofs.stream_documents.StreamSoFar.{Percents}
-use Rattle.yaml_base.proofs.stream_documents.StreamHeadings.{directive_text, tag_lines, version_lines, heading_lines, prefix_no_white, heading_reads}
-use Rattle.yaml_base.specs.declared.errors.yaml_error_t.TheVariants.{DuplicateDirective}
+use Rattle.yaml_base.proofs.Common.{if◌then◌else◌, option_and_then, Option, None, Some, codes, pos, Bool, false, true, ◌||◌, List, [], ◌++◌, ◌∷◌, refl, ◌≡◌}
+use Rattle.yaml_base.proofs.Common.{int_eq, append-nil, append_assoc, ap, sym, ◌∙◌, arith, or_parts, or_from, nat_tests, list_all, list_any, Text, line_feed}
+use Rattle.yaml_base.proofs.Common.{space, is_blank, is_break, Cursor, Rendered, first_cursor, render_then, Version, TagDirective, DocumentStart, version_1_1}
+use Rattle.yaml_base.proofs.Common.{version_1_2, render_version, render_tag_directives, is_read_break, directive_scalars, prefix_escaped, Effective}
+use Rattle.yaml_base.proofs.Common.{version_fault, handle_fault, prefix_fault, directive_fault, gives_handle, next_directive_fault, directives_fault_after}
+use Rattle.yaml_base.proofs.Common.{directives_fault, heading_of, begins_with_percent, Line, lines_of, text_of_lines}
+use Rattle.yaml_base.{proofs.NoFaults.neither, proofs.PercentLaws.prefix_stands, proofs.TagForms.handle_form, proofs.TagWords.handle_ends_no_word}
+use Rattle.yaml_base.{proofs.stream_documents.StreamRootsStand.heading_text, proofs.stream_documents.StreamRootsStand.HeadingStands}
+use Rattle.yaml_base.{proofs.stream_documents.StreamSoFar.Percents, proofs.stream_lines.StreamClosed.character_line}
+use Rattle.yaml_base.{proofs.stream_lines.StreamClosed.lines_broken, proofs.stream_lines.StreamClosed.closed_behind}
+use Rattle.yaml_base.{proofs.stream_lines.StreamLineLaws.is_closed, proofs.stream_lines.StreamLineLaws.OneLine}
+use Rattle.yaml_base.{proofs.stream_lines.StreamLineLaws.one_line_both, proofs.stream_nodes.StreamProperties.holds_white, specs.Indicators.render_indicator}
+use Rattle.yaml_base.{specs.Indicators.yaml_directive, specs.Layout.then_line_end, specs.declared.errors.yaml_error_t.TheVariants.DuplicateDirective}
+use Rattle.yaml_base.proofs.stream_documents.StreamHeadings.{prefix_no_white, directive_text, tag_lines, version_lines, heading_lines, heading_reads}
 
 -- Lines with their breaks
 

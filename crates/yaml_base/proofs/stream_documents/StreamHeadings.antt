@@ -1,35 +1,22 @@
 -- A document's directives, as they are written, are lines that are read as these directives.
-use Rattle.std.proofs.Common.{◌≡◌, ◌⊎◌, refl, sym, ap, ◌∙◌, subst, inl, inr, append_assoc, append-nil, arith, int_eq}
-use Rattle.std.proofs.lemmas.Bool.{false≢true, eqb-true, and_parts, and_from, or_from, not-true}
-use Rattle.std.proofs.lemmas.Bool.Decides.{nat_tests}
-use Rattle.std.proofs.lemmas.List.Splits.{slice_split-cons_yes, slice_split-cons_no}
+use Rattle.yaml_base.proofs.Common.{ℕ, if◌then◌else◌, ◌==◌, fold, option_and_then, Option, None, Some, codes, negsuc, pos, ℤ, Bool, false, not, true, ◌&&◌}
+use Rattle.yaml_base.proofs.Common.{◌||◌, List, [], ◌++◌, ◌∷◌, ◌⊎◌, refl, ◌≡◌, int_eq, eqb-true, append-nil, append_assoc, inl, inr, ap, subst, sym, ◌∙◌}
+use Rattle.yaml_base.proofs.Common.{arith, and_parts, and_from, or_from, not-true, false≢true, nat_tests, list_all-append, slice_split-cons_yes}
+use Rattle.yaml_base.proofs.Common.{slice_split-cons_no, list_all, onto_first, slice_split, all_scalars, Text, line_feed, space, is_alpha, is_space, is_blank}
+use Rattle.yaml_base.proofs.Common.{is_break, Version, TagDirective, DocumentStart, version_1_1, version_1_2, directive_scalars, percent_sign}
+use Rattle.yaml_base.proofs.Common.{is_tag_character, character_written, percent_escaped, prefix_escaped, version_fault, exclamation_mark, handle_fault}
+use Rattle.yaml_base.proofs.Common.{prefix_fault, directive_fault, gives_handle, next_directive_fault, directives_fault_after, directives_fault}
+use Rattle.yaml_base.proofs.Common.{is_uri_character, percent_read, Heading, no_heading, heading_of, Line}
 use Rattle.std.proofs.lemmas.List.Sums.{fold-append}
-use Rattle.std.proofs.lemmas.List.Folds.{list_all-append}
-use Rattle.std.specs.List.{list_all, slice_split, onto_first}
-use Rattle.std.specs.Str.{all_scalars}
-use Rattle.std.specs.Prelude.{ℕ, ℤ, pos, negsuc, Bool, true, false, Option, None, Some, List, [], ◌∷◌, ◌++◌, ◌==◌, ◌||◌, ◌&&◌, not, codes, fold}
-use Rattle.std.specs.Prelude.{option_and_then, if◌then◌else◌}
-use Rattle.yaml_base.specs.Characters.{Text, space, line_feed, is_space, is_alpha, is_blank, is_break}
-use Rattle.yaml_base.specs.Event.{Version, TagDirective, DocumentStart}
-use Rattle.yaml_base.specs.Percent.{percent_escaped, prefix_escaped, is_tag_character, character_written, percent_sign}
-use Rattle.yaml_base.specs.reading.ReadPercent.{is_uri_character, percent_read}
+use Rattle.yaml_base.{proofs.NoFaults.neither, proofs.NoFaults.not_given, proofs.TagForms.IsHandle, proofs.TagForms.handle_form}
+use Rattle.yaml_base.{proofs.TagWords.handle_ends_no_word, proofs.stream_nodes.StreamProperties.holds_white}
+use Rattle.yaml_base.{proofs.stream_nodes.StreamProperties.has_no_space, proofs.stream_nodes.StreamProperties.no_white_no_space}
+use Rattle.yaml_base.{proofs.stream_nodes.StreamTags.uri_character, proofs.stream_nodes.StreamTags.uri_text, specs.Layout.version_word}
+use Rattle.yaml_base.{specs.Tags.equals_integer, specs.declared.errors.yaml_error_t.yaml_error_t}
+use Rattle.yaml_base.{specs.declared.errors.yaml_error_t.TheVariants.DuplicateDirective, specs.declared.errors.yaml_error_t.TheVariants.IncompatibleVersion}
+use Rattle.yaml_base.proofs.PercentLaws.{decoded_prefix, character_stands, escaped_stands, stands_in_prefix, prefix_stands, prefix_begins}
 use Rattle.yaml_base.specs.reading.ReadTags.{closes_handle, is_handle_text, prefix_parsed, is_handle_given}
-use Rattle.yaml_base.specs.Tags.{exclamation_mark, prefix_fault, handle_fault, next_directive_fault, directive_fault, gives_handle, directives_fault_after}
-use Rattle.yaml_base.specs.Tags.{version_fault, equals_integer, directives_fault}
-use Rattle.yaml_base.specs.Meaning.{directive_scalars}
-use Rattle.yaml_base.specs.streams.StreamLines.{Line}
-use Rattle.yaml_base.specs.Indicators.{version_1_1, version_1_2}
-use Rattle.yaml_base.specs.Layout.{version_word}
-use Rattle.yaml_base.specs.streams.StreamDocuments.{Heading, with_directive, directive_by_words, directive_line, heading_of, no_heading, version_parsed}
-use Rattle.yaml_base.specs.streams.StreamDocuments.{with_version}
-use Rattle.yaml_base.proofs.PercentLaws.{escaped_stands, stands_in_prefix, prefix_stands, prefix_begins, decoded_prefix, character_stands}
-use Rattle.yaml_base.proofs.TagForms.{IsHandle, handle_form}
-use Rattle.yaml_base.proofs.TagWords.{handle_ends_no_word}
-use Rattle.yaml_base.proofs.NoFaults.{neither, not_given}
-use Rattle.yaml_base.proofs.stream_nodes.StreamProperties.{holds_white, has_no_space, no_white_no_space}
-use Rattle.yaml_base.proofs.stream_nodes.StreamTags.{uri_text, uri_character}
-use Rattle.yaml_base.specs.declared.errors.yaml_error_t.TheVariants.{IncompatibleVersion, DuplicateDirective}
-use Rattle.yaml_base.specs.declared.errors.yaml_error_t.{yaml_error_t}
+use Rattle.yaml_base.specs.streams.StreamDocuments.{version_parsed, with_version, with_directive, directive_by_words, directive_line}
 
 -- Words
 

@@ -1,37 +1,21 @@
 -- The law of whole streams, where each document stands and the layout's text is printable and read from its bytes.
-use Rattle.std.proofs.Common.{◌≡◌, ◌≤◌, refl, sym, ap, ◌∙◌, arith}
-use Rattle.std.proofs.lemmas.Bool.{false≢true, true≢false, and_parts, and_from, leb-true}
-use Rattle.std.specs.List.{list_all, list_any}
-use Rattle.std.specs.Prelude.{ℕ, ℤ, pos, negsuc, Bool, true, false, Option, None, Some, List, [], ◌∷◌, ◌++◌, ◌||◌, ◌&&◌, not, nat_le, is_some, is_none}
-use Rattle.std.specs.Prelude.{option_map, unwrap_or, if◌then◌else◌}
-use Rattle.std.specs.Option.{option_or}
-use Rattle.yaml_base.specs.Characters.{is_printable}
-use Rattle.yaml_base.specs.Settings.{Encoding, Settings, Effective, effective_indent, effective}
-use Rattle.yaml_base.specs.LineBreaks.{with_breaks_written}
-use Rattle.yaml_base.specs.Event.{Event, stream_start, stream_end, document_start, document_end, scalar, sequence_start, sequence_end, mapping_start}
-use Rattle.yaml_base.specs.Event.{mapping_end, Scalar}
-use Rattle.yaml_base.specs.scalars.Style.{lacks_tag_and_flags}
-use Rattle.yaml_base.specs.Grammar.{Node, alias_node, scalar_node, sequence_node, mapping_node, Nodes, no_nodes, nodes_and, Pairs, no_pairs, pairs_and}
-use Rattle.yaml_base.specs.Grammar.{Document, Documents, no_documents, documents_and, Stream, node_events, nodes_events, pairs_events, documents_events}
-use Rattle.yaml_base.specs.Grammar.{stream_events, tree_of}
-use Rattle.yaml_base.specs.Refusal.{some_if, name_or_tag_fault, is_sound, IsAccepted}
-use Rattle.yaml_base.specs.Event.{scalar_tag}
-use Rattle.yaml_base.specs.Layout.{Piece, text_of, layout, has_directives, is_explicit}
-use Rattle.yaml_base.specs.Pieces.{list_layout}
-use Rattle.yaml_base.specs.Output.{bytes_written}
-use Rattle.yaml_base.specs.reading.ReadBytes.{characters_read}
-use Rattle.yaml_base.specs.streams.StreamContent.{DocumentTree, documents_in_order, document_agrees, documents_agree, agrees}
-use Rattle.yaml_base.specs.streams.StreamDocuments.{documents_of}
-use Rattle.yaml_base.specs.streams.StreamReader.{stream_trees}
-use Rattle.yaml_base.specs.StreamLaw.{is_written_as_nothing, loses_document, are_portable, document_has_flow_indicator, reads_alike}
-use Rattle.yaml_base.proofs.Trees.{tree_of-stream_events}
-use Rattle.yaml_base.proofs.stream_lines.StreamBytes.{trees_of_bytes}
-use Rattle.yaml_base.proofs.stream_nodes.StreamAgrees.{node_is_tagged, nodes_are_tagged, pairs_are_tagged, document_tree, document_tree_agrees}
-use Rattle.yaml_base.proofs.stream_documents.StreamEachDocument.{AllDocuments, all_of_both, each_document}
-use Rattle.yaml_base.proofs.stream_documents.StreamRootsStand.{DocumentsStand}
-use Rattle.yaml_base.proofs.stream_documents.StreamWholeReads.{FirstWritten, document_trees, stream_reads}
-use Rattle.yaml_base.specs.declared.errors.yaml_error_t.TheVariants.{NoTagNorImplicit}
-use Rattle.yaml_base.specs.declared.errors.yaml_error_t.{yaml_error_t}
+use Rattle.yaml_base.proofs.Common.{◌≤◌, if◌then◌else◌, is_some, is_none, unwrap_or, option_map, Option, None, Some, nat_le, negsuc, pos, ℤ, Bool, false, not}
+use Rattle.yaml_base.proofs.Common.{true, ◌&&◌, ◌||◌, List, [], ◌++◌, ◌∷◌, refl, ◌≡◌, leb-true, true≢false, ap, sym, ◌∙◌, arith, and_parts, and_from}
+use Rattle.yaml_base.proofs.Common.{false≢true, list_all, list_any, option_or, is_printable, Scalar, Event, stream_start, stream_end, document_start}
+use Rattle.yaml_base.proofs.Common.{document_end, scalar, sequence_start, sequence_end, mapping_start, mapping_end, scalar_tag, Node, alias_node, scalar_node}
+use Rattle.yaml_base.proofs.Common.{Nodes, sequence_node, Pairs, mapping_node, no_nodes, nodes_and, no_pairs, pairs_and, Document, Documents, no_documents}
+use Rattle.yaml_base.proofs.Common.{documents_and, Stream, node_events, nodes_events, pairs_events, documents_events, stream_events, tree_of, has_directives}
+use Rattle.yaml_base.proofs.Common.{is_explicit, layout, Piece, text_of, with_breaks_written, bytes_written, list_layout, some_if, name_or_tag_fault}
+use Rattle.yaml_base.proofs.Common.{is_sound, IsAccepted, Encoding, Settings, Effective, effective_indent, effective, is_written_as_nothing, loses_document}
+use Rattle.yaml_base.proofs.Common.{document_has_flow_indicator, are_portable, reads_alike, characters_read, lacks_tag_and_flags, DocumentTree}
+use Rattle.yaml_base.proofs.Common.{document_agrees, documents_in_order, agrees, documents_of, stream_trees}
+use Rattle.yaml_base.{proofs.Trees.tree_of-stream_events, proofs.stream_documents.StreamEachDocument.AllDocuments}
+use Rattle.yaml_base.{proofs.stream_documents.StreamEachDocument.all_of_both, proofs.stream_documents.StreamEachDocument.each_document}
+use Rattle.yaml_base.{proofs.stream_documents.StreamRootsStand.DocumentsStand, proofs.stream_documents.StreamWholeReads.FirstWritten}
+use Rattle.yaml_base.{proofs.stream_documents.StreamWholeReads.document_trees, proofs.stream_documents.StreamWholeReads.stream_reads}
+use Rattle.yaml_base.{proofs.stream_lines.StreamBytes.trees_of_bytes, specs.declared.errors.yaml_error_t.yaml_error_t}
+use Rattle.yaml_base.{specs.declared.errors.yaml_error_t.TheVariants.NoTagNorImplicit, specs.streams.StreamContent.documents_agree}
+use Rattle.yaml_base.proofs.stream_nodes.StreamAgrees.{document_tree, node_is_tagged, nodes_are_tagged, pairs_are_tagged, document_tree_agrees}
 
 -- Tags
 

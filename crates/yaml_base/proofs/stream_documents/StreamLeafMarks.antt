@@ -1,37 +1,23 @@
 -- No line of a leaf at the root after its first is a document's marker.
-use Rattle.std.proofs.Common.{◌≡◌, ◌≤◌, refl, ap, ◌∙◌, append_assoc, append-nil, arith}
-use Rattle.std.proofs.lemmas.Bool.{false≢true, eqb-true, and_parts, and_from}
-use Rattle.std.specs.List.{list_all}
-use Rattle.std.specs.Prelude.{ℕ, Bool, true, false, Option, None, Some, List, [], ◌∷◌, ◌++◌, ◌-◌, ◌==◌, ◌||◌, ◌&&◌, not, codes, if◌then◌else◌}
-use Rattle.yaml_base.specs.Characters.{Text, line_feed, is_printable}
-use Rattle.yaml_base.specs.LineBreaks.{is_read_break}
-use Rattle.yaml_base.specs.Settings.{Effective}
-use Rattle.yaml_base.specs.Event.{ScalarStyle, any_style, plain, single_quoted, double_quoted, literal, folded, TagDirective, Scalar, Collection}
-use Rattle.yaml_base.specs.scalars.Analysis.{is_empty}
-use Rattle.yaml_base.specs.Grammar.{Node, alias_node, scalar_node, sequence_node, mapping_node, Nodes, Pairs}
-use Rattle.yaml_base.specs.Event.{scalar_tag, collection_tag}
-use Rattle.yaml_base.specs.reading.TidyText.{has_deep_lines, is_tidy_style}
-use Rattle.yaml_base.specs.streams.StreamScalars.{name_read}
-use Rattle.yaml_base.specs.Cursor.{Cursor, Rendered, breaks_line, new_line, render_nothing, render_then, indicator}
-use Rattle.yaml_base.specs.Layout.{deeper, entries_column, has_no_nodes, has_no_pairs, root_place, render_properties, render_alias, render_separation}
-use Rattle.yaml_base.specs.Layout.{render_body}
-use Rattle.yaml_base.specs.Layout.{choice_of, is_written_in_flow, Brackets, square, curly, empty_or_comma, render_end}
-use Rattle.yaml_base.specs.streams.StreamLines.{prepend_character, lines_of, spaces}
-use Rattle.yaml_base.specs.streams.StreamDocuments.{marker_of}
-use Rattle.yaml_base.proofs.stream_lines.StreamLineLaws.{OneLine, one_line_both}
-use Rattle.yaml_base.proofs.stream_lines.StreamTidyLaws.{first_text, lines_after_first, first_extended, deep_lines_inside}
-use Rattle.yaml_base.proofs.stream_lines.StreamSections.{is_unmarked, AllUnmarked}
-use Rattle.yaml_base.proofs.stream_lines.StreamUnmarked.{inside_unmarked, all_unmarked}
+use Rattle.yaml_base.proofs.Common.{ℕ, ◌-◌, ◌≤◌, if◌then◌else◌, ◌==◌, Option, None, Some, codes, Bool, false, not, true, ◌&&◌, ◌||◌, List, [], ◌++◌, ◌∷◌}
+use Rattle.yaml_base.proofs.Common.{refl, ◌≡◌, eqb-true, append-nil, append_assoc, ap, ◌∙◌, arith, and_parts, and_from, false≢true, list_all, Text, line_feed}
+use Rattle.yaml_base.proofs.Common.{is_printable, Cursor, Rendered, render_nothing, render_then, breaks_line, new_line, indicator, ScalarStyle, any_style}
+use Rattle.yaml_base.proofs.Common.{plain, single_quoted, double_quoted, literal, folded, TagDirective, Scalar, Collection, scalar_tag, collection_tag, Node}
+use Rattle.yaml_base.proofs.Common.{alias_node, scalar_node, Nodes, sequence_node, Pairs, mapping_node, root_place, render_properties, render_alias}
+use Rattle.yaml_base.proofs.Common.{render_separation, render_body, choice_of, is_written_in_flow, Brackets, square, curly, empty_or_comma, render_end}
+use Rattle.yaml_base.proofs.Common.{deeper, entries_column, has_no_nodes, has_no_pairs, is_read_break, Effective, has_deep_lines, is_tidy_style, is_empty}
+use Rattle.yaml_base.proofs.Common.{marker_of, prepend_character, lines_of, spaces, name_read}
+use Rattle.yaml_base.proofs.{stream_documents.StreamRootsStand.is_leaf, stream_flow.StreamFlowTakes.and_false, stream_lines.StreamLineLaws.OneLine}
+use Rattle.yaml_base.proofs.{stream_lines.StreamLineLaws.one_line_both, stream_lines.StreamSections.is_unmarked, stream_lines.StreamSections.AllUnmarked}
+use Rattle.yaml_base.proofs.{stream_lines.StreamUnmarked.inside_unmarked, stream_lines.StreamUnmarked.all_unmarked, stream_nodes.StreamOwnWords.deep_more}
+use Rattle.yaml_base.proofs.{stream_nodes.StreamProperties.IsNamed}
+use Rattle.yaml_base.proofs.stream_flow.StreamFlowDeep.{properties_line, indicator_deep, indicators_line, brackets_line, alias_deep, items_deep, pairs_deep}
 use Rattle.yaml_base.proofs.stream_lines.StreamClosed.{closing, closed, spaces_line, after_line}
-use Rattle.yaml_base.proofs.stream_nodes.StreamTexts.{collection_own, node_own, items_own, pairs_own}
-use Rattle.yaml_base.proofs.stream_nodes.StreamProperties.{IsNamed}
+use Rattle.yaml_base.proofs.stream_lines.StreamDeepBreaks.{after_breaks, begins_deep, Deep, Keeps, after_both, after_weaker, after_line_of, deep_keeps}
+use Rattle.yaml_base.proofs.stream_lines.StreamDeepBreaks.{space_line, lines_pass, deep_first}
+use Rattle.yaml_base.proofs.stream_lines.StreamTidyLaws.{first_text, lines_after_first, first_extended, deep_lines_inside}
 use Rattle.yaml_base.proofs.stream_nodes.StreamStands.{TagStands, NamesStand, BodyStands, body_from, BodiesHold, ItemsHold, PairsHold}
-use Rattle.yaml_base.proofs.stream_flow.StreamFlowTakes.{and_false}
-use Rattle.yaml_base.proofs.stream_nodes.StreamOwnWords.{deep_more}
-use Rattle.yaml_base.proofs.stream_documents.StreamRootsStand.{is_leaf}
-use Rattle.yaml_base.proofs.stream_lines.StreamDeepBreaks.{after_breaks, begins_deep, Deep, Keeps, after_both, after_weaker, after_line_of, space_line}
-use Rattle.yaml_base.proofs.stream_lines.StreamDeepBreaks.{deep_keeps, lines_pass, deep_first}
-use Rattle.yaml_base.proofs.stream_flow.StreamFlowDeep.{properties_line, indicators_line, brackets_line, indicator_deep, alias_deep, items_deep, pairs_deep}
+use Rattle.yaml_base.proofs.stream_nodes.StreamTexts.{collection_own, node_own, items_own, pairs_own}
 
 -- Collections in flow
 

@@ -1,32 +1,18 @@
 -- A root behind `---`, or one without it at a stream's start, is one document more of the stream.
-use Rattle.std.proofs.Common.{◌≡◌, ◌≤◌, refl, sym, ap, ◌∙◌}
-use Rattle.std.proofs.lemmas.Bool.{false≢true, and_from}
-use Rattle.std.specs.List.{list_all}
-use Rattle.std.specs.Prelude.{ℕ, Bool, true, false, Option, None, Some, List, [], ◌∷◌, ◌++◌, ◌==◌, ◌||◌, ◌&&◌, not, codes, if◌then◌else◌}
-use Rattle.yaml_base.specs.Characters.{Text, line_feed, space}
-use Rattle.yaml_base.specs.Settings.{Effective}
-use Rattle.yaml_base.specs.Grammar.{Document}
-use Rattle.yaml_base.specs.Layout.{has_directives, root_place}
-use Rattle.yaml_base.specs.streams.StreamContent.{Tree, DocumentTree}
-use Rattle.yaml_base.specs.streams.StreamLines.{Line, lines_of, ends_indicator, is_spaces, without_blank_lines}
-use Rattle.yaml_base.specs.streams.StreamScalars.{Rules}
-use Rattle.yaml_base.specs.streams.StreamNodes.{node_read}
-use Rattle.yaml_base.specs.streams.StreamDocuments.{start_marker, end_marker, no_exclamation, begins_with_marker, marker_of, Heading, root_below}
-use Rattle.yaml_base.specs.streams.StreamDocuments.{stands_at_margin, after_root}
-use Rattle.yaml_base.specs.streams.StreamDocuments.{with_read_document, section_by_kind, directive_lines, document_lines, prefix_kind, lines_before_marker_read}
-use Rattle.yaml_base.proofs.stream_nodes.StreamAgrees.{document_tree}
-use Rattle.yaml_base.proofs.stream_lines.StreamLineLaws.{OneLine}
-use Rattle.yaml_base.proofs.stream_lines.StreamTidyLaws.{lines_after_first}
-use Rattle.yaml_base.proofs.stream_lines.StreamSections.{is_unmarked, AllUnmarked}
+use Rattle.yaml_base.proofs.Common.{ℕ, ◌≤◌, if◌then◌else◌, ◌==◌, Option, None, Some, codes, Bool, false, not, true, ◌&&◌, ◌||◌, List, [], ◌++◌, ◌∷◌, refl}
+use Rattle.yaml_base.proofs.Common.{◌≡◌, ap, sym, ◌∙◌, and_from, false≢true, list_all, Text, line_feed, space, Document, has_directives, root_place}
+use Rattle.yaml_base.proofs.Common.{Effective, Tree, DocumentTree, begins_with_marker, start_marker, end_marker, no_exclamation, marker_of, Heading}
+use Rattle.yaml_base.proofs.Common.{stands_at_margin, root_below, with_read_document, section_by_kind, directive_lines, document_lines, prefix_kind}
+use Rattle.yaml_base.proofs.Common.{lines_before_marker_read, Line, lines_of, is_spaces, without_blank_lines, ends_indicator, node_read, Rules}
+use Rattle.yaml_base.{proofs.stream_nodes.StreamAgrees.document_tree, specs.streams.StreamDocuments.after_root}
+use Rattle.yaml_base.proofs.stream_documents.{StreamDocumentReads.Headed, StreamDocumentReads.heading_parsed, StreamDocumentReads.nothing_parsed}
+use Rattle.yaml_base.proofs.stream_documents.{StreamRootLines.begins_shown, StreamRootLines.stands_below, StreamRootLines.Stood, StreamRootStood.root_tree}
+use Rattle.yaml_base.proofs.stream_documents.{StreamRoots.root_reads, StreamRoots.root_marked_reads, StreamRootsStand.rules_of, StreamRootsStand.root_cursor}
+use Rattle.yaml_base.proofs.stream_documents.{StreamRootsStand.render_root, StreamSoFar.WalkProgress, StreamSoFar.prefix_alone, StreamSoFar.one_more}
+use Rattle.yaml_base.proofs.stream_lines.{StreamLineLaws.OneLine, StreamSections.is_unmarked, StreamSections.AllUnmarked, StreamTidyLaws.lines_after_first}
+use Rattle.yaml_base.proofs.stream_lines.{StreamUnread.read_unmarked, StreamUnread.read_no_percent}
 use Rattle.yaml_base.proofs.stream_lines.StreamClosed.{closed, lines_behind, lines_broken, closed_behind, closed_both}
 use Rattle.yaml_base.proofs.stream_nodes.StreamFits.{size, Opens, Fits, indicated_ends}
-use Rattle.yaml_base.proofs.stream_documents.StreamRoots.{root_reads, root_marked_reads}
-use Rattle.yaml_base.proofs.stream_documents.StreamRootsStand.{rules_of, root_cursor, render_root}
-use Rattle.yaml_base.proofs.stream_documents.StreamRootLines.{begins_shown, stands_below, Stood}
-use Rattle.yaml_base.proofs.stream_documents.StreamRootStood.{root_tree}
-use Rattle.yaml_base.proofs.stream_lines.StreamUnread.{read_unmarked, read_no_percent}
-use Rattle.yaml_base.proofs.stream_documents.StreamSoFar.{WalkProgress, prefix_alone, one_more}
-use Rattle.yaml_base.proofs.stream_documents.StreamDocumentReads.{Headed, heading_parsed, nothing_parsed}
 
 -- The first line
 

@@ -1,36 +1,16 @@
 -- What a root that stands begins with, behind a space where one is needed: a character that no reader skips.
-use Rattle.std.proofs.Common.{◌≡◌, refl, sym, ap, ◌∙◌, append_assoc, append-nil}
-use Rattle.std.proofs.lemmas.Bool.{true≢false, false≢true, and_parts, or_parts}
-use Rattle.std.specs.Prelude.{ℕ, Bool, true, false, Option, None, Some, List, [], ◌∷◌, ◌++◌, ◌==◌, ◌&&◌, not, if◌then◌else◌}
-use Rattle.yaml_base.specs.Characters.{Text, space, tab, is_blank}
-use Rattle.yaml_base.specs.LineBreaks.{is_read_break}
-use Rattle.yaml_base.specs.Settings.{Effective}
-use Rattle.yaml_base.specs.Event.{ScalarStyle, any_style, plain, single_quoted, double_quoted, literal, folded, TagDirective}
-use Rattle.yaml_base.specs.scalars.Analysis.{Allowances, is_empty}
-use Rattle.yaml_base.specs.scalars.Style.{is_plain, fitting_style}
-use Rattle.yaml_base.specs.scalars.Plain.{runs, render_runs}
-use Rattle.yaml_base.specs.scalars.SingleQuoted.{quotes_doubled, single_quote}
-use Rattle.yaml_base.specs.scalars.DoubleQuoted.{double_inside, render_quote}
-use Rattle.yaml_base.specs.Meaning.{read_in_style}
-use Rattle.yaml_base.specs.reading.ReadPlain.{is_read_white, read_plain}
-use Rattle.yaml_base.specs.reading.TidyText.{has_no_space_before_break, has_clean_edges, ends_white, is_tidy_style}
-use Rattle.yaml_base.specs.streams.StreamContent.{Tree}
-use Rattle.yaml_base.specs.Cursor.{Cursor, Rendered, space_if}
-use Rattle.yaml_base.specs.Tags.{spelling, spelled}
-use Rattle.yaml_base.specs.Layout.{render_alias, render_properties, render_body}
-use Rattle.yaml_base.specs.reading.ReadTags.{ParsedTag}
-use Rattle.yaml_base.specs.streams.StreamScalars.{Rules}
-use Rattle.yaml_base.proofs.stream_nodes.StreamProperties.{IsNamed}
-use Rattle.yaml_base.proofs.stream_flow.StreamPropertyWords.{lead}
-use Rattle.yaml_base.proofs.stream_nodes.StreamStands.{tag_written, tag_meant, TagStands}
-use Rattle.yaml_base.proofs.stream_flow.StreamFlowWords.{Given}
-use Rattle.yaml_base.proofs.stream_nodes.StreamBegun.{properties_whole}
-use Rattle.yaml_base.proofs.stream_flow.StreamFlowReads.{FlowContent}
-use Rattle.yaml_base.proofs.stream_flow.StreamFlowFits.{own_shows}
-use Rattle.yaml_base.proofs.stream_nodes.StreamLeads.{lead_rendered, tag_is_written}
-use Rattle.yaml_base.proofs.stream_flow.StreamFlowScalars.{rules_of}
-use Rattle.yaml_base.proofs.stream_nodes.StreamScalarsFit.{render_styled, body_cursor, separation_text}
-use Rattle.yaml_base.proofs.stream_documents.StreamRootsStand.{Begins}
+use Rattle.yaml_base.proofs.Common.{ℕ, if◌then◌else◌, ◌==◌, Option, None, Some, Bool, false, not, true, ◌&&◌, List, [], ◌++◌, ◌∷◌, refl, ◌≡◌, true≢false}
+use Rattle.yaml_base.proofs.Common.{append-nil, append_assoc, ap, sym, ◌∙◌, and_parts, or_parts, false≢true, Text, space, tab, is_blank, Cursor, Rendered}
+use Rattle.yaml_base.proofs.Common.{space_if, ScalarStyle, any_style, plain, single_quoted, double_quoted, literal, folded, TagDirective, render_properties}
+use Rattle.yaml_base.proofs.Common.{render_alias, render_body, is_read_break, read_in_style, Effective, spelling, spelled, is_read_white, read_plain}
+use Rattle.yaml_base.proofs.Common.{ParsedTag, has_no_space_before_break, ends_white, has_clean_edges, is_tidy_style, Allowances, is_empty, double_inside}
+use Rattle.yaml_base.proofs.Common.{render_quote, runs, render_runs, quotes_doubled, single_quote, is_plain, fitting_style, Tree, Rules}
+use Rattle.yaml_base.proofs.{stream_documents.StreamRootsStand.Begins, stream_flow.StreamFlowFits.own_shows, stream_flow.StreamFlowReads.FlowContent}
+use Rattle.yaml_base.proofs.{stream_flow.StreamFlowScalars.rules_of, stream_flow.StreamFlowWords.Given, stream_flow.StreamPropertyWords.lead}
+use Rattle.yaml_base.proofs.{stream_nodes.StreamBegun.properties_whole, stream_nodes.StreamLeads.lead_rendered, stream_nodes.StreamLeads.tag_is_written}
+use Rattle.yaml_base.proofs.{stream_nodes.StreamProperties.IsNamed, stream_nodes.StreamScalarsFit.render_styled, stream_nodes.StreamScalarsFit.body_cursor}
+use Rattle.yaml_base.proofs.{stream_nodes.StreamScalarsFit.separation_text, stream_nodes.StreamStands.tag_written, stream_nodes.StreamStands.tag_meant}
+use Rattle.yaml_base.proofs.{stream_nodes.StreamStands.TagStands}
 
 -- Characters
 

@@ -1,25 +1,13 @@
 -- The lines of a root: no line after its first is a marker, and its first stands where a root may begin.
-use Rattle.std.proofs.Common.{◌≡◌, refl, sym, ap, ◌∙◌, append_assoc, subst}
-use Rattle.std.proofs.lemmas.Bool.{true≢false, and_parts}
-use Rattle.std.specs.List.{list_all, list_any}
-use Rattle.std.specs.Prelude.{ℕ, zero, suc, Bool, true, false, Option, List, [], ◌∷◌, ◌++◌, ◌==◌, ◌||◌, not}
-use Rattle.yaml_base.specs.Characters.{Text, line_feed, space}
-use Rattle.yaml_base.specs.LineBreaks.{is_read_break}
-use Rattle.yaml_base.specs.scalars.Analysis.{is_empty}
-use Rattle.yaml_base.specs.Cursor.{Rendered, render_nothing}
-use Rattle.yaml_base.specs.streams.StreamLines.{Line, prepend_character, prepend_to_first_line, lines_of, ends_indicator, is_spaces}
-use Rattle.yaml_base.specs.streams.StreamLines.{without_blank_lines, spaces}
-use Rattle.yaml_base.specs.streams.StreamScalars.{Rules}
-use Rattle.yaml_base.specs.streams.StreamNodes.{NodeKind}
-use Rattle.yaml_base.specs.streams.StreamDocuments.{marker_of, stands_at_margin}
-use Rattle.yaml_base.proofs.stream_lines.StreamLineLaws.{one_line_both}
-use Rattle.yaml_base.proofs.stream_lines.StreamInside.{not_blank}
-use Rattle.yaml_base.proofs.stream_lines.StreamTidyLaws.{lines_after_first}
-use Rattle.yaml_base.proofs.stream_lines.StreamSections.{is_unmarked, AllUnmarked}
+use Rattle.yaml_base.proofs.Common.{suc, zero, ℕ, ◌==◌, Option, Bool, false, not, true, ◌||◌, List, [], ◌++◌, ◌∷◌, refl, ◌≡◌, true≢false, append_assoc, ap}
+use Rattle.yaml_base.proofs.Common.{subst, sym, ◌∙◌, and_parts, list_all, list_any, Text, line_feed, space, Rendered, render_nothing, is_read_break, is_empty}
+use Rattle.yaml_base.proofs.Common.{marker_of, stands_at_margin, Line, prepend_to_first_line, prepend_character, lines_of, is_spaces, without_blank_lines}
+use Rattle.yaml_base.proofs.Common.{ends_indicator, spaces, NodeKind, Rules}
+use Rattle.yaml_base.proofs.{stream_documents.StreamRootsStand.root_cursor, stream_documents.StreamRootsStand.Begins, stream_lines.StreamInside.not_blank}
+use Rattle.yaml_base.proofs.{stream_lines.StreamLineLaws.one_line_both, stream_lines.StreamSections.is_unmarked, stream_lines.StreamSections.AllUnmarked}
+use Rattle.yaml_base.proofs.{stream_lines.StreamTidyLaws.lines_after_first, stream_nodes.StreamItems.Lays}
 use Rattle.yaml_base.proofs.stream_lines.StreamClosed.{closing, closed, spaces_line, lines_behind, lines_broken}
-use Rattle.yaml_base.proofs.stream_nodes.StreamItems.{Lays}
 use Rattle.yaml_base.proofs.stream_nodes.StreamBlocks.{Opened, opened_shows, BegunKind, unsaid, is_parsed, block_own, own_closed, below}
-use Rattle.yaml_base.proofs.stream_documents.StreamRootsStand.{root_cursor, Begins}
 
 -- the first of some lines begins with a character that is no space
 abbrev pub begins_shown : List Line → Bool

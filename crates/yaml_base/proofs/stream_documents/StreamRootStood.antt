@@ -1,37 +1,21 @@
 -- A root that stands, as a document's directives are given, fits where it begins, and its lines are those of a root.
-use Rattle.std.proofs.Common.{◌≡◌, suc, ◌≤◌, refl, sym, ap, ◌∙◌, subst, arith}
-use Rattle.std.proofs.lemmas.Bool.{false≢true, true≢false, or_parts}
-use Rattle.std.specs.Prelude.{ℕ, Bool, true, false, Option, None, Some, List, [], ◌∷◌, ◌||◌, not, option_map, if◌then◌else◌}
-use Rattle.yaml_base.specs.Characters.{Text}
-use Rattle.yaml_base.specs.Settings.{Effective}
-use Rattle.yaml_base.specs.Event.{TagDirective, Collection}
-use Rattle.yaml_base.specs.Tags.{directives_in_force}
-use Rattle.yaml_base.specs.Cursor.{Rendered}
-use Rattle.yaml_base.specs.Grammar.{Node, alias_node, scalar_node, sequence_node, mapping_node, Nodes, Pairs, Document}
-use Rattle.yaml_base.specs.Event.{collection_tag}
-use Rattle.yaml_base.specs.Layout.{has_no_nodes, has_no_pairs, asks_flow, is_written_in_flow, root_place, square, curly}
-use Rattle.yaml_base.specs.streams.StreamContent.{Tagging, Tree, scalar_tree, sequence_tree, mapping_tree}
-use Rattle.yaml_base.specs.streams.StreamLines.{Line, lines_of, is_spaces, without_blank_lines, indented, blanked}
-use Rattle.yaml_base.specs.streams.StreamScalars.{Rules, no_properties}
-use Rattle.yaml_base.specs.streams.StreamNodes.{NodeKind, begins_sequence, begins_mapping, begins_text, kind_of_node, Reads, ReadsText, node_by_kind, node_at}
-use Rattle.yaml_base.specs.streams.StreamNodes.{begins_properties, text_or_properties, node_read}
-use Rattle.yaml_base.specs.streams.StreamDocuments.{stands_at_margin}
-use Rattle.yaml_base.specs.StreamLaw.{is_written_as_nothing}
-use Rattle.yaml_base.proofs.stream_lines.StreamCuts.{none_not_some}
-use Rattle.yaml_base.proofs.stream_nodes.StreamAgrees.{node_tree}
-use Rattle.yaml_base.proofs.stream_nodes.StreamTexts.{collection_own, node_own, items_own, pairs_own}
-use Rattle.yaml_base.proofs.stream_lines.StreamUnmarked.{items_unmarked, pairs_unmarked}
-use Rattle.yaml_base.proofs.stream_lines.StreamClosed.{closed}
-use Rattle.yaml_base.proofs.stream_nodes.StreamFits.{size, Opens, Fits, blanked_lines}
-use Rattle.yaml_base.proofs.stream_nodes.StreamItems.{items_text, items_lay}
-use Rattle.yaml_base.proofs.stream_nodes.StreamPairs.{pairs_text}
-use Rattle.yaml_base.proofs.stream_nodes.StreamPairReads.{pairs_lay}
-use Rattle.yaml_base.proofs.stream_nodes.StreamCentral.{items_block, pairs_block}
-use Rattle.yaml_base.proofs.stream_nodes.StreamNodesFit.{EitherType, LeafFits, render_begun, BegunReads, Leaves, ItemLeaves, PairLeaves, Stands, items_fit}
-use Rattle.yaml_base.proofs.stream_nodes.StreamNodesFit.{pairs_fit, node_fits}
-use Rattle.yaml_base.proofs.stream_documents.StreamRoots.{marker_cursor}
-use Rattle.yaml_base.proofs.stream_documents.StreamRootsStand.{rules_of, root_cursor, render_root, is_leaf, PropertiesStand, RootStands}
+use Rattle.yaml_base.proofs.Common.{suc, ℕ, ◌≤◌, if◌then◌else◌, option_map, Option, None, Some, Bool, false, not, true, ◌||◌, List, [], ◌∷◌, refl, ◌≡◌}
+use Rattle.yaml_base.proofs.Common.{true≢false, ap, subst, sym, ◌∙◌, arith, or_parts, false≢true, Text, Rendered, TagDirective, Collection, collection_tag}
+use Rattle.yaml_base.proofs.Common.{Node, alias_node, scalar_node, Nodes, sequence_node, Pairs, mapping_node, Document, root_place, asks_flow}
+use Rattle.yaml_base.proofs.Common.{is_written_in_flow, square, curly, has_no_nodes, has_no_pairs, Effective, is_written_as_nothing, directives_in_force}
+use Rattle.yaml_base.proofs.Common.{Tagging, Tree, scalar_tree, sequence_tree, mapping_tree, stands_at_margin, Line, lines_of, is_spaces, without_blank_lines}
+use Rattle.yaml_base.proofs.Common.{indented, blanked, Reads, NodeKind, begins_sequence, begins_mapping, begins_text, kind_of_node, ReadsText, node_by_kind}
+use Rattle.yaml_base.proofs.Common.{node_at, begins_properties, text_or_properties, node_read, Rules, no_properties}
+use Rattle.yaml_base.proofs.{stream_documents.StreamRoots.marker_cursor, stream_lines.StreamClosed.closed, stream_lines.StreamCuts.none_not_some}
+use Rattle.yaml_base.proofs.{stream_lines.StreamUnmarked.items_unmarked, stream_lines.StreamUnmarked.pairs_unmarked, stream_nodes.StreamAgrees.node_tree}
+use Rattle.yaml_base.proofs.{stream_nodes.StreamCentral.items_block, stream_nodes.StreamCentral.pairs_block, stream_nodes.StreamItems.items_text}
+use Rattle.yaml_base.proofs.{stream_nodes.StreamItems.items_lay, stream_nodes.StreamPairReads.pairs_lay, stream_nodes.StreamPairs.pairs_text}
 use Rattle.yaml_base.proofs.stream_documents.StreamRootLines.{FirstStands, Stood, begins_stands, block_stands}
+use Rattle.yaml_base.proofs.stream_documents.StreamRootsStand.{rules_of, root_cursor, render_root, is_leaf, PropertiesStand, RootStands}
+use Rattle.yaml_base.proofs.stream_nodes.StreamFits.{size, Opens, Fits, blanked_lines}
+use Rattle.yaml_base.proofs.stream_nodes.StreamNodesFit.{EitherType, LeafFits, render_begun, BegunReads, Leaves, ItemLeaves, PairLeaves, Stands, node_fits}
+use Rattle.yaml_base.proofs.stream_nodes.StreamNodesFit.{items_fit, pairs_fit}
+use Rattle.yaml_base.proofs.stream_nodes.StreamTexts.{collection_own, node_own, items_own, pairs_own}
 
 -- Collections in blocks
 

@@ -1,18 +1,12 @@
 -- A root that fits reads as its document's tree: on lines of its own, on the line of `---`, and below that line.
-use Rattle.std.proofs.Common.{◌≡◌, zero, suc, ◌≤◌, refl, sym, ap, ◌∙◌}
-use Rattle.std.proofs.lemmas.Bool.{false≢true}
-use Rattle.std.specs.Prelude.{ℕ, Bool, true, false, None, Some, List, [], ◌∷◌, ◌++◌, ◌||◌, not, codes, if◌then◌else◌}
-use Rattle.yaml_base.specs.Cursor.{Cursor, Rendered}
-use Rattle.yaml_base.specs.Layout.{root_place}
-use Rattle.yaml_base.specs.streams.StreamContent.{Tree}
-use Rattle.yaml_base.specs.streams.StreamLines.{Line, lines_of, is_spaces, without_blank_lines, begins_blank, indented, blanked}
-use Rattle.yaml_base.specs.streams.StreamScalars.{Rules, Properties, no_properties}
-use Rattle.yaml_base.specs.streams.StreamNodes.{NodeKind, begins_sequence, begins_mapping, begins_text, kind_of_node, Reads, ReadsText, node_by_kind, node_at}
-use Rattle.yaml_base.specs.streams.StreamNodes.{begins_properties, text_or_properties, node_read}
-use Rattle.yaml_base.specs.streams.StreamDocuments.{stands_at_margin, root_below, root_after_marker, root_marked}
-use Rattle.yaml_base.proofs.stream_lines.StreamCuts.{none_not_some}
-use Rattle.yaml_base.proofs.stream_lines.StreamClosed.{closed, margin_cursor}
+use Rattle.yaml_base.proofs.Common.{suc, zero, ℕ, ◌≤◌, if◌then◌else◌, None, Some, codes, Bool, false, not, true, ◌||◌, List, [], ◌++◌, ◌∷◌, refl, ◌≡◌, ap}
+use Rattle.yaml_base.proofs.Common.{sym, ◌∙◌, false≢true, Cursor, Rendered, root_place, Tree, stands_at_margin, root_below, Line, lines_of, is_spaces}
+use Rattle.yaml_base.proofs.Common.{without_blank_lines, begins_blank, indented, blanked, Reads, NodeKind, begins_sequence, begins_mapping, begins_text}
+use Rattle.yaml_base.proofs.Common.{kind_of_node, ReadsText, node_by_kind, node_at, begins_properties, text_or_properties, node_read, Rules, Properties}
+use Rattle.yaml_base.proofs.Common.{no_properties}
+use Rattle.yaml_base.proofs.stream_lines.{StreamClosed.closed, StreamClosed.margin_cursor, StreamCuts.none_not_some}
 use Rattle.yaml_base.proofs.stream_nodes.StreamFits.{Opens, Fits, blanked_lines}
+use Rattle.yaml_base.specs.streams.StreamDocuments.{root_after_marker, root_marked}
 
 -- the cursor behind `---`
 abbrev pub marker_cursor : Cursor

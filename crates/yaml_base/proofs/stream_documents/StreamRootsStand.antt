@@ -1,28 +1,13 @@
 -- What is asked of each document for its stream to be read back: that its root's parts are read, what its root begins with,
 -- that its lines are no markers, and that its directives are read.
-use Rattle.std.proofs.Common.{◌≡◌}
-use Rattle.std.specs.List.{list_all}
-use Rattle.std.specs.Prelude.{ℕ, Bool, true, false, Some, List, [], ◌∷◌, ◌++◌, ◌==◌, ◌||◌, ◌&&◌, not, if◌then◌else◌}
-use Rattle.yaml_base.specs.Characters.{Text, space}
-use Rattle.yaml_base.specs.LineBreaks.{is_read_break}
-use Rattle.yaml_base.specs.Settings.{Effective}
-use Rattle.yaml_base.specs.Event.{TagDirective, DocumentStart}
-use Rattle.yaml_base.specs.Tags.{directives_in_force}
-use Rattle.yaml_base.specs.Cursor.{Cursor, Rendered, render_then}
-use Rattle.yaml_base.specs.Grammar.{Node, alias_node, scalar_node, sequence_node, mapping_node, Document, Documents, no_documents, documents_and}
-use Rattle.yaml_base.specs.Layout.{has_no_nodes, has_no_pairs, is_written_in_flow, is_explicit, root_place, has_no_documents, render_version}
-use Rattle.yaml_base.specs.Layout.{render_tag_directives}
-use Rattle.yaml_base.specs.streams.StreamLines.{lines_of, spaces}
-use Rattle.yaml_base.specs.streams.StreamScalars.{Rules}
-use Rattle.yaml_base.specs.streams.StreamDocuments.{heading_of, begins_with_percent}
-use Rattle.yaml_base.specs.StreamLaw.{is_written_as_nothing}
-use Rattle.yaml_base.proofs.stream_nodes.StreamTexts.{node_own}
-use Rattle.yaml_base.proofs.stream_lines.StreamLineLaws.{is_closed}
-use Rattle.yaml_base.proofs.stream_lines.StreamTidyLaws.{lines_after_first}
-use Rattle.yaml_base.proofs.stream_lines.StreamSections.{AllUnmarked}
-use Rattle.yaml_base.proofs.stream_lines.StreamClosed.{closed, margin_cursor}
-use Rattle.yaml_base.proofs.stream_nodes.StreamNodesFit.{Leaves, render_begun}
-use Rattle.yaml_base.proofs.stream_documents.StreamRoots.{marker_cursor}
+use Rattle.yaml_base.proofs.Common.{ℕ, if◌then◌else◌, ◌==◌, Some, Bool, false, not, true, ◌&&◌, ◌||◌, List, [], ◌++◌, ◌∷◌, ◌≡◌, list_all, Text, space, Cursor}
+use Rattle.yaml_base.proofs.Common.{Rendered, render_then, TagDirective, DocumentStart, Node, alias_node, scalar_node, sequence_node, mapping_node, Document}
+use Rattle.yaml_base.proofs.Common.{Documents, no_documents, documents_and, render_version, render_tag_directives, is_explicit, root_place, has_no_documents}
+use Rattle.yaml_base.proofs.Common.{is_written_in_flow, has_no_nodes, has_no_pairs, is_read_break, Effective, is_written_as_nothing, directives_in_force}
+use Rattle.yaml_base.proofs.Common.{heading_of, begins_with_percent, lines_of, spaces, Rules}
+use Rattle.yaml_base.proofs.{stream_documents.StreamRoots.marker_cursor, stream_lines.StreamClosed.closed, stream_lines.StreamClosed.margin_cursor}
+use Rattle.yaml_base.proofs.{stream_lines.StreamLineLaws.is_closed, stream_lines.StreamSections.AllUnmarked, stream_lines.StreamTidyLaws.lines_after_first}
+use Rattle.yaml_base.proofs.{stream_nodes.StreamNodesFit.render_begun, stream_nodes.StreamNodesFit.Leaves, stream_nodes.StreamTexts.node_own}
 
 -- Places
 

@@ -1,24 +1,15 @@
 -- A node is no deeper than its text is long, and one.
-use Rattle.std.proofs.Common.{◌≡◌, suc, ◌≤◌, refl, ap, ◌∙◌, append_assoc, arith}
-use Rattle.std.proofs.lemmas.Bool.{false≢true}
-use Rattle.std.proofs.lemmas.List.{length-append}
-use Rattle.std.specs.Prelude.{ℕ, Bool, true, false, Some, List, [], ◌++◌, ◌+◌, length, codes}
-use Rattle.yaml_base.specs.Characters.{Text}
-use Rattle.yaml_base.specs.Settings.{Effective}
-use Rattle.yaml_base.specs.Event.{TagDirective, Collection}
-use Rattle.yaml_base.specs.Cursor.{Cursor, Rendered, render_then, new_line, space_if, indicator}
-use Rattle.yaml_base.specs.Grammar.{Node, alias_node, scalar_node, sequence_node, mapping_node, Nodes, no_nodes, nodes_and, Pairs, no_pairs, pairs_and}
-use Rattle.yaml_base.specs.Layout.{Role, as_item, as_key, as_value, Place, is_undented, entries_column, has_no_nodes, has_no_pairs, is_simple, flow_break}
-use Rattle.yaml_base.specs.Layout.{opening_or_comma, key_indicator, is_written_in_flow, entry_place, render_place, square, curly, render_end}
-use Rattle.yaml_base.specs.streams.StreamContent.{Tree}
-use Rattle.yaml_base.specs.streams.StreamScalars.{Rules}
-use Rattle.yaml_base.proofs.stream_nodes.StreamAgrees.{node_tree}
-use Rattle.yaml_base.proofs.stream_nodes.StreamTexts.{collection_own, node_own, items_own, pairs_own}
-use Rattle.yaml_base.proofs.stream_nodes.StreamFits.{size, items_size, pairs_size}
+use Rattle.yaml_base.proofs.Common.{suc, ℕ, ◌+◌, ◌≤◌, Some, codes, length, Bool, false, true, List, [], ◌++◌, refl, ◌≡◌, length-append, append_assoc, ap, ◌∙◌}
+use Rattle.yaml_base.proofs.Common.{arith, false≢true, Text, Cursor, Rendered, render_then, new_line, space_if, indicator, TagDirective, Collection, Node}
+use Rattle.yaml_base.proofs.Common.{alias_node, scalar_node, Nodes, sequence_node, Pairs, mapping_node, no_nodes, nodes_and, no_pairs, pairs_and}
+use Rattle.yaml_base.proofs.Common.{is_written_in_flow, square, curly, render_end, entry_place, Role, as_item, as_key, as_value, Place, is_undented}
+use Rattle.yaml_base.proofs.Common.{entries_column, has_no_nodes, has_no_pairs, is_simple, flow_break, opening_or_comma, key_indicator, render_place}
+use Rattle.yaml_base.proofs.Common.{Effective, Tree, Rules}
 use Rattle.yaml_base.proofs.stream_lines.StreamClosed.{indicator_cursor}
-use Rattle.yaml_base.proofs.stream_nodes.StreamItems.{item_place}
-use Rattle.yaml_base.proofs.stream_nodes.StreamPairs.{KeyFits, key_place, value_place, colon_cursor, simple_key, indicated_key, simple_value, indicated_value}
+use Rattle.yaml_base.proofs.stream_nodes.{StreamAgrees.node_tree, StreamFits.size, StreamFits.items_size, StreamFits.pairs_size, StreamItems.item_place}
 use Rattle.yaml_base.proofs.stream_nodes.StreamNodesFit.{EitherType, LeafFits, render_begun, BegunReads, Leaves, ItemLeaves, PairLeaves}
+use Rattle.yaml_base.proofs.stream_nodes.StreamPairs.{KeyFits, key_place, value_place, colon_cursor, simple_key, indicated_key, simple_value, indicated_value}
+use Rattle.yaml_base.proofs.stream_nodes.StreamTexts.{collection_own, node_own, items_own, pairs_own}
 
 -- the length of three texts one after another
 length_three : (a b c : Text) → length ((a ++ b) ++ c) ≡ length a + length b + length c

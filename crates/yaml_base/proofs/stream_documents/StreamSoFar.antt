@@ -1,18 +1,12 @@
 -- A stream's text as far as it is read: its lines cut into sections, whatever markers follow them, and what they are read as.
-use Rattle.std.proofs.Common.{◌≡◌, refl, sym, ap, ◌∙◌, append_assoc, append-nil}
-use Rattle.std.proofs.lemmas.Bool.{false≢true, eqb-true, and_parts, and_from}
+use Rattle.yaml_base.proofs.Common.{ℕ, if◌then◌else◌, fold, option_and_then, None, Some, Bool, false, true, List, [], ◌++◌, ◌∷◌, refl, ◌≡◌, eqb-true}
+use Rattle.yaml_base.proofs.Common.{append-nil, append_assoc, ap, sym, ◌∙◌, and_parts, and_from, false≢true, list_all, Text, marker_of, Section, sections_of}
+use Rattle.yaml_base.proofs.Common.{Heading, heading_of, after_heading, with_heading, directive_lines, document_lines, begins_with_percent, prefix_kind}
+use Rattle.yaml_base.proofs.Common.{lines_before_marker_read, documents_at_end, sections_read, Line, lines_of, is_spaces, without_blank_lines}
 use Rattle.std.proofs.lemmas.Grind.{fold-append}
-use Rattle.std.specs.List.{list_all}
-use Rattle.std.specs.Prelude.{ℕ, Bool, true, false, None, Some, List, [], ◌∷◌, ◌++◌, fold, option_and_then, if◌then◌else◌}
-use Rattle.yaml_base.specs.Characters.{Text}
-use Rattle.yaml_base.specs.streams.StreamLines.{Line, lines_of, is_spaces, without_blank_lines}
-use Rattle.yaml_base.specs.streams.StreamDocuments.{marker_of, Section, sections_of, Heading, heading_of, after_heading, StreamRead, section_read}
-use Rattle.yaml_base.specs.streams.StreamDocuments.{begins_with_percent, directive_lines, document_lines, prefix_kind, lines_before_marker_read}
-use Rattle.yaml_base.specs.streams.StreamDocuments.{with_heading, may_end}
-use Rattle.yaml_base.specs.streams.StreamDocuments.{documents_at_end, sections_read}
-use Rattle.yaml_base.proofs.stream_lines.StreamLineLaws.{is_closed, lines_after_break}
-use Rattle.yaml_base.proofs.stream_lines.StreamClosed.{closed_both}
+use Rattle.yaml_base.proofs.stream_lines.{StreamClosed.closed_both, StreamLineLaws.is_closed, StreamLineLaws.lines_after_break}
 use Rattle.yaml_base.proofs.stream_lines.StreamSections.{is_unmarked, AllUnmarked, unmarked_before, IsMark, markers_one}
+use Rattle.yaml_base.specs.streams.StreamDocuments.{StreamRead, section_read, may_end}
 
 -- a text, up to its last line's end, whose lines are read as this
 pub record WalkProgress (breaks12 : Bool) (depth : ℕ) (text : Text) (read : StreamRead) : Type 0 where

@@ -1,36 +1,21 @@
 -- A whole stream whose documents stand is read as their trees.
-use Rattle.std.proofs.Common.{◌≡◌, suc, ◌≤◌, refl, sym, ap, ◌∙◌, append-nil, subst, arith}
-use Rattle.std.proofs.lemmas.Bool.{eqb-true, and_parts, and_from}
-use Rattle.std.proofs.lemmas.Grind.{flat_map-append}
-use Rattle.std.proofs.lemmas.List.{length-append}
-use Rattle.std.specs.List.{list_all}
-use Rattle.std.specs.Prelude.{ℕ, Bool, true, false, None, Some, List, [], ◌∷◌, ◌++◌, ◌==◌, ◌||◌, ◌&&◌, not, length, codes, option_and_then, if◌then◌else◌}
-use Rattle.yaml_base.specs.Characters.{Text, line_feed, space}
-use Rattle.yaml_base.specs.Settings.{Effective}
-use Rattle.yaml_base.specs.Tags.{directives_in_force}
-use Rattle.yaml_base.specs.Cursor.{Rendered}
-use Rattle.yaml_base.specs.Grammar.{Document, Documents, no_documents, documents_and, Stream}
-use Rattle.yaml_base.specs.Layout.{piece_text, text_of, RenderedPieces, render_if, render_closing_marker, is_explicit, root_place, render_document}
-use Rattle.yaml_base.specs.Layout.{render_documents}
-use Rattle.yaml_base.specs.Layout.{first_standing, stream_end_piece, layout}
-use Rattle.yaml_base.specs.streams.StreamContent.{DocumentTree, documents_in_order}
-use Rattle.yaml_base.specs.streams.StreamLines.{Line, lines_of, is_spaces, all_blank, ends_indicator}
-use Rattle.yaml_base.specs.streams.StreamNodes.{node_read}
-use Rattle.yaml_base.specs.streams.StreamDocuments.{marker_of, Sections, sections_of, no_heading, with_read_document, sections_read, documents_at_end}
-use Rattle.yaml_base.specs.streams.StreamDocuments.{begins_with_percent, directive_lines, document_lines, prefix_kind, lines_before_marker_read, documents_of}
-use Rattle.yaml_base.specs.StreamLaw.{is_written_as_nothing}
-use Rattle.yaml_base.proofs.stream_lines.StreamCuts.{none_not_some}
-use Rattle.yaml_base.proofs.stream_lines.StreamSections.{is_unmarked, AllUnmarked, unmarked_before}
-use Rattle.yaml_base.proofs.stream_lines.StreamClosed.{closing, margin_cursor}
-use Rattle.yaml_base.proofs.stream_nodes.StreamFits.{size}
-use Rattle.yaml_base.proofs.stream_documents.StreamRootsStand.{rules_of, root_cursor, render_root, RootStands, is_on_marker, DocumentStands, DocumentsStand}
-use Rattle.yaml_base.proofs.stream_documents.StreamRootStood.{root_fits}
-use Rattle.yaml_base.proofs.stream_documents.StreamSizes.{block_node}
-use Rattle.yaml_base.proofs.stream_documents.StreamSoFar.{documents_so_far}
+use Rattle.yaml_base.proofs.Common.{suc, ℕ, ◌≤◌, if◌then◌else◌, ◌==◌, option_and_then, None, Some, codes, length, Bool, false, not, true, ◌&&◌, ◌||◌, List}
+use Rattle.yaml_base.proofs.Common.{[], ◌++◌, ◌∷◌, refl, ◌≡◌, eqb-true, length-append, append-nil, ap, subst, sym, ◌∙◌, arith, and_parts, and_from}
+use Rattle.yaml_base.proofs.Common.{flat_map-append, list_all, Text, line_feed, space, Rendered, Document, Documents, no_documents, documents_and, Stream}
+use Rattle.yaml_base.proofs.Common.{render_if, render_closing_marker, is_explicit, root_place, render_document, render_documents, first_standing}
+use Rattle.yaml_base.proofs.Common.{stream_end_piece, layout, piece_text, text_of, RenderedPieces, Effective, is_written_as_nothing, directives_in_force}
+use Rattle.yaml_base.proofs.Common.{DocumentTree, documents_in_order, marker_of, Sections, sections_of, no_heading, with_read_document, directive_lines}
+use Rattle.yaml_base.proofs.Common.{document_lines, begins_with_percent, prefix_kind, lines_before_marker_read, documents_at_end, sections_read, documents_of}
+use Rattle.yaml_base.proofs.Common.{Line, lines_of, is_spaces, ends_indicator, node_read}
+use Rattle.yaml_base.proofs.{stream_documents.StreamDocumentsRead.later_more, stream_documents.StreamDocumentsRead.first_more}
+use Rattle.yaml_base.proofs.{stream_documents.StreamRootAdded.with_document, stream_documents.StreamRootStood.root_fits}
+use Rattle.yaml_base.proofs.{stream_documents.StreamSizes.block_node, stream_documents.StreamSoFar.documents_so_far, stream_lines.StreamClosed.closing}
+use Rattle.yaml_base.proofs.{stream_lines.StreamClosed.margin_cursor, stream_lines.StreamCuts.none_not_some, stream_lines.StreamSections.is_unmarked}
+use Rattle.yaml_base.proofs.{stream_lines.StreamSections.AllUnmarked, stream_lines.StreamSections.unmarked_before, stream_nodes.StreamFits.size}
 use Rattle.yaml_base.proofs.stream_documents.StreamDocumentReads.{Awaits, awaits_first, awaits_ended, dots_if}
-use Rattle.yaml_base.proofs.stream_documents.StreamRootAdded.{with_document}
-use Rattle.yaml_base.proofs.stream_documents.StreamDocumentTexts.{before_root, root_part, document_text, RenderedDocument, document_joined, dots_rendered}
-use Rattle.yaml_base.proofs.stream_documents.StreamDocumentsRead.{first_more, later_more}
+use Rattle.yaml_base.proofs.stream_documents.StreamDocumentTexts.{before_root, dots_rendered, root_part, document_text, RenderedDocument, document_joined}
+use Rattle.yaml_base.proofs.stream_documents.StreamRootsStand.{rules_of, root_cursor, render_root, RootStands, is_on_marker, DocumentStands, DocumentsStand}
+use Rattle.yaml_base.specs.streams.StreamLines.{all_blank}
 
 -- Lists of documents
 

@@ -1,39 +1,24 @@
 -- Each line of a collection in flow after its first is deeper than the column around.
-use Rattle.std.proofs.Common.{◌≡◌, suc, ◌≤◌, refl, ap, ◌∙◌, arith}
-use Rattle.std.proofs.lemmas.Bool.{false≢true, and_parts}
-use Rattle.std.specs.List.{list_any, list_all}
-use Rattle.std.specs.Prelude.{ℕ, Bool, true, false, Option, None, Some, List, [], ◌∷◌, ◌++◌, ◌||◌, ◌&&◌, not, codes, if◌then◌else◌}
-use Rattle.yaml_base.specs.Characters.{Text, space, is_printable}
-use Rattle.yaml_base.specs.LineBreaks.{is_read_break}
-use Rattle.yaml_base.specs.reading.ReadPlain.{is_read_white}
-use Rattle.yaml_base.specs.Settings.{Effective}
-use Rattle.yaml_base.specs.Event.{ScalarStyle, any_style, plain, single_quoted, double_quoted, literal, folded, TagDirective, Scalar, Collection}
-use Rattle.yaml_base.specs.Cursor.{Cursor, Rendered, space_if, new_line, render_nothing, indicator, render_then, is_past_width}
-use Rattle.yaml_base.specs.scalars.Plain.{runs, render_runs}
-use Rattle.yaml_base.specs.scalars.SingleQuoted.{quotes_doubled, single_quote}
-use Rattle.yaml_base.specs.scalars.DoubleQuoted.{double_inside, render_quote}
-use Rattle.yaml_base.specs.Grammar.{Node, alias_node, scalar_node, sequence_node, mapping_node, Nodes, no_nodes, nodes_and, Pairs, no_pairs, pairs_and}
-use Rattle.yaml_base.specs.Event.{scalar_tag, collection_tag}
-use Rattle.yaml_base.specs.Layout.{Role, Place, is_undented, entries_column, is_written_in_flow, as_root, as_item, as_key, as_value, is_key, line_column}
-use Rattle.yaml_base.specs.Layout.{deeper, has_no_nodes, has_no_pairs, is_simple, is_simple_at, flow_break, opening_or_comma, key_indicator, render_flow_place}
-use Rattle.yaml_base.specs.Layout.{render_place, render_properties, render_alias, render_separation, render_body, choice_of, Brackets, square, curly}
-use Rattle.yaml_base.specs.Layout.{empty_or_comma}
-use Rattle.yaml_base.specs.Layout.{render_end, entry_place}
-use Rattle.yaml_base.specs.reading.TidyText.{has_deep_lines, has_no_space_before_break, has_clean_edges, ends_white, is_tidy_style, is_tidy}
-use Rattle.yaml_base.specs.streams.StreamScalars.{name_read}
-use Rattle.yaml_base.proofs.stream_lines.StreamLineLaws.{OneLine, one_line_both}
-use Rattle.yaml_base.proofs.stream_lines.StreamTidyLaws.{deep_lines_fewer}
-use Rattle.yaml_base.proofs.stream_lines.StreamClosed.{spaces_line}
-use Rattle.yaml_base.proofs.stream_nodes.StreamTexts.{collection_own, node_own, items_own, pairs_own}
-use Rattle.yaml_base.proofs.stream_nodes.StreamProperties.{IsNamed, name_letters}
-use Rattle.yaml_base.proofs.stream_flow.StreamPropertyWords.{lead}
+use Rattle.yaml_base.proofs.Common.{suc, ℕ, ◌≤◌, if◌then◌else◌, Option, None, Some, codes, Bool, false, not, true, ◌&&◌, ◌||◌, List, [], ◌++◌, ◌∷◌, refl, ◌≡◌}
+use Rattle.yaml_base.proofs.Common.{ap, ◌∙◌, arith, and_parts, false≢true, list_all, list_any, Text, space, is_printable, Cursor, Rendered, render_nothing}
+use Rattle.yaml_base.proofs.Common.{render_then, new_line, space_if, indicator, is_past_width, ScalarStyle, any_style, plain, single_quoted, double_quoted}
+use Rattle.yaml_base.proofs.Common.{literal, folded, TagDirective, Scalar, Collection, scalar_tag, collection_tag, Node, alias_node, scalar_node, Nodes}
+use Rattle.yaml_base.proofs.Common.{sequence_node, Pairs, mapping_node, no_nodes, nodes_and, no_pairs, pairs_and, render_properties, render_alias}
+use Rattle.yaml_base.proofs.Common.{render_separation, render_body, choice_of, is_written_in_flow, Brackets, square, curly, empty_or_comma, render_end}
+use Rattle.yaml_base.proofs.Common.{entry_place, Role, as_root, as_item, as_key, as_value, Place, is_key, is_undented, line_column, deeper, entries_column}
+use Rattle.yaml_base.proofs.Common.{has_no_nodes, has_no_pairs, is_simple, is_simple_at, flow_break, opening_or_comma, key_indicator, render_flow_place}
+use Rattle.yaml_base.proofs.Common.{render_place, is_read_break, Effective, is_read_white, has_deep_lines, has_no_space_before_break, ends_white}
+use Rattle.yaml_base.proofs.Common.{has_clean_edges, is_tidy_style, is_tidy, double_inside, render_quote, runs, render_runs, quotes_doubled, single_quote}
+use Rattle.yaml_base.proofs.Common.{name_read}
+use Rattle.yaml_base.proofs.{stream_flow.StreamPropertyWords.lead, stream_lines.StreamClosed.spaces_line, stream_lines.StreamLineLaws.OneLine}
+use Rattle.yaml_base.proofs.{stream_lines.StreamLineLaws.one_line_both, stream_lines.StreamTidyLaws.deep_lines_fewer, stream_nodes.StreamAliasFits.name_line}
+use Rattle.yaml_base.proofs.{stream_nodes.StreamBegun.lead_line, stream_nodes.StreamLeads.lead_rendered, stream_nodes.StreamLeads.tag_is_written}
+use Rattle.yaml_base.proofs.{stream_nodes.StreamProperties.IsNamed, stream_nodes.StreamProperties.name_letters}
+use Rattle.yaml_base.proofs.stream_flow.StreamFlowScalars.{rules_of, is_flow_style, chosen_in_flow, separation_in_flow}
+use Rattle.yaml_base.proofs.stream_lines.StreamDeepBreaks.{Deep, deep_both, deep_line, deep_new_line, deep_tidy, ends_as_last, line_prefix, space_line}
 use Rattle.yaml_base.proofs.stream_nodes.StreamStands.{tag_written, tag_meant, TagStands, NamesStand, AllNamesStand, PairsNamesStand, BodyStands, body_from}
 use Rattle.yaml_base.proofs.stream_nodes.StreamStands.{BodiesHold, ItemsHold, PairsHold}
-use Rattle.yaml_base.proofs.stream_nodes.StreamLeads.{lead_rendered, tag_is_written}
-use Rattle.yaml_base.proofs.stream_flow.StreamFlowScalars.{rules_of, is_flow_style, chosen_in_flow, separation_in_flow}
-use Rattle.yaml_base.proofs.stream_nodes.StreamBegun.{lead_line}
-use Rattle.yaml_base.proofs.stream_nodes.StreamAliasFits.{name_line}
-use Rattle.yaml_base.proofs.stream_lines.StreamDeepBreaks.{Deep, deep_both, deep_line, deep_new_line, deep_tidy, ends_as_last, line_prefix, space_line}
+use Rattle.yaml_base.proofs.stream_nodes.StreamTexts.{collection_own, node_own, items_own, pairs_own}
 
 -- Properties
 

@@ -1,45 +1,23 @@
 -- A collection in flow fits where it stands in a block.
-use Rattle.std.proofs.Common.{◌≡◌, suc, ◌≤◌, ◌<◌, refl, sym, ap, ◌∙◌, append_assoc, arith}
-use Rattle.std.proofs.lemmas.Bool.{true≢false, false≢true}
-use Rattle.std.specs.List.{list_all}
-use Rattle.std.specs.Prelude.{ℕ, Bool, true, false, Option, None, Some, List, [], ◌∷◌, ◌++◌, ◌==◌, ◌||◌, ◌&&◌, not, if◌then◌else◌}
-use Rattle.yaml_base.specs.Characters.{Text, space, line_feed}
-use Rattle.yaml_base.specs.LineBreaks.{is_read_break}
-use Rattle.yaml_base.specs.reading.ReadPlain.{is_read_white}
-use Rattle.yaml_base.specs.Settings.{Effective}
-use Rattle.yaml_base.specs.Event.{TagDirective, Collection}
-use Rattle.yaml_base.specs.Cursor.{Cursor, Rendered, space_if}
-use Rattle.yaml_base.specs.Grammar.{alias_node, scalar_node, sequence_node, mapping_node, Nodes, Pairs}
-use Rattle.yaml_base.specs.Event.{collection_tag}
-use Rattle.yaml_base.specs.Layout.{Place, line_column, deeper, has_no_nodes, has_no_pairs, is_written_in_flow}
-use Rattle.yaml_base.specs.streams.StreamContent.{Tree}
-use Rattle.yaml_base.specs.streams.StreamLines.{Line, lines_of, text_of_lines, prepend_character, prepend_to_first_line, belongs_to_entry, all_deeper, spaces}
-use Rattle.yaml_base.specs.streams.StreamScalars.{Rules, Properties}
-use Rattle.yaml_base.specs.streams.StreamNodes.{kind_of_node, begins_properties, text_or_properties, text_read, kind_of_text, text_by_kind}
-use Rattle.yaml_base.proofs.stream_lines.StreamLineLaws.{is_closed, OneLine, text_of_lines_of}
-use Rattle.yaml_base.proofs.stream_lines.StreamInside.{AllInside}
-use Rattle.yaml_base.proofs.stream_lines.StreamTidyLaws.{lines_after_first}
-use Rattle.yaml_base.proofs.stream_lines.StreamClosed.{closed, lines_behind, after_line}
-use Rattle.yaml_base.proofs.stream_nodes.StreamBlocks.{below_ends}
-use Rattle.yaml_base.proofs.stream_nodes.StreamLeafFits.{TextReads, text_fits}
-use Rattle.yaml_base.proofs.stream_nodes.StreamProperties.{begins_content}
-use Rattle.yaml_base.proofs.stream_flow.StreamPropertyWords.{lead}
-use Rattle.yaml_base.proofs.stream_nodes.StreamStands.{tag_written, tag_meant, NamesStand, BodyStands, BodiesHold}
-use Rattle.yaml_base.proofs.stream_nodes.StreamLeads.{tag_is_written}
-use Rattle.yaml_base.proofs.stream_flow.StreamFlowWords.{Given}
+use Rattle.yaml_base.proofs.Common.{suc, ℕ, ◌<◌, ◌≤◌, if◌then◌else◌, ◌==◌, Option, None, Some, Bool, false, not, true, ◌&&◌, ◌||◌, List, [], ◌++◌, ◌∷◌, refl}
+use Rattle.yaml_base.proofs.Common.{◌≡◌, true≢false, append_assoc, ap, sym, ◌∙◌, arith, false≢true, list_all, Text, line_feed, space, Cursor, Rendered}
+use Rattle.yaml_base.proofs.Common.{space_if, TagDirective, Collection, collection_tag, alias_node, scalar_node, Nodes, sequence_node, Pairs, mapping_node}
+use Rattle.yaml_base.proofs.Common.{is_written_in_flow, Place, line_column, deeper, has_no_nodes, has_no_pairs, is_read_break, Effective, is_read_white, Tree}
+use Rattle.yaml_base.proofs.Common.{Line, prepend_to_first_line, prepend_character, lines_of, text_of_lines, belongs_to_entry, all_deeper, spaces}
+use Rattle.yaml_base.proofs.Common.{kind_of_text, text_by_kind, text_read, kind_of_node, begins_properties, text_or_properties, Rules, Properties}
+use Rattle.yaml_base.proofs.{stream_flow.StreamFlowDeep.sequence_deep, stream_flow.StreamFlowDeep.mapping_deep, stream_flow.StreamFlowKinds.KeysFit}
+use Rattle.yaml_base.proofs.{stream_flow.StreamFlowScalars.rules_of, stream_flow.StreamFlowWords.Given, stream_flow.StreamPropertyWords.lead}
+use Rattle.yaml_base.proofs.{stream_lines.StreamClosed.closed, stream_lines.StreamClosed.lines_behind, stream_lines.StreamClosed.after_line}
+use Rattle.yaml_base.proofs.{stream_lines.StreamCuts.none_not_some, stream_lines.StreamDeepBreaks.Deep, stream_lines.StreamDeepBreaks.space_line}
+use Rattle.yaml_base.proofs.{stream_lines.StreamDeepBreaks.deep_inside, stream_lines.StreamInside.AllInside, stream_lines.StreamLineLaws.is_closed}
+use Rattle.yaml_base.proofs.{stream_lines.StreamLineLaws.OneLine, stream_lines.StreamLineLaws.text_of_lines_of, stream_lines.StreamTidyLaws.lines_after_first}
+use Rattle.yaml_base.proofs.{stream_nodes.StreamAgrees.node_tree, stream_nodes.StreamBegun.lead_line, stream_nodes.StreamBlocks.below_ends}
+use Rattle.yaml_base.proofs.{stream_nodes.StreamFits.Fits, stream_nodes.StreamLeads.tag_is_written, stream_nodes.StreamLeafFits.TextReads}
+use Rattle.yaml_base.proofs.{stream_nodes.StreamLeafFits.text_fits, stream_nodes.StreamLeaves.block_place, stream_nodes.StreamLeaves.FlowsFit}
+use Rattle.yaml_base.proofs.{stream_nodes.StreamNodesFit.LeafFits, stream_nodes.StreamOwnTexts.deeper_all, stream_nodes.StreamOwnTexts.parsed_reads}
+use Rattle.yaml_base.proofs.{stream_nodes.StreamOwnTexts.headed, stream_nodes.StreamProperties.begins_content, stream_nodes.StreamTexts.node_own}
 use Rattle.yaml_base.proofs.stream_flow.StreamFlowReads.{FlowContent, content_read, sequence_reads, mapping_reads}
-use Rattle.yaml_base.proofs.stream_nodes.StreamBegun.{lead_line}
-use Rattle.yaml_base.proofs.stream_nodes.StreamOwnTexts.{deeper_all, parsed_reads, headed}
-use Rattle.yaml_base.proofs.stream_nodes.StreamFits.{Fits}
-use Rattle.yaml_base.proofs.stream_nodes.StreamNodesFit.{LeafFits}
-use Rattle.yaml_base.proofs.stream_nodes.StreamLeaves.{block_place, FlowsFit}
-use Rattle.yaml_base.proofs.stream_lines.StreamCuts.{none_not_some}
-use Rattle.yaml_base.proofs.stream_nodes.StreamAgrees.{node_tree}
-use Rattle.yaml_base.proofs.stream_nodes.StreamTexts.{node_own}
-use Rattle.yaml_base.proofs.stream_flow.StreamFlowScalars.{rules_of}
-use Rattle.yaml_base.proofs.stream_flow.StreamFlowKinds.{KeysFit}
-use Rattle.yaml_base.proofs.stream_lines.StreamDeepBreaks.{Deep, deep_inside, space_line}
-use Rattle.yaml_base.proofs.stream_flow.StreamFlowDeep.{sequence_deep, mapping_deep}
+use Rattle.yaml_base.proofs.stream_nodes.StreamStands.{tag_written, tag_meant, NamesStand, BodyStands, BodiesHold}
 
 -- Lines
 

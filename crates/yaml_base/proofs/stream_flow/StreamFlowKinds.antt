@@ -1,34 +1,23 @@
 -- Each kind of node that stands in flow takes the reader of flow collections to its place with its tree, where what it holds does.
-use Rattle.std.proofs.Common.{◌≡◌, refl, sym, ap, ◌∙◌, subst, append_assoc, append-nil}
-use Rattle.std.proofs.lemmas.Bool.{true≢false, false≢true}
-use Rattle.std.specs.Prelude.{ℕ, Bool, true, false, Option, None, Some, List, [], ◌∷◌, ◌++◌, ◌&&◌, not, is_some, if◌then◌else◌}
-use Rattle.yaml_base.specs.Characters.{Text, space}
-use Rattle.yaml_base.specs.Settings.{Effective}
-use Rattle.yaml_base.specs.Event.{TagDirective, Scalar, Collection}
-use Rattle.yaml_base.specs.Cursor.{Cursor, Rendered, space_if}
-use Rattle.yaml_base.specs.scalars.Style.{is_plain}
-use Rattle.yaml_base.specs.Grammar.{Node, alias_node, scalar_node, sequence_node, mapping_node, Nodes, no_nodes, nodes_and, Pairs, no_pairs, pairs_and}
-use Rattle.yaml_base.specs.Event.{scalar_tag, collection_tag}
-use Rattle.yaml_base.specs.Layout.{Role, is_key, deeper, is_simple, render_properties, render_alias, render_separation, render_body, choice_of}
-use Rattle.yaml_base.specs.Layout.{square, curly, render_end}
-use Rattle.yaml_base.specs.Layout.{entry_place}
-use Rattle.yaml_base.specs.streams.StreamContent.{Tree, alias_tree, sequence_tree, mapping_tree, no_trees, no_tree_pairs}
-use Rattle.yaml_base.specs.streams.StreamScalars.{Rules, name_read}
-use Rattle.yaml_base.specs.streams.StreamTokens.{begins_bracket, class_of}
-use Rattle.yaml_base.specs.streams.StreamFlow.{is_alias, is_key_text, no_key, key_held, OpenFlow, in_sequence, in_mapping, ColonPlace, at_once, after_blank}
-use Rattle.yaml_base.specs.streams.StreamFlow.{entry_awaited, comma_awaited, colon_awaited, within, with_tree, level_opened}
-use Rattle.yaml_base.proofs.stream_nodes.StreamAgrees.{node_tree, nodes_tree, pairs_tree}
-use Rattle.yaml_base.proofs.stream_flow.StreamSays.{bracket_class}
-use Rattle.yaml_base.proofs.stream_flow.StreamTakes.{TakesBytes, takes_both, takes_simple_key}
-use Rattle.yaml_base.proofs.stream_flow.StreamWhites.{alias_blank, spaces_end_word}
-use Rattle.yaml_base.proofs.stream_nodes.StreamTexts.{node_own, items_own, pairs_own}
-use Rattle.yaml_base.proofs.stream_flow.StreamPropertyWords.{lead}
-use Rattle.yaml_base.proofs.stream_nodes.StreamStands.{tag_written, tag_meant, NamesStand, BodyStands, BodiesHold, body_from}
-use Rattle.yaml_base.proofs.stream_nodes.StreamLeads.{EndedCollection, lead_rendered, tag_is_written}
-use Rattle.yaml_base.proofs.stream_flow.StreamFlowWords.{opens_inside, FlowWord, Given, lead_opens, alias_flow_word, empty_sequence_word, empty_mapping_word}
+use Rattle.yaml_base.proofs.Common.{ℕ, if◌then◌else◌, is_some, Option, None, Some, Bool, false, not, true, ◌&&◌, List, [], ◌++◌, ◌∷◌, refl, ◌≡◌, true≢false}
+use Rattle.yaml_base.proofs.Common.{append-nil, append_assoc, ap, subst, sym, ◌∙◌, false≢true, Text, space, Cursor, Rendered, space_if, TagDirective, Scalar}
+use Rattle.yaml_base.proofs.Common.{Collection, scalar_tag, collection_tag, Node, alias_node, scalar_node, Nodes, sequence_node, Pairs, mapping_node}
+use Rattle.yaml_base.proofs.Common.{no_nodes, nodes_and, no_pairs, pairs_and, render_properties, render_alias, render_separation, render_body, choice_of}
+use Rattle.yaml_base.proofs.Common.{square, curly, render_end, entry_place, Role, is_key, deeper, is_simple, Effective, is_plain, Tree, alias_tree}
+use Rattle.yaml_base.proofs.Common.{sequence_tree, mapping_tree, no_trees, no_tree_pairs, is_alias, is_key_text, no_key, key_held, OpenFlow, in_sequence}
+use Rattle.yaml_base.proofs.Common.{in_mapping, at_once, after_blank, entry_awaited, comma_awaited, colon_awaited, within, with_tree, level_opened, Rules}
+use Rattle.yaml_base.proofs.Common.{name_read, begins_bracket, class_of}
+use Rattle.yaml_base.proofs.stream_flow.{StreamPropertyWords.lead, StreamSays.bracket_class, StreamTakes.TakesBytes, StreamTakes.takes_both}
+use Rattle.yaml_base.proofs.stream_flow.{StreamTakes.takes_simple_key, StreamWhites.spaces_end_word, StreamWhites.alias_blank}
 use Rattle.yaml_base.proofs.stream_flow.StreamFlowScalars.{rules_of, chosen_in_flow, bare_not_plain, body_flow_word, body_ended, scalar_whole}
-use Rattle.yaml_base.proofs.stream_flow.StreamFlowTakes.{FlowNode, FlowEntries, FlowEnd, takes_word, takes_collection, opens_more, and_false, sequence_ends}
+use Rattle.yaml_base.proofs.stream_flow.StreamFlowTakes.{FlowNode, FlowEntries, takes_word, takes_collection, opens_more, FlowEnd, and_false, sequence_ends}
 use Rattle.yaml_base.proofs.stream_flow.StreamFlowTakes.{mapping_ends}
+use Rattle.yaml_base.proofs.stream_flow.StreamFlowWords.{opens_inside, FlowWord, Given, lead_opens, alias_flow_word, empty_sequence_word, empty_mapping_word}
+use Rattle.yaml_base.proofs.stream_nodes.StreamAgrees.{node_tree, nodes_tree, pairs_tree}
+use Rattle.yaml_base.proofs.stream_nodes.StreamLeads.{EndedCollection, lead_rendered, tag_is_written}
+use Rattle.yaml_base.proofs.stream_nodes.StreamStands.{tag_written, tag_meant, NamesStand, BodyStands, body_from, BodiesHold}
+use Rattle.yaml_base.proofs.stream_nodes.StreamTexts.{node_own, items_own, pairs_own}
+use Rattle.yaml_base.specs.streams.StreamFlow.{ColonPlace}
 
 -- the space after an alias that is a simple key
 abbrev pub alias_space : Node → Text

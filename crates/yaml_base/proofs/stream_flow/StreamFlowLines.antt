@@ -1,27 +1,14 @@
 -- A line that begins with the bracket of a collection in flow, after its properties, holds no simple key, so it begins no mapping
 -- in a block.
-use Rattle.std.proofs.Common.{◌≡◌, refl, ap, ◌∙◌, append_assoc}
-use Rattle.std.proofs.lemmas.Bool.{false≢true, and_parts}
-use Rattle.std.specs.Option.{option_or}
-use Rattle.std.specs.Prelude.{ℕ, Bool, true, false, Option, None, Some, [], ◌∷◌, ◌++◌, ◌==◌, ◌&&◌, not, nat_le, length, option_map, option_and_then}
-use Rattle.std.specs.Prelude.{if◌then◌else◌}
-use Rattle.yaml_base.specs.Characters.{Text, space}
-use Rattle.yaml_base.specs.Event.{plain}
-use Rattle.yaml_base.specs.reading.ReadPlain.{read_plain}
-use Rattle.yaml_base.specs.reading.ReadTags.{ParsedTag}
-use Rattle.yaml_base.specs.reading.TidyText.{is_tidy}
-use Rattle.yaml_base.specs.streams.StreamContent.{stood_plain, Tree}
-use Rattle.yaml_base.specs.streams.StreamLines.{ends_indicator, begins_with_indicator}
-use Rattle.yaml_base.specs.streams.StreamScalars.{Rules, Properties, no_properties, scalar_parsed, scalar_of_style, empty_sequence, empty_mapping, a_scalar}
-use Rattle.yaml_base.specs.streams.StreamScalars.{word_by_kind, word_after}
-use Rattle.yaml_base.specs.streams.StreamFlow.{is_alias, longest_key}
-use Rattle.yaml_base.specs.streams.StreamNodes.{without_last_space, word_of_alias, key_of_text, key_ends, key_from, begins_text, kind_of_node}
-use Rattle.yaml_base.proofs.stream_keys.StreamKeys.{no_alias_before, key_by_word}
-use Rattle.yaml_base.proofs.stream_nodes.StreamProperties.{begins_content}
-use Rattle.yaml_base.proofs.stream_flow.StreamPropertyWords.{lead}
-use Rattle.yaml_base.proofs.stream_flow.StreamFlowWords.{opens_inside, Given, given_reads}
-use Rattle.yaml_base.proofs.stream_keys.StreamNoKeys.{tag_no_alias, anchor_no_alias}
-use Rattle.yaml_base.proofs.stream_nodes.StreamOwnTexts.{own_kind}
+use Rattle.yaml_base.proofs.Common.{ℕ, if◌then◌else◌, ◌==◌, option_map, option_and_then, Option, None, Some, nat_le, length, Bool, false, not, true, ◌&&◌, []}
+use Rattle.yaml_base.proofs.Common.{◌++◌, ◌∷◌, refl, ◌≡◌, append_assoc, ap, ◌∙◌, and_parts, false≢true, option_or, Text, space, plain, read_plain, ParsedTag}
+use Rattle.yaml_base.proofs.Common.{is_tidy, stood_plain, Tree, is_alias, longest_key, ends_indicator, begins_with_indicator, without_last_space}
+use Rattle.yaml_base.proofs.Common.{word_of_alias, key_of_text, key_ends, key_from, begins_text, kind_of_node, Rules, Properties, no_properties}
+use Rattle.yaml_base.proofs.Common.{scalar_parsed, scalar_of_style, empty_sequence, empty_mapping, a_scalar, word_by_kind, word_after}
+use Rattle.yaml_base.proofs.{stream_flow.StreamFlowWords.opens_inside, stream_flow.StreamFlowWords.Given, stream_flow.StreamFlowWords.given_reads}
+use Rattle.yaml_base.proofs.{stream_flow.StreamPropertyWords.lead, stream_keys.StreamKeys.no_alias_before, stream_keys.StreamKeys.key_by_word}
+use Rattle.yaml_base.proofs.{stream_keys.StreamNoKeys.tag_no_alias, stream_keys.StreamNoKeys.anchor_no_alias, stream_nodes.StreamOwnTexts.own_kind}
+use Rattle.yaml_base.proofs.{stream_nodes.StreamProperties.begins_content}
 
 -- the bracket that begins a sequence, and the one that begins a mapping
 abbrev pub opening : (is_sequence : Bool) → ℕ

@@ -1,24 +1,16 @@
 -- Each node of the layout that stands in flow takes the reader of flow collections to its place with its tree.
-use Rattle.std.proofs.Common.{◌≡◌, refl, sym, ap, ◌∙◌, subst, append_assoc, append-nil}
-use Rattle.std.specs.Prelude.{ℕ, Bool, true, false, Option, Some, List, [], ◌∷◌, ◌++◌, ◌&&◌, codes}
-use Rattle.yaml_base.specs.Characters.{Text}
-use Rattle.yaml_base.specs.Settings.{Effective}
-use Rattle.yaml_base.specs.Event.{TagDirective}
-use Rattle.yaml_base.specs.Cursor.{Cursor, Rendered, space_if, indicator}
-use Rattle.yaml_base.specs.Grammar.{Node, alias_node, scalar_node, sequence_node, mapping_node, Nodes, no_nodes, nodes_and, Pairs, no_pairs, pairs_and}
-use Rattle.yaml_base.specs.Event.{collection_tag}
-use Rattle.yaml_base.specs.Layout.{Role, as_item, as_key, as_value, is_key, deeper, has_no_nodes, has_no_pairs, is_simple, flow_break, key_indicator}
-use Rattle.yaml_base.specs.Layout.{render_flow_place, render_place, render_properties, entry_place}
-use Rattle.yaml_base.specs.streams.StreamContent.{Tree, no_trees, TreePairs, no_tree_pairs, tree_pairs_and}
-use Rattle.yaml_base.specs.streams.StreamScalars.{Rules}
-use Rattle.yaml_base.specs.streams.StreamFlow.{no_key, in_sequence, in_mapping}
-use Rattle.yaml_base.proofs.stream_nodes.StreamAgrees.{node_tree, nodes_tree, pairs_tree}
-use Rattle.yaml_base.proofs.stream_nodes.StreamTexts.{node_own, items_own, pairs_own}
-use Rattle.yaml_base.proofs.stream_nodes.StreamStands.{NamesStand, AllNamesStand, PairsNamesStand, BodyStands, BodiesHold, ItemsHold, PairsHold}
-use Rattle.yaml_base.proofs.stream_flow.StreamFlowScalars.{rules_of}
-use Rattle.yaml_base.proofs.stream_flow.StreamFlowTakes.{FlowNode}
+use Rattle.yaml_base.proofs.Common.{ℕ, Option, Some, codes, Bool, false, true, ◌&&◌, List, [], ◌++◌, ◌∷◌, refl, ◌≡◌, append-nil, append_assoc, ap, subst, sym}
+use Rattle.yaml_base.proofs.Common.{◌∙◌, Text, Cursor, Rendered, space_if, indicator, TagDirective, collection_tag, Node, alias_node, scalar_node, Nodes}
+use Rattle.yaml_base.proofs.Common.{sequence_node, Pairs, mapping_node, no_nodes, nodes_and, no_pairs, pairs_and, render_properties, entry_place, Role}
+use Rattle.yaml_base.proofs.Common.{as_item, as_key, as_value, is_key, deeper, has_no_nodes, has_no_pairs, is_simple, flow_break, key_indicator}
+use Rattle.yaml_base.proofs.Common.{render_flow_place, render_place, Effective, Tree, TreePairs, no_trees, no_tree_pairs, tree_pairs_and, no_key, in_sequence}
+use Rattle.yaml_base.proofs.Common.{in_mapping, Rules}
+use Rattle.yaml_base.proofs.stream_flow.{StreamFlowScalars.rules_of, StreamFlowTakes.FlowNode}
+use Rattle.yaml_base.proofs.stream_flow.StreamFlowKinds.{KeysFit, alias_step, scalar_step, ItemsTake, PairsTake, sequence_step, mapping_step}
 use Rattle.yaml_base.proofs.stream_flow.StreamFlowPairs.{FlowEntry, item_entry, simple_pair_entry, long_pair_entry, first_entry, next_entry}
-use Rattle.yaml_base.proofs.stream_flow.StreamFlowKinds.{KeysFit, alias_step, scalar_step, sequence_step, mapping_step, ItemsTake, PairsTake}
+use Rattle.yaml_base.proofs.stream_nodes.StreamAgrees.{node_tree, nodes_tree, pairs_tree}
+use Rattle.yaml_base.proofs.stream_nodes.StreamStands.{NamesStand, AllNamesStand, PairsNamesStand, BodyStands, BodiesHold, ItemsHold, PairsHold}
+use Rattle.yaml_base.proofs.stream_nodes.StreamTexts.{node_own, items_own, pairs_own}
 
 -- one more item
 items_step : (s : Effective) (own directives : List TagDirective) (items : Nodes) (last : Node) (column : ℕ) (cursor : Cursor)

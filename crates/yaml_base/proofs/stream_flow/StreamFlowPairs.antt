@@ -1,26 +1,17 @@
 -- The entries of a collection in flow, one after another, where each of its nodes is read in flow.
-use Rattle.std.proofs.Common.{◌≡◌, refl, sym, ap, ◌∙◌, append_assoc}
-use Rattle.std.proofs.lemmas.Bool.{false≢true, eqb-true, and_parts}
-use Rattle.std.specs.Prelude.{ℕ, Bool, true, false, Option, None, List, [], ◌∷◌, ◌++◌, ◌==◌, ◌||◌}
-use Rattle.yaml_base.specs.Characters.{Text, space, line_feed}
-use Rattle.yaml_base.specs.Settings.{Effective}
-use Rattle.yaml_base.specs.Cursor.{Cursor, Rendered, space_if}
-use Rattle.yaml_base.specs.Layout.{as_value, flow_break, key_indicator, render_flow_place}
-use Rattle.yaml_base.specs.streams.StreamContent.{Tree, Trees, trees_and, TreePairs, tree_pairs_and}
-use Rattle.yaml_base.specs.streams.StreamScalars.{Rules}
-use Rattle.yaml_base.specs.streams.StreamTokens.{is_flow_indicator, class_of}
-use Rattle.yaml_base.specs.streams.StreamFlow.{no_key, key_due, key_held, OpenFlow, in_sequence, in_mapping, at_once, after_white, entry_awaited, node_awaited}
-use Rattle.yaml_base.specs.streams.StreamFlow.{comma_awaited, colon_awaited, within, level_opened}
-use Rattle.yaml_base.proofs.stream_flow.StreamPlainWords.{ends_by, ends_word}
-use Rattle.yaml_base.proofs.stream_flow.StreamWhites.{space_class, line_feed_class}
-use Rattle.yaml_base.proofs.stream_flow.StreamSays.{EndsWord, indicator_ends, comma_class, colon_class}
-use Rattle.yaml_base.proofs.stream_flow.StreamTakes.{TakesBytes, takes_both}
-use Rattle.yaml_base.proofs.stream_nodes.StreamLeads.{EndedCollection}
-use Rattle.yaml_base.proofs.stream_flow.StreamPasses.{passes_both, passes_then, takes_text, passes_comma, passes_colon, passes_late_colon, passes_question}
-use Rattle.yaml_base.proofs.stream_flow.StreamPasses.{passes_node_space, passes_entry_white, passes_colon_white, is_white_text, flow_break_white, space_white}
-use Rattle.yaml_base.proofs.stream_flow.StreamPasses.{white_both, WhiteThen, late_colon}
+use Rattle.yaml_base.proofs.Common.{ℕ, ◌==◌, Option, None, Bool, false, true, ◌||◌, List, [], ◌++◌, ◌∷◌, refl, ◌≡◌, eqb-true, append_assoc, ap, sym, ◌∙◌}
+use Rattle.yaml_base.proofs.Common.{and_parts, false≢true, Text, line_feed, space, Cursor, Rendered, space_if, as_value, flow_break, key_indicator}
+use Rattle.yaml_base.proofs.Common.{render_flow_place, Effective, Tree, Trees, TreePairs, trees_and, tree_pairs_and, no_key, key_due, key_held, OpenFlow}
+use Rattle.yaml_base.proofs.Common.{in_sequence, in_mapping, at_once, after_white, entry_awaited, node_awaited, comma_awaited, colon_awaited, within}
+use Rattle.yaml_base.proofs.Common.{level_opened, Rules, is_flow_indicator, class_of}
+use Rattle.yaml_base.proofs.stream_flow.{StreamFlowWords.opens_inside, StreamPlainWords.ends_by, StreamPlainWords.ends_word, StreamTakes.TakesBytes}
+use Rattle.yaml_base.proofs.stream_flow.{StreamTakes.takes_both, StreamWhites.space_class, StreamWhites.line_feed_class}
 use Rattle.yaml_base.proofs.stream_flow.StreamFlowTakes.{FlowNode, FlowEntries, opens_more, white_opens}
-use Rattle.yaml_base.proofs.stream_flow.StreamFlowWords.{opens_inside}
+use Rattle.yaml_base.proofs.stream_flow.StreamPasses.{passes_both, passes_then, takes_text, passes_comma, passes_colon, passes_late_colon, passes_question}
+use Rattle.yaml_base.proofs.stream_flow.StreamPasses.{passes_node_space, is_white_text, passes_entry_white, passes_colon_white, flow_break_white, space_white}
+use Rattle.yaml_base.proofs.stream_flow.StreamPasses.{white_both, WhiteThen, late_colon}
+use Rattle.yaml_base.proofs.stream_flow.StreamSays.{EndsWord, comma_class, colon_class, indicator_ends}
+use Rattle.yaml_base.proofs.stream_nodes.StreamLeads.{EndedCollection}
 
 -- what stands for one entry after `[`, `{` or a comma, and what it does to the collection's level
 pub record FlowEntry (rules : Rules) (text : Text) (from to : OpenFlow) : Type 0 where

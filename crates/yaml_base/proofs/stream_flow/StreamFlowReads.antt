@@ -1,41 +1,28 @@
 -- The text of a collection in flow, after its properties, is read as the collection's tree.
-use Rattle.std.proofs.Common.{◌≡◌, refl, sym, ap, ◌∙◌, append_assoc, append-nil}
-use Rattle.std.proofs.lemmas.Bool.{false≢true, and_parts}
-use Rattle.std.specs.List.{list_all}
-use Rattle.std.specs.Prelude.{ℕ, Bool, true, false, Option, None, Some, List, [], ◌∷◌, ◌++◌, ◌&&◌, option_map, codes}
-use Rattle.yaml_base.specs.Characters.{Text}
-use Rattle.yaml_base.specs.Settings.{Effective}
-use Rattle.yaml_base.specs.Event.{TagDirective, Collection}
-use Rattle.yaml_base.specs.Cursor.{Cursor, Rendered, space_if, new_line, indicator}
-use Rattle.yaml_base.specs.Grammar.{sequence_node, mapping_node, Nodes, no_nodes, nodes_and, Pairs, no_pairs, pairs_and}
-use Rattle.yaml_base.specs.Event.{collection_tag}
-use Rattle.yaml_base.specs.Layout.{Place, is_undented, line_column, deeper, entries_column, has_no_nodes, has_no_pairs, render_properties, is_written_in_flow}
-use Rattle.yaml_base.specs.Layout.{Brackets, square, curly, render_end}
-use Rattle.yaml_base.specs.reading.ReadPlain.{is_read_white}
-use Rattle.yaml_base.specs.reading.ReadTags.{ParsedTag}
-use Rattle.yaml_base.specs.streams.StreamContent.{Tree, sequence_tree, mapping_tree, no_trees, no_tree_pairs}
-use Rattle.yaml_base.specs.streams.StreamScalars.{Rules, Properties, word_after}
-use Rattle.yaml_base.specs.streams.StreamTokens.{symbol, free, is_flow_indicator, begins_bracket, class_of, is_pair, FlowStep, begun, bracket_step, flow_tokens}
-use Rattle.yaml_base.specs.streams.StreamFlow.{no_key, OpenFlow, in_sequence, in_mapping, Awaited, collection_awaited, entry_awaited, comma_awaited}
-use Rattle.yaml_base.specs.streams.StreamFlow.{FlowReading}
-use Rattle.yaml_base.specs.streams.StreamFlow.{done, within, level_opened, opened, word_step, flow_step, tree_at_end, flow_read}
-use Rattle.yaml_base.specs.streams.StreamNodes.{prepend_to_trimmed, trimmed, flow_text, kind_of_text, text_by_kind, begins_text, kind_of_node}
-use Rattle.yaml_base.proofs.stream_lines.StreamLineLaws.{OneLine}
-use Rattle.yaml_base.proofs.stream_nodes.StreamProperties.{begins_content}
-use Rattle.yaml_base.proofs.stream_nodes.StreamAgrees.{node_tree, nodes_tree, pairs_tree}
-use Rattle.yaml_base.proofs.stream_flow.StreamSays.{opens_before, bracket_class, square_class, curly_class, comma_class, indicator_ends}
-use Rattle.yaml_base.proofs.stream_flow.StreamTakes.{TakesBytes, steps, takes_both, flow_reads}
-use Rattle.yaml_base.proofs.stream_nodes.StreamTexts.{collection_own, node_own, items_own, pairs_own}
-use Rattle.yaml_base.proofs.stream_flow.StreamPropertyWords.{lead}
-use Rattle.yaml_base.proofs.stream_nodes.StreamStands.{tag_written, tag_meant, NamesStand, BodyStands, BodiesHold, ItemsHold, PairsHold}
-use Rattle.yaml_base.proofs.stream_nodes.StreamLeads.{EndedCollection, lead_rendered}
-use Rattle.yaml_base.proofs.stream_flow.StreamPasses.{passes_both, passes_comma, passes_entry_white, takes_text, new_line_white}
-use Rattle.yaml_base.proofs.stream_flow.StreamFlowWords.{opens_inside, Given, tag_of_collection}
-use Rattle.yaml_base.proofs.stream_flow.StreamFlowTakes.{FlowEntries, opens_more, and_false, no_pair}
-use Rattle.yaml_base.proofs.stream_flow.StreamFlowScalars.{rules_of}
+use Rattle.yaml_base.proofs.Common.{ℕ, option_map, Option, None, Some, codes, Bool, false, true, ◌&&◌, List, [], ◌++◌, ◌∷◌, refl, ◌≡◌, append-nil}
+use Rattle.yaml_base.proofs.Common.{append_assoc, ap, sym, ◌∙◌, and_parts, false≢true, list_all, Text, Cursor, Rendered, new_line, space_if, indicator}
+use Rattle.yaml_base.proofs.Common.{TagDirective, Collection, collection_tag, Nodes, sequence_node, Pairs, mapping_node, no_nodes, nodes_and, no_pairs}
+use Rattle.yaml_base.proofs.Common.{pairs_and, render_properties, is_written_in_flow, Brackets, square, curly, render_end, Place, is_undented, line_column}
+use Rattle.yaml_base.proofs.Common.{deeper, entries_column, has_no_nodes, has_no_pairs, Effective, is_read_white, ParsedTag, Tree, sequence_tree}
+use Rattle.yaml_base.proofs.Common.{mapping_tree, no_trees, no_tree_pairs, no_key, OpenFlow, in_sequence, in_mapping, Awaited, collection_awaited}
+use Rattle.yaml_base.proofs.Common.{entry_awaited, comma_awaited, FlowReading, done, within, word_step, level_opened, opened, flow_step, tree_at_end}
+use Rattle.yaml_base.proofs.Common.{flow_read, prepend_to_trimmed, trimmed, kind_of_text, text_by_kind, begins_text, kind_of_node, Rules, Properties}
+use Rattle.yaml_base.proofs.Common.{word_after, symbol, free, FlowStep, is_flow_indicator, begins_bracket, class_of, begun, bracket_step, is_pair}
+use Rattle.yaml_base.proofs.Common.{flow_tokens}
+use Rattle.yaml_base.proofs.{stream_flow.StreamFlowNodes.items_flow, stream_flow.StreamFlowNodes.pairs_flow, stream_flow.StreamFlowScalars.rules_of}
+use Rattle.yaml_base.proofs.{stream_flow.StreamFlowWords.opens_inside, stream_flow.StreamFlowWords.Given, stream_flow.StreamFlowWords.tag_of_collection}
+use Rattle.yaml_base.proofs.{stream_flow.StreamPropertyWords.lead, stream_lines.StreamLineLaws.OneLine, stream_nodes.StreamAgrees.node_tree}
+use Rattle.yaml_base.proofs.{stream_nodes.StreamAgrees.nodes_tree, stream_nodes.StreamAgrees.pairs_tree, stream_nodes.StreamLeads.EndedCollection}
+use Rattle.yaml_base.proofs.{stream_nodes.StreamLeads.lead_rendered, stream_nodes.StreamProperties.begins_content}
 use Rattle.yaml_base.proofs.stream_flow.StreamFlowKinds.{KeysFit, empty_whole, collection_whole, ItemsTake, PairsTake}
 use Rattle.yaml_base.proofs.stream_flow.StreamFlowLines.{keeps_open, keeps_prefix, collection_kind, empty_kind}
-use Rattle.yaml_base.proofs.stream_flow.StreamFlowNodes.{items_flow, pairs_flow}
+use Rattle.yaml_base.proofs.stream_flow.StreamFlowTakes.{FlowEntries, no_pair, opens_more, and_false}
+use Rattle.yaml_base.proofs.stream_flow.StreamPasses.{passes_both, takes_text, passes_comma, passes_entry_white, new_line_white}
+use Rattle.yaml_base.proofs.stream_flow.StreamSays.{comma_class, square_class, curly_class, indicator_ends, bracket_class, opens_before}
+use Rattle.yaml_base.proofs.stream_flow.StreamTakes.{steps, TakesBytes, takes_both, flow_reads}
+use Rattle.yaml_base.proofs.stream_nodes.StreamStands.{tag_written, tag_meant, NamesStand, BodyStands, BodiesHold, ItemsHold, PairsHold}
+use Rattle.yaml_base.proofs.stream_nodes.StreamTexts.{collection_own, node_own, items_own, pairs_own}
+use Rattle.yaml_base.specs.streams.StreamNodes.{flow_text}
 
 -- the text of a collection in flow: a space where one is needed, its properties, and from a bracket to a bracket what is
 -- read as its tree

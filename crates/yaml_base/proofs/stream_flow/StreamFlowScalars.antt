@@ -1,28 +1,14 @@
 -- A scalar of the layout in flow is one word that reads as its tree.
-use Rattle.std.proofs.Common.{◌≡◌, refl, ap, ◌∙◌, append_assoc}
-use Rattle.std.proofs.lemmas.Bool.{true≢false, false≢true, and_parts}
-use Rattle.std.specs.Prelude.{ℕ, Bool, true, false, Option, None, Some, List, [], ◌∷◌, ◌++◌, ◌||◌, ◌&&◌, not, is_some, if◌then◌else◌}
-use Rattle.yaml_base.specs.Characters.{Text}
-use Rattle.yaml_base.specs.Settings.{Effective}
-use Rattle.yaml_base.specs.Cursor.{Cursor, Rendered, space_if}
-use Rattle.yaml_base.specs.Event.{ScalarStyle, any_style, plain, single_quoted, double_quoted, literal, folded, TagDirective, Scalar}
-use Rattle.yaml_base.specs.scalars.Analysis.{Allowances, is_empty, allowances}
-use Rattle.yaml_base.specs.scalars.Style.{is_plain, requested_style, quoted_style, fitting_style, fits_plain}
-use Rattle.yaml_base.specs.scalars.Plain.{runs, render_runs}
-use Rattle.yaml_base.specs.scalars.SingleQuoted.{quotes_doubled, single_quote}
-use Rattle.yaml_base.specs.scalars.DoubleQuoted.{double_inside, render_quote}
-use Rattle.yaml_base.specs.Meaning.{read_in_style}
-use Rattle.yaml_base.specs.reading.ReadPlain.{read_plain}
-use Rattle.yaml_base.specs.Layout.{render_properties, render_separation, render_body, charset_of, choice_of, entry_place, Role}
-use Rattle.yaml_base.specs.Event.{scalar_tag}
-use Rattle.yaml_base.specs.reading.TidyText.{is_tidy}
-use Rattle.yaml_base.specs.streams.StreamScalars.{Rules}
-use Rattle.yaml_base.proofs.stream_lines.StreamCuts.{none_not_some}
-use Rattle.yaml_base.proofs.stream_flow.StreamPropertyWords.{lead}
-use Rattle.yaml_base.proofs.stream_nodes.StreamStands.{tag_written, tag_meant}
-use Rattle.yaml_base.proofs.stream_nodes.StreamLeads.{EndedCollection, lead_rendered}
+use Rattle.yaml_base.proofs.Common.{ℕ, if◌then◌else◌, is_some, Option, None, Some, Bool, false, not, true, ◌&&◌, ◌||◌, List, [], ◌++◌, ◌∷◌, refl, ◌≡◌}
+use Rattle.yaml_base.proofs.Common.{true≢false, append_assoc, ap, ◌∙◌, and_parts, false≢true, Text, Cursor, Rendered, space_if, ScalarStyle, any_style, plain}
+use Rattle.yaml_base.proofs.Common.{single_quoted, double_quoted, literal, folded, TagDirective, Scalar, scalar_tag, render_properties, render_separation}
+use Rattle.yaml_base.proofs.Common.{render_body, charset_of, choice_of, entry_place, Role, read_in_style, Effective, read_plain, is_tidy, Allowances}
+use Rattle.yaml_base.proofs.Common.{is_empty, allowances, double_inside, render_quote, runs, render_runs, quotes_doubled, single_quote, is_plain}
+use Rattle.yaml_base.proofs.Common.{requested_style, quoted_style, fitting_style, fits_plain, Rules}
+use Rattle.yaml_base.proofs.{stream_flow.StreamFlowTakes.and_false, stream_flow.StreamPropertyWords.lead, stream_lines.StreamCuts.none_not_some}
+use Rattle.yaml_base.proofs.{stream_nodes.StreamLeads.EndedCollection, stream_nodes.StreamLeads.lead_rendered, stream_nodes.StreamStands.tag_written}
+use Rattle.yaml_base.proofs.{stream_nodes.StreamStands.tag_meant}
 use Rattle.yaml_base.proofs.stream_flow.StreamFlowWords.{FlowWord, Given, scalar_in, double_flow_word, single_flow_word, plain_flow_word}
-use Rattle.yaml_base.proofs.stream_flow.StreamFlowTakes.{and_false}
 
 -- by what a document of the layout is read
 abbrev pub rules_of : Effective → List TagDirective → Rules

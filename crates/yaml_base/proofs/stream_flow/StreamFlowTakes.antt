@@ -1,29 +1,20 @@
 -- What a node in flow, and the entries of a collection in flow, are to the reader of flow collections.
-use Rattle.std.proofs.Common.{◌≡◌, refl, sym, ap, ◌∙◌, append_assoc, append-nil}
-use Rattle.std.proofs.lemmas.Bool.{false≢true, eqb-true, and_parts}
-use Rattle.std.specs.Prelude.{ℕ, Bool, true, false, Option, List, [], ◌∷◌, ◌++◌, ◌==◌, ◌||◌, ◌&&◌, ◌+◌, not, length, codes, if◌then◌else◌}
-use Rattle.yaml_base.specs.Characters.{Text, space, line_feed}
-use Rattle.yaml_base.specs.Settings.{Effective}
-use Rattle.yaml_base.specs.Cursor.{Cursor, Rendered, space_if, new_line, indicator}
-use Rattle.yaml_base.specs.Layout.{line_column, Brackets, square, curly, render_end}
-use Rattle.yaml_base.specs.reading.ReadTags.{ParsedTag}
-use Rattle.yaml_base.specs.streams.StreamContent.{Tree, sequence_tree, mapping_tree, Trees, TreePairs}
-use Rattle.yaml_base.specs.streams.StreamLines.{spaces, is_spaces, ends_indicator}
-use Rattle.yaml_base.specs.streams.StreamScalars.{Rules, properties_read, collection_tag_parsed}
-use Rattle.yaml_base.specs.streams.StreamTokens.{word, opens, symbol, begins_bracket, class_of, is_pair, flow_tokens, free}
-use Rattle.yaml_base.specs.streams.StreamFlow.{no_key, key_due, key_held, OpenFlow, in_sequence, in_mapping, at_once, Awaited, entry_awaited, node_awaited}
-use Rattle.yaml_base.specs.streams.StreamFlow.{comma_awaited, colon_awaited, FlowReading, failed, within, with_tree, with_word, word_step, level_opened, opened}
-use Rattle.yaml_base.specs.streams.StreamFlow.{may_open, opened_with}
-use Rattle.yaml_base.proofs.stream_lines.StreamInside.{blank_spaces}
-use Rattle.yaml_base.proofs.stream_flow.StreamPlainWords.{ends_word}
-use Rattle.yaml_base.proofs.stream_flow.StreamSays.{EndsWord, indicator_ends, says_indicator, comma_class, square_class, curly_class}
-use Rattle.yaml_base.proofs.stream_flow.StreamTakes.{TakesBytes, steps, takes_to, takes_sequence_end, takes_mapping_end}
-use Rattle.yaml_base.proofs.stream_nodes.StreamProperties.{properties_text, has_properties, read_as, properties_parsed}
-use Rattle.yaml_base.proofs.stream_flow.StreamPropertyWords.{lead, opens_after}
-use Rattle.yaml_base.proofs.stream_nodes.StreamStands.{tag_meant}
-use Rattle.yaml_base.proofs.stream_nodes.StreamLeads.{EndedCollection, lead_spaces, lead_then}
-use Rattle.yaml_base.proofs.stream_flow.StreamPasses.{takes_text, passes_both, passes_then, passes_comma, passes_entry_white, is_white_text, new_line_white}
+use Rattle.yaml_base.proofs.Common.{ℕ, ◌+◌, if◌then◌else◌, ◌==◌, Option, codes, length, Bool, false, not, true, ◌&&◌, ◌||◌, List, [], ◌++◌, ◌∷◌, refl, ◌≡◌}
+use Rattle.yaml_base.proofs.Common.{eqb-true, append-nil, append_assoc, ap, sym, ◌∙◌, and_parts, false≢true, Text, line_feed, space, Cursor, Rendered}
+use Rattle.yaml_base.proofs.Common.{new_line, space_if, indicator, Brackets, square, curly, render_end, line_column, Effective, ParsedTag, Tree, Trees}
+use Rattle.yaml_base.proofs.Common.{sequence_tree, TreePairs, mapping_tree, no_key, key_due, key_held, OpenFlow, in_sequence, in_mapping, at_once, Awaited}
+use Rattle.yaml_base.proofs.Common.{entry_awaited, node_awaited, comma_awaited, colon_awaited, FlowReading, failed, within, with_tree, word_step}
+use Rattle.yaml_base.proofs.Common.{level_opened, opened, is_spaces, ends_indicator, spaces, Rules, properties_read, collection_tag_parsed, word, opens}
+use Rattle.yaml_base.proofs.Common.{symbol, free, begins_bracket, class_of, is_pair, flow_tokens}
+use Rattle.yaml_base.proofs.{stream_flow.StreamPlainWords.ends_word, stream_flow.StreamPropertyWords.lead, stream_flow.StreamPropertyWords.opens_after}
+use Rattle.yaml_base.proofs.{stream_lines.StreamInside.blank_spaces, stream_nodes.StreamLeads.EndedCollection, stream_nodes.StreamLeads.lead_spaces}
+use Rattle.yaml_base.proofs.{stream_nodes.StreamLeads.lead_then, stream_nodes.StreamStands.tag_meant}
 use Rattle.yaml_base.proofs.stream_flow.StreamFlowWords.{opens_inside, FlowWord, Given, given_leads, tag_of_collection}
+use Rattle.yaml_base.proofs.stream_flow.StreamPasses.{passes_both, passes_then, takes_text, passes_comma, is_white_text, passes_entry_white, new_line_white}
+use Rattle.yaml_base.proofs.stream_flow.StreamSays.{EndsWord, says_indicator, comma_class, square_class, curly_class, indicator_ends}
+use Rattle.yaml_base.proofs.stream_flow.StreamTakes.{steps, TakesBytes, takes_to, takes_sequence_end, takes_mapping_end}
+use Rattle.yaml_base.proofs.stream_nodes.StreamProperties.{properties_text, has_properties, read_as, properties_parsed}
+use Rattle.yaml_base.specs.streams.StreamFlow.{with_word, may_open, opened_with}
 
 -- where a node may begin: between entries, or after the space that follows `?` or `:`
 abbrev pub awaited_of : (spaced : Bool) → Awaited

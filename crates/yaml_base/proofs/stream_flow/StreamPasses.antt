@@ -1,20 +1,12 @@
 -- Indicators and white space in flow, which take the reader of flow collections on whatever follows them.
-use Rattle.std.proofs.Common.{◌≡◌, zero, suc, refl, ap, ◌∙◌, append_assoc}
-use Rattle.std.proofs.lemmas.Bool.{true≢false, false≢true, eqb-true, and_parts, and_from}
-use Rattle.std.proofs.lemmas.List.Folds.{list_all-append}
-use Rattle.std.specs.List.{list_all}
-use Rattle.std.specs.Prelude.{ℕ, Bool, true, false, Option, List, [], ◌∷◌, ◌++◌, ◌==◌, ◌||◌, ◌&&◌, ◌-◌, not, nat_lt, replicate, codes, if◌then◌else◌}
-use Rattle.yaml_base.specs.Characters.{Text, space, line_feed}
-use Rattle.yaml_base.specs.Settings.{Effective}
-use Rattle.yaml_base.specs.Cursor.{Cursor, Rendered, render_nothing, render_then, new_line, breaks_line, space_if, indicator, is_past_width}
-use Rattle.yaml_base.specs.Layout.{line_column, flow_break}
-use Rattle.yaml_base.specs.streams.StreamScalars.{Rules}
-use Rattle.yaml_base.specs.streams.StreamTokens.{symbol, blank, line_end, free, is_flow_indicator, class_of, FlowStep, begun, flow_tokens}
-use Rattle.yaml_base.specs.streams.StreamFlow.{OpenFlow, at_once, after_white, entry_awaited, node_awaited, comma_awaited, colon_awaited, FlowReading, within}
-use Rattle.yaml_base.specs.streams.StreamFlow.{flow_step}
-use Rattle.yaml_base.proofs.stream_flow.StreamWhites.{space_class, line_feed_class}
-use Rattle.yaml_base.proofs.stream_flow.StreamSays.{comma_class, colon_class, question_class}
-use Rattle.yaml_base.proofs.stream_flow.StreamTakes.{TakesBytes, steps}
+use Rattle.yaml_base.proofs.Common.{suc, zero, ℕ, ◌-◌, if◌then◌else◌, ◌==◌, Option, codes, nat_lt, replicate, Bool, false, not, true, ◌&&◌, ◌||◌, List, []}
+use Rattle.yaml_base.proofs.Common.{◌++◌, ◌∷◌, refl, ◌≡◌, eqb-true, true≢false, append_assoc, ap, ◌∙◌, and_parts, and_from, false≢true, list_all-append}
+use Rattle.yaml_base.proofs.Common.{list_all, Text, line_feed, space, Cursor, Rendered, render_nothing, render_then, breaks_line, new_line, space_if}
+use Rattle.yaml_base.proofs.Common.{indicator, is_past_width, line_column, flow_break, Effective, OpenFlow, at_once, after_white, entry_awaited, node_awaited}
+use Rattle.yaml_base.proofs.Common.{comma_awaited, colon_awaited, FlowReading, within, flow_step, Rules, symbol, blank, line_end, free, FlowStep}
+use Rattle.yaml_base.proofs.Common.{is_flow_indicator, class_of, begun, flow_tokens}
+use Rattle.yaml_base.proofs.stream_flow.{StreamSays.comma_class, StreamSays.colon_class, StreamSays.question_class, StreamTakes.steps, StreamTakes.TakesBytes}
+use Rattle.yaml_base.proofs.stream_flow.{StreamWhites.space_class, StreamWhites.line_feed_class}
 
 -- a text takes the reader from a reading to another, before anything
 pub record Passes (rules : Rules) (from : FlowReading) (text : Text) (to : FlowReading) : Type 0 where

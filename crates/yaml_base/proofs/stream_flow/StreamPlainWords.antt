@@ -1,19 +1,12 @@
 -- Plain text is one word among the tokens of flow, before white space and a flow indicator.
-use Rattle.std.proofs.Common.{◌≡◌, refl, sym, ap, ◌∙◌, append_assoc, append-nil}
-use Rattle.std.proofs.lemmas.Bool.{true≢false, false≢true, and_parts, or_parts}
-use Rattle.std.proofs.lemmas.List.{map-append}
-use Rattle.std.specs.List.{list_all}
-use Rattle.std.specs.Prelude.{ℕ, Bool, true, false, None, Some, List, [], ◌∷◌, ◌++◌, ◌==◌, ◌||◌, ◌&&◌, not, map, codes, if◌then◌else◌}
-use Rattle.yaml_base.specs.Characters.{Text, is_among, is_blank}
-use Rattle.yaml_base.specs.LineBreaks.{is_read_break}
-use Rattle.yaml_base.specs.reading.ReadFolding.{unit_of, folding_read}
-use Rattle.yaml_base.specs.reading.ReadPlain.{is_read_white, begins_white, begins_with_hash, begins_no_plain, holds_no_plain, read_plain}
-use Rattle.yaml_base.specs.reading.TidyText.{ends_white, has_clean_edges}
-use Rattle.yaml_base.specs.streams.StreamTokens.{FlowToken, word, free, in_plain, FlowClass, is_white_blank, is_white_break, is_flow_indicator, begins_property}
-use Rattle.yaml_base.specs.streams.StreamTokens.{begins_double, begins_single, begins_bracket, begins_plain, class_of, FlowStep, begun, plain_step}
-use Rattle.yaml_base.specs.streams.StreamTokens.{white_of_class, white_token, flow_tokens}
-use Rattle.yaml_base.proofs.stream_lines.StreamCuts.{none_not_some}
-use Rattle.yaml_base.proofs.stream_flow.StreamWords.{GivesWord}
+use Rattle.yaml_base.proofs.Common.{ℕ, if◌then◌else◌, ◌==◌, None, Some, codes, Bool, false, not, true, ◌&&◌, ◌||◌, List, [], map, ◌++◌, ◌∷◌, refl, ◌≡◌}
+use Rattle.yaml_base.proofs.Common.{true≢false, append-nil, append_assoc, ap, sym, ◌∙◌, and_parts, or_parts, false≢true, map-append, list_all, Text, is_among}
+use Rattle.yaml_base.proofs.Common.{is_blank, is_read_break, unit_of, folding_read, is_read_white, begins_white, begins_no_plain, begins_with_hash}
+use Rattle.yaml_base.proofs.Common.{holds_no_plain, read_plain, ends_white, has_clean_edges, FlowToken, word, free, FlowStep, FlowClass, is_white_blank}
+use Rattle.yaml_base.proofs.Common.{is_white_break, is_flow_indicator, begins_property, begins_double, begins_single, begins_bracket, begins_plain, class_of}
+use Rattle.yaml_base.proofs.Common.{begun, flow_tokens}
+use Rattle.yaml_base.proofs.{stream_flow.StreamWords.GivesWord, stream_lines.StreamCuts.none_not_some}
+use Rattle.yaml_base.specs.streams.StreamTokens.{in_plain, white_of_class, white_token, plain_step}
 
 -- a character of a class ends a word, where white space does if what follows it does
 abbrev pub ends_by : FlowClass → Bool → Bool

@@ -1,25 +1,15 @@
 -- The tokens of a word in flow with its anchor and tag before it: it is one word with them, and so is what opens a collection.
-use Rattle.std.proofs.Common.{◌≡◌, refl, sym, ap, ◌∙◌, append_assoc, append-nil, arith}
-use Rattle.std.proofs.lemmas.Bool.{true≢false, false≢true, or_parts}
-use Rattle.std.proofs.lemmas.Bool.Decides.{nat_tests}
-use Rattle.std.specs.Prelude.{ℕ, Bool, true, false, Option, None, Some, List, [], ◌∷◌, ◌++◌, ◌||◌}
-use Rattle.yaml_base.specs.Characters.{Text, space, is_blank, is_break}
-use Rattle.yaml_base.specs.Event.{TagDirective}
-use Rattle.yaml_base.specs.reading.ReadTags.{ParsedTag}
-use Rattle.yaml_base.specs.reading.ReadPlain.{is_read_white, read_plain}
-use Rattle.yaml_base.specs.reading.ReadSingle.{read_single}
-use Rattle.yaml_base.specs.reading.ReadDouble.{read_double}
-use Rattle.yaml_base.specs.reading.TidyText.{has_clean_edges}
-use Rattle.yaml_base.specs.streams.StreamTokens.{word, opens, FlowPlace, free, in_property, after_property, FlowClass, is_white_blank, is_white_break}
-use Rattle.yaml_base.specs.streams.StreamTokens.{is_flow_indicator, begins_property, begins_double, begins_single, begins_bracket, begins_plain}
-use Rattle.yaml_base.specs.streams.StreamTokens.{class_of, FlowStep}
-use Rattle.yaml_base.specs.streams.StreamTokens.{begun, begun_after_property, property_step, bracket_step, is_pair, flow_tokens}
-use Rattle.yaml_base.proofs.stream_flow.StreamWords.{shifted, double_quoted_word, single_quoted_word}
-use Rattle.yaml_base.proofs.stream_flow.StreamPlainWords.{is_white_class, shown_at, plain_word}
-use Rattle.yaml_base.proofs.stream_flow.StreamWhites.{space_class}
-use Rattle.yaml_base.proofs.stream_flow.StreamSays.{Says, double_class, single_class, ends_unquoted}
+use Rattle.yaml_base.proofs.Common.{ℕ, Option, None, Some, Bool, false, true, ◌||◌, List, [], ◌++◌, ◌∷◌, refl, ◌≡◌, true≢false, append-nil, append_assoc, ap}
+use Rattle.yaml_base.proofs.Common.{sym, ◌∙◌, arith, or_parts, false≢true, nat_tests, Text, space, is_blank, is_break, TagDirective, read_double}
+use Rattle.yaml_base.proofs.Common.{is_read_white, read_plain, read_single, ParsedTag, has_clean_edges, word, opens, FlowPlace, free, FlowStep, FlowClass}
+use Rattle.yaml_base.proofs.Common.{is_white_blank, is_white_break, is_flow_indicator, begins_property, begins_double, begins_single, begins_bracket}
+use Rattle.yaml_base.proofs.Common.{begins_plain, class_of, begun, bracket_step, is_pair, flow_tokens}
 use Rattle.yaml_base.proofs.TagWords.{letters_end_no_word}
+use Rattle.yaml_base.proofs.stream_flow.{StreamPlainWords.is_white_class, StreamPlainWords.shown_at, StreamPlainWords.plain_word, StreamWhites.space_class}
+use Rattle.yaml_base.proofs.stream_flow.{StreamWords.shifted, StreamWords.double_quoted_word, StreamWords.single_quoted_word}
+use Rattle.yaml_base.proofs.stream_flow.StreamSays.{Says, double_class, single_class, ends_unquoted}
 use Rattle.yaml_base.proofs.stream_nodes.StreamProperties.{holds_white, WrittenTag, IsTagged, IsNamed, name_letters}
+use Rattle.yaml_base.specs.streams.StreamTokens.{in_property, after_property, begun_after_property, property_step}
 
 -- the anchor and the tag as they are written, and a space after them
 abbrev pub lead : Option Text → Option Text → Text

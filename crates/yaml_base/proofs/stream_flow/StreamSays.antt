@@ -1,17 +1,8 @@
 -- What a text in flow is to its reader: these tokens, before anything that ends a word.
-use Rattle.std.proofs.Common.{◌≡◌, refl, sym, ap, ◌∙◌, append_assoc}
-use Rattle.std.proofs.lemmas.Bool.{false≢true, eqb-true}
-use Rattle.std.specs.Prelude.{ℕ, Bool, true, false, Some, List, [], ◌∷◌, ◌++◌, ◌==◌, if◌then◌else◌}
-use Rattle.yaml_base.specs.Characters.{Text}
-use Rattle.yaml_base.specs.reading.ReadPlain.{read_plain}
-use Rattle.yaml_base.specs.reading.ReadSingle.{read_single}
-use Rattle.yaml_base.specs.reading.ReadDouble.{read_double}
-use Rattle.yaml_base.specs.reading.TidyText.{has_clean_edges}
-use Rattle.yaml_base.specs.streams.StreamTokens.{FlowToken, word, opens, symbol, blank, line_end, free, is_white_blank, is_white_break, is_flow_indicator}
-use Rattle.yaml_base.specs.streams.StreamTokens.{begins_double, begins_single, begins_bracket, begins_plain, class_of, FlowStep, begun, bracket_step, is_pair}
-use Rattle.yaml_base.specs.streams.StreamTokens.{flow_tokens}
-use Rattle.yaml_base.proofs.stream_flow.StreamWords.{begins_unquoted, double_quoted_word, single_quoted_word}
-use Rattle.yaml_base.proofs.stream_flow.StreamPlainWords.{ends_by, ends_word, plain_word}
+use Rattle.yaml_base.proofs.Common.{ℕ, if◌then◌else◌, ◌==◌, Bool, false, true, List, [], ◌++◌, ◌∷◌, refl, ◌≡◌, eqb-true, ap, sym, ◌∙◌, false≢true, Text}
+use Rattle.yaml_base.proofs.Common.{FlowToken, opens, symbol, blank, line_end, free, FlowStep, is_white_blank, is_white_break, is_flow_indicator}
+use Rattle.yaml_base.proofs.Common.{begins_double, begins_single, begins_bracket, class_of, begun, bracket_step, is_pair, flow_tokens}
+use Rattle.yaml_base.proofs.stream_flow.{StreamPlainWords.ends_by, StreamPlainWords.ends_word, StreamWords.begins_unquoted}
 
 -- a text is these tokens where what follows ends a word
 pub record Says (breaks12 : Bool) (text : Text) (tokens : List FlowToken) : Type 0 where

@@ -1,15 +1,11 @@
 -- What a text in flow is to the reader of flow collections: it takes the reader from one reading to another.
-use Rattle.std.proofs.Common.{◌≡◌, refl, ap, ◌∙◌, append_assoc}
-use Rattle.std.specs.Prelude.{ℕ, true, false, Option, Some, List, [], ◌∷◌, ◌++◌, fold, if◌then◌else◌}
-use Rattle.yaml_base.specs.Characters.{Text}
-use Rattle.yaml_base.specs.streams.StreamContent.{Tree, sequence_tree, mapping_tree, Trees, trees_and, TreePairs, tree_pairs_and}
-use Rattle.yaml_base.specs.streams.StreamScalars.{Rules, Properties, word_read}
-use Rattle.yaml_base.specs.streams.StreamTokens.{FlowToken, word, symbol, free, is_flow_indicator, class_of, begun, FlowStep, flow_tokens}
-use Rattle.yaml_base.specs.streams.StreamFlow.{is_key_text, no_key, key_due, key_held, OpenFlow, in_sequence, in_mapping, at_once, after_white, Awaited}
-use Rattle.yaml_base.specs.streams.StreamFlow.{collection_awaited, entry_awaited, node_awaited, comma_awaited, colon_awaited, FlowReading, failed, done, within}
-use Rattle.yaml_base.specs.streams.StreamFlow.{with_tree, word_step, colon_after, flow_step, tree_at_end, flow_read}
-use Rattle.yaml_base.proofs.stream_flow.StreamPlainWords.{ends_by, ends_word}
-use Rattle.yaml_base.proofs.stream_flow.StreamSays.{Says, EndsWord, says_indicator, comma_class, colon_class, question_class, square_class, curly_class}
+use Rattle.yaml_base.proofs.Common.{ℕ, if◌then◌else◌, fold, Option, Some, false, true, List, [], ◌++◌, ◌∷◌, refl, ◌≡◌, append_assoc, ap, ◌∙◌, Text, Tree}
+use Rattle.yaml_base.proofs.Common.{Trees, sequence_tree, TreePairs, mapping_tree, is_key_text, no_key, key_due, key_held, OpenFlow, in_sequence, in_mapping}
+use Rattle.yaml_base.proofs.Common.{after_white, Awaited, collection_awaited, entry_awaited, node_awaited, comma_awaited, colon_awaited, FlowReading, failed}
+use Rattle.yaml_base.proofs.Common.{done, within, with_tree, word_step, flow_step, tree_at_end, flow_read, Rules, Properties, word_read, FlowToken, word}
+use Rattle.yaml_base.proofs.Common.{symbol, free, FlowStep, is_flow_indicator, class_of, begun, flow_tokens}
+use Rattle.yaml_base.{proofs.stream_flow.StreamPlainWords.ends_by, proofs.stream_flow.StreamPlainWords.ends_word, specs.streams.StreamFlow.colon_after}
+use Rattle.yaml_base.proofs.stream_flow.StreamSays.{Says, EndsWord, says_indicator, square_class, curly_class}
 
 -- the readings of some tokens
 abbrev pub steps : Rules → FlowReading → List FlowToken → FlowReading

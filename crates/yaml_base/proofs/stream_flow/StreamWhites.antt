@@ -1,11 +1,7 @@
 -- White space in flow, and what it does to the reader of flow collections.
-use Rattle.std.proofs.Common.{◌≡◌, zero, suc, refl, ap, ◌∙◌}
-use Rattle.std.specs.Prelude.{ℕ, Bool, true, false, List, [], ◌∷◌, ◌++◌}
-use Rattle.yaml_base.specs.Characters.{space, line_feed}
-use Rattle.yaml_base.specs.streams.StreamLines.{spaces}
-use Rattle.yaml_base.specs.streams.StreamScalars.{Rules}
-use Rattle.yaml_base.specs.streams.StreamTokens.{blank, line_end, is_white_blank, is_white_break, class_of}
-use Rattle.yaml_base.specs.streams.StreamFlow.{OpenFlow, at_once, after_blank, after_white, entry_awaited, node_awaited, colon_awaited, FlowReading, within}
+use Rattle.yaml_base.proofs.Common.{suc, zero, ℕ, Bool, false, true, List, [], ◌++◌, ◌∷◌, refl, ◌≡◌, ap, ◌∙◌, line_feed, space, OpenFlow, at_once}
+use Rattle.yaml_base.proofs.Common.{after_blank, after_white, colon_awaited, FlowReading, within, spaces, Rules, blank, line_end, is_white_blank}
+use Rattle.yaml_base.proofs.Common.{is_white_break, class_of}
 use Rattle.yaml_base.proofs.stream_flow.StreamPlainWords.{ends_by, ends_word}
 use Rattle.yaml_base.proofs.stream_flow.StreamSays.{EndsWord, says_blank, says_break}
 use Rattle.yaml_base.proofs.stream_flow.StreamTakes.{TakesBytes, takes_to, takes_nothing, takes_both}

@@ -1,16 +1,13 @@
 -- The text of a quoted scalar is one word among the tokens of flow, whatever may follow it.
-use Rattle.std.proofs.Common.{◌≡◌, refl, sym, ap, ◌∙◌, append_assoc}
-use Rattle.std.proofs.lemmas.Bool.{false≢true, eqb-true}
-use Rattle.std.specs.Prelude.{ℕ, zero, suc, Bool, true, false, Option, None, Some, List, [], ◌∷◌, ◌++◌, ◌==◌, ◌+◌, ◌*◌, map, option_map, if◌then◌else◌}
-use Rattle.yaml_base.specs.Characters.{Text}
-use Rattle.yaml_base.specs.reading.ReadFolding.{FoldUnit, itself, unit_of, folding_read}
-use Rattle.yaml_base.specs.reading.ReadDouble.{QuotePlace, between, after_backslash as backslash_place, within_digits, goes_on, gives, ends_quotes}
-use Rattle.yaml_base.specs.reading.ReadDouble.{has_no_reading, escape_step, digit_step, is_scalar_number, letter_meaning, digits_after_first, digit_meaning}
-use Rattle.yaml_base.specs.reading.ReadDouble.{Quoted, with_unit, after_step, quoted_from, quoted_reading, value_before, value_alone, read_double}
-use Rattle.yaml_base.specs.reading.ReadSingle.{unquoted, read_single}
-use Rattle.yaml_base.specs.streams.StreamTokens.{FlowToken, word, FlowPlace, free, in_double, after_backslash, in_single, after_quote, FlowStep, goes_to}
-use Rattle.yaml_base.specs.streams.StreamTokens.{completes, prepend_tokens, class_of, begun, flow_tokens}
-use Rattle.yaml_base.proofs.stream_lines.StreamCuts.{none_not_some}
+use Rattle.yaml_base.proofs.Common.{suc, zero, ℕ, ◌*◌, ◌+◌, if◌then◌else◌, ◌==◌, option_map, Option, None, Some, Bool, false, true, List, [], map, ◌++◌, ◌∷◌}
+use Rattle.yaml_base.proofs.Common.{refl, ◌≡◌, eqb-true, append_assoc, ap, sym, ◌∙◌, false≢true, Text, QuotePlace, between, goes_on, gives, ends_quotes}
+use Rattle.yaml_base.proofs.Common.{has_no_reading, Quoted, with_unit, after_step, quoted_from, quoted_reading, value_before, value_alone, read_double}
+use Rattle.yaml_base.proofs.Common.{FoldUnit, unit_of, folding_read, unquoted, read_single, FlowToken, word, FlowPlace, free, FlowStep, class_of, begun}
+use Rattle.yaml_base.proofs.Common.{flow_tokens}
+use Rattle.yaml_base.{proofs.stream_lines.StreamCuts.none_not_some, specs.reading.ReadFolding.itself}
+use Rattle.yaml_base.specs.reading.ReadDouble.{after_backslash as backslash_place, within_digits, letter_meaning, digits_after_first, digit_meaning}
+use Rattle.yaml_base.specs.reading.ReadDouble.{is_scalar_number, digit_step, escape_step}
+use Rattle.yaml_base.specs.streams.StreamTokens.{in_double, after_backslash, in_single, after_quote, goes_to, completes, prepend_tokens}
 
 -- a character more at the end of what stands before a text
 pub shifted : (breaks12 : Bool) (before : Text) (c : ℕ) (t rest : Text)

@@ -1,15 +1,8 @@
 -- An alias and a space are a simple key, before the `:` that follows.
-use Rattle.std.proofs.Common.{◌≡◌, refl, sym, ap, ◌∙◌}
-use Rattle.std.proofs.lemmas.Bool.{true≢false, false≢true, eqb-true, and_parts}
-use Rattle.std.specs.Option.{option_or}
-use Rattle.std.specs.List.{list_all}
-use Rattle.std.specs.Prelude.{ℕ, Bool, true, false, None, Some, [], ◌∷◌, ◌++◌, ◌==◌, ◌&&◌, nat_le, length, option_map, option_and_then, if◌then◌else◌}
-use Rattle.yaml_base.specs.Characters.{Text, space, is_alpha}
-use Rattle.yaml_base.specs.streams.StreamContent.{alias_tree}
-use Rattle.yaml_base.specs.streams.StreamLines.{ends_indicator}
-use Rattle.yaml_base.specs.streams.StreamScalars.{Rules, name_read, word_read}
-use Rattle.yaml_base.specs.streams.StreamFlow.{is_alias, longest_key}
-use Rattle.yaml_base.specs.streams.StreamNodes.{without_last_space, word_but_alias, word_of_alias, key_of_line}
+use Rattle.yaml_base.proofs.Common.{ℕ, if◌then◌else◌, ◌==◌, option_map, option_and_then, None, Some, nat_le, length, Bool, false, true, ◌&&◌, [], ◌++◌, ◌∷◌}
+use Rattle.yaml_base.proofs.Common.{refl, ◌≡◌, eqb-true, true≢false, ap, sym, ◌∙◌, and_parts, false≢true, list_all, option_or, Text, space, is_alpha}
+use Rattle.yaml_base.proofs.Common.{alias_tree, is_alias, longest_key, ends_indicator, without_last_space, word_but_alias, word_of_alias, key_of_line, Rules}
+use Rattle.yaml_base.proofs.Common.{name_read, word_read}
 use Rattle.yaml_base.proofs.stream_keys.StreamKeys.{NoKey, found, key_found}
 
 -- a name and a space

@@ -1,22 +1,11 @@
 -- What a line with a simple key begins with: no space, no indicator of an entry and no marker.
-use Rattle.std.proofs.Common.{◌≡◌, refl, sym, ap, ◌∙◌, subst}
-use Rattle.std.proofs.lemmas.Bool.{true≢false, false≢true, eqb-true, or_parts}
-use Rattle.std.specs.Prelude.{ℕ, Bool, true, false, Option, None, Some, [], ◌∷◌, ◌++◌, ◌==◌, ◌||◌, ◌&&◌, codes, if◌then◌else◌}
-use Rattle.yaml_base.specs.Characters.{Text, space, is_among}
-use Rattle.yaml_base.specs.reading.ReadPlain.{is_read_white, begins_white, begins_with_three, begins_no_plain}
-use Rattle.yaml_base.specs.reading.ReadTags.{ParsedTag}
-use Rattle.yaml_base.specs.streams.StreamContent.{Tree}
-use Rattle.yaml_base.specs.streams.StreamLines.{ends_indicator, begins_with_indicator}
-use Rattle.yaml_base.specs.streams.StreamScalars.{Rules}
-use Rattle.yaml_base.specs.streams.StreamNodes.{key_of_text, simple_entry, key_entry, value_entry}
-use Rattle.yaml_base.specs.streams.StreamDocuments.{start_marker, end_marker, no_exclamation, begins_with_marker, marker_of}
-use Rattle.yaml_base.proofs.stream_lines.StreamSections.{is_unmarked}
-use Rattle.yaml_base.proofs.stream_nodes.StreamPairs.{KeyFits}
-use Rattle.yaml_base.proofs.stream_keys.StreamKeys.{NoKey, key_found}
-use Rattle.yaml_base.proofs.stream_keys.StreamPlainKeys.{Begins, not_among}
-use Rattle.yaml_base.proofs.stream_flow.StreamPropertyWords.{lead}
-use Rattle.yaml_base.proofs.stream_flow.StreamFlowWords.{Given}
-use Rattle.yaml_base.proofs.stream_keys.StreamKeysFit.{KeyText}
+use Rattle.yaml_base.proofs.Common.{ℕ, if◌then◌else◌, ◌==◌, Option, None, Some, codes, Bool, false, true, ◌&&◌, ◌||◌, [], ◌++◌, ◌∷◌, refl, ◌≡◌, eqb-true}
+use Rattle.yaml_base.proofs.Common.{true≢false, ap, subst, sym, ◌∙◌, or_parts, false≢true, Text, is_among, space, is_read_white, begins_white}
+use Rattle.yaml_base.proofs.Common.{begins_with_three, begins_no_plain, ParsedTag, Tree, begins_with_marker, start_marker, end_marker, no_exclamation}
+use Rattle.yaml_base.proofs.Common.{marker_of, ends_indicator, begins_with_indicator, key_of_text, key_entry, value_entry, simple_entry, Rules}
+use Rattle.yaml_base.proofs.{stream_flow.StreamFlowWords.Given, stream_flow.StreamPropertyWords.lead, stream_keys.StreamKeys.NoKey}
+use Rattle.yaml_base.proofs.{stream_keys.StreamKeys.key_found, stream_keys.StreamKeysFit.KeyText, stream_keys.StreamPlainKeys.not_among}
+use Rattle.yaml_base.proofs.{stream_keys.StreamPlainKeys.Begins, stream_lines.StreamSections.is_unmarked, stream_nodes.StreamPairs.KeyFits}
 
 -- a text before a `:` that ends it begins so
 pub record KeyBeginning (text : Text) : Type 0 where

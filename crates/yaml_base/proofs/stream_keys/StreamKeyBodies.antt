@@ -1,22 +1,14 @@
 -- The body of a simple key: its value has no break and no fold stands in it, so that its text is the value's characters, each as
 -- its style writes it, on one line.
-use Rattle.std.proofs.Common.{◌≡◌, zero, suc, refl, sym, ap, ◌∙◌, append_assoc, append-nil, arith}
-use Rattle.std.proofs.lemmas.Bool.{false≢true, or_parts, and_parts, agree_below_at, eqb-true}
-use Rattle.std.proofs.lemmas.Bool.Decides.{nat_tests}
-use Rattle.std.specs.List.{list_any, flat_map}
-use Rattle.std.specs.Prelude.{ℕ, Bool, true, false, Option, None, Some, List, [], ◌∷◌, ◌++◌, ◌==◌, ◌||◌, ◌&&◌, ◌/◌, ◌%◌, not, nat_le, if◌then◌else◌}
-use Rattle.yaml_base.specs.Characters.{Text, space, is_space, is_break, hex_digit, hex_digits}
-use Rattle.yaml_base.specs.LineBreaks.{is_read_break}
-use Rattle.yaml_base.specs.Settings.{Effective}
-use Rattle.yaml_base.specs.Event.{ScalarStyle, any_style, plain, single_quoted, double_quoted, literal, folded}
-use Rattle.yaml_base.specs.Cursor.{Cursor, render_then, render_text}
-use Rattle.yaml_base.specs.scalars.Plain.{Kind, spaces, breaks, others, is_same_kind, Run, cons_run, runs, run_text, render_runs}
-use Rattle.yaml_base.specs.scalars.SingleQuoted.{quotes_doubled, single_quote}
-use Rattle.yaml_base.specs.scalars.DoubleQuoted.{ShortEscape, quote, short_escapes, letter_among, escape_after_backslash, escape_text, needs_escape}
-use Rattle.yaml_base.specs.scalars.DoubleQuoted.{character_text, may_fold, double_fold, double_inside, render_quote}
-use Rattle.yaml_base.specs.Layout.{render_body}
-use Rattle.yaml_base.proofs.stream_lines.StreamLineLaws.{OneLine}
-use Rattle.yaml_base.proofs.stream_flow.StreamFlowScalars.{is_flow_style}
+use Rattle.yaml_base.proofs.Common.{suc, zero, ℕ, ◌%◌, ◌/◌, if◌then◌else◌, ◌==◌, Option, None, Some, nat_le, Bool, false, not, true, ◌&&◌, ◌||◌, List, []}
+use Rattle.yaml_base.proofs.Common.{◌++◌, ◌∷◌, refl, ◌≡◌, eqb-true, append-nil, append_assoc, ap, sym, ◌∙◌, arith, and_parts, or_parts, agree_below_at}
+use Rattle.yaml_base.proofs.Common.{false≢true, nat_tests, flat_map, list_any, Text, space, is_space, is_break, hex_digit, hex_digits, Cursor, render_then}
+use Rattle.yaml_base.proofs.Common.{ScalarStyle, any_style, plain, single_quoted, double_quoted, literal, folded, render_body, is_read_break, Effective}
+use Rattle.yaml_base.proofs.Common.{short_escapes, letter_among, escape_after_backslash, escape_text, needs_escape, character_text, double_inside}
+use Rattle.yaml_base.proofs.Common.{render_quote, runs, render_runs, quotes_doubled, single_quote}
+use Rattle.yaml_base.{proofs.stream_flow.StreamFlowScalars.is_flow_style, proofs.stream_lines.StreamLineLaws.OneLine, specs.Cursor.render_text}
+use Rattle.yaml_base.specs.scalars.DoubleQuoted.{quote, ShortEscape, may_fold, double_fold}
+use Rattle.yaml_base.specs.scalars.Plain.{Kind, spaces, breaks, others, is_same_kind, Run, cons_run, run_text}
 
 -- Without folds
 

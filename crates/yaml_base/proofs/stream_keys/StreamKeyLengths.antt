@@ -1,22 +1,13 @@
 -- The text of a simple key isn't longer than a reader allows: a byte of its names, its tag and its value makes four characters at
 -- most.
-use Rattle.std.proofs.Common.{◌≡◌, suc, ◌≤◌, refl, sym, arith, subst}
-use Rattle.std.proofs.lemmas.Bool.Decides.{nat_tests}
-use Rattle.std.proofs.lemmas.List.{length-append}
-use Rattle.std.proofs.lemmas.Str.{length-encode, len_utf8_bounds, length-le-encodes}
-use Rattle.std.specs.Char.{len_utf8}
-use Rattle.std.specs.List.{flat_map}
-use Rattle.std.specs.Prelude.{ℕ, Bool, true, false, Option, None, Some, List, [], ◌∷◌, ◌++◌, ◌+◌, ◌*◌, ◌==◌, nat_le, length, encode_utf8, if◌then◌else◌}
-use Rattle.yaml_base.specs.Characters.{Text, hex_digits}
-use Rattle.yaml_base.specs.Event.{ScalarStyle, any_style, plain, single_quoted, double_quoted, literal, folded, TagDirective}
-use Rattle.yaml_base.specs.Percent.{is_tag_character, byte_escaped, character_written, percent_escaped, is_suffix_character, suffix_escaped}
-use Rattle.yaml_base.specs.Tags.{Spelling, shorthand, verbatim, spelling, spelled}
-use Rattle.yaml_base.specs.scalars.DoubleQuoted.{short_escapes, letter_among, escape_after_backslash, escape_text, needs_escape, character_text}
-use Rattle.yaml_base.specs.scalars.SingleQuoted.{quotes_doubled}
-use Rattle.yaml_base.specs.Layout.{byte_count, name_count, spelling_count, tag_count}
-use Rattle.yaml_base.proofs.stream_keys.StreamKeyBodies.{key_body, quote_doubled}
-use Rattle.yaml_base.proofs.stream_flow.StreamPropertyWords.{lead}
-use Rattle.yaml_base.proofs.stream_nodes.StreamStands.{tag_written}
+use Rattle.yaml_base.proofs.Common.{suc, ℕ, ◌*◌, ◌+◌, ◌≤◌, if◌then◌else◌, ◌==◌, Option, None, Some, nat_le, length, encode_utf8, Bool, false, true, List, []}
+use Rattle.yaml_base.proofs.Common.{◌++◌, ◌∷◌, refl, ◌≡◌, length-append, subst, sym, arith, nat_tests, length-encode, len_utf8_bounds, length-le-encodes}
+use Rattle.yaml_base.proofs.Common.{len_utf8, flat_map, Text, hex_digits, ScalarStyle, any_style, plain, single_quoted, double_quoted, literal, folded}
+use Rattle.yaml_base.proofs.Common.{TagDirective, byte_count, name_count, tag_count, is_tag_character, byte_escaped, character_written, percent_escaped}
+use Rattle.yaml_base.proofs.Common.{is_suffix_character, suffix_escaped, Spelling, shorthand, verbatim, spelling, spelled, short_escapes, letter_among}
+use Rattle.yaml_base.proofs.Common.{escape_after_backslash, escape_text, needs_escape, character_text, quotes_doubled}
+use Rattle.yaml_base.{proofs.stream_flow.StreamPropertyWords.lead, proofs.stream_keys.StreamKeyBodies.quote_doubled}
+use Rattle.yaml_base.{proofs.stream_keys.StreamKeyBodies.key_body, proofs.stream_nodes.StreamStands.tag_written, specs.Layout.spelling_count}
 
 -- Bytes of characters
 

@@ -1,31 +1,17 @@
 -- A simple key after its anchor and its tag is read as its tree, and no `:` inside it ends a key earlier.
-use Rattle.std.proofs.Common.{◌≡◌, refl, sym, ap, ◌∙◌, append_assoc, subst}
-use Rattle.std.proofs.lemmas.Bool.{true≢false, false≢true, eqb-true, and_parts}
-use Rattle.std.specs.Prelude.{ℕ, Bool, true, false, Option, None, Some, [], ◌∷◌, ◌++◌, ◌==◌, ◌&&◌, not, nat_le, length, option_map, option_and_then}
-use Rattle.std.specs.Prelude.{if◌then◌else◌}
-use Rattle.yaml_base.specs.Characters.{Text, space}
-use Rattle.yaml_base.specs.Event.{plain, single_quoted, double_quoted}
-use Rattle.yaml_base.specs.reading.ReadTags.{ParsedTag}
-use Rattle.yaml_base.specs.reading.ReadPlain.{read_plain}
-use Rattle.yaml_base.specs.reading.ReadSingle.{read_single}
-use Rattle.yaml_base.specs.reading.ReadDouble.{read_double}
-use Rattle.yaml_base.specs.reading.TidyText.{is_tidy}
-use Rattle.yaml_base.specs.streams.StreamContent.{stood_quoted, Tree, sequence_tree, mapping_tree, no_trees, no_tree_pairs}
-use Rattle.yaml_base.specs.streams.StreamLines.{ends_indicator}
-use Rattle.yaml_base.specs.streams.StreamScalars.{Rules, Properties, scalar_parsed, scalar_of_style, an_alias, empty_sequence, empty_mapping, a_scalar}
-use Rattle.yaml_base.specs.streams.StreamScalars.{kind_of_word, word_by_kind, word_after, word_read}
-use Rattle.yaml_base.specs.streams.StreamFlow.{is_alias, longest_key}
-use Rattle.yaml_base.specs.streams.StreamNodes.{key_of_text, word_of_alias, without_last_space}
-use Rattle.yaml_base.proofs.stream_lines.StreamTidyLaws.{tidy_at_root}
-use Rattle.yaml_base.proofs.stream_lines.StreamCuts.{double_quoted_whole, single_quoted_whole}
-use Rattle.yaml_base.proofs.stream_keys.StreamKeys.{NoKey, no_alias_before, key_by_word}
-use Rattle.yaml_base.proofs.stream_keys.StreamPlainKeys.{Begins, plain_kind, plain_style, plain_no_key, reads_plain}
-use Rattle.yaml_base.proofs.stream_nodes.StreamProperties.{begins_content}
-use Rattle.yaml_base.proofs.stream_flow.StreamPropertyWords.{lead}
-use Rattle.yaml_base.proofs.stream_nodes.StreamStands.{tag_meant}
+use Rattle.yaml_base.proofs.Common.{ℕ, if◌then◌else◌, ◌==◌, option_map, option_and_then, Option, None, Some, nat_le, length, Bool, false, not, true, ◌&&◌, []}
+use Rattle.yaml_base.proofs.Common.{◌++◌, ◌∷◌, refl, ◌≡◌, eqb-true, true≢false, append_assoc, ap, subst, sym, ◌∙◌, and_parts, false≢true, Text, space, plain}
+use Rattle.yaml_base.proofs.Common.{single_quoted, double_quoted, read_double, read_plain, read_single, ParsedTag, is_tidy, stood_quoted, Tree, sequence_tree}
+use Rattle.yaml_base.proofs.Common.{mapping_tree, no_trees, no_tree_pairs, is_alias, longest_key, ends_indicator, without_last_space, word_of_alias}
+use Rattle.yaml_base.proofs.Common.{key_of_text, Rules, Properties, scalar_parsed, scalar_of_style, an_alias, empty_sequence, empty_mapping, a_scalar}
+use Rattle.yaml_base.proofs.Common.{kind_of_word, word_by_kind, word_after, word_read}
+use Rattle.yaml_base.proofs.{stream_flow.StreamPropertyWords.lead, stream_keys.StreamKeys.NoKey, stream_keys.StreamKeys.no_alias_before}
+use Rattle.yaml_base.proofs.{stream_keys.StreamKeys.key_by_word, stream_lines.StreamCuts.double_quoted_whole, stream_lines.StreamCuts.single_quoted_whole}
+use Rattle.yaml_base.proofs.{stream_lines.StreamTidyLaws.tidy_at_root, stream_nodes.StreamProperties.begins_content, stream_nodes.StreamStands.tag_meant}
 use Rattle.yaml_base.proofs.stream_flow.StreamFlowWords.{Given, given_reads, scalar_in, scalar_meant, double_kind, single_kind, tag_of_collection}
 use Rattle.yaml_base.proofs.stream_keys.StreamNoKeys.{nowhere_then, reads_alias, alias_left, other_kept, kind_other, tag_no_alias, anchor_no_alias}
 use Rattle.yaml_base.proofs.stream_keys.StreamNoKeys.{lead_nowhere}
+use Rattle.yaml_base.proofs.stream_keys.StreamPlainKeys.{Begins, plain_kind, plain_style, plain_no_key, reads_plain}
 
 -- Words after properties
 

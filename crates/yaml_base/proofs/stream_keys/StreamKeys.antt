@@ -1,18 +1,9 @@
 -- A simple key in quotes is found where its text ends, before the `:` that follows it.
-use Rattle.std.proofs.Common.{◌≡◌, refl, sym, ap, ◌∙◌, append_assoc}
-use Rattle.std.proofs.lemmas.Bool.{false≢true, eqb-true, and_parts}
-use Rattle.std.specs.Option.{option_or}
-use Rattle.std.specs.Prelude.{ℕ, Bool, true, false, Option, None, Some, [], ◌∷◌, ◌++◌, ◌==◌, ◌&&◌, nat_le, length, option_map, option_and_then, if◌then◌else◌}
-use Rattle.yaml_base.specs.Characters.{Text, space}
-use Rattle.yaml_base.specs.Event.{single_quoted, double_quoted}
-use Rattle.yaml_base.specs.reading.ReadSingle.{read_single}
-use Rattle.yaml_base.specs.reading.ReadDouble.{read_double}
-use Rattle.yaml_base.specs.reading.TidyText.{is_tidy}
-use Rattle.yaml_base.specs.streams.StreamContent.{Stood, stood_quoted, Tagging, without_tag, Tree, scalar_tree}
-use Rattle.yaml_base.specs.streams.StreamLines.{ends_indicator}
-use Rattle.yaml_base.specs.streams.StreamScalars.{Rules, Properties, no_properties, tagging_parsed, scalar_parsed, scalar_of_style, word_read}
-use Rattle.yaml_base.specs.streams.StreamFlow.{is_alias, longest_key}
-use Rattle.yaml_base.specs.streams.StreamNodes.{SimpleKey, without_last_space, word_but_alias, word_of_alias, key_of_text, key_ends, key_from, key_of_line}
+use Rattle.yaml_base.proofs.Common.{ℕ, if◌then◌else◌, ◌==◌, option_map, option_and_then, Option, None, Some, nat_le, length, Bool, false, true, ◌&&◌, []}
+use Rattle.yaml_base.proofs.Common.{◌++◌, ◌∷◌, refl, ◌≡◌, eqb-true, append_assoc, ap, sym, ◌∙◌, and_parts, option_or, Text, space, single_quoted}
+use Rattle.yaml_base.proofs.Common.{double_quoted, read_double, read_single, is_tidy, Stood, stood_quoted, Tagging, Tree, scalar_tree, is_alias, longest_key}
+use Rattle.yaml_base.proofs.Common.{ends_indicator, SimpleKey, without_last_space, word_but_alias, word_of_alias, key_of_text, key_ends, key_from, Rules}
+use Rattle.yaml_base.proofs.Common.{Properties, no_properties, tagging_parsed, scalar_parsed, scalar_of_style, word_read}
 use Rattle.yaml_base.proofs.stream_lines.StreamCuts.{double_quoted_whole, single_quoted_whole}
 
 -- no `:` inside a text ends a key, where so much stands before it and a `:` after it

@@ -1,39 +1,21 @@
 -- Simple keys in flow: the text of each is on one line and isn't too long.
-use Rattle.std.proofs.Common.{◌≡◌, suc, ◌≤◌, refl, sym, ap, ◌∙◌, append_assoc, append-nil, arith, subst}
-use Rattle.std.proofs.lemmas.Bool.{false≢true, le-leb, leb-true, and_parts, and_from}
-use Rattle.std.proofs.lemmas.List.{length-append, append_cancel_left, append_cancel_right}
-use Rattle.std.proofs.lemmas.Str.{length-le-encodes}
-use Rattle.std.specs.List.{list_any}
-use Rattle.std.specs.Prelude.{ℕ, Bool, true, false, None, Some, List, [], ◌∷◌, ◌++◌, ◌+◌, ◌||◌, ◌&&◌, not, is_some, nat_le, length, if◌then◌else◌}
-use Rattle.yaml_base.specs.Characters.{Text, space, is_break}
-use Rattle.yaml_base.specs.LineBreaks.{is_read_break}
-use Rattle.yaml_base.specs.Settings.{Effective}
-use Rattle.yaml_base.specs.Event.{ScalarStyle, any_style, plain, single_quoted, double_quoted, literal, folded, TagDirective, Scalar, Collection}
-use Rattle.yaml_base.specs.Cursor.{Cursor, space_if}
-use Rattle.yaml_base.specs.scalars.Analysis.{Allowances, is_empty, allowances}
-use Rattle.yaml_base.specs.scalars.Style.{requested_style, fitting_style, fits_plain}
-use Rattle.yaml_base.specs.Grammar.{alias_node, scalar_node, sequence_node, mapping_node, no_nodes, nodes_and, no_pairs, pairs_and}
-use Rattle.yaml_base.specs.Event.{scalar_tag, collection_tag}
-use Rattle.yaml_base.specs.Layout.{Role, is_key, byte_count, name_count, tag_count, is_short, is_simple, deeper, render_properties, render_alias}
-use Rattle.yaml_base.specs.Layout.{render_separation}
-use Rattle.yaml_base.specs.Layout.{render_body, charset_of, choice_of, entry_place}
-use Rattle.yaml_base.specs.Places.{most_key_bytes}
-use Rattle.yaml_base.specs.streams.StreamContent.{Tree}
-use Rattle.yaml_base.specs.streams.StreamScalars.{name_read}
-use Rattle.yaml_base.specs.streams.StreamFlow.{is_alias, longest_key, key_length, is_key_text}
-use Rattle.yaml_base.proofs.stream_nodes.StreamAgrees.{node_tree}
-use Rattle.yaml_base.proofs.stream_lines.StreamLineLaws.{OneLine, one_line_both}
-use Rattle.yaml_base.proofs.stream_nodes.StreamAliasFits.{name_line}
-use Rattle.yaml_base.proofs.stream_nodes.StreamProperties.{IsNamed, name_letters}
-use Rattle.yaml_base.proofs.stream_flow.StreamPropertyWords.{lead}
-use Rattle.yaml_base.proofs.stream_nodes.StreamStands.{tag_written, tag_meant, TagStands}
-use Rattle.yaml_base.proofs.stream_nodes.StreamLeads.{lead_rendered, tag_is_written}
-use Rattle.yaml_base.proofs.stream_nodes.StreamTexts.{scalar_own, node_own}
-use Rattle.yaml_base.proofs.stream_flow.StreamFlowScalars.{rules_of, is_flow_style, scalar_whole}
-use Rattle.yaml_base.proofs.stream_flow.StreamFlowKinds.{KeysFit, empty_whole}
-use Rattle.yaml_base.proofs.stream_nodes.StreamBegun.{lead_line}
+use Rattle.yaml_base.proofs.Common.{suc, ℕ, ◌+◌, ◌≤◌, if◌then◌else◌, is_some, None, Some, nat_le, length, Bool, false, not, true, ◌&&◌, ◌||◌, List, [], ◌++◌}
+use Rattle.yaml_base.proofs.Common.{◌∷◌, refl, ◌≡◌, le-leb, leb-true, length-append, append-nil, append_assoc, ap, subst, sym, ◌∙◌, arith, and_parts}
+use Rattle.yaml_base.proofs.Common.{and_from, false≢true, length-le-encodes, list_any, Text, space, is_break, Cursor, space_if, ScalarStyle, any_style, plain}
+use Rattle.yaml_base.proofs.Common.{single_quoted, double_quoted, literal, folded, TagDirective, Scalar, Collection, scalar_tag, collection_tag, alias_node}
+use Rattle.yaml_base.proofs.Common.{scalar_node, sequence_node, mapping_node, no_nodes, nodes_and, no_pairs, pairs_and, render_properties, render_alias}
+use Rattle.yaml_base.proofs.Common.{render_separation, render_body, charset_of, choice_of, entry_place, Role, is_key, deeper, byte_count, name_count}
+use Rattle.yaml_base.proofs.Common.{tag_count, is_short, is_simple, is_read_break, most_key_bytes, Effective, Allowances, is_empty, allowances}
+use Rattle.yaml_base.proofs.Common.{requested_style, fitting_style, fits_plain, Tree, is_alias, longest_key, is_key_text, name_read}
+use Rattle.std.proofs.lemmas.List.{append_cancel_left, append_cancel_right}
+use Rattle.yaml_base.{proofs.stream_keys.StreamKeyLengths.body_length, proofs.stream_keys.StreamKeyLengths.lead_length}
+use Rattle.yaml_base.{proofs.stream_lines.StreamLineLaws.OneLine, proofs.stream_lines.StreamLineLaws.one_line_both, specs.streams.StreamFlow.key_length}
+use Rattle.yaml_base.proofs.stream_flow.{StreamFlowKinds.KeysFit, StreamFlowKinds.empty_whole, StreamFlowScalars.rules_of, StreamFlowScalars.is_flow_style}
+use Rattle.yaml_base.proofs.stream_flow.{StreamFlowScalars.scalar_whole, StreamPropertyWords.lead}
 use Rattle.yaml_base.proofs.stream_keys.StreamKeyBodies.{key_body, body_alone, unbroken_line, key_unbroken}
-use Rattle.yaml_base.proofs.stream_keys.StreamKeyLengths.{body_length, lead_length}
+use Rattle.yaml_base.proofs.stream_nodes.{StreamAgrees.node_tree, StreamAliasFits.name_line, StreamBegun.lead_line, StreamLeads.lead_rendered}
+use Rattle.yaml_base.proofs.stream_nodes.{StreamLeads.tag_is_written, StreamProperties.IsNamed, StreamProperties.name_letters, StreamStands.tag_written}
+use Rattle.yaml_base.proofs.stream_nodes.{StreamStands.tag_meant, StreamStands.TagStands, StreamTexts.scalar_own, StreamTexts.node_own}
 
 -- the text of a simple key is on one line, and with a space after it not too long
 pub record KeyText (breaks12 : Bool) (text : Text) : Type 0 where

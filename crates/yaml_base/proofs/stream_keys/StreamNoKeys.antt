@@ -1,26 +1,17 @@
 -- No `:` in an anchor or a tag ends a key: what stands before it is no word, and no alias.
-use Rattle.std.proofs.Common.{◌≡◌, suc, refl, sym, ap, ◌∙◌, append_assoc, append-nil, subst}
-use Rattle.std.proofs.lemmas.Bool.{true≢false, false≢true, eqb-true, and_parts, and_from}
-use Rattle.std.specs.List.{list_all}
-use Rattle.std.specs.Option.{option_or}
-use Rattle.std.specs.Prelude.{ℕ, Bool, true, false, Option, None, Some, [], ◌∷◌, ◌++◌, ◌==◌, ◌||◌, ◌&&◌, ◌+◌, not, is_some, nat_le, length, option_map}
-use Rattle.std.specs.Prelude.{option_and_then, if◌then◌else◌}
-use Rattle.yaml_base.specs.Characters.{Text, space, is_alpha}
-use Rattle.yaml_base.specs.streams.StreamContent.{Stood, Tagging, Tree, scalar_tree, sequence_tree, mapping_tree, no_trees, no_tree_pairs}
-use Rattle.yaml_base.specs.streams.StreamLines.{Indented, indented, spaces, ends_indicator}
-use Rattle.yaml_base.specs.reading.ReadTags.{ParsedTag, tag_parsed}
-use Rattle.yaml_base.specs.streams.StreamScalars.{Rules, Properties, PropertiesRead, cut_before_space, name_read, tag_of_word, tag_first, collection_tag_parsed}
-use Rattle.yaml_base.specs.streams.StreamScalars.{tagging_parsed, scalar_parsed, standing_of, style_of_first_character, value_read, alias_parsed}
-use Rattle.yaml_base.specs.streams.StreamScalars.{WordKind, an_alias}
-use Rattle.yaml_base.specs.streams.StreamScalars.{empty_sequence, empty_mapping, a_scalar, kind_of_word, word_by_kind, word_after, word_read}
-use Rattle.yaml_base.specs.reading.TidyText.{is_tidy}
-use Rattle.yaml_base.specs.streams.StreamFlow.{is_alias, longest_key}
-use Rattle.yaml_base.specs.streams.StreamNodes.{key_ends, key_of_text, key_from, word_of_alias, without_last_space}
-use Rattle.yaml_base.proofs.stream_lines.StreamInside.{indented_spaces}
-use Rattle.yaml_base.proofs.stream_nodes.StreamProperties.{WrittenTag, IsTagged, IsNamed, properties_text, has_no_space, word_whole, no_white_no_space}
-use Rattle.yaml_base.proofs.stream_nodes.StreamProperties.{content_indented, space_after, with_anchor, name_letters}
-use Rattle.yaml_base.proofs.stream_flow.StreamPropertyWords.{lead}
-use Rattle.yaml_base.proofs.stream_keys.StreamKeys.{NoKey, no_alias_before, key_by_word}
+use Rattle.yaml_base.proofs.Common.{suc, ℕ, ◌+◌, if◌then◌else◌, ◌==◌, is_some, option_map, option_and_then, Option, None, Some, nat_le, length, Bool, false}
+use Rattle.yaml_base.proofs.Common.{not, true, ◌&&◌, ◌||◌, [], ◌++◌, ◌∷◌, refl, ◌≡◌, eqb-true, true≢false, append-nil, append_assoc, ap, subst, sym, ◌∙◌}
+use Rattle.yaml_base.proofs.Common.{and_parts, and_from, false≢true, list_all, option_or, Text, space, is_alpha, ParsedTag, tag_parsed, is_tidy, Stood}
+use Rattle.yaml_base.proofs.Common.{Tagging, Tree, scalar_tree, sequence_tree, mapping_tree, no_trees, no_tree_pairs, is_alias, longest_key, ends_indicator}
+use Rattle.yaml_base.proofs.Common.{Indented, indented, spaces, without_last_space, word_of_alias, key_of_text, key_ends, key_from, Rules, Properties}
+use Rattle.yaml_base.proofs.Common.{PropertiesRead, cut_before_space, name_read, tag_of_word, tag_first, collection_tag_parsed, tagging_parsed}
+use Rattle.yaml_base.proofs.Common.{style_of_first_character, standing_of, scalar_parsed, an_alias, empty_sequence, empty_mapping, a_scalar, kind_of_word}
+use Rattle.yaml_base.proofs.Common.{word_by_kind, word_after, word_read}
+use Rattle.yaml_base.proofs.{stream_flow.StreamPropertyWords.lead, stream_keys.StreamKeys.NoKey, stream_keys.StreamKeys.no_alias_before}
+use Rattle.yaml_base.proofs.{stream_keys.StreamKeys.key_by_word, stream_lines.StreamInside.indented_spaces}
+use Rattle.yaml_base.proofs.stream_nodes.StreamProperties.{WrittenTag, IsTagged, IsNamed, properties_text, has_no_space, word_whole, name_letters}
+use Rattle.yaml_base.proofs.stream_nodes.StreamProperties.{no_white_no_space, space_after, content_indented, with_anchor}
+use Rattle.yaml_base.specs.streams.StreamScalars.{value_read, alias_parsed, WordKind}
 
 -- Texts in which no key ends
 

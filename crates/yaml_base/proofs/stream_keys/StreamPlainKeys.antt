@@ -1,24 +1,14 @@
 -- A plain simple key is found where its text ends, before the `:` that follows it.
-use Rattle.std.proofs.Common.{◌≡◌, refl, sym, ap, ◌∙◌}
-use Rattle.std.proofs.lemmas.Bool.{true≢false, false≢true, eqb-true, and_parts, or_parts}
-use Rattle.std.specs.Prelude.{ℕ, Bool, true, false, Option, None, Some, List, [], ◌∷◌, ◌++◌, ◌==◌, ◌||◌, ◌&&◌, not, map, nat_le, length, codes, option_and_then}
-use Rattle.std.specs.Prelude.{if◌then◌else◌}
-use Rattle.std.specs.List.{list_all}
-use Rattle.yaml_base.specs.Characters.{Text, space, is_among, is_printable}
-use Rattle.yaml_base.specs.Event.{TagDirective, plain}
-use Rattle.yaml_base.specs.reading.ReadFolding.{unit_of, folding_read}
-use Rattle.yaml_base.specs.reading.ReadPlain.{is_read_white, begins_white, begins_with_three, begins_with_hash, begins_no_plain, holds_no_plain, read_plain}
-use Rattle.yaml_base.specs.reading.TidyText.{is_tidy, has_deep_lines, has_no_space_before_break, has_clean_edges, ends_white}
-use Rattle.yaml_base.specs.streams.StreamContent.{stood_plain, without_tag, Tree, scalar_tree}
-use Rattle.yaml_base.specs.streams.StreamLines.{ends_indicator, Indented, indented, indented_step}
-use Rattle.yaml_base.specs.streams.StreamScalars.{Rules, no_properties, properties_read, anchor_of_word, cut_before_space, tag_first, tag_of_word}
-use Rattle.yaml_base.specs.streams.StreamScalars.{scalar_parsed}
-use Rattle.yaml_base.specs.streams.StreamScalars.{scalar_of_style, style_of_first_character, an_alias, a_scalar, kind_of_word, word_by_kind}
-use Rattle.yaml_base.specs.streams.StreamScalars.{word_after, word_read}
-use Rattle.yaml_base.specs.streams.StreamFlow.{is_alias, longest_key}
-use Rattle.yaml_base.specs.streams.StreamNodes.{key_of_text, key_of_line, word_of_alias}
-use Rattle.yaml_base.proofs.stream_lines.StreamCuts.{none_not_some}
+use Rattle.yaml_base.proofs.Common.{ℕ, if◌then◌else◌, ◌==◌, option_and_then, Option, None, Some, codes, nat_le, length, Bool, false, not, true, ◌&&◌, ◌||◌}
+use Rattle.yaml_base.proofs.Common.{List, [], map, ◌++◌, ◌∷◌, refl, ◌≡◌, eqb-true, true≢false, ap, sym, ◌∙◌, and_parts, or_parts, false≢true, list_all, Text}
+use Rattle.yaml_base.proofs.Common.{is_among, space, is_printable, plain, TagDirective, unit_of, folding_read, is_read_white, begins_white, begins_with_three}
+use Rattle.yaml_base.proofs.Common.{begins_no_plain, begins_with_hash, holds_no_plain, read_plain, has_deep_lines, has_no_space_before_break, ends_white}
+use Rattle.yaml_base.proofs.Common.{has_clean_edges, is_tidy, stood_plain, without_tag, Tree, scalar_tree, is_alias, longest_key, ends_indicator, Indented}
+use Rattle.yaml_base.proofs.Common.{indented_step, indented, word_of_alias, key_of_text, key_of_line, Rules, no_properties, cut_before_space, anchor_of_word}
+use Rattle.yaml_base.proofs.Common.{tag_of_word, tag_first, properties_read, style_of_first_character, scalar_parsed, scalar_of_style, an_alias, a_scalar}
+use Rattle.yaml_base.proofs.Common.{kind_of_word, word_by_kind, word_after, word_read}
 use Rattle.yaml_base.proofs.stream_keys.StreamKeys.{NoKey, found, key_found, scalar_no_alias, scalar_but_alias, no_alias_before, key_by_word}
+use Rattle.yaml_base.proofs.stream_lines.StreamCuts.{none_not_some}
 
 -- a character outside a set is none of the set's
 pub not_among : (set : Text) (c n : ℕ) → is_among set n ≡ true → is_among set c ≡ false → (c == n) ≡ false

@@ -1,52 +1,29 @@
 -- Each simple key of the layout in a block is cut off before its `:`, where its names and its body stand.
-use Rattle.std.proofs.Common.{◌≡◌, suc, ◌≤◌, refl, sym, ap, ◌∙◌, arith, subst}
-use Rattle.std.proofs.lemmas.Bool.{true≢false, false≢true, le-leb, leb-true, and_parts}
-use Rattle.std.proofs.lemmas.List.{length-append}
-use Rattle.std.specs.List.{list_all, flat_map}
-use Rattle.std.specs.Prelude.{ℕ, Bool, true, false, Option, None, Some, List, [], ◌∷◌, ◌++◌, ◌+◌, ◌||◌, ◌&&◌, not, is_some, nat_le, length, if◌then◌else◌}
-use Rattle.yaml_base.specs.Characters.{Text, space, is_alpha}
-use Rattle.yaml_base.specs.Settings.{Effective}
-use Rattle.yaml_base.specs.Event.{ScalarStyle, any_style, plain, single_quoted, double_quoted, literal, folded, TagDirective, Scalar, Collection}
-use Rattle.yaml_base.specs.Cursor.{Cursor, Rendered, render_nothing, space_if}
-use Rattle.yaml_base.specs.scalars.Analysis.{Allowances, is_empty, allowances}
-use Rattle.yaml_base.specs.scalars.Style.{is_plain, requested_style, fitting_style, fits_plain}
-use Rattle.yaml_base.specs.Grammar.{alias_node, scalar_node, sequence_node, mapping_node, no_nodes, nodes_and, Pairs, no_pairs, pairs_and}
-use Rattle.yaml_base.specs.Event.{scalar_tag, collection_tag}
-use Rattle.yaml_base.specs.Meaning.{read_in_style}
-use Rattle.yaml_base.specs.reading.TidyText.{is_tidy}
-use Rattle.yaml_base.specs.Layout.{as_key, byte_count, name_count, tag_count, is_short, has_no_pairs, deeper, Body, body_at, render_properties}
-use Rattle.yaml_base.specs.Layout.{render_separation}
-use Rattle.yaml_base.specs.Layout.{render_body, charset_of, choice_of, Place, entry_place, Role, render_alias, asks_flow, is_written_in_flow, Brackets, square}
-use Rattle.yaml_base.specs.Layout.{curly, render_end}
-use Rattle.yaml_base.specs.Places.{most_key_bytes}
-use Rattle.yaml_base.specs.scalars.SingleQuoted.{quotes_doubled}
-use Rattle.yaml_base.specs.scalars.DoubleQuoted.{character_text}
-use Rattle.yaml_base.specs.streams.StreamContent.{Tree, alias_tree, scalar_tree}
-use Rattle.yaml_base.specs.streams.StreamScalars.{Rules}
-use Rattle.yaml_base.specs.streams.StreamFlow.{longest_key}
-use Rattle.yaml_base.proofs.stream_nodes.StreamAgrees.{tagging_in, node_tree}
-use Rattle.yaml_base.proofs.stream_lines.StreamCuts.{none_not_some}
-use Rattle.yaml_base.proofs.stream_lines.StreamTidyLaws.{tidy_at_root}
-use Rattle.yaml_base.proofs.stream_lines.StreamLineLaws.{one_line_both}
-use Rattle.yaml_base.proofs.stream_nodes.StreamTexts.{scalar_own, collection_own, items_own, pairs_own}
-use Rattle.yaml_base.proofs.stream_lines.StreamClosed.{margin_cursor, spaces_line}
-use Rattle.yaml_base.proofs.stream_nodes.StreamPairs.{KeyFits, key_place}
-use Rattle.yaml_base.proofs.stream_keys.StreamPlainKeys.{begins, reads_plain, tidy_begins}
-use Rattle.yaml_base.proofs.stream_keys.StreamAliasKeys.{alias_key}
-use Rattle.yaml_base.proofs.stream_nodes.StreamProperties.{IsNamed, name_letters}
-use Rattle.yaml_base.proofs.stream_flow.StreamPropertyWords.{lead}
-use Rattle.yaml_base.proofs.stream_nodes.StreamStands.{tag_written, tag_meant, TagStands, NamesStand, BodyStands}
-use Rattle.yaml_base.proofs.stream_nodes.StreamLeads.{lead_rendered, tag_is_written}
-use Rattle.yaml_base.proofs.stream_flow.StreamFlowWords.{Given, scalar_in}
-use Rattle.yaml_base.proofs.stream_flow.StreamFlowKinds.{empty_whole}
-use Rattle.yaml_base.proofs.stream_flow.StreamFlowScalars.{rules_of, is_flow_style, bare_not_plain}
-use Rattle.yaml_base.proofs.stream_keys.StreamKeyBodies.{key_body, body_alone}
-use Rattle.yaml_base.proofs.stream_keys.StreamKeysFit.{KeyText, key_style, SimpleScalar, simple_scalar, scalar_key_text, alias_key_text, empty_key_text}
-use Rattle.yaml_base.proofs.stream_keys.StreamKeysFit.{square_line, curly_line, simple_collection}
+use Rattle.yaml_base.proofs.Common.{suc, ℕ, ◌+◌, ◌≤◌, if◌then◌else◌, is_some, Option, None, Some, nat_le, length, Bool, false, not, true, ◌&&◌, ◌||◌, List}
+use Rattle.yaml_base.proofs.Common.{[], ◌++◌, ◌∷◌, refl, ◌≡◌, le-leb, leb-true, length-append, true≢false, ap, subst, sym, ◌∙◌, arith, and_parts, false≢true}
+use Rattle.yaml_base.proofs.Common.{flat_map, list_all, Text, space, is_alpha, Cursor, Rendered, render_nothing, space_if, ScalarStyle, any_style, plain}
+use Rattle.yaml_base.proofs.Common.{single_quoted, double_quoted, literal, folded, TagDirective, Scalar, Collection, scalar_tag, collection_tag, alias_node}
+use Rattle.yaml_base.proofs.Common.{scalar_node, sequence_node, Pairs, mapping_node, no_nodes, nodes_and, no_pairs, pairs_and, Body, render_properties}
+use Rattle.yaml_base.proofs.Common.{render_alias, render_separation, render_body, charset_of, choice_of, body_at, asks_flow, is_written_in_flow, Brackets}
+use Rattle.yaml_base.proofs.Common.{square, curly, render_end, entry_place, Role, as_key, Place, deeper, byte_count, name_count, tag_count, is_short}
+use Rattle.yaml_base.proofs.Common.{has_no_pairs, read_in_style, most_key_bytes, Effective, is_tidy, Allowances, is_empty, allowances, character_text}
+use Rattle.yaml_base.proofs.Common.{quotes_doubled, is_plain, requested_style, fitting_style, fits_plain, Tree, alias_tree, scalar_tree, longest_key, Rules}
+use Rattle.yaml_base.proofs.{stream_flow.StreamFlowKinds.empty_whole, stream_flow.StreamFlowScalars.rules_of, stream_flow.StreamFlowScalars.is_flow_style}
+use Rattle.yaml_base.proofs.{stream_flow.StreamFlowScalars.bare_not_plain, stream_flow.StreamFlowWords.Given, stream_flow.StreamFlowWords.scalar_in}
+use Rattle.yaml_base.proofs.{stream_flow.StreamPropertyWords.lead, stream_keys.StreamAliasKeys.alias_key, stream_keys.StreamKeyBodies.key_body}
+use Rattle.yaml_base.proofs.{stream_keys.StreamKeyBodies.body_alone, stream_keys.StreamPlainKeys.begins, stream_keys.StreamPlainKeys.reads_plain}
+use Rattle.yaml_base.proofs.{stream_keys.StreamPlainKeys.tidy_begins, stream_lines.StreamClosed.margin_cursor, stream_lines.StreamClosed.spaces_line}
+use Rattle.yaml_base.proofs.{stream_lines.StreamCuts.none_not_some, stream_lines.StreamLineLaws.one_line_both, stream_lines.StreamTidyLaws.tidy_at_root}
+use Rattle.yaml_base.proofs.{stream_nodes.StreamAgrees.tagging_in, stream_nodes.StreamAgrees.node_tree, stream_nodes.StreamLeads.lead_rendered}
+use Rattle.yaml_base.proofs.{stream_nodes.StreamLeads.tag_is_written, stream_nodes.StreamLeaves.SimpleKeysFit, stream_nodes.StreamNodesFit.render_begun}
+use Rattle.yaml_base.proofs.{stream_nodes.StreamPairs.KeyFits, stream_nodes.StreamPairs.key_place, stream_nodes.StreamProperties.IsNamed}
+use Rattle.yaml_base.proofs.{stream_nodes.StreamProperties.name_letters}
 use Rattle.yaml_base.proofs.stream_keys.StreamKeyBeginnings.{beginning_unmarked, key_fits, other_prefix, lead_prefix, plain_prefix}
 use Rattle.yaml_base.proofs.stream_keys.StreamKeyReads.{double_key_read, single_key_read, plain_key_read, square_key_read, curly_key_read}
-use Rattle.yaml_base.proofs.stream_nodes.StreamNodesFit.{render_begun}
-use Rattle.yaml_base.proofs.stream_nodes.StreamLeaves.{SimpleKeysFit}
+use Rattle.yaml_base.proofs.stream_keys.StreamKeysFit.{KeyText, key_style, SimpleScalar, simple_scalar, scalar_key_text, alias_key_text, empty_key_text}
+use Rattle.yaml_base.proofs.stream_keys.StreamKeysFit.{square_line, curly_line, simple_collection}
+use Rattle.yaml_base.proofs.stream_nodes.StreamStands.{tag_written, tag_meant, TagStands, NamesStand, BodyStands}
+use Rattle.yaml_base.proofs.stream_nodes.StreamTexts.{scalar_own, collection_own, items_own, pairs_own}
 
 -- Styles
 

@@ -1,20 +1,14 @@
 -- How a block scalar leaves off: at a line's start where its value ends in a break, and elsewhere after an indicator that strips.
-use Rattle.std.proofs.Common.{◌≡◌, ◌≤◌, refl, sym, ap, ◌∙◌, append_assoc, arith}
-use Rattle.std.proofs.lemmas.Bool.{true≢false, false≢true, or_parts}
-use Rattle.std.proofs.lemmas.Bool.Decides.{nat_tests}
-use Rattle.std.specs.Prelude.{ℕ, Bool, true, false, Option, List, [], ◌∷◌, ◌++◌, ◌+◌, ◌==◌, ◌||◌, ◌&&◌, not, replicate, if◌then◌else◌}
-use Rattle.yaml_base.specs.Characters.{Text, line_feed, space, is_space, line_separator, paragraph_separator, is_between, is_break, is_printable, is_ascii}
-use Rattle.yaml_base.specs.LineBreaks.{is_read_break}
-use Rattle.yaml_base.specs.Cursor.{Cursor, column_after, next_column}
-use Rattle.yaml_base.specs.Event.{ScalarStyle, any_style, plain, single_quoted, double_quoted, literal, folded}
-use Rattle.yaml_base.specs.scalars.Analysis.{Charset, Allowances, somewhere, begins_with, is_empty, is_special, is_trailing_space, bars_block, allows_block}
-use Rattle.yaml_base.specs.scalars.Style.{fitting_style}
-use Rattle.yaml_base.specs.scalars.Lines.{Part, line, line_break, begun, parts}
-use Rattle.yaml_base.specs.scalars.BlockHeader.{Ending, without_break, one_break, more_breaks, ending, begins_blank, indentation_hint, ending_hint, render_hint}
-use Rattle.yaml_base.specs.scalars.BlockHeader.{ends_in_break}
-use Rattle.yaml_base.specs.scalars.Literal.{indented}
-use Rattle.yaml_base.specs.scalars.Folded.{cut_line, next_line_unindented, folded_parts}
-use Rattle.yaml_base.specs.reading.ReadBlock.{strip, chomping_first, after_digit}
+use Rattle.yaml_base.proofs.Common.{ℕ, ◌+◌, ◌≤◌, if◌then◌else◌, ◌==◌, Option, replicate, Bool, false, not, true, ◌&&◌, ◌||◌, List, [], ◌++◌, ◌∷◌, refl, ◌≡◌}
+use Rattle.yaml_base.proofs.Common.{true≢false, append_assoc, ap, sym, ◌∙◌, arith, or_parts, false≢true, nat_tests, Text, is_between, line_feed}
+use Rattle.yaml_base.proofs.Common.{line_separator, paragraph_separator, space, is_ascii, is_space, is_break, is_printable, Cursor, column_after, ScalarStyle}
+use Rattle.yaml_base.proofs.Common.{any_style, plain, single_quoted, double_quoted, literal, folded, is_read_break, strip, after_digit, chomping_first}
+use Rattle.yaml_base.proofs.Common.{Charset, Allowances, somewhere, is_empty, is_special, bars_block, allows_block, ending, indentation_hint, ending_hint}
+use Rattle.yaml_base.proofs.Common.{render_hint, ends_in_break, folded_parts, parts, fitting_style}
+use Rattle.yaml_base.specs.Cursor.{next_column}
+use Rattle.yaml_base.specs.scalars.{Analysis.begins_with, Analysis.is_trailing_space, Folded.cut_line, Folded.next_line_unindented, Literal.indented}
+use Rattle.yaml_base.specs.scalars.BlockHeader.{Ending, without_break, one_break, more_breaks, begins_blank}
+use Rattle.yaml_base.specs.scalars.Lines.{Part, line, line_break, begun}
 
 -- Values that end in a break
 

@@ -1,16 +1,9 @@
 -- A printable text, however its line breaks are written, is read as its documents.
-use Rattle.std.proofs.Common.{◌≡◌, refl, sym, ap, ◌∙◌}
-use Rattle.std.proofs.lemmas.Bool.{false≢true, eqb-true, and_parts, and_from, or_right}
-use Rattle.std.proofs.lemmas.List.Folds.{list_all-append}
-use Rattle.std.specs.List.{list_all}
-use Rattle.std.specs.Prelude.{ℕ, Bool, true, false, None, Some, List, [], ◌∷◌, ◌==◌, ◌||◌, ◌&&◌, not, option_and_then, if◌then◌else◌}
-use Rattle.yaml_base.specs.Characters.{Text, carriage_return, next_line, line_feed, is_printable}
-use Rattle.yaml_base.specs.Settings.{LineBreak, carriage_return_break, line_feed_break, both_break}
-use Rattle.yaml_base.specs.LineBreaks.{break_text, is_rendered_text, with_breaks_written, with_line_breaks_read}
-use Rattle.yaml_base.specs.reading.ReadBytes.{characters_read}
-use Rattle.yaml_base.specs.streams.StreamDocuments.{documents_of}
-use Rattle.yaml_base.specs.streams.StreamReader.{may_stand_raw, text_trees, stream_trees}
-use Rattle.yaml_base.proofs.BreakLaws.{breaks-round}
+use Rattle.yaml_base.proofs.Common.{ℕ, if◌then◌else◌, ◌==◌, option_and_then, None, Some, Bool, false, not, true, ◌&&◌, ◌||◌, List, [], ◌∷◌, refl, ◌≡◌}
+use Rattle.yaml_base.proofs.Common.{eqb-true, ap, sym, ◌∙◌, and_parts, and_from, or_right, false≢true, list_all-append, list_all, Text, line_feed}
+use Rattle.yaml_base.proofs.Common.{carriage_return, next_line, is_printable, break_text, with_breaks_written, with_line_breaks_read, is_rendered_text}
+use Rattle.yaml_base.proofs.Common.{LineBreak, carriage_return_break, line_feed_break, both_break, characters_read, documents_of, stream_trees}
+use Rattle.yaml_base.{proofs.BreakLaws.breaks-round, specs.streams.StreamReader.may_stand_raw, specs.streams.StreamReader.text_trees}
 
 -- a character that isn't printable is none of a printable text
 other_than : (c n : ℕ) → is_printable n ≡ false → is_printable c ≡ true → (c == n) ≡ false

@@ -1,15 +1,10 @@
 -- How a node's text leaves off: at a line's start, or before the break that the next new line begins with.
-use Rattle.std.proofs.Common.{◌≡◌, zero, suc, ◌≤◌, refl, sym, ap, ◌∙◌, append-nil, arith}
-use Rattle.std.proofs.lemmas.Bool.{le-ltb, and_parts, and_from, or_parts}
-use Rattle.std.specs.Prelude.{ℕ, Bool, true, false, List, [], ◌∷◌, ◌++◌, ◌+◌, ◌-◌, ◌==◌, ◌||◌, ◌&&◌, not, nat_lt, if◌then◌else◌}
-use Rattle.std.specs.List.{list_all, list_any}
-use Rattle.yaml_base.specs.Characters.{Text, line_feed, space}
-use Rattle.yaml_base.specs.LineBreaks.{is_read_break}
-use Rattle.yaml_base.specs.Cursor.{Cursor, Rendered, new_line}
-use Rattle.yaml_base.specs.streams.StreamLines.{Line, prepend_character, prepend_to_first_line, lines_of, ends_indicator, belongs_to_entry, spaces}
-use Rattle.yaml_base.proofs.stream_lines.StreamLineLaws.{is_closed, OneLine}
-use Rattle.yaml_base.proofs.stream_lines.StreamInside.{AllInside, inside_deeper}
-use Rattle.yaml_base.proofs.stream_lines.StreamTidyLaws.{lines_after_first}
+use Rattle.yaml_base.proofs.Common.{suc, zero, ℕ, ◌+◌, ◌-◌, ◌≤◌, if◌then◌else◌, ◌==◌, nat_lt, Bool, false, not, true, ◌&&◌, ◌||◌, List, [], ◌++◌, ◌∷◌, refl}
+use Rattle.yaml_base.proofs.Common.{◌≡◌, le-ltb, append-nil, ap, sym, ◌∙◌, arith, and_parts, and_from, or_parts, list_all, list_any, Text, line_feed, space}
+use Rattle.yaml_base.proofs.Common.{Cursor, Rendered, new_line, is_read_break, Line, prepend_to_first_line, prepend_character, lines_of, ends_indicator}
+use Rattle.yaml_base.proofs.Common.{belongs_to_entry, spaces}
+use Rattle.yaml_base.proofs.stream_lines.{StreamInside.inside_deeper, StreamInside.AllInside, StreamLineLaws.is_closed, StreamLineLaws.OneLine}
+use Rattle.yaml_base.proofs.stream_lines.{StreamTidyLaws.lines_after_first}
 
 -- Cursors
 

@@ -1,12 +1,9 @@
 -- What reads is what is cut off: no proper prefix of a quoted text is one, and a longer text begins with it.
-use Rattle.std.proofs.Common.{◌≡◌, refl, sym, ap, ◌∙◌}
-use Rattle.std.proofs.lemmas.Bool.{true≢false}
-use Rattle.std.specs.Prelude.{ℕ, Bool, true, false, Option, None, Some, [], ◌∷◌, ◌++◌, ◌==◌, map, option_map, if◌then◌else◌}
-use Rattle.yaml_base.specs.Characters.{Text}
-use Rattle.yaml_base.specs.reading.ReadFolding.{FoldUnit, unit_of, folding_read}
-use Rattle.yaml_base.specs.reading.ReadDouble.{QuotePlace, between, QuoteStep, goes_on, gives, ends_quotes, has_no_reading, quote_step, Quoted, QuotedReading}
-use Rattle.yaml_base.specs.reading.ReadDouble.{with_unit, after_step, quoted_from, quoted_reading, double_quoted_prefix, value_before, value_alone, read_double}
-use Rattle.yaml_base.specs.reading.ReadSingle.{unquoted, read_single}
+use Rattle.yaml_base.proofs.Common.{ℕ, if◌then◌else◌, ◌==◌, option_map, Option, None, Some, Bool, false, true, [], map, ◌++◌, ◌∷◌, refl, ◌≡◌, true≢false, ap}
+use Rattle.yaml_base.proofs.Common.{sym, ◌∙◌, Text, QuotePlace, between, goes_on, gives, ends_quotes, has_no_reading, Quoted, with_unit, after_step}
+use Rattle.yaml_base.proofs.Common.{quoted_from, quoted_reading, value_before, value_alone, read_double, FoldUnit, unit_of, folding_read, unquoted}
+use Rattle.yaml_base.proofs.Common.{read_single}
+use Rattle.yaml_base.specs.reading.ReadDouble.{QuoteStep, quote_step, QuotedReading, double_quoted_prefix}
 
 -- nothing is not something
 pub none_not_some : {A : Type 0} {v : A} → ◌≡◌ {A = Option A} None (Some v) → ⊥

@@ -1,18 +1,11 @@
 -- Texts after each of whose breaks something stands: another break, or spaces enough to stand deeper than a column.
-use Rattle.std.proofs.Common.{◌≡◌, zero, suc, ◌≤◌, refl, ap, ◌∙◌, arith}
-use Rattle.std.proofs.lemmas.Bool.{false≢true, and_parts, and_from, or_parts}
-use Rattle.std.specs.List.{list_all, list_any}
-use Rattle.std.specs.Prelude.{ℕ, Bool, true, false, List, [], ◌∷◌, ◌++◌, ◌-◌, ◌==◌, ◌||◌, ◌&&◌, not, if◌then◌else◌}
-use Rattle.yaml_base.specs.Characters.{Text, space, line_feed, is_blank}
-use Rattle.yaml_base.specs.LineBreaks.{is_read_break}
-use Rattle.yaml_base.specs.reading.ReadPlain.{is_read_white}
-use Rattle.yaml_base.specs.Cursor.{Cursor, breaks_line, new_line, space_if}
-use Rattle.yaml_base.specs.reading.TidyText.{begins_with_spaces, begins_with_blank_line, begins_with_deep_line, has_deep_lines, begins_with_break, ends_white}
-use Rattle.yaml_base.specs.streams.StreamLines.{Line, prepend_character, lines_of, belongs_to_entry, spaces}
-use Rattle.yaml_base.proofs.stream_lines.StreamLineLaws.{OneLine}
-use Rattle.yaml_base.proofs.stream_lines.StreamInside.{AllInside}
-use Rattle.yaml_base.proofs.stream_lines.StreamTidyLaws.{spaces_fewer, first_text, lines_after_first, after_extended, spaces_inside}
-use Rattle.yaml_base.proofs.stream_lines.StreamClosed.{spaces_line}
+use Rattle.yaml_base.proofs.Common.{suc, zero, ℕ, ◌-◌, ◌≤◌, if◌then◌else◌, ◌==◌, Bool, false, not, true, ◌&&◌, ◌||◌, List, [], ◌++◌, ◌∷◌, refl, ◌≡◌, ap, ◌∙◌}
+use Rattle.yaml_base.proofs.Common.{arith, and_parts, and_from, or_parts, false≢true, list_all, list_any, Text, line_feed, space, is_blank, Cursor}
+use Rattle.yaml_base.proofs.Common.{breaks_line, new_line, space_if, is_read_break, is_read_white, begins_with_spaces, begins_with_blank_line}
+use Rattle.yaml_base.proofs.Common.{begins_with_deep_line, has_deep_lines, ends_white, Line, prepend_character, lines_of, belongs_to_entry, spaces}
+use Rattle.yaml_base.proofs.stream_lines.{StreamClosed.spaces_line, StreamInside.AllInside, StreamLineLaws.OneLine}
+use Rattle.yaml_base.proofs.stream_lines.StreamTidyLaws.{first_text, lines_after_first, after_extended, spaces_inside}
+use Rattle.yaml_base.specs.reading.TidyText.{begins_with_break}
 
 -- what stands after each break of a text passes a test
 abbrev pub after_breaks : Bool → (Text → Bool) → Text → Bool

@@ -1,12 +1,8 @@
 -- Which lines lie inside a column, and lines that are the entries of a collection whatever entries follow them.
-use Rattle.std.proofs.Common.{◌≡◌, zero, suc, ◌<◌, refl, sym, ap, ◌∙◌, append_assoc, append-nil, arith}
-use Rattle.std.proofs.lemmas.Bool.{and_parts, and_from, false≢true}
-use Rattle.std.specs.List.{list_all}
-use Rattle.std.specs.Prelude.{ℕ, Bool, true, false, Some, List, [], ◌∷◌, ◌++◌, ◌&&◌, ◌||◌, ◌==◌, not}
-use Rattle.yaml_base.specs.Characters.{Text, space}
-use Rattle.yaml_base.specs.streams.StreamLines.{Line, ends_indicator, begins_with_indicator, belongs_to_entry, prepend_line, entries_at, all_deeper}
-use Rattle.yaml_base.specs.streams.StreamLines.{spaces, is_spaces}
-use Rattle.yaml_base.specs.streams.StreamLines.{past_column, indented, indented_step}
+use Rattle.yaml_base.proofs.Common.{suc, zero, ℕ, ◌<◌, ◌==◌, Some, Bool, false, not, true, ◌&&◌, ◌||◌, List, [], ◌++◌, ◌∷◌, refl, ◌≡◌, append-nil}
+use Rattle.yaml_base.proofs.Common.{append_assoc, ap, sym, ◌∙◌, arith, and_parts, and_from, false≢true, list_all, Text, space, Line, is_spaces}
+use Rattle.yaml_base.proofs.Common.{ends_indicator, begins_with_indicator, belongs_to_entry, all_deeper, indented_step, indented, spaces}
+use Rattle.yaml_base.specs.streams.StreamLines.{prepend_line, entries_at, past_column}
 
 -- a line deeper than a column is inside it
 pub inside_deeper : (s : Bool) (d e : ℕ) (t : Text) → d < e → belongs_to_entry s d (spaces e ++ t) ≡ true

@@ -1,11 +1,6 @@
 -- The lines of texts one after another.
-use Rattle.std.proofs.Common.{◌≡◌, refl, sym, ap, ◌∙◌}
-use Rattle.std.proofs.lemmas.Bool.{or_parts}
-use Rattle.std.specs.List.{list_any}
-use Rattle.std.specs.Prelude.{ℕ, Bool, true, false, List, [], ◌∷◌, ◌++◌, ◌||◌}
-use Rattle.yaml_base.specs.Characters.{Text}
-use Rattle.yaml_base.specs.LineBreaks.{is_read_break}
-use Rattle.yaml_base.specs.streams.StreamLines.{Line, prepend_character, lines_of, text_of_lines}
+use Rattle.yaml_base.proofs.Common.{ℕ, Bool, false, true, ◌||◌, List, [], ◌++◌, ◌∷◌, refl, ◌≡◌, ap, sym, ◌∙◌, or_parts, list_any, Text, is_read_break, Line}
+use Rattle.yaml_base.proofs.Common.{prepend_character, lines_of, text_of_lines}
 
 -- a text is empty, or its last character is a break
 abbrev pub is_closed : Bool → Text → Bool

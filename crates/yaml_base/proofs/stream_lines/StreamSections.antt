@@ -1,11 +1,7 @@
 -- Lines that are these sections of a stream, whatever sections follow them.
-use Rattle.std.proofs.Common.{◌≡◌, refl, sym, ap, ◌∙◌, append_assoc, append-nil}
-use Rattle.std.proofs.lemmas.Bool.{and_parts, true≢false, false≢true}
-use Rattle.std.specs.List.{list_all}
-use Rattle.std.specs.Prelude.{Bool, true, false, List, [], ◌∷◌, ◌++◌}
-use Rattle.yaml_base.specs.streams.StreamLines.{Line}
-use Rattle.yaml_base.specs.streams.StreamDocuments.{MarkerKind, start_marker, end_marker, no_exclamation, marker_of, Section, Sections}
-use Rattle.yaml_base.specs.streams.StreamDocuments.{prepend_section, sections_of}
+use Rattle.yaml_base.proofs.Common.{Bool, false, true, List, [], ◌++◌, ◌∷◌, refl, ◌≡◌, true≢false, append-nil, ap, ◌∙◌, and_parts, false≢true, list_all}
+use Rattle.yaml_base.proofs.Common.{start_marker, end_marker, no_exclamation, marker_of, Section, Sections, sections_of, Line}
+use Rattle.yaml_base.specs.streams.StreamDocuments.{MarkerKind, prepend_section}
 
 -- a line is no marker
 abbrev pub is_unmarked : MarkerKind → Bool

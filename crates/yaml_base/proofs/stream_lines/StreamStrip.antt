@@ -1,14 +1,10 @@
 -- A break more at the end of a block scalar that strips its final breaks doesn't change what it reads as.
-use Rattle.std.proofs.Common.{◌≡◌, refl, sym, ap, ◌∙◌}
-use Rattle.std.proofs.lemmas.Bool.{true≢false}
-use Rattle.std.specs.Prelude.{ℕ, Bool, true, false, Option, None, Some, List, [], ◌∷◌, ◌++◌, ◌==◌, ◌||◌, option_map, option_and_then, if◌then◌else◌}
-use Rattle.yaml_base.specs.Characters.{Text, is_between, line_feed}
-use Rattle.yaml_base.specs.LineBreaks.{is_read_break}
-use Rattle.yaml_base.specs.reading.ReadBlock.{Element, content, line_end, prepend_to_elements, prepend_element, elements, detected_indentation}
-use Rattle.yaml_base.specs.reading.ReadBlock.{read_indentation, element_unindented}
-use Rattle.yaml_base.specs.reading.ReadBlock.{all_unindented, has_content, kept_lines, joined, unfolded, Chomping, strip, clip, lines_read, digit_first}
-use Rattle.yaml_base.specs.reading.ReadBlock.{after_digit, chomping_first, after_chomping, after_break, read_lines, read_block}
+use Rattle.yaml_base.proofs.Common.{ℕ, if◌then◌else◌, ◌==◌, option_map, option_and_then, Option, None, Some, Bool, false, true, ◌||◌, List, [], ◌++◌, ◌∷◌}
+use Rattle.yaml_base.proofs.Common.{refl, ◌≡◌, true≢false, ap, sym, ◌∙◌, Text, is_between, line_feed, is_read_break, elements, strip, digit_first}
+use Rattle.yaml_base.proofs.Common.{after_digit, chomping_first, after_chomping, after_break, read_lines, read_block}
 use Rattle.yaml_base.proofs.stream_lines.StreamCuts.{none_not_some}
+use Rattle.yaml_base.specs.reading.ReadBlock.{Element, content, line_end, prepend_to_elements, prepend_element, detected_indentation, read_indentation}
+use Rattle.yaml_base.specs.reading.ReadBlock.{element_unindented, all_unindented, has_content, kept_lines, joined, unfolded, Chomping, clip, lines_read}
 
 -- a break at the end, as text and as an element
 abbrev feed : Text

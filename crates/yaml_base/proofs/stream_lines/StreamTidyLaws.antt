@@ -1,15 +1,9 @@
 -- The lines of a tidy text after its first lie inside the column of the block around, and of any block farther out.
-use Rattle.std.proofs.Common.{◌≡◌, zero, suc, ◌≤◌, refl, ap, ◌∙◌, arith}
-use Rattle.std.proofs.lemmas.Bool.{false≢true, eqb-true, and_parts, and_from}
-use Rattle.std.specs.List.{list_all}
-use Rattle.std.specs.Prelude.{ℕ, Bool, true, false, Option, None, Some, List, [], ◌∷◌, ◌==◌, ◌||◌, ◌&&◌, not}
-use Rattle.yaml_base.specs.Characters.{Text, space, is_printable}
-use Rattle.yaml_base.specs.LineBreaks.{is_read_break}
-use Rattle.yaml_base.specs.Event.{ScalarStyle}
-use Rattle.yaml_base.specs.reading.TidyText.{ends_line, begins_with_spaces, begins_with_blank_line, begins_with_deep_line, has_deep_lines}
-use Rattle.yaml_base.specs.reading.TidyText.{is_tidy_style, is_tidy}
-use Rattle.yaml_base.specs.streams.StreamLines.{Line, prepend_to_first_line, prepend_character, lines_of, belongs_to_entry}
-use Rattle.yaml_base.proofs.stream_lines.StreamInside.{AllInside}
+use Rattle.yaml_base.proofs.Common.{suc, zero, ℕ, ◌≤◌, ◌==◌, Option, None, Some, Bool, false, not, true, ◌&&◌, ◌||◌, List, [], ◌∷◌, refl, ◌≡◌, eqb-true, ap}
+use Rattle.yaml_base.proofs.Common.{◌∙◌, arith, and_parts, and_from, false≢true, list_all, Text, space, is_printable, ScalarStyle, is_read_break}
+use Rattle.yaml_base.proofs.Common.{begins_with_spaces, begins_with_blank_line, begins_with_deep_line, has_deep_lines, is_tidy_style, is_tidy, Line}
+use Rattle.yaml_base.proofs.Common.{prepend_to_first_line, prepend_character, lines_of, belongs_to_entry}
+use Rattle.yaml_base.{proofs.stream_lines.StreamInside.AllInside, specs.reading.TidyText.ends_line}
 
 -- Fewer spaces
 

@@ -1,28 +1,15 @@
 -- No line of a block collection at the root is a document's marker.
-use Rattle.std.proofs.Common.{◌≡◌, refl, ap, ◌∙◌, arith}
-use Rattle.std.proofs.lemmas.Bool.{false≢true, eqb-true, and_parts, and_from}
-use Rattle.std.specs.List.{list_all}
-use Rattle.std.specs.Prelude.{ℕ, Bool, true, false, List, [], ◌∷◌, ◌++◌, ◌==◌, ◌||◌, ◌&&◌, not}
-use Rattle.yaml_base.specs.Characters.{Text, space}
-use Rattle.yaml_base.specs.Settings.{Effective}
-use Rattle.yaml_base.specs.Event.{TagDirective}
-use Rattle.yaml_base.specs.Cursor.{Rendered}
-use Rattle.yaml_base.specs.Grammar.{Node, Nodes, Pairs, no_pairs, pairs_and}
-use Rattle.yaml_base.specs.Layout.{Role, as_key, as_value, has_no_pairs, is_simple, entry_place}
-use Rattle.yaml_base.specs.streams.StreamContent.{Tree}
-use Rattle.yaml_base.specs.streams.StreamLines.{Line, lines_of, ends_indicator, begins_with_indicator, belongs_to_entry, spaces}
-use Rattle.yaml_base.specs.streams.StreamScalars.{Rules}
-use Rattle.yaml_base.specs.streams.StreamDocuments.{marker_of}
-use Rattle.yaml_base.proofs.stream_nodes.StreamAgrees.{node_tree}
-use Rattle.yaml_base.proofs.stream_lines.StreamLineLaws.{OneLine}
-use Rattle.yaml_base.proofs.stream_lines.StreamInside.{AllInside}
-use Rattle.yaml_base.proofs.stream_lines.StreamSections.{is_unmarked, AllUnmarked}
-use Rattle.yaml_base.proofs.stream_lines.StreamClosed.{closed, indicator_cursor}
-use Rattle.yaml_base.proofs.stream_nodes.StreamFits.{size, Fits, indicated_lines}
-use Rattle.yaml_base.proofs.stream_nodes.StreamItems.{items_text, ItemsFit, items_inside}
-use Rattle.yaml_base.proofs.stream_nodes.StreamPairs.{key_place, value_place, colon_cursor, simple_key, indicated_key, simple_value, indicated_value, pair_text}
-use Rattle.yaml_base.proofs.stream_nodes.StreamPairs.{pairs_text, PairFits, PairsFit, question_line, colon_line, keyed_lines, rest_inside, indicated_pair_lines}
-use Rattle.yaml_base.proofs.stream_nodes.StreamPairs.{pairs_lines}
+use Rattle.yaml_base.proofs.Common.{ℕ, ◌==◌, Bool, false, not, true, ◌&&◌, ◌||◌, List, [], ◌++◌, ◌∷◌, refl, ◌≡◌, eqb-true, ap, ◌∙◌, arith, and_parts}
+use Rattle.yaml_base.proofs.Common.{and_from, false≢true, list_all, Text, space, Rendered, TagDirective, Node, Nodes, Pairs, no_pairs, pairs_and, entry_place}
+use Rattle.yaml_base.proofs.Common.{Role, as_key, as_value, has_no_pairs, is_simple, Effective, Tree, marker_of, Line, lines_of, ends_indicator}
+use Rattle.yaml_base.proofs.Common.{begins_with_indicator, belongs_to_entry, spaces, Rules}
+use Rattle.yaml_base.proofs.stream_lines.{StreamClosed.closed, StreamClosed.indicator_cursor, StreamInside.AllInside, StreamLineLaws.OneLine}
+use Rattle.yaml_base.proofs.stream_lines.{StreamSections.is_unmarked, StreamSections.AllUnmarked}
+use Rattle.yaml_base.proofs.stream_nodes.{StreamAgrees.node_tree, StreamFits.size, StreamFits.Fits, StreamFits.indicated_lines, StreamItems.items_text}
+use Rattle.yaml_base.proofs.stream_nodes.{StreamItems.ItemsFit, StreamItems.items_inside}
+use Rattle.yaml_base.proofs.stream_nodes.StreamPairs.{key_place, value_place, colon_cursor, simple_key, indicated_key, simple_value, indicated_value}
+use Rattle.yaml_base.proofs.stream_nodes.StreamPairs.{pair_text, pairs_text, PairFits, PairsFit, question_line, colon_line, keyed_lines, rest_inside}
+use Rattle.yaml_base.proofs.stream_nodes.StreamPairs.{indicated_pair_lines, pairs_lines}
 
 -- a line that begins with a space is no marker
 space_unmarked : (t : Text) → is_unmarked (marker_of (space ∷ t)) ≡ true

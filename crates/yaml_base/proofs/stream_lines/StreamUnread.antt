@@ -1,23 +1,12 @@
 -- No node is read of a line that begins with a directive's `%` or that is a document's marker: so what reads as a node is neither.
-use Rattle.std.proofs.Common.{◌≡◌, zero, suc, refl, sym, ap, ◌∙◌, append_assoc}
-use Rattle.std.proofs.lemmas.Bool.{false≢true, eqb-true, and_parts}
-use Rattle.std.specs.Prelude.{ℕ, Bool, true, false, Option, None, Some, List, [], ◌∷◌, ◌++◌, ◌==◌, ◌||◌, ◌&&◌, nat_le, length, codes, is_some, option_map}
-use Rattle.std.specs.Prelude.{option_and_then, if◌then◌else◌}
-use Rattle.std.specs.Option.{option_or}
-use Rattle.yaml_base.specs.Characters.{Text}
-use Rattle.yaml_base.specs.Event.{plain}
-use Rattle.yaml_base.specs.reading.TidyText.{is_tidy}
-use Rattle.yaml_base.specs.reading.ReadPlain.{read_plain}
-use Rattle.yaml_base.specs.streams.StreamContent.{Tree, stood_plain}
-use Rattle.yaml_base.specs.streams.StreamLines.{Line, text_of_lines, ends_indicator, all_deeper}
-use Rattle.yaml_base.specs.streams.StreamScalars.{Rules, Properties, no_properties, scalar_parsed, word_after, word_read}
-use Rattle.yaml_base.specs.streams.StreamFlow.{is_alias, longest_key}
-use Rattle.yaml_base.specs.streams.StreamNodes.{without_last_space, word_but_alias, word_of_alias, SimpleKey, key_of_text, key_ends, key_from, key_of_line}
-use Rattle.yaml_base.specs.streams.StreamNodes.{trimmed, text_by_kind, word_text, kind_of_text, text_read, begins_mapping, begins_text, kind_of_node}
-use Rattle.yaml_base.specs.streams.StreamNodes.{node_by_kind, begins_properties, node_read, text_or_properties}
-use Rattle.yaml_base.specs.streams.StreamDocuments.{begins_with_marker, start_marker, end_marker, no_exclamation, marker_of, begins_with_percent}
-use Rattle.yaml_base.proofs.stream_lines.StreamCuts.{none_not_some}
-use Rattle.yaml_base.proofs.stream_lines.StreamSections.{is_unmarked}
+use Rattle.yaml_base.proofs.Common.{suc, zero, ℕ, if◌then◌else◌, ◌==◌, is_some, option_map, option_and_then, Option, None, Some, codes, nat_le, length, Bool}
+use Rattle.yaml_base.proofs.Common.{false, true, ◌&&◌, ◌||◌, List, [], ◌++◌, ◌∷◌, refl, ◌≡◌, eqb-true, append_assoc, ap, sym, ◌∙◌, and_parts, false≢true}
+use Rattle.yaml_base.proofs.Common.{option_or, Text, plain, read_plain, is_tidy, stood_plain, Tree, begins_with_marker, start_marker, end_marker}
+use Rattle.yaml_base.proofs.Common.{no_exclamation, marker_of, begins_with_percent, is_alias, longest_key, Line, text_of_lines, ends_indicator, all_deeper}
+use Rattle.yaml_base.proofs.Common.{SimpleKey, without_last_space, word_but_alias, word_of_alias, key_of_text, key_ends, key_from, key_of_line, trimmed}
+use Rattle.yaml_base.proofs.Common.{word_text, kind_of_text, text_by_kind, text_read, begins_mapping, begins_text, kind_of_node, node_by_kind}
+use Rattle.yaml_base.proofs.Common.{begins_properties, text_or_properties, node_read, Rules, Properties, no_properties, scalar_parsed, word_after, word_read}
+use Rattle.yaml_base.proofs.stream_lines.{StreamCuts.none_not_some, StreamSections.is_unmarked}
 
 -- what a document's text doesn't begin with
 data Sign : Type 0 where

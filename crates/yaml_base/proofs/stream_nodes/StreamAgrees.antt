@@ -1,26 +1,16 @@
 -- The trees that a layout's nodes are to be read as, and that they agree with the events.
-use Rattle.std.proofs.Common.{◌≡◌, refl, sym, ap, ◌∙◌}
-use Rattle.std.proofs.lemmas.Bool.{false≢true, and_parts, and_from}
-use Rattle.std.proofs.lemmas.Bool.Decides.{Decides-int_eq}
-use Rattle.std.proofs.lemmas.Slice.Eq.{bytes_eq-Decides}
+use Rattle.yaml_base.proofs.Common.{if◌then◌else◌, is_some, bytes_eq, Option, None, Some, Bool, false, not, true, ◌&&◌, ◌||◌, List, [], ◌∷◌, refl, ◌≡◌, ap}
+use Rattle.yaml_base.proofs.Common.{sym, ◌∙◌, and_parts, and_from, false≢true, Decides-int_eq, bytes_eq-Decides, Text, ScalarStyle, any_style, plain}
+use Rattle.yaml_base.proofs.Common.{single_quoted, double_quoted, literal, folded, Version, TagDirective, Scalar, scalar_tag, collection_tag, Node}
+use Rattle.yaml_base.proofs.Common.{alias_node, scalar_node, Nodes, sequence_node, Pairs, mapping_node, no_nodes, nodes_and, no_pairs, pairs_and, Document}
+use Rattle.yaml_base.proofs.Common.{root_place, charset_of, choice_of, is_written_in_flow, entry_place, as_item, as_key, as_value, Place, has_no_nodes}
+use Rattle.yaml_base.proofs.Common.{has_no_pairs, is_simple, is_simple_at, Effective, directives_in_force, Allowances, is_empty, allowances, Choice}
+use Rattle.yaml_base.proofs.Common.{lacks_tag_and_flags, is_plain, requested_style, quoted_style, fitting_style, fits_plain, Stood, stood_plain, stood_quoted}
+use Rattle.yaml_base.proofs.Common.{stood_bare, Tagging, with_tag, without_tag, Tree, alias_tree, scalar_tree, Trees, sequence_tree, TreePairs, mapping_tree}
+use Rattle.yaml_base.proofs.Common.{no_trees, trees_and, no_tree_pairs, tree_pairs_and, DocumentTree, document_agrees}
 use Rattle.std.specs.Ordering.{int_eq}
-use Rattle.std.specs.Prelude.{Bool, true, false, Option, None, Some, List, [], ◌∷◌, ◌||◌, ◌&&◌, not, bytes_eq, is_some, if◌then◌else◌}
-use Rattle.yaml_base.specs.Characters.{Text}
-use Rattle.yaml_base.specs.Settings.{Effective}
-use Rattle.yaml_base.specs.Event.{ScalarStyle, any_style, plain, single_quoted, double_quoted, literal, folded, Version, TagDirective, Scalar}
-use Rattle.yaml_base.specs.Tags.{directives_in_force}
-use Rattle.yaml_base.specs.scalars.Analysis.{Allowances, is_empty, allowances}
-use Rattle.yaml_base.specs.scalars.Style.{Choice, lacks_tag_and_flags, is_plain, requested_style, quoted_style, fitting_style, fits_plain}
-use Rattle.yaml_base.specs.Grammar.{Node, alias_node, scalar_node, sequence_node, mapping_node, Nodes, no_nodes, nodes_and, Pairs, no_pairs, pairs_and}
-use Rattle.yaml_base.specs.Grammar.{Document}
-use Rattle.yaml_base.specs.Event.{scalar_tag, collection_tag}
-use Rattle.yaml_base.specs.Layout.{as_item, as_key, as_value, Place, has_no_nodes, has_no_pairs, is_simple, is_simple_at, choice_of, is_written_in_flow}
-use Rattle.yaml_base.specs.NodeLayout.{charset_of}
-use Rattle.yaml_base.specs.Layout.{entry_place, root_place}
-use Rattle.yaml_base.specs.streams.StreamContent.{Stood, stood_plain, stood_quoted, stood_bare, Tagging, with_tag, without_tag, Tree, alias_tree, scalar_tree}
-use Rattle.yaml_base.specs.streams.StreamContent.{sequence_tree, mapping_tree, Trees, no_trees, trees_and, TreePairs, no_tree_pairs, tree_pairs_and}
-use Rattle.yaml_base.specs.streams.StreamContent.{DocumentTree, may_stand, is_same_text, tagging_agrees, tree_agrees, trees_agree, tree_pairs_agree}
-use Rattle.yaml_base.specs.streams.StreamContent.{is_same_version, are_same_directives, document_agrees}
+use Rattle.yaml_base.specs.streams.StreamContent.{may_stand, is_same_text, tagging_agrees, tree_agrees, trees_agree, tree_pairs_agree, is_same_version}
+use Rattle.yaml_base.specs.streams.StreamContent.{are_same_directives}
 
 -- how a scalar stands in a style, after the bare tag or not
 abbrev pub standing_in : ScalarStyle → (bare : Bool) → Stood

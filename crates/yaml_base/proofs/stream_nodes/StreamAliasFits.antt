@@ -1,27 +1,13 @@
 -- An alias that is no simple key fits where it stands in a block.
-use Rattle.std.proofs.Common.{◌≡◌, ◌<◌, refl, sym, ap, ◌∙◌, append_assoc, append-nil, arith, subst}
-use Rattle.std.proofs.lemmas.Bool.{true≢false, false≢true, eqb-true, and_parts}
-use Rattle.std.specs.List.{list_all, list_any}
-use Rattle.std.specs.Option.{option_or}
-use Rattle.std.specs.Prelude.{ℕ, Bool, true, false, Option, None, Some, List, [], ◌∷◌, ◌++◌, ◌==◌, ◌||◌, ◌&&◌, not, is_some, option_map, if◌then◌else◌}
-use Rattle.yaml_base.specs.Characters.{Text, is_alpha, line_feed, space, tab, line_separator, paragraph_separator}
-use Rattle.yaml_base.specs.LineBreaks.{is_read_break}
-use Rattle.yaml_base.specs.reading.ReadPlain.{is_read_white}
-use Rattle.yaml_base.specs.Settings.{Effective}
-use Rattle.yaml_base.specs.Event.{TagDirective}
-use Rattle.yaml_base.specs.Cursor.{Cursor}
-use Rattle.yaml_base.specs.Grammar.{alias_node}
-use Rattle.yaml_base.specs.Layout.{Place, is_simple_at, render_alias}
-use Rattle.yaml_base.specs.streams.StreamContent.{alias_tree}
-use Rattle.yaml_base.specs.streams.StreamLines.{ends_indicator, all_deeper, spaces}
-use Rattle.yaml_base.specs.streams.StreamScalars.{Rules, no_properties, word_after}
-use Rattle.yaml_base.specs.streams.StreamNodes.{key_ends, key_from, trimmed, prepend_to_trimmed, begins_mapping, begins_text, kind_of_node}
-use Rattle.yaml_base.proofs.stream_lines.StreamLineLaws.{is_closed, OneLine}
-use Rattle.yaml_base.proofs.stream_lines.StreamClosed.{closed, lines_broken}
-use Rattle.yaml_base.proofs.stream_nodes.StreamFits.{Fits}
-use Rattle.yaml_base.proofs.stream_nodes.StreamBlocks.{below_ends}
-use Rattle.yaml_base.proofs.stream_nodes.StreamLeafFits.{TextReads, text_fits}
-use Rattle.yaml_base.proofs.stream_nodes.StreamNodesFit.{LeafFits}
+use Rattle.yaml_base.proofs.Common.{ℕ, ◌<◌, if◌then◌else◌, ◌==◌, is_some, option_map, Option, None, Some, Bool, false, not, true, ◌&&◌, ◌||◌, List, [], ◌++◌}
+use Rattle.yaml_base.proofs.Common.{◌∷◌, refl, ◌≡◌, eqb-true, true≢false, append-nil, append_assoc, ap, subst, sym, ◌∙◌, arith, and_parts, false≢true}
+use Rattle.yaml_base.proofs.Common.{list_all, list_any, option_or, Text, line_feed, line_separator, paragraph_separator, space, tab, is_alpha, Cursor}
+use Rattle.yaml_base.proofs.Common.{TagDirective, alias_node, render_alias, Place, is_simple_at, is_read_break, Effective, is_read_white, alias_tree}
+use Rattle.yaml_base.proofs.Common.{ends_indicator, all_deeper, spaces, key_ends, key_from, prepend_to_trimmed, trimmed, begins_mapping, begins_text}
+use Rattle.yaml_base.proofs.Common.{kind_of_node, Rules, no_properties, word_after}
+use Rattle.yaml_base.proofs.{stream_lines.StreamClosed.closed, stream_lines.StreamClosed.lines_broken, stream_lines.StreamLineLaws.is_closed}
+use Rattle.yaml_base.proofs.{stream_lines.StreamLineLaws.OneLine, stream_nodes.StreamBlocks.below_ends, stream_nodes.StreamFits.Fits}
+use Rattle.yaml_base.proofs.{stream_nodes.StreamLeafFits.TextReads, stream_nodes.StreamLeafFits.text_fits, stream_nodes.StreamNodesFit.LeafFits}
 
 -- a letter of a name is none of what names don't hold
 other_letter : (c n : ℕ) → is_alpha n ≡ false → is_alpha c ≡ true → (c == n) ≡ false

@@ -1,33 +1,17 @@
 -- The properties of a collection in a block are on one line, after a space where one is needed, and are read there.
-use Rattle.std.proofs.Common.{◌≡◌, ◌<◌, refl, sym, ap, ◌∙◌, append_assoc, append-nil, arith, subst}
-use Rattle.std.proofs.lemmas.Bool.{true≢false, or_parts}
-use Rattle.std.proofs.lemmas.Bool.Decides.{nat_tests}
-use Rattle.std.specs.List.{list_any}
-use Rattle.std.specs.Prelude.{ℕ, Bool, true, false, Option, None, Some, List, [], ◌∷◌, ◌++◌, ◌==◌, ◌||◌, ◌&&◌, ◌+◌, not, is_some, length, if◌then◌else◌}
-use Rattle.yaml_base.specs.Characters.{Text, space, is_blank, is_break}
-use Rattle.yaml_base.specs.LineBreaks.{is_read_break}
-use Rattle.yaml_base.specs.Settings.{Effective}
-use Rattle.yaml_base.specs.Event.{TagDirective, Collection}
-use Rattle.yaml_base.specs.Cursor.{Cursor, space_if}
-use Rattle.yaml_base.specs.Tags.{spelling, spelled}
-use Rattle.yaml_base.specs.Event.{collection_tag}
-use Rattle.yaml_base.specs.Layout.{render_anchor, render_properties}
-use Rattle.yaml_base.specs.reading.ReadTags.{ParsedTag}
-use Rattle.yaml_base.specs.streams.StreamLines.{is_spaces, spaces, ends_indicator}
-use Rattle.yaml_base.specs.streams.StreamScalars.{Rules, properties_read}
-use Rattle.yaml_base.specs.streams.StreamNodes.{begins_sequence, begins_mapping, begins_text, kind_of_node, key_from, key_of_line}
-use Rattle.yaml_base.proofs.stream_lines.StreamLineLaws.{OneLine, one_line_both}
-use Rattle.yaml_base.proofs.stream_lines.StreamInside.{blank_spaces}
+use Rattle.yaml_base.proofs.Common.{ℕ, ◌+◌, ◌<◌, if◌then◌else◌, ◌==◌, is_some, Option, None, Some, length, Bool, false, not, true, ◌&&◌, ◌||◌, List, [], ◌++◌}
+use Rattle.yaml_base.proofs.Common.{◌∷◌, refl, ◌≡◌, true≢false, append-nil, append_assoc, ap, subst, sym, ◌∙◌, arith, or_parts, nat_tests, list_any, Text}
+use Rattle.yaml_base.proofs.Common.{space, is_blank, is_break, Cursor, space_if, TagDirective, Collection, collection_tag, render_anchor, render_properties}
+use Rattle.yaml_base.proofs.Common.{is_read_break, Effective, spelling, spelled, ParsedTag, is_spaces, ends_indicator, spaces, key_from, key_of_line}
+use Rattle.yaml_base.proofs.Common.{begins_sequence, begins_mapping, begins_text, kind_of_node, Rules, properties_read}
+use Rattle.yaml_base.proofs.{stream_flow.StreamFlowScalars.rules_of, stream_flow.StreamFlowWords.tag_of_collection, stream_flow.StreamPropertyWords.lead}
+use Rattle.yaml_base.proofs.{stream_keys.StreamNoKeys.KeyNowhere, stream_keys.StreamNoKeys.nowhere_alone, stream_keys.StreamNoKeys.properties_nowhere}
+use Rattle.yaml_base.proofs.{stream_lines.StreamInside.blank_spaces, stream_lines.StreamLineLaws.OneLine, stream_lines.StreamLineLaws.one_line_both}
+use Rattle.yaml_base.proofs.{stream_nodes.StreamAliasFits.name_line, stream_nodes.StreamLeads.spelling_text, stream_nodes.StreamLeads.spelling_ended}
+use Rattle.yaml_base.proofs.{stream_nodes.StreamLeads.tag_is_written, stream_nodes.StreamNodesFit.BegunReads, stream_nodes.StreamStands.tag_written}
+use Rattle.yaml_base.proofs.{stream_nodes.StreamStands.tag_meant, stream_nodes.StreamStands.TagStands}
 use Rattle.yaml_base.proofs.stream_nodes.StreamBlocks.{Said, BegunKind, unsaid, is_parsed}
-use Rattle.yaml_base.proofs.stream_nodes.StreamNodesFit.{BegunReads}
-use Rattle.yaml_base.proofs.stream_nodes.StreamAliasFits.{name_line}
 use Rattle.yaml_base.proofs.stream_nodes.StreamProperties.{holds_white, IsTagged, IsNamed, properties_text, name_letters, properties_parsed}
-use Rattle.yaml_base.proofs.stream_flow.StreamPropertyWords.{lead}
-use Rattle.yaml_base.proofs.stream_nodes.StreamStands.{tag_written, tag_meant, TagStands}
-use Rattle.yaml_base.proofs.stream_nodes.StreamLeads.{spelling_text, spelling_ended, tag_is_written}
-use Rattle.yaml_base.proofs.stream_flow.StreamFlowWords.{tag_of_collection}
-use Rattle.yaml_base.proofs.stream_flow.StreamFlowScalars.{rules_of}
-use Rattle.yaml_base.proofs.stream_keys.StreamNoKeys.{KeyNowhere, nowhere_alone, properties_nowhere}
 
 -- Lines
 

@@ -1,25 +1,16 @@
 -- A collection in a block, on the line of what stands before it or below, behind its properties or without them, fits where
 -- the text of its entries reads.
-use Rattle.std.proofs.Common.{◌≡◌, zero, suc, ◌≤◌, ◌<◌, refl, sym, ap, ◌∙◌, append_assoc, append-nil, arith, subst}
-use Rattle.std.proofs.lemmas.Bool.{and_parts}
-use Rattle.std.specs.Prelude.{ℕ, Bool, true, false, Option, None, Some, List, [], ◌∷◌, ◌++◌, ◌+◌, ◌-◌, ◌==◌, ◌||◌, ◌&&◌, not, nat_lt, if◌then◌else◌}
-use Rattle.std.specs.List.{list_all}
-use Rattle.yaml_base.specs.Characters.{Text, space, line_feed}
-use Rattle.yaml_base.specs.Cursor.{Cursor, Rendered, render_nothing, new_line}
-use Rattle.yaml_base.specs.Layout.{Place}
-use Rattle.yaml_base.specs.streams.StreamContent.{Tree}
-use Rattle.yaml_base.specs.streams.StreamLines.{Line, lines_of, ends_indicator, is_spaces, without_blank_lines, begins_blank, belongs_to_entry}
-use Rattle.yaml_base.specs.streams.StreamLines.{Indented, spaces, blanked}
-use Rattle.yaml_base.specs.streams.StreamScalars.{Rules, Properties, no_properties, PropertiesRead, properties_read, collection_tag_parsed}
-use Rattle.yaml_base.specs.streams.StreamNodes.{NodeKind, begins_text, kind_of_node, Reads, ReadsText, node_by_kind, node_at, node_lines, begins_properties}
-use Rattle.yaml_base.specs.streams.StreamNodes.{after_properties, text_or_properties, text_read, node_read}
-use Rattle.yaml_base.proofs.stream_lines.StreamLineLaws.{is_closed, OneLine, one_line_both}
-use Rattle.yaml_base.proofs.stream_lines.StreamInside.{AllInside, indented_spaces, not_blank, blank_spaces}
-use Rattle.yaml_base.proofs.stream_lines.StreamTidyLaws.{lines_after_first}
-use Rattle.yaml_base.proofs.stream_lines.StreamClosed.{closing, closed, Settled, spaces_line, lines_broken, lines_behind, begins_cons, after_line, closed_both}
-use Rattle.yaml_base.proofs.stream_lines.StreamClosed.{closed_alike}
-use Rattle.yaml_base.proofs.stream_nodes.StreamFits.{WithinColumn, Opens, Fits}
-use Rattle.yaml_base.proofs.stream_nodes.StreamItems.{Lays}
+use Rattle.yaml_base.proofs.Common.{suc, zero, ℕ, ◌+◌, ◌-◌, ◌<◌, ◌≤◌, if◌then◌else◌, ◌==◌, Option, None, Some, nat_lt, Bool, false, not, true, ◌&&◌, ◌||◌}
+use Rattle.yaml_base.proofs.Common.{List, [], ◌++◌, ◌∷◌, refl, ◌≡◌, append-nil, append_assoc, ap, subst, sym, ◌∙◌, arith, and_parts, list_all, Text}
+use Rattle.yaml_base.proofs.Common.{line_feed, space, Cursor, Rendered, render_nothing, new_line, Place, Tree, Line, lines_of, is_spaces, without_blank_lines}
+use Rattle.yaml_base.proofs.Common.{begins_blank, ends_indicator, belongs_to_entry, Indented, spaces, blanked, Reads, text_read, NodeKind, begins_text}
+use Rattle.yaml_base.proofs.Common.{kind_of_node, ReadsText, node_by_kind, node_at, node_lines, begins_properties, after_properties, text_or_properties}
+use Rattle.yaml_base.proofs.Common.{node_read, Rules, Properties, no_properties, PropertiesRead, properties_read, collection_tag_parsed}
+use Rattle.yaml_base.proofs.stream_lines.{StreamLineLaws.is_closed, StreamLineLaws.OneLine, StreamLineLaws.one_line_both, StreamTidyLaws.lines_after_first}
+use Rattle.yaml_base.proofs.stream_lines.StreamClosed.{closing, closed, Settled, spaces_line, begins_cons, lines_behind, after_line, lines_broken}
+use Rattle.yaml_base.proofs.stream_lines.StreamClosed.{closed_alike, closed_both}
+use Rattle.yaml_base.proofs.stream_lines.StreamInside.{indented_spaces, not_blank, blank_spaces, AllInside}
+use Rattle.yaml_base.proofs.stream_nodes.{StreamFits.WithinColumn, StreamFits.Opens, StreamFits.Fits, StreamItems.Lays}
 
 -- Lines
 

@@ -1,33 +1,18 @@
 -- What holds of each body in the layout of a list holds of the bodies of each document's root, from its own cursor on.
-use Rattle.std.proofs.Common.{◌≡◌, suc, sym, ap, ◌∙◌, subst}
-use Rattle.std.proofs.lemmas.Bool.{and_parts}
-use Rattle.std.proofs.lemmas.List.Elements.{All-head, All-tail}
-use Rattle.std.specs.List.{All, list_all}
-use Rattle.std.specs.Prelude.{ℕ, Bool, true, false, Option, None, Some, List, [], ◌∷◌, ◌++◌, ◌&&◌, unwrap_or, option_map, slice_index_or}
-use Rattle.yaml_base.specs.Characters.{is_printable}
-use Rattle.yaml_base.specs.Settings.{Encoding, Settings, Effective, effective}
-use Rattle.yaml_base.specs.Event.{TagDirective}
-use Rattle.yaml_base.specs.Tags.{directives_in_force}
-use Rattle.yaml_base.specs.Grammar.{Node, alias_node, scalar_node, sequence_node, mapping_node, Nodes, no_nodes, nodes_and, Pairs, no_pairs, pairs_and}
-use Rattle.yaml_base.specs.Grammar.{Documents, no_documents, documents_and, Stream, stream_events}
-use Rattle.yaml_base.specs.Refusal.{IsAccepted}
-use Rattle.yaml_base.specs.Event.{collection_tag}
-use Rattle.yaml_base.specs.Layout.{as_item, as_key, as_value, Place, is_undented, entries_column, has_no_nodes, has_no_pairs, is_simple, is_simple_at}
-use Rattle.yaml_base.specs.Layout.{render_place, Body, Piece, bodies_of, Standing, render_properties, is_written_in_flow, entry_place, render_node}
-use Rattle.yaml_base.specs.Layout.{render_nodes}
-use Rattle.yaml_base.specs.Layout.{render_pairs, render_document_start, document_start_piece, render_document, render_documents, has_no_documents}
-use Rattle.yaml_base.specs.Layout.{first_standing}
-use Rattle.yaml_base.specs.Layout.{root_place, layout}
-use Rattle.yaml_base.specs.Pieces.{list_layout}
-use Rattle.yaml_base.specs.Meaning.{read_in_style, BodyReads, BodyMeans, has_scalar_values, MeaningIsKept}
-use Rattle.yaml_base.specs.WrittenTexts.{BodiesAreTidy}
-use Rattle.yaml_base.specs.TidyBodies.{IsTidy}
-use Rattle.yaml_base.specs.reading.TidyText.{has_deep_lines, is_tidy_style}
-use Rattle.yaml_base.proofs.Trees.{tree_of-stream_events}
-use Rattle.yaml_base.proofs.BreakLaws.{breaks-round}
-use Rattle.yaml_base.proofs.stream_lines.StreamBytes.{printable_rendered}
-use Rattle.yaml_base.proofs.stream_nodes.StreamTexts.{node_own, node_joined, items_joined, pairs_joined}
+use Rattle.yaml_base.proofs.Common.{suc, ℕ, unwrap_or, option_map, Option, None, Some, slice_index_or, Bool, false, true, ◌&&◌, List, [], ◌++◌, ◌∷◌, ◌≡◌, ap}
+use Rattle.yaml_base.proofs.Common.{subst, sym, ◌∙◌, and_parts, All-head, All-tail, list_all, is_printable, TagDirective, collection_tag, Node, alias_node}
+use Rattle.yaml_base.proofs.Common.{scalar_node, Nodes, sequence_node, Pairs, mapping_node, no_nodes, nodes_and, no_pairs, pairs_and, Documents, no_documents}
+use Rattle.yaml_base.proofs.Common.{documents_and, Stream, stream_events, render_document_start, document_start_piece, root_place, render_document}
+use Rattle.yaml_base.proofs.Common.{has_no_documents, render_documents, first_standing, layout, Body, Piece, bodies_of, Standing, render_properties}
+use Rattle.yaml_base.proofs.Common.{is_written_in_flow, entry_place, render_node, render_nodes, render_pairs, as_item, as_key, as_value, Place, is_undented}
+use Rattle.yaml_base.proofs.Common.{entries_column, has_no_nodes, has_no_pairs, is_simple, is_simple_at, render_place, read_in_style, has_scalar_values}
+use Rattle.yaml_base.proofs.Common.{MeaningIsKept, list_layout, IsAccepted, Encoding, Settings, Effective, effective, directives_in_force, IsTidy}
+use Rattle.yaml_base.proofs.Common.{BodiesAreTidy, has_deep_lines, is_tidy_style}
+use Rattle.std.specs.List.{All}
+use Rattle.yaml_base.proofs.{BreakLaws.breaks-round, Trees.tree_of-stream_events, stream_lines.StreamBytes.printable_rendered}
 use Rattle.yaml_base.proofs.stream_nodes.StreamStands.{BodyStands, BodiesHold, ItemsHold, PairsHold}
+use Rattle.yaml_base.proofs.stream_nodes.StreamTexts.{node_own, node_joined, items_joined, pairs_joined}
+use Rattle.yaml_base.specs.Meaning.{BodyReads, BodyMeans}
 
 -- Pieces
 

@@ -1,31 +1,16 @@
 -- An empty plain scalar in a block, of which its anchor and tag are written or nothing, fits.
-use Rattle.std.proofs.Common.{◌≡◌, zero, suc, ◌≤◌, refl, sym, ap, ◌∙◌, append_assoc, append-nil, arith}
-use Rattle.std.proofs.lemmas.Bool.{false≢true}
-use Rattle.std.specs.Prelude.{ℕ, Bool, true, false, Option, None, Some, List, [], ◌∷◌, ◌++◌, ◌||◌, not, option_map, if◌then◌else◌}
-use Rattle.yaml_base.specs.Characters.{Text, line_feed}
-use Rattle.yaml_base.specs.Settings.{Effective}
-use Rattle.yaml_base.specs.Event.{plain, TagDirective}
-use Rattle.yaml_base.specs.Cursor.{Cursor, Rendered, render_nothing}
-use Rattle.yaml_base.specs.Layout.{Place, render_properties}
-use Rattle.yaml_base.specs.reading.ReadTags.{ParsedTag, bare_parsed, name_parsed}
-use Rattle.yaml_base.specs.streams.StreamContent.{stood_plain, scalar_tree}
-use Rattle.yaml_base.specs.streams.StreamLines.{Line, lines_of, is_spaces, spaces, blanked}
-use Rattle.yaml_base.specs.streams.StreamScalars.{Rules, no_properties, collection_tag_parsed, tagging_parsed}
-use Rattle.yaml_base.specs.streams.StreamNodes.{ReadsText, node_at, begins_properties, after_properties, text_or_properties, text_read, node_read}
-use Rattle.yaml_base.proofs.stream_lines.StreamCuts.{none_not_some}
-use Rattle.yaml_base.proofs.stream_lines.StreamLineLaws.{is_closed}
-use Rattle.yaml_base.proofs.stream_nodes.StreamAgrees.{tagging_in}
-use Rattle.yaml_base.proofs.stream_lines.StreamClosed.{closed, spaces_line, lines_broken}
-use Rattle.yaml_base.proofs.stream_lines.StreamInside.{blank_spaces}
-use Rattle.yaml_base.proofs.stream_nodes.StreamFits.{Fits}
+use Rattle.yaml_base.proofs.Common.{suc, zero, ℕ, ◌≤◌, if◌then◌else◌, option_map, Option, None, Some, Bool, false, not, true, ◌||◌, List, [], ◌++◌, ◌∷◌, refl}
+use Rattle.yaml_base.proofs.Common.{◌≡◌, append-nil, append_assoc, ap, sym, ◌∙◌, arith, false≢true, Text, line_feed, Cursor, Rendered, render_nothing, plain}
+use Rattle.yaml_base.proofs.Common.{TagDirective, render_properties, Place, Effective, ParsedTag, bare_parsed, name_parsed, stood_plain, scalar_tree, Line}
+use Rattle.yaml_base.proofs.Common.{lines_of, is_spaces, spaces, blanked, text_read, ReadsText, node_at, begins_properties, after_properties}
+use Rattle.yaml_base.proofs.Common.{text_or_properties, node_read, Rules, no_properties, collection_tag_parsed, tagging_parsed}
+use Rattle.yaml_base.proofs.{stream_flow.StreamFlowScalars.rules_of, stream_flow.StreamFlowWords.scalar_in, stream_lines.StreamClosed.closed}
+use Rattle.yaml_base.proofs.{stream_lines.StreamClosed.spaces_line, stream_lines.StreamClosed.lines_broken, stream_lines.StreamCuts.none_not_some}
+use Rattle.yaml_base.proofs.{stream_lines.StreamInside.blank_spaces, stream_lines.StreamLineLaws.is_closed, stream_nodes.StreamAgrees.tagging_in}
+use Rattle.yaml_base.proofs.{stream_nodes.StreamBegun.begun_kind, stream_nodes.StreamFits.Fits, stream_nodes.StreamLeafFits.TextReads}
+use Rattle.yaml_base.proofs.{stream_nodes.StreamLeafFits.text_fits, stream_nodes.StreamProperties.IsNamed, stream_nodes.StreamScalarsFit.render_styled}
+use Rattle.yaml_base.proofs.{stream_nodes.StreamStands.TagStands}
 use Rattle.yaml_base.proofs.stream_nodes.StreamBlocks.{Said, BegunKind, unsaid, is_parsed, below_ends}
-use Rattle.yaml_base.proofs.stream_nodes.StreamLeafFits.{TextReads, text_fits}
-use Rattle.yaml_base.proofs.stream_nodes.StreamProperties.{IsNamed}
-use Rattle.yaml_base.proofs.stream_nodes.StreamStands.{TagStands}
-use Rattle.yaml_base.proofs.stream_flow.StreamFlowScalars.{rules_of}
-use Rattle.yaml_base.proofs.stream_flow.StreamFlowWords.{scalar_in}
-use Rattle.yaml_base.proofs.stream_nodes.StreamBegun.{begun_kind}
-use Rattle.yaml_base.proofs.stream_nodes.StreamScalarsFit.{render_styled}
 
 -- after an empty plain body white space has ended
 abbrev pub emptied : Rendered → Rendered

@@ -1,23 +1,12 @@
 -- What a node in a block is to the reader of lines, from its place and its cursor on; and the items of a sequence, where
 -- each of them is so: their lines split into one entry each, lie inside the columns around, and read as their trees.
-use Rattle.std.proofs.Common.{◌≡◌, suc, ◌≤◌, refl, ap}
-use Rattle.std.proofs.lemmas.Bool.{true≢false}
-use Rattle.std.specs.Prelude.{ℕ, Bool, true, false, Option, None, Some, List, [], ◌∷◌, ◌++◌, ◌+◌, ◌&&◌}
-use Rattle.yaml_base.specs.Characters.{Text}
-use Rattle.yaml_base.specs.Settings.{Effective}
-use Rattle.yaml_base.specs.Event.{TagDirective}
-use Rattle.yaml_base.specs.Cursor.{Cursor, Rendered}
-use Rattle.yaml_base.specs.Grammar.{Node, alias_node, scalar_node, sequence_node, mapping_node, Nodes, no_nodes, nodes_and, Pairs, no_pairs, pairs_and}
-use Rattle.yaml_base.specs.Layout.{Role, Place, is_in_mapping, entry_place}
-use Rattle.yaml_base.specs.streams.StreamContent.{Tree}
-use Rattle.yaml_base.specs.streams.StreamLines.{Line, lines_of, ends_indicator, spaces, blanked}
-use Rattle.yaml_base.specs.streams.StreamScalars.{Rules}
-use Rattle.yaml_base.specs.streams.StreamNodes.{node_read}
-use Rattle.yaml_base.proofs.stream_nodes.StreamAgrees.{node_tree}
-use Rattle.yaml_base.proofs.stream_lines.StreamLineLaws.{is_closed, OneLine}
-use Rattle.yaml_base.proofs.stream_lines.StreamInside.{AllInside}
-use Rattle.yaml_base.proofs.stream_lines.StreamTidyLaws.{lines_after_first}
+use Rattle.yaml_base.proofs.Common.{suc, ℕ, ◌+◌, ◌≤◌, Option, None, Some, Bool, false, true, ◌&&◌, List, [], ◌++◌, ◌∷◌, refl, ◌≡◌, true≢false, ap, Text}
+use Rattle.yaml_base.proofs.Common.{Cursor, Rendered, TagDirective, Node, alias_node, scalar_node, Nodes, sequence_node, Pairs, mapping_node, no_nodes}
+use Rattle.yaml_base.proofs.Common.{nodes_and, no_pairs, pairs_and, entry_place, Role, Place, is_in_mapping, Effective, Tree, Line, lines_of, ends_indicator}
+use Rattle.yaml_base.proofs.Common.{spaces, blanked, node_read, Rules}
+use Rattle.yaml_base.proofs.stream_lines.{StreamInside.AllInside, StreamLineLaws.is_closed, StreamLineLaws.OneLine, StreamTidyLaws.lines_after_first}
 use Rattle.yaml_base.proofs.stream_lines.StreamClosed.{closed, Settled, spaces_line, lines_behind, closed_behind, rank}
+use Rattle.yaml_base.proofs.stream_nodes.StreamAgrees.{node_tree}
 
 -- Sizes
 

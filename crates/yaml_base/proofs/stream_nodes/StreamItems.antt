@@ -1,26 +1,17 @@
 -- The items of a sequence in a block, where each of them fits: their lines split into one entry each, lie inside the columns
 -- around, and read as their trees.
-use Rattle.std.proofs.Common.{◌≡◌, suc, ◌≤◌, refl, sym, ap, ◌∙◌, append_assoc, arith, subst}
-use Rattle.std.proofs.lemmas.Bool.{true≢false, and_from}
-use Rattle.std.specs.Prelude.{ℕ, Bool, true, false, None, Some, List, [], ◌∷◌, ◌++◌, ◌+◌, ◌&&◌, fold, if◌then◌else◌}
-use Rattle.std.specs.List.{list_all}
-use Rattle.yaml_base.specs.Characters.{Text}
-use Rattle.yaml_base.specs.Settings.{Effective}
-use Rattle.yaml_base.specs.Event.{TagDirective}
-use Rattle.yaml_base.specs.Cursor.{Cursor, Rendered, new_line}
-use Rattle.yaml_base.specs.Grammar.{Node, Nodes, no_nodes, nodes_and}
-use Rattle.yaml_base.specs.Layout.{as_item, Place, has_no_nodes, entry_place}
-use Rattle.yaml_base.specs.streams.StreamContent.{no_trees}
-use Rattle.yaml_base.specs.streams.StreamLines.{Line, lines_of, belongs_to_entry, spaces, blanked}
-use Rattle.yaml_base.specs.streams.StreamScalars.{Rules}
-use Rattle.yaml_base.specs.streams.StreamNodes.{item_by_indicator, item_read, with_item, node_read}
-use Rattle.yaml_base.proofs.stream_nodes.StreamAgrees.{node_tree, nodes_tree}
-use Rattle.yaml_base.proofs.stream_nodes.StreamTexts.{node_own, items_own}
+use Rattle.yaml_base.proofs.Common.{suc, ℕ, ◌+◌, ◌≤◌, if◌then◌else◌, fold, None, Some, Bool, false, true, ◌&&◌, List, [], ◌++◌, ◌∷◌, refl, ◌≡◌, true≢false}
+use Rattle.yaml_base.proofs.Common.{append_assoc, ap, subst, sym, ◌∙◌, arith, and_from, list_all, Text, Cursor, Rendered, new_line, TagDirective, Node, Nodes}
+use Rattle.yaml_base.proofs.Common.{no_nodes, nodes_and, entry_place, as_item, Place, has_no_nodes, Effective, no_trees, Line, lines_of, belongs_to_entry}
+use Rattle.yaml_base.proofs.Common.{spaces, blanked, node_read, Rules}
+use Rattle.yaml_base.proofs.stream_lines.StreamClosed.{closing, closed, Settled, new_line_closes, indicator_cursor, closed_both, rank, dash_inside}
+use Rattle.yaml_base.proofs.stream_lines.StreamClosed.{inside_both}
+use Rattle.yaml_base.proofs.stream_lines.StreamInside.{outside, past_spaces, AllInside, Splits, splits_none, splits_both, splits_one}
 use Rattle.yaml_base.proofs.stream_lines.StreamLineLaws.{is_closed, OneLine, lines_after_break}
-use Rattle.yaml_base.proofs.stream_lines.StreamInside.{AllInside, Splits, splits_none, splits_both, splits_one, outside, past_spaces}
 use Rattle.yaml_base.proofs.stream_lines.StreamTidyLaws.{lines_after_first}
-use Rattle.yaml_base.proofs.stream_lines.StreamClosed.{closing, closed, Settled, new_line_closes, indicator_cursor, closed_both, rank, dash_inside, inside_both}
+use Rattle.yaml_base.proofs.stream_nodes.{StreamAgrees.node_tree, StreamAgrees.nodes_tree, StreamTexts.node_own, StreamTexts.items_own}
 use Rattle.yaml_base.proofs.stream_nodes.StreamFits.{size, items_size, Fits, tree_anywhere, indicated_lines, blanked_lines, indicated_ends}
+use Rattle.yaml_base.specs.streams.StreamNodes.{item_by_indicator, item_read, with_item}
 
 -- the place of an item
 abbrev pub item_place : Nodes → ℕ → Place

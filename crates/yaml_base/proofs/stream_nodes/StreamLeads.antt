@@ -1,16 +1,11 @@
 -- The text of a node's anchor and tag as the layout puts it: a space where one is needed, and then each with a space after it.
-use Rattle.std.proofs.Common.{◌≡◌, refl, sym, ap, ◌∙◌, append_assoc, append-nil}
-use Rattle.std.specs.Prelude.{ℕ, Bool, true, false, Option, None, Some, List, [], ◌∷◌, ◌++◌, codes, ◌&&◌, not, if◌then◌else◌}
-use Rattle.yaml_base.specs.Characters.{Text, space}
-use Rattle.yaml_base.specs.Event.{TagDirective}
-use Rattle.yaml_base.specs.Cursor.{Cursor, Rendered, space_if}
-use Rattle.yaml_base.specs.Percent.{percent_escaped, suffix_escaped}
-use Rattle.yaml_base.specs.Tags.{Spelling, shorthand, verbatim, spelling, spelled}
-use Rattle.yaml_base.specs.Layout.{render_anchor, render_spelling, render_properties}
-use Rattle.yaml_base.specs.streams.StreamLines.{spaces}
-use Rattle.yaml_base.proofs.stream_nodes.StreamProperties.{IsTagged, properties_text, has_properties}
+use Rattle.yaml_base.proofs.Common.{ℕ, if◌then◌else◌, Option, None, Some, codes, Bool, false, not, true, ◌&&◌, List, [], ◌++◌, ◌∷◌, refl, ◌≡◌, append-nil}
+use Rattle.yaml_base.proofs.Common.{append_assoc, ap, sym, ◌∙◌, Text, space, Cursor, Rendered, space_if, TagDirective, render_anchor, render_properties}
+use Rattle.yaml_base.proofs.Common.{percent_escaped, suffix_escaped, Spelling, shorthand, verbatim, spelling, spelled, spaces}
 use Rattle.yaml_base.proofs.stream_flow.StreamPropertyWords.{lead}
+use Rattle.yaml_base.proofs.stream_nodes.StreamProperties.{IsTagged, properties_text, has_properties}
 use Rattle.yaml_base.proofs.stream_nodes.StreamStands.{tag_written, tag_meant, TagStands}
+use Rattle.yaml_base.specs.Layout.{render_spelling}
 
 -- after some text white space has ended
 pub record EndedCollection (cursor : Cursor) : Type 0 where

@@ -1,22 +1,12 @@
 -- A node's own text that reads on its lines fits where it stands in a block.
-use Rattle.std.proofs.Common.{◌≡◌, zero, suc, ◌≤◌, ◌<◌, refl, ap, ◌∙◌, arith}
-use Rattle.std.proofs.lemmas.Bool.{and_parts, and_from}
-use Rattle.std.specs.List.{list_all}
-use Rattle.std.specs.Prelude.{ℕ, Bool, true, false, Option, None, Some, List, [], ◌∷◌, ◌++◌, ◌+◌, ◌==◌, ◌||◌, ◌&&◌, not, if◌then◌else◌}
-use Rattle.yaml_base.specs.Characters.{Text, space}
-use Rattle.yaml_base.specs.Cursor.{Cursor, Rendered}
-use Rattle.yaml_base.specs.Layout.{Place, is_in_mapping}
-use Rattle.yaml_base.specs.streams.StreamContent.{Tree}
-use Rattle.yaml_base.specs.streams.StreamLines.{Line, lines_of, ends_indicator, without_blank_lines, belongs_to_entry, Indented, spaces}
-use Rattle.yaml_base.specs.streams.StreamScalars.{Rules, no_properties}
-use Rattle.yaml_base.specs.streams.StreamNodes.{begins_text, kind_of_node, Reads, ReadsText, node_by_kind, node_at, begins_properties, text_or_properties}
-use Rattle.yaml_base.specs.streams.StreamNodes.{node_read}
-use Rattle.yaml_base.proofs.stream_lines.StreamLineLaws.{is_closed}
-use Rattle.yaml_base.proofs.stream_lines.StreamInside.{AllInside, indented_spaces, not_blank, inside_mapping}
-use Rattle.yaml_base.proofs.stream_lines.StreamTidyLaws.{lines_after_first}
+use Rattle.yaml_base.proofs.Common.{suc, zero, ℕ, ◌+◌, ◌<◌, ◌≤◌, if◌then◌else◌, ◌==◌, Option, None, Some, Bool, false, not, true, ◌&&◌, ◌||◌, List, [], ◌++◌}
+use Rattle.yaml_base.proofs.Common.{◌∷◌, refl, ◌≡◌, ap, ◌∙◌, arith, and_parts, and_from, list_all, Text, space, Cursor, Rendered, Place, is_in_mapping, Tree}
+use Rattle.yaml_base.proofs.Common.{Line, lines_of, without_blank_lines, ends_indicator, belongs_to_entry, Indented, spaces, Reads, begins_text, kind_of_node}
+use Rattle.yaml_base.proofs.Common.{ReadsText, node_by_kind, node_at, begins_properties, text_or_properties, node_read, Rules, no_properties}
+use Rattle.yaml_base.proofs.{stream_lines.StreamLineLaws.is_closed, stream_lines.StreamTidyLaws.lines_after_first, stream_nodes.StreamBlocks.spaces_both}
+use Rattle.yaml_base.proofs.{stream_nodes.StreamFits.WithinColumn, stream_nodes.StreamFits.Fits}
 use Rattle.yaml_base.proofs.stream_lines.StreamClosed.{closed, Settled, spaces_line, lines_behind, rank}
-use Rattle.yaml_base.proofs.stream_nodes.StreamFits.{WithinColumn, Fits}
-use Rattle.yaml_base.proofs.stream_nodes.StreamBlocks.{spaces_both}
+use Rattle.yaml_base.proofs.stream_lines.StreamInside.{indented_spaces, not_blank, AllInside, inside_mapping}
 
 -- Inside
 

@@ -1,28 +1,16 @@
 -- The parts of a node in a block are read, where its names and bodies stand: what is asked of scalars and of flow collections
 -- by themselves, and from it what the central law asks of the whole tree.
-use Rattle.std.proofs.Common.{◌≡◌, refl, sym, ◌∙◌}
-use Rattle.std.proofs.lemmas.Bool.{false≢true, or_parts}
-use Rattle.std.specs.Prelude.{ℕ, Bool, true, false, Option, None, Some, List, [], ◌∷◌, ◌||◌, ◌&&◌}
-use Rattle.yaml_base.specs.Characters.{Text}
-use Rattle.yaml_base.specs.Settings.{Effective}
-use Rattle.yaml_base.specs.Event.{TagDirective, Scalar, Collection}
-use Rattle.yaml_base.specs.Cursor.{Cursor, Rendered}
-use Rattle.yaml_base.specs.Grammar.{Node, alias_node, scalar_node, sequence_node, mapping_node, Nodes, no_nodes, nodes_and, Pairs, no_pairs, pairs_and}
-use Rattle.yaml_base.specs.Layout.{Role, as_item, as_key, as_value, is_key, is_undented, Place, entries_column, has_no_nodes, has_no_pairs, is_simple}
-use Rattle.yaml_base.specs.Layout.{render_place, asks_flow, is_written_in_flow}
-use Rattle.yaml_base.specs.streams.StreamScalars.{name_read}
-use Rattle.yaml_base.proofs.stream_nodes.StreamAgrees.{node_tree}
-use Rattle.yaml_base.proofs.stream_lines.StreamCuts.{none_not_some}
-use Rattle.yaml_base.proofs.stream_nodes.StreamTexts.{node_own, pairs_own}
-use Rattle.yaml_base.proofs.stream_lines.StreamClosed.{indicator_cursor, margin_cursor}
-use Rattle.yaml_base.proofs.stream_nodes.StreamPairs.{KeyFits, key_place, value_place, colon_cursor, simple_key}
-use Rattle.yaml_base.proofs.stream_nodes.StreamPairReads.{colon_ends}
+use Rattle.yaml_base.proofs.Common.{ℕ, Option, None, Some, Bool, false, true, ◌&&◌, ◌||◌, List, [], ◌∷◌, refl, ◌≡◌, sym, ◌∙◌, or_parts, false≢true, Text}
+use Rattle.yaml_base.proofs.Common.{Cursor, Rendered, TagDirective, Scalar, Collection, Node, alias_node, scalar_node, Nodes, sequence_node, Pairs}
+use Rattle.yaml_base.proofs.Common.{mapping_node, no_nodes, nodes_and, no_pairs, pairs_and, asks_flow, is_written_in_flow, Role, as_item, as_key, as_value}
+use Rattle.yaml_base.proofs.Common.{Place, is_key, is_undented, entries_column, has_no_nodes, has_no_pairs, is_simple, render_place, Effective, name_read}
+use Rattle.yaml_base.proofs.{stream_flow.StreamFlowScalars.rules_of, stream_lines.StreamClosed.indicator_cursor, stream_lines.StreamClosed.margin_cursor}
+use Rattle.yaml_base.proofs.{stream_lines.StreamCuts.none_not_some, stream_nodes.StreamAgrees.node_tree, stream_nodes.StreamAliasFits.alias_fits}
+use Rattle.yaml_base.proofs.{stream_nodes.StreamBegun.begun_reads, stream_nodes.StreamPairReads.colon_ends, stream_nodes.StreamProperties.name_letters}
+use Rattle.yaml_base.proofs.{stream_nodes.StreamTexts.node_own, stream_nodes.StreamTexts.pairs_own}
 use Rattle.yaml_base.proofs.stream_nodes.StreamNodesFit.{EitherType, LeafFits, render_begun, BegunReads, Leaves, ItemLeaves, PairLeaves, Stands}
-use Rattle.yaml_base.proofs.stream_nodes.StreamAliasFits.{alias_fits}
-use Rattle.yaml_base.proofs.stream_nodes.StreamProperties.{name_letters}
-use Rattle.yaml_base.proofs.stream_nodes.StreamStands.{NamesStand, AllNamesStand, PairsNamesStand, BodyStands, BodiesHold, ItemsHold, PairsHold, body_from}
-use Rattle.yaml_base.proofs.stream_flow.StreamFlowScalars.{rules_of}
-use Rattle.yaml_base.proofs.stream_nodes.StreamBegun.{begun_reads}
+use Rattle.yaml_base.proofs.stream_nodes.StreamPairs.{KeyFits, key_place, value_place, colon_cursor, simple_key}
+use Rattle.yaml_base.proofs.stream_nodes.StreamStands.{NamesStand, AllNamesStand, PairsNamesStand, BodyStands, body_from, BodiesHold, ItemsHold, PairsHold}
 
 -- a place in a block (no column: the root's)
 abbrev pub block_place : Role → Option ℕ → Place

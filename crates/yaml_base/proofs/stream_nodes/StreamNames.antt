@@ -1,34 +1,19 @@
 -- The names and tags of an accepted list read as they were given, in each of its documents.
-use Rattle.std.proofs.Common.{◌≡◌, refl, sym, ap, ◌∙◌}
-use Rattle.std.proofs.lemmas.Bool.{false≢true, and_parts, and_from}
-use Rattle.std.specs.List.{list_all, list_any}
-use Rattle.std.specs.Option.{option_or}
-use Rattle.std.specs.Str.{all_scalars}
-use Rattle.std.specs.Prelude.{ℕ, Bool, true, false, Option, None, Some, List, [], ◌∷◌, ◌++◌, ◌||◌, ◌&&◌, not, option_map, option_and_then, unwrap_or}
-use Rattle.std.specs.Prelude.{if◌then◌else◌}
-use Rattle.yaml_base.specs.Characters.{Text, is_alpha}
-use Rattle.yaml_base.specs.Settings.{Settings}
-use Rattle.yaml_base.specs.Event.{TagDirective, Event, stream_start, stream_end, document_start, document_end, alias, scalar, sequence_start, sequence_end}
-use Rattle.yaml_base.specs.Event.{mapping_start, mapping_end}
-use Rattle.yaml_base.specs.Tags.{name_fault, anchor_fault, tag_fault, version_fault, directives_fault, directives_in_force}
-use Rattle.yaml_base.specs.Grammar.{Node, alias_node, scalar_node, sequence_node, mapping_node, Nodes, no_nodes, nodes_and, Pairs, no_pairs, pairs_and}
-use Rattle.yaml_base.specs.Grammar.{Document, node_events, nodes_events, pairs_events, document_events, documents_events, Stream, stream_events, tree_of}
-use Rattle.yaml_base.specs.Refusal.{properties_fault, name_or_tag_fault, content_fault, is_sound, IsAccepted}
-use Rattle.yaml_base.specs.Event.{scalar_tag, collection_tag}
-use Rattle.yaml_base.specs.Meaning.{option_scalars, directive_scalars, has_scalar_texts}
-use Rattle.yaml_base.specs.streams.StreamContent.{documents_in_order}
-use Rattle.yaml_base.specs.streams.StreamScalars.{name_read}
-use Rattle.yaml_base.specs.StreamLaw.{tag_has_flow_indicator, node_has_flow_indicator, nodes_have_flow_indicator, pairs_have_flow_indicator}
-use Rattle.yaml_base.specs.StreamLaw.{document_has_flow_indicator}
-use Rattle.yaml_base.specs.StreamLaw.{loses_document, are_portable, reads_alike}
-use Rattle.yaml_base.proofs.Trees.{tree_of-stream_events}
-use Rattle.yaml_base.proofs.NoFaults.{neither, is_none_none}
-use Rattle.yaml_base.proofs.stream_nodes.StreamProperties.{IsNamed}
-use Rattle.yaml_base.proofs.stream_nodes.StreamStands.{TagStands, NamesStand, AllNamesStand, PairsNamesStand}
-use Rattle.yaml_base.proofs.stream_nodes.StreamTags.{written_tag}
+use Rattle.yaml_base.proofs.Common.{if◌then◌else◌, unwrap_or, option_map, option_and_then, Option, None, Some, Bool, false, not, true, ◌&&◌, ◌||◌, List, []}
+use Rattle.yaml_base.proofs.Common.{◌++◌, ◌∷◌, refl, ◌≡◌, ap, sym, ◌∙◌, and_parts, and_from, false≢true, list_all, list_any, option_or, all_scalars, Text}
+use Rattle.yaml_base.proofs.Common.{is_alpha, TagDirective, Event, stream_start, stream_end, document_start, document_end, alias, scalar, sequence_start}
+use Rattle.yaml_base.proofs.Common.{sequence_end, mapping_start, mapping_end, scalar_tag, collection_tag, Node, alias_node, scalar_node, Nodes, sequence_node}
+use Rattle.yaml_base.proofs.Common.{Pairs, mapping_node, no_nodes, nodes_and, no_pairs, pairs_and, Document, Stream, node_events, nodes_events, pairs_events}
+use Rattle.yaml_base.proofs.Common.{document_events, documents_events, stream_events, tree_of, directive_scalars, has_scalar_texts, name_or_tag_fault}
+use Rattle.yaml_base.proofs.Common.{content_fault, is_sound, IsAccepted, Settings, loses_document, document_has_flow_indicator, are_portable, reads_alike}
+use Rattle.yaml_base.proofs.Common.{name_fault, anchor_fault, tag_fault, version_fault, directives_fault, directives_in_force, documents_in_order, name_read}
+use Rattle.yaml_base.{proofs.NoFaults.neither, proofs.NoFaults.is_none_none, proofs.Trees.tree_of-stream_events, proofs.stream_nodes.StreamProperties.IsNamed}
+use Rattle.yaml_base.{proofs.stream_nodes.StreamTags.written_tag, specs.Meaning.option_scalars, specs.Refusal.properties_fault}
+use Rattle.yaml_base.{specs.declared.errors.yaml_error_t.yaml_error_t}
 use Rattle.yaml_base.proofs.stream_documents.StreamEachDocument.{AllDocuments, all_of_both, each_document, documents_given}
-use Rattle.yaml_base.specs.declared.errors.yaml_error_t.TheVariants.{AnchorEmpty, AnchorAlphabet, AliasEmpty, AliasAlphabet}
-use Rattle.yaml_base.specs.declared.errors.yaml_error_t.{yaml_error_t}
+use Rattle.yaml_base.proofs.stream_nodes.StreamStands.{TagStands, NamesStand, AllNamesStand, PairsNamesStand}
+use Rattle.yaml_base.specs.StreamLaw.{tag_has_flow_indicator, node_has_flow_indicator, nodes_have_flow_indicator, pairs_have_flow_indicator}
+use Rattle.yaml_base.specs.declared.errors.yaml_error_t.TheVariants.{AliasAlphabet, AliasEmpty, AnchorAlphabet, AnchorEmpty}
 
 -- Events
 

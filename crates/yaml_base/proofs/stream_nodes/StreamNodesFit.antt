@@ -1,28 +1,19 @@
 -- The central law: a node in a block fits where its leaves, its simple keys and the properties of its collections do.
-use Rattle.std.proofs.Common.{◌≡◌, zero, suc, ◌≤◌, ◌<◌, refl, sym, ap, ◌∙◌, arith, subst}
-use Rattle.std.proofs.lemmas.Bool.{le-ltb, true≢false, false≢true, or_parts, eqb-true}
-use Rattle.std.specs.Prelude.{ℕ, Bool, true, false, Option, None, Some, List, [], ◌∷◌, ◌++◌, ◌+◌, ◌-◌, ◌==◌, ◌||◌, ◌&&◌, not, nat_lt, if◌then◌else◌}
-use Rattle.yaml_base.specs.Characters.{Text, line_feed}
-use Rattle.yaml_base.specs.Settings.{Effective}
-use Rattle.yaml_base.specs.Event.{TagDirective, Collection}
-use Rattle.yaml_base.specs.Cursor.{Cursor, Rendered}
-use Rattle.yaml_base.specs.Grammar.{Node, alias_node, scalar_node, sequence_node, mapping_node, Nodes, no_nodes, nodes_and, Pairs, no_pairs, pairs_and}
-use Rattle.yaml_base.specs.Event.{collection_tag}
-use Rattle.yaml_base.specs.Layout.{Role, Place, is_in_mapping, is_undented, entries_column, has_no_nodes, has_no_pairs, is_simple, asks_flow}
-use Rattle.yaml_base.specs.Layout.{is_written_in_flow, render_properties, square, curly}
-use Rattle.yaml_base.specs.streams.StreamContent.{Tree, sequence_tree, mapping_tree}
-use Rattle.yaml_base.specs.streams.StreamLines.{spaces}
-use Rattle.yaml_base.specs.streams.StreamScalars.{Rules}
-use Rattle.yaml_base.proofs.stream_nodes.StreamAgrees.{node_tree, nodes_tree, pairs_tree}
-use Rattle.yaml_base.proofs.stream_nodes.StreamTexts.{collection_own, node_own, items_own, pairs_own}
+use Rattle.yaml_base.proofs.Common.{suc, zero, ℕ, ◌+◌, ◌-◌, ◌<◌, ◌≤◌, if◌then◌else◌, ◌==◌, Option, None, Some, nat_lt, Bool, false, not, true, ◌&&◌, ◌||◌}
+use Rattle.yaml_base.proofs.Common.{List, [], ◌++◌, ◌∷◌, refl, ◌≡◌, eqb-true, le-ltb, true≢false, ap, subst, sym, ◌∙◌, arith, or_parts, false≢true, Text}
+use Rattle.yaml_base.proofs.Common.{line_feed, Cursor, Rendered, TagDirective, Collection, collection_tag, Node, alias_node, scalar_node, Nodes}
+use Rattle.yaml_base.proofs.Common.{sequence_node, Pairs, mapping_node, no_nodes, nodes_and, no_pairs, pairs_and, render_properties, asks_flow}
+use Rattle.yaml_base.proofs.Common.{is_written_in_flow, square, curly, Role, Place, is_in_mapping, is_undented, entries_column, has_no_nodes, has_no_pairs}
+use Rattle.yaml_base.proofs.Common.{is_simple, Effective, Tree, sequence_tree, mapping_tree, spaces, Rules}
 use Rattle.yaml_base.proofs.stream_lines.StreamClosed.{Settled, new_line_closes, indicator_cursor, rank}
+use Rattle.yaml_base.proofs.stream_nodes.{StreamAgrees.node_tree, StreamAgrees.nodes_tree, StreamAgrees.pairs_tree, StreamCentral.items_block}
+use Rattle.yaml_base.proofs.stream_nodes.{StreamCentral.pairs_block, StreamPairReads.colon_ends, StreamPairReads.pairs_settled, StreamPairReads.pairs_lay}
+use Rattle.yaml_base.proofs.stream_nodes.StreamBlocks.{Compact, BegunKind, unsaid, is_parsed, block_fits}
 use Rattle.yaml_base.proofs.stream_nodes.StreamFits.{size, items_size, pairs_size, WithinColumn, Fits}
 use Rattle.yaml_base.proofs.stream_nodes.StreamItems.{item_place, items_text, ItemsFit, items_settled, items_end, items_inside, items_lay}
 use Rattle.yaml_base.proofs.stream_nodes.StreamPairs.{KeyFits, key_place, value_place, colon_cursor, simple_key, pairs_text, PairFits, PairsFit, pairs_end}
 use Rattle.yaml_base.proofs.stream_nodes.StreamPairs.{pairs_inside}
-use Rattle.yaml_base.proofs.stream_nodes.StreamPairReads.{pairs_settled, pairs_lay, colon_ends}
-use Rattle.yaml_base.proofs.stream_nodes.StreamBlocks.{Compact, BegunKind, unsaid, is_parsed, block_fits}
-use Rattle.yaml_base.proofs.stream_nodes.StreamCentral.{items_block, pairs_block}
+use Rattle.yaml_base.proofs.stream_nodes.StreamTexts.{collection_own, node_own, items_own, pairs_own}
 
 -- Premises
 

@@ -1,19 +1,10 @@
 -- A node in a block fits where its names and its bodies stand, if scalars and flow collections do by themselves.
-use Rattle.std.proofs.Common.{◌≡◌, ◌≤◌}
-use Rattle.std.specs.Prelude.{ℕ, false, Option, List, ◌&&◌}
-use Rattle.yaml_base.specs.Settings.{Effective}
-use Rattle.yaml_base.specs.Event.{TagDirective}
-use Rattle.yaml_base.specs.Cursor.{Cursor}
-use Rattle.yaml_base.specs.Grammar.{Node}
-use Rattle.yaml_base.specs.Layout.{Role, is_key, is_simple}
-use Rattle.yaml_base.proofs.stream_nodes.StreamAgrees.{node_tree}
-use Rattle.yaml_base.proofs.stream_nodes.StreamTexts.{node_own}
-use Rattle.yaml_base.proofs.stream_nodes.StreamFits.{size, Fits}
-use Rattle.yaml_base.proofs.stream_nodes.StreamNodesFit.{Leaves, Stands, node_fits}
-use Rattle.yaml_base.proofs.stream_nodes.StreamStands.{NamesStand, BodyStands, BodiesHold}
-use Rattle.yaml_base.proofs.stream_flow.StreamFlowScalars.{rules_of}
-use Rattle.yaml_base.proofs.stream_nodes.StreamLeaves.{block_place, MayStand, ScalarsFit, FlowsFit, leaves_stand}
-use Rattle.yaml_base.proofs.stream_keys.StreamSimpleKeys.{simple_keys_fit}
+use Rattle.yaml_base.proofs.Common.{ℕ, ◌≤◌, Option, false, ◌&&◌, List, ◌≡◌, Cursor, TagDirective, Node, Role, is_key, is_simple, Effective}
+use Rattle.yaml_base.proofs.{stream_flow.StreamFlowScalars.rules_of, stream_keys.StreamSimpleKeys.simple_keys_fit, stream_nodes.StreamAgrees.node_tree}
+use Rattle.yaml_base.proofs.{stream_nodes.StreamFits.size, stream_nodes.StreamFits.Fits, stream_nodes.StreamNodesFit.Leaves}
+use Rattle.yaml_base.proofs.{stream_nodes.StreamNodesFit.Stands, stream_nodes.StreamNodesFit.node_fits, stream_nodes.StreamStands.NamesStand}
+use Rattle.yaml_base.proofs.{stream_nodes.StreamStands.BodyStands, stream_nodes.StreamStands.BodiesHold, stream_nodes.StreamTexts.node_own}
+use Rattle.yaml_base.proofs.stream_nodes.StreamLeaves.{block_place, ScalarsFit, MayStand, FlowsFit, leaves_stand}
 
 -- what is asked of its parts
 pub parts_stand : (n : Node) (s : Effective) (own directives : List TagDirective) (scalars : ScalarsFit s own directives) (flows : FlowsFit s own directives)

@@ -1,28 +1,15 @@
 -- A literal or folded scalar as its own text on the lines of a block.
-use Rattle.std.proofs.Common.{◌≡◌, suc, refl, sym, ap, ◌∙◌, append_assoc, subst}
-use Rattle.std.proofs.lemmas.Bool.{and_parts, and_from, or_parts}
-use Rattle.std.proofs.lemmas.List.Folds.{list_all-append}
-use Rattle.std.specs.List.{list_all, list_any}
-use Rattle.std.specs.Prelude.{ℕ, Bool, true, false, Option, None, Some, List, [], ◌∷◌, ◌++◌, ◌==◌, ◌||◌, ◌&&◌, unwrap_or, option_and_then, if◌then◌else◌}
-use Rattle.yaml_base.specs.Characters.{Text, is_between, is_printable}
-use Rattle.yaml_base.specs.LineBreaks.{is_read_break}
-use Rattle.yaml_base.specs.Event.{ScalarStyle, literal, folded}
-use Rattle.yaml_base.specs.reading.ReadTags.{ParsedTag}
-use Rattle.yaml_base.specs.reading.ReadBlock.{elements, digit_first, after_digit, chomping_first, after_chomping, after_break, read_lines, read_block}
-use Rattle.yaml_base.specs.reading.TidyText.{has_deep_lines, is_tidy}
-use Rattle.yaml_base.specs.streams.StreamContent.{stood_quoted}
-use Rattle.yaml_base.specs.streams.StreamLines.{Line, prepend_to_first_line, prepend_character, lines_of}
-use Rattle.yaml_base.specs.streams.StreamScalars.{Rules, Properties, no_properties, scalar_parsed, a_scalar, kind_of_word, word_by_kind}
-use Rattle.yaml_base.specs.streams.StreamNodes.{key_of_text, word_of_alias}
-use Rattle.yaml_base.proofs.stream_lines.StreamLineLaws.{OneLine, one_line_both}
-use Rattle.yaml_base.proofs.stream_lines.StreamTidyLaws.{first_text}
-use Rattle.yaml_base.proofs.stream_keys.StreamKeys.{scalar_no_alias}
-use Rattle.yaml_base.proofs.stream_nodes.StreamProperties.{begins_content}
-use Rattle.yaml_base.proofs.stream_flow.StreamPropertyWords.{lead}
-use Rattle.yaml_base.proofs.stream_flow.StreamFlowWords.{Given}
-use Rattle.yaml_base.proofs.stream_keys.StreamNoKeys.{KeyNowhere, nowhere_alone}
-use Rattle.yaml_base.proofs.stream_nodes.StreamOwnTexts.{OwnText}
-use Rattle.yaml_base.proofs.stream_nodes.StreamOwnWords.{feed, deep_more, tidy_deep, lines_deeper, behind_no_key, first_passes, none_parsed}
+use Rattle.yaml_base.proofs.Common.{suc, ℕ, if◌then◌else◌, ◌==◌, unwrap_or, option_and_then, Option, None, Some, Bool, false, true, ◌&&◌, ◌||◌, List, []}
+use Rattle.yaml_base.proofs.Common.{◌++◌, ◌∷◌, refl, ◌≡◌, append_assoc, ap, subst, sym, ◌∙◌, and_parts, and_from, or_parts, list_all-append, list_all}
+use Rattle.yaml_base.proofs.Common.{list_any, Text, is_between, is_printable, ScalarStyle, literal, folded, is_read_break, elements, digit_first, after_digit}
+use Rattle.yaml_base.proofs.Common.{chomping_first, after_chomping, after_break, read_lines, read_block, ParsedTag, has_deep_lines, is_tidy, stood_quoted}
+use Rattle.yaml_base.proofs.Common.{Line, prepend_to_first_line, prepend_character, lines_of, word_of_alias, key_of_text, Rules, Properties, no_properties}
+use Rattle.yaml_base.proofs.Common.{scalar_parsed, a_scalar, kind_of_word, word_by_kind}
+use Rattle.yaml_base.proofs.{stream_flow.StreamFlowWords.Given, stream_flow.StreamPropertyWords.lead, stream_keys.StreamKeys.scalar_no_alias}
+use Rattle.yaml_base.proofs.{stream_keys.StreamNoKeys.KeyNowhere, stream_keys.StreamNoKeys.nowhere_alone, stream_lines.StreamLineLaws.OneLine}
+use Rattle.yaml_base.proofs.{stream_lines.StreamLineLaws.one_line_both, stream_lines.StreamTidyLaws.first_text, stream_nodes.StreamOwnTexts.OwnText}
+use Rattle.yaml_base.proofs.{stream_nodes.StreamProperties.begins_content}
+use Rattle.yaml_base.proofs.stream_nodes.StreamOwnWords.{feed, deep_more, lines_deeper, tidy_deep, behind_no_key, none_parsed, first_passes}
 
 -- the indicator of a block style, and the style
 abbrev pub block_indicator : (is_literal : Bool) → ℕ

@@ -1,35 +1,19 @@
 -- A node's own text that reads on its lines does so behind its anchor and its tag.
-use Rattle.std.proofs.Common.{◌≡◌, refl, sym, ap, ◌∙◌, append_assoc, append-nil}
-use Rattle.std.proofs.lemmas.Bool.{false≢true, and_parts}
-use Rattle.std.specs.Option.{option_or}
-use Rattle.std.specs.Prelude.{ℕ, Bool, true, false, Option, None, Some, List, [], ◌∷◌, ◌++◌, ◌==◌, ◌||◌, ◌&&◌, ◌+◌, not, is_some, length, option_map}
-use Rattle.std.specs.Prelude.{if◌then◌else◌}
-use Rattle.yaml_base.specs.Characters.{Text, space}
-use Rattle.yaml_base.specs.LineBreaks.{is_read_break}
-use Rattle.yaml_base.specs.Event.{ScalarStyle}
-use Rattle.yaml_base.specs.scalars.Style.{is_plain}
-use Rattle.yaml_base.specs.reading.ReadTags.{ParsedTag}
-use Rattle.yaml_base.specs.streams.StreamContent.{scalar_tree}
-use Rattle.yaml_base.specs.streams.StreamLines.{Line, prepend_to_first_line, prepend_character, lines_of, text_of_lines, ends_indicator}
-use Rattle.yaml_base.specs.streams.StreamLines.{begins_with_indicator, without_blank_lines}
-use Rattle.yaml_base.specs.streams.StreamLines.{all_deeper, Indented, spaces}
-use Rattle.yaml_base.specs.streams.StreamScalars.{Rules, Properties, properties_read, standing_of, scalar_parsed}
-use Rattle.yaml_base.specs.streams.StreamNodes.{key_of_text, key_ends, key_from, begins_sequence, begins_mapping, begins_text, kind_of_node, kind_of_text}
-use Rattle.yaml_base.specs.streams.StreamNodes.{text_by_kind, text_read, Reads, ReadsText, node_by_kind, node_at, node_lines, begins_properties}
-use Rattle.yaml_base.specs.streams.StreamNodes.{after_properties, text_or_properties}
-use Rattle.yaml_base.proofs.stream_lines.StreamLineLaws.{text_of_lines_of}
-use Rattle.yaml_base.proofs.stream_lines.StreamInside.{AllInside, indented_spaces, not_blank, deeper_inside}
-use Rattle.yaml_base.proofs.stream_lines.StreamTidyLaws.{first_text, lines_after_first}
-use Rattle.yaml_base.proofs.stream_lines.StreamClosed.{lines_behind}
-use Rattle.yaml_base.proofs.stream_nodes.StreamBlocks.{spaces_both}
-use Rattle.yaml_base.proofs.stream_nodes.StreamLeafFits.{TextReads}
-use Rattle.yaml_base.proofs.stream_nodes.StreamProperties.{has_properties, properties_text, begins_content, properties_parsed}
-use Rattle.yaml_base.proofs.stream_flow.StreamPropertyWords.{lead}
-use Rattle.yaml_base.proofs.stream_nodes.StreamStands.{tag_meant}
-use Rattle.yaml_base.proofs.stream_nodes.StreamLeads.{lead_spaces, lead_then}
-use Rattle.yaml_base.proofs.stream_flow.StreamFlowWords.{Given, tagging_meant, scalar_in}
-use Rattle.yaml_base.proofs.stream_keys.StreamNoKeys.{KeyNowhere, lead_nowhere}
-use Rattle.yaml_base.proofs.stream_nodes.StreamBegun.{lead_line}
+use Rattle.yaml_base.proofs.Common.{ℕ, ◌+◌, if◌then◌else◌, ◌==◌, is_some, option_map, Option, None, Some, length, Bool, false, not, true, ◌&&◌, ◌||◌, List}
+use Rattle.yaml_base.proofs.Common.{[], ◌++◌, ◌∷◌, refl, ◌≡◌, append-nil, append_assoc, ap, sym, ◌∙◌, and_parts, false≢true, option_or, Text, space}
+use Rattle.yaml_base.proofs.Common.{ScalarStyle, is_read_break, ParsedTag, is_plain, scalar_tree, Line, prepend_to_first_line, prepend_character, lines_of}
+use Rattle.yaml_base.proofs.Common.{text_of_lines, without_blank_lines, ends_indicator, begins_with_indicator, all_deeper, Indented, spaces, key_of_text}
+use Rattle.yaml_base.proofs.Common.{key_ends, key_from, Reads, kind_of_text, text_by_kind, text_read, begins_sequence, begins_mapping, begins_text}
+use Rattle.yaml_base.proofs.Common.{kind_of_node, ReadsText, node_by_kind, node_at, node_lines, begins_properties, after_properties, text_or_properties}
+use Rattle.yaml_base.proofs.Common.{Rules, Properties, properties_read, standing_of, scalar_parsed}
+use Rattle.yaml_base.proofs.{stream_flow.StreamFlowWords.Given, stream_flow.StreamFlowWords.tagging_meant, stream_flow.StreamFlowWords.scalar_in}
+use Rattle.yaml_base.proofs.{stream_flow.StreamPropertyWords.lead, stream_keys.StreamNoKeys.KeyNowhere, stream_keys.StreamNoKeys.lead_nowhere}
+use Rattle.yaml_base.proofs.{stream_lines.StreamClosed.lines_behind, stream_lines.StreamLineLaws.text_of_lines_of, stream_lines.StreamTidyLaws.first_text}
+use Rattle.yaml_base.proofs.{stream_lines.StreamTidyLaws.lines_after_first, stream_nodes.StreamBegun.lead_line, stream_nodes.StreamBlocks.spaces_both}
+use Rattle.yaml_base.proofs.{stream_nodes.StreamLeads.lead_spaces, stream_nodes.StreamLeads.lead_then, stream_nodes.StreamLeafFits.TextReads}
+use Rattle.yaml_base.proofs.{stream_nodes.StreamStands.tag_meant}
+use Rattle.yaml_base.proofs.stream_lines.StreamInside.{indented_spaces, not_blank, AllInside, deeper_inside}
+use Rattle.yaml_base.proofs.stream_nodes.StreamProperties.{properties_text, has_properties, begins_content, properties_parsed}
 
 -- Lines
 

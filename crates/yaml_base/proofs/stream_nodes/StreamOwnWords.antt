@@ -1,31 +1,18 @@
 -- Quoted and plain scalars as their own text on the lines of a block.
-use Rattle.std.proofs.Common.{◌≡◌, suc, zero, refl, sym, ap, ◌∙◌, append_assoc, subst}
-use Rattle.std.proofs.lemmas.Bool.{false≢true, eqb-true, and_parts, and_from}
-use Rattle.std.specs.List.{list_all}
-use Rattle.std.specs.Option.{option_or}
-use Rattle.std.specs.Prelude.{ℕ, Bool, true, false, Option, None, Some, List, [], ◌∷◌, ◌++◌, ◌==◌, ◌||◌, ◌&&◌, not, unwrap_or, option_and_then, if◌then◌else◌}
-use Rattle.yaml_base.specs.Characters.{Text, line_feed, space, is_printable}
-use Rattle.yaml_base.specs.LineBreaks.{is_read_break}
-use Rattle.yaml_base.specs.Event.{ScalarStyle, single_quoted, double_quoted}
-use Rattle.yaml_base.specs.reading.ReadTags.{ParsedTag}
-use Rattle.yaml_base.specs.reading.ReadPlain.{is_read_white}
-use Rattle.yaml_base.specs.reading.ReadSingle.{read_single}
-use Rattle.yaml_base.specs.reading.ReadDouble.{read_double}
-use Rattle.yaml_base.specs.reading.TidyText.{begins_with_spaces, begins_with_blank_line, begins_with_deep_line, has_deep_lines, ends_white}
-use Rattle.yaml_base.specs.reading.TidyText.{is_tidy_style, is_tidy}
-use Rattle.yaml_base.specs.streams.StreamContent.{Stood, stood_quoted}
-use Rattle.yaml_base.specs.streams.StreamLines.{Line, prepend_to_first_line, prepend_character, lines_of, ends_indicator, belongs_to_entry}
-use Rattle.yaml_base.specs.streams.StreamScalars.{Rules, Properties, scalar_parsed, word_by_kind, word_after}
-use Rattle.yaml_base.specs.streams.StreamNodes.{key_of_text, key_ends, key_from, word_of_alias, without_last_space, prepend_to_trimmed, trimmed}
-use Rattle.yaml_base.proofs.stream_lines.StreamInside.{AllInside}
-use Rattle.yaml_base.proofs.stream_lines.StreamTidyLaws.{first_text, lines_after_first, deep_lines_inside}
-use Rattle.yaml_base.proofs.stream_lines.StreamCuts.{double_quoted_whole, single_quoted_whole}
-use Rattle.yaml_base.proofs.stream_keys.StreamKeys.{no_alias_before, double_no_alias, single_no_alias}
-use Rattle.yaml_base.proofs.stream_nodes.StreamProperties.{begins_content}
-use Rattle.yaml_base.proofs.stream_flow.StreamPropertyWords.{lead}
+use Rattle.yaml_base.proofs.Common.{suc, zero, ℕ, if◌then◌else◌, ◌==◌, unwrap_or, option_and_then, Option, None, Some, Bool, false, not, true, ◌&&◌, ◌||◌}
+use Rattle.yaml_base.proofs.Common.{List, [], ◌++◌, ◌∷◌, refl, ◌≡◌, eqb-true, append_assoc, ap, subst, sym, ◌∙◌, and_parts, and_from, false≢true, list_all}
+use Rattle.yaml_base.proofs.Common.{option_or, Text, line_feed, space, is_printable, ScalarStyle, single_quoted, double_quoted, is_read_break, read_double}
+use Rattle.yaml_base.proofs.Common.{is_read_white, read_single, ParsedTag, begins_with_spaces, begins_with_blank_line, begins_with_deep_line, has_deep_lines}
+use Rattle.yaml_base.proofs.Common.{ends_white, is_tidy_style, is_tidy, Stood, stood_quoted, Line, prepend_to_first_line, prepend_character, lines_of}
+use Rattle.yaml_base.proofs.Common.{ends_indicator, belongs_to_entry, without_last_space, word_of_alias, key_of_text, key_ends, key_from, prepend_to_trimmed}
+use Rattle.yaml_base.proofs.Common.{trimmed, Rules, Properties, scalar_parsed, word_by_kind, word_after}
+use Rattle.yaml_base.proofs.{stream_flow.StreamPropertyWords.lead, stream_keys.StreamKeys.no_alias_before, stream_keys.StreamKeys.double_no_alias}
+use Rattle.yaml_base.proofs.{stream_keys.StreamKeys.single_no_alias, stream_lines.StreamCuts.double_quoted_whole, stream_lines.StreamCuts.single_quoted_whole}
+use Rattle.yaml_base.proofs.{stream_lines.StreamInside.AllInside, stream_lines.StreamTidyLaws.first_text, stream_lines.StreamTidyLaws.lines_after_first}
+use Rattle.yaml_base.proofs.{stream_lines.StreamTidyLaws.deep_lines_inside, stream_nodes.StreamOwnTexts.lines_shown, stream_nodes.StreamOwnTexts.OwnText}
+use Rattle.yaml_base.proofs.{stream_nodes.StreamProperties.begins_content}
 use Rattle.yaml_base.proofs.stream_flow.StreamFlowWords.{Given, given_reads, double_kind, single_kind}
-use Rattle.yaml_base.proofs.stream_keys.StreamNoKeys.{KeyNowhere, nowhere_alone, no_key_text, anchor_no_alias, tag_no_alias}
-use Rattle.yaml_base.proofs.stream_nodes.StreamOwnTexts.{OwnText, lines_shown}
+use Rattle.yaml_base.proofs.stream_keys.StreamNoKeys.{KeyNowhere, nowhere_alone, tag_no_alias, anchor_no_alias, no_key_text}
 
 -- The break after a text
 

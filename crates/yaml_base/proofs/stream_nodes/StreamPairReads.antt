@@ -1,27 +1,18 @@
 -- The entries of a mapping read as its pairs, where each of them fits; and how a mapping's text is rendered.
-use Rattle.std.proofs.Common.{◌≡◌, suc, ◌≤◌, refl, sym, ap, ◌∙◌, append_assoc, append-nil, arith}
-use Rattle.std.proofs.lemmas.Bool.{true≢false, false≢true}
-use Rattle.std.specs.Prelude.{ℕ, Bool, true, false, Option, None, Some, List, [], ◌∷◌, ◌++◌, ◌+◌, ◌&&◌, fold, length, option_and_then, if◌then◌else◌}
-use Rattle.yaml_base.specs.Characters.{Text}
-use Rattle.yaml_base.specs.Settings.{Effective}
-use Rattle.yaml_base.specs.Event.{TagDirective}
-use Rattle.yaml_base.specs.Cursor.{Cursor, Rendered, new_line, render_then}
-use Rattle.yaml_base.specs.Grammar.{Node, Pairs, no_pairs, pairs_and}
-use Rattle.yaml_base.specs.Layout.{Role, as_key, as_value, has_no_pairs, is_simple, entry_place, render_place}
-use Rattle.yaml_base.specs.streams.StreamContent.{Tree, TreePairs, tree_pairs_and}
-use Rattle.yaml_base.specs.streams.StreamLines.{Line, lines_of, spaces}
-use Rattle.yaml_base.specs.streams.StreamScalars.{Rules}
-use Rattle.yaml_base.specs.streams.StreamNodes.{SimpleKey, HeldPairs, with_key, with_value, simple_pair, key_entry, value_entry, simple_entry, entry_by_kind}
-use Rattle.yaml_base.specs.streams.StreamNodes.{entry_at, entry_read, no_pairs_held, node_read}
-use Rattle.yaml_base.proofs.stream_nodes.StreamAgrees.{node_tree, pairs_tree}
-use Rattle.yaml_base.proofs.stream_nodes.StreamTexts.{node_own, pairs_own}
-use Rattle.yaml_base.proofs.stream_lines.StreamInside.{past_spaces}
+use Rattle.yaml_base.proofs.Common.{suc, ℕ, ◌+◌, ◌≤◌, if◌then◌else◌, fold, option_and_then, Option, None, Some, length, Bool, false, true, ◌&&◌, List, []}
+use Rattle.yaml_base.proofs.Common.{◌++◌, ◌∷◌, refl, ◌≡◌, true≢false, append-nil, append_assoc, ap, sym, ◌∙◌, arith, false≢true, Text, Cursor, Rendered}
+use Rattle.yaml_base.proofs.Common.{render_then, new_line, TagDirective, Node, Pairs, no_pairs, pairs_and, entry_place, Role, as_key, as_value, has_no_pairs}
+use Rattle.yaml_base.proofs.Common.{is_simple, render_place, Effective, Tree, TreePairs, tree_pairs_and, Line, lines_of, spaces, SimpleKey, key_entry}
+use Rattle.yaml_base.proofs.Common.{value_entry, simple_entry, node_read, Rules}
 use Rattle.yaml_base.proofs.stream_lines.StreamClosed.{closing, closed, Settled, new_line_closes, indicator_cursor}
+use Rattle.yaml_base.proofs.stream_lines.StreamInside.{past_spaces}
+use Rattle.yaml_base.proofs.stream_nodes.{StreamAgrees.node_tree, StreamAgrees.pairs_tree, StreamItems.regrouped, StreamItems.Lays, StreamTexts.node_own}
+use Rattle.yaml_base.proofs.stream_nodes.{StreamTexts.pairs_own}
 use Rattle.yaml_base.proofs.stream_nodes.StreamFits.{size, pairs_size, Fits, tree_anywhere, indicated_lines, blanked_lines}
-use Rattle.yaml_base.proofs.stream_nodes.StreamItems.{Lays, regrouped}
 use Rattle.yaml_base.proofs.stream_nodes.StreamPairs.{KeyFits, key_place, value_place, colon_cursor, simple_key, indicated_key, simple_value, indicated_value}
 use Rattle.yaml_base.proofs.stream_nodes.StreamPairs.{pair_text, pairs_text, entries_of_pair, pair_entries, PairFits, PairsFit, question_line, colon_line}
 use Rattle.yaml_base.proofs.stream_nodes.StreamPairs.{keyed_lines}
+use Rattle.yaml_base.specs.streams.StreamNodes.{HeldPairs, with_key, with_value, simple_pair, entry_by_kind, entry_at, entry_read, no_pairs_held}
 
 -- Reading
 

@@ -1,17 +1,10 @@
 -- The anchor and the tag before a node, as they are written, are read as they were given, and spaces of their length stay.
-use Rattle.std.proofs.Common.{◌≡◌, zero, suc, refl, sym, ap, ◌∙◌, append_assoc, append-nil, arith}
-use Rattle.std.proofs.lemmas.Bool.{false≢true, eqb-true, and_parts, or_parts}
-use Rattle.std.proofs.lemmas.List.{length-append}
-use Rattle.std.specs.List.{list_all, list_any}
-use Rattle.std.specs.Prelude.{ℕ, Bool, true, false, Option, None, Some, List, [], ◌∷◌, ◌++◌, ◌==◌, ◌||◌, ◌&&◌, ◌+◌, not, length, option_map, option_and_then}
-use Rattle.std.specs.Prelude.{if◌then◌else◌}
-use Rattle.yaml_base.specs.Characters.{Text, space, is_alpha, is_blank, is_break}
-use Rattle.yaml_base.specs.Event.{TagDirective}
-use Rattle.yaml_base.specs.reading.ReadTags.{ParsedTag, CutText, tag_parsed}
-use Rattle.yaml_base.specs.streams.StreamLines.{Indented, indented, indented_step, spaces, ends_indicator}
-use Rattle.yaml_base.specs.streams.StreamScalars.{Rules, no_properties, PropertiesRead, word_step, cut_before_space, name_read, anchor_of_word, anchor_first}
-use Rattle.yaml_base.specs.streams.StreamScalars.{tag_of_word, tag_first, properties_read, word_after, word_read}
-use Rattle.yaml_base.proofs.stream_lines.StreamCuts.{none_not_some}
+use Rattle.yaml_base.proofs.Common.{suc, zero, ℕ, ◌+◌, if◌then◌else◌, ◌==◌, option_map, option_and_then, Option, None, Some, length, Bool, false, not, true}
+use Rattle.yaml_base.proofs.Common.{◌&&◌, ◌||◌, List, [], ◌++◌, ◌∷◌, refl, ◌≡◌, eqb-true, length-append, append-nil, append_assoc, ap, sym, ◌∙◌, arith}
+use Rattle.yaml_base.proofs.Common.{and_parts, or_parts, false≢true, list_all, list_any, Text, space, is_alpha, is_blank, is_break, TagDirective, ParsedTag}
+use Rattle.yaml_base.proofs.Common.{CutText, tag_parsed, ends_indicator, Indented, indented_step, indented, spaces, Rules, no_properties, PropertiesRead}
+use Rattle.yaml_base.proofs.Common.{cut_before_space, name_read, anchor_of_word, tag_of_word, tag_first, properties_read, word_after, word_read}
+use Rattle.yaml_base.{proofs.stream_lines.StreamCuts.none_not_some, specs.streams.StreamScalars.word_step, specs.streams.StreamScalars.anchor_first}
 
 -- a text holds a blank or a break
 abbrev pub holds_white : Text → Bool

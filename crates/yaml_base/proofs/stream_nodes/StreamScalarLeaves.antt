@@ -1,28 +1,13 @@
 -- Each scalar in a block fits where its names and its body stand.
-use Rattle.std.proofs.Common.{◌≡◌, ◌≤◌, refl}
-use Rattle.std.proofs.lemmas.Bool.{true≢false, and_parts}
-use Rattle.std.specs.Prelude.{ℕ, Bool, true, false, Option, None, Some, List, [], ◌∷◌, ◌||◌, ◌&&◌, not, is_some, if◌then◌else◌}
-use Rattle.yaml_base.specs.Characters.{Text}
-use Rattle.yaml_base.specs.Settings.{Effective}
-use Rattle.yaml_base.specs.Cursor.{Cursor}
-use Rattle.yaml_base.specs.Event.{ScalarStyle, TagDirective, any_style, plain, single_quoted, double_quoted, literal, folded}
-use Rattle.yaml_base.specs.scalars.Analysis.{Allowances, allowances, allows_block, is_empty}
-use Rattle.yaml_base.specs.scalars.Style.{is_plain, requested_style, fits_plain}
-use Rattle.yaml_base.specs.Meaning.{read_in_style}
-use Rattle.yaml_base.specs.reading.TidyText.{is_tidy}
-use Rattle.yaml_base.specs.Event.{scalar_tag}
-use Rattle.yaml_base.specs.Grammar.{scalar_node}
-use Rattle.yaml_base.specs.Layout.{Place, deeper, is_simple_at, render_body, charset_of, choice_of}
-use Rattle.yaml_base.proofs.Charsets.{block_still}
-use Rattle.yaml_base.proofs.stream_nodes.StreamFits.{Fits}
-use Rattle.yaml_base.proofs.stream_nodes.StreamProperties.{IsNamed}
-use Rattle.yaml_base.proofs.stream_nodes.StreamStands.{TagStands}
-use Rattle.yaml_base.proofs.stream_flow.StreamFlowWords.{scalar_in}
-use Rattle.yaml_base.proofs.stream_flow.StreamFlowScalars.{rules_of, bare_not_plain}
-use Rattle.yaml_base.proofs.stream_nodes.StreamLeaves.{block_place, ScalarsFit}
-use Rattle.yaml_base.proofs.stream_lines.StreamBlockEnds.{is_block, block_fitting}
-use Rattle.yaml_base.proofs.stream_nodes.StreamScalarsFit.{render_styled, body_cursor, body_fits, styled_fits}
-use Rattle.yaml_base.proofs.stream_nodes.StreamEmptyFits.{empty_fits}
+use Rattle.yaml_base.proofs.Common.{ℕ, ◌≤◌, if◌then◌else◌, is_some, Option, None, Some, Bool, false, not, true, ◌&&◌, ◌||◌, List, [], ◌∷◌, refl, ◌≡◌}
+use Rattle.yaml_base.proofs.Common.{true≢false, and_parts, Text, Cursor, ScalarStyle, any_style, plain, single_quoted, double_quoted, literal, folded}
+use Rattle.yaml_base.proofs.Common.{TagDirective, scalar_tag, scalar_node, render_body, charset_of, choice_of, Place, deeper, is_simple_at, read_in_style}
+use Rattle.yaml_base.proofs.Common.{Effective, is_tidy, Allowances, is_empty, allows_block, allowances, is_plain, requested_style, fits_plain}
+use Rattle.yaml_base.proofs.{Charsets.block_still, stream_flow.StreamFlowScalars.rules_of, stream_flow.StreamFlowScalars.bare_not_plain}
+use Rattle.yaml_base.proofs.{stream_flow.StreamFlowWords.scalar_in, stream_lines.StreamBlockEnds.is_block, stream_lines.StreamBlockEnds.block_fitting}
+use Rattle.yaml_base.proofs.{stream_nodes.StreamEmptyFits.empty_fits, stream_nodes.StreamFits.Fits, stream_nodes.StreamLeaves.block_place}
+use Rattle.yaml_base.proofs.{stream_nodes.StreamLeaves.ScalarsFit, stream_nodes.StreamProperties.IsNamed, stream_nodes.StreamStands.TagStands}
+use Rattle.yaml_base.proofs.stream_nodes.StreamScalarsFit.{body_fits, render_styled, body_cursor, styled_fits}
 
 -- a scalar in a style fits where its body is tidy and reads as its value
 scalar_fits : (s : Effective) (own directives : List TagDirective) (anchor tag : Option Text) (bare : Bool) (style : ScalarStyle) (limit : Option ℕ)

@@ -1,45 +1,23 @@
 -- Scalars that stand in blocks fit: in each style, behind an anchor and a tag or without them, and where nothing is written.
-use Rattle.std.proofs.Common.{◌≡◌, ◌≤◌, ◌<◌, refl, sym, ap, ◌∙◌, append_assoc, append-nil, arith, subst}
-use Rattle.std.proofs.lemmas.Bool.{true≢false, false≢true}
-use Rattle.std.specs.Prelude.{ℕ, Bool, true, false, Option, None, Some, List, [], ◌∷◌, ◌++◌, ◌&&◌, not, if◌then◌else◌}
-use Rattle.yaml_base.specs.Characters.{Text, space}
-use Rattle.yaml_base.specs.Settings.{Effective}
-use Rattle.yaml_base.specs.Cursor.{Cursor, Rendered, render_then, space_if, column_after, indicator}
-use Rattle.yaml_base.specs.Event.{ScalarStyle, any_style, plain, single_quoted, double_quoted, literal, folded, TagDirective}
-use Rattle.yaml_base.specs.scalars.Analysis.{allows_block, is_empty}
-use Rattle.yaml_base.specs.scalars.Style.{is_plain}
-use Rattle.yaml_base.specs.scalars.Plain.{runs, render_runs}
-use Rattle.yaml_base.specs.scalars.SingleQuoted.{quotes_doubled, single_quote}
-use Rattle.yaml_base.specs.scalars.DoubleQuoted.{double_inside, render_quote}
-use Rattle.yaml_base.specs.scalars.Lines.{parts}
-use Rattle.yaml_base.specs.scalars.BlockHeader.{ending, ends_in_break, indentation_hint, ending_hint, render_hint, render_header, block_body}
-use Rattle.yaml_base.specs.scalars.Literal.{indented}
-use Rattle.yaml_base.specs.scalars.Folded.{folded_parts}
-use Rattle.yaml_base.specs.reading.ReadBlock.{read_block}
-use Rattle.yaml_base.specs.Meaning.{read_in_style}
-use Rattle.yaml_base.specs.reading.TidyText.{is_tidy}
-use Rattle.yaml_base.specs.Layout.{Place, render_properties, render_separation, render_body}
-use Rattle.yaml_base.specs.streams.StreamLines.{spaces}
-use Rattle.yaml_base.specs.streams.StreamScalars.{Rules}
-use Rattle.yaml_base.proofs.stream_lines.StreamLineLaws.{is_closed}
-use Rattle.yaml_base.proofs.stream_lines.StreamClosed.{closing, closed, Settled, closed_behind}
-use Rattle.yaml_base.proofs.stream_lines.StreamCuts.{none_not_some}
-use Rattle.yaml_base.proofs.stream_nodes.StreamFits.{Fits}
-use Rattle.yaml_base.proofs.stream_nodes.StreamBlocks.{below_ends}
-use Rattle.yaml_base.proofs.stream_lines.StreamStrip.{strip_more}
-use Rattle.yaml_base.proofs.stream_nodes.StreamLeafFits.{text_fits}
-use Rattle.yaml_base.proofs.stream_nodes.StreamProperties.{IsNamed}
-use Rattle.yaml_base.proofs.stream_flow.StreamPropertyWords.{lead}
-use Rattle.yaml_base.proofs.stream_nodes.StreamStands.{tag_written, tag_meant, TagStands}
-use Rattle.yaml_base.proofs.stream_nodes.StreamLeads.{lead_rendered, tag_is_written}
-use Rattle.yaml_base.proofs.stream_flow.StreamFlowWords.{Given, scalar_in}
-use Rattle.yaml_base.proofs.stream_flow.StreamFlowScalars.{rules_of, is_flow_style, body_ended}
-use Rattle.yaml_base.proofs.stream_nodes.StreamOwnTexts.{OwnText, own_reads}
-use Rattle.yaml_base.proofs.stream_nodes.StreamOwnWords.{feed, own_double, own_single}
-use Rattle.yaml_base.proofs.stream_nodes.StreamOwnPlain.{own_plain}
-use Rattle.yaml_base.proofs.stream_nodes.StreamOwnBlocks.{block_indicator, block_style, own_block, block_tidy_more}
+use Rattle.yaml_base.proofs.Common.{ℕ, ◌<◌, ◌≤◌, if◌then◌else◌, Option, None, Some, Bool, false, not, true, ◌&&◌, List, [], ◌++◌, ◌∷◌, refl, ◌≡◌, true≢false}
+use Rattle.yaml_base.proofs.Common.{append-nil, append_assoc, ap, subst, sym, ◌∙◌, arith, false≢true, Text, space, Cursor, Rendered, render_then}
+use Rattle.yaml_base.proofs.Common.{column_after, space_if, indicator, ScalarStyle, any_style, plain, single_quoted, double_quoted, literal, folded}
+use Rattle.yaml_base.proofs.Common.{TagDirective, render_properties, render_separation, render_body, Place, read_in_style, Effective, read_block, is_tidy}
+use Rattle.yaml_base.proofs.Common.{is_empty, allows_block, ending, indentation_hint, ending_hint, render_hint, ends_in_break, double_inside, render_quote}
+use Rattle.yaml_base.proofs.Common.{folded_parts, parts, runs, render_runs, quotes_doubled, single_quote, is_plain, spaces, Rules}
+use Rattle.yaml_base.proofs.{stream_flow.StreamFlowScalars.rules_of, stream_flow.StreamFlowScalars.is_flow_style, stream_flow.StreamFlowScalars.body_ended}
+use Rattle.yaml_base.proofs.{stream_flow.StreamFlowWords.Given, stream_flow.StreamFlowWords.scalar_in, stream_flow.StreamPropertyWords.lead}
+use Rattle.yaml_base.proofs.{stream_lines.StreamCuts.none_not_some, stream_lines.StreamLineLaws.is_closed, stream_lines.StreamStrip.strip_more}
+use Rattle.yaml_base.proofs.{stream_nodes.StreamBlocks.below_ends, stream_nodes.StreamFits.Fits, stream_nodes.StreamLeads.lead_rendered}
+use Rattle.yaml_base.proofs.{stream_nodes.StreamLeads.tag_is_written, stream_nodes.StreamLeafFits.text_fits, stream_nodes.StreamOwnPlain.own_plain}
+use Rattle.yaml_base.proofs.{stream_nodes.StreamOwnTexts.OwnText, stream_nodes.StreamOwnTexts.own_reads, stream_nodes.StreamOwnWords.feed}
+use Rattle.yaml_base.proofs.{stream_nodes.StreamOwnWords.own_double, stream_nodes.StreamOwnWords.own_single, stream_nodes.StreamProperties.IsNamed}
+use Rattle.yaml_base.proofs.{stream_nodes.StreamStands.tag_written, stream_nodes.StreamStands.tag_meant, stream_nodes.StreamStands.TagStands}
 use Rattle.yaml_base.proofs.stream_lines.StreamBlockEnds.{EndsBreak, ending_breaks, EndsLines, literal_end, folded_lines_end, column_ended, last_is_read}
 use Rattle.yaml_base.proofs.stream_lines.StreamBlockEnds.{hint_text, strips, is_block}
+use Rattle.yaml_base.proofs.stream_lines.StreamClosed.{closing, closed, Settled, closed_behind}
+use Rattle.yaml_base.proofs.stream_nodes.StreamOwnBlocks.{block_indicator, block_style, own_block, block_tidy_more}
+use Rattle.yaml_base.specs.scalars.{BlockHeader.render_header, BlockHeader.block_body, Literal.indented}
 
 -- Bodies
 

@@ -1,22 +1,13 @@
 -- What is asked of a layout's parts so that it is read: names and tags that are read as they were given, and tidy bodies that
 -- read as their values.
-use Rattle.std.proofs.Common.{◌≡◌}
-use Rattle.std.specs.Prelude.{ℕ, Bool, true, false, Option, None, Some, List, codes, if◌then◌else◌}
-use Rattle.yaml_base.specs.Characters.{Text}
-use Rattle.yaml_base.specs.Settings.{Effective}
-use Rattle.yaml_base.specs.Event.{TagDirective, Scalar}
-use Rattle.yaml_base.specs.Cursor.{Cursor}
-use Rattle.yaml_base.specs.Tags.{spelling, spelled}
-use Rattle.yaml_base.specs.Grammar.{Node, alias_node, scalar_node, sequence_node, mapping_node, Nodes, no_nodes, nodes_and, Pairs, no_pairs, pairs_and}
-use Rattle.yaml_base.specs.Event.{scalar_tag, collection_tag}
-use Rattle.yaml_base.specs.Meaning.{read_in_style}
-use Rattle.yaml_base.specs.Layout.{as_item, as_key, as_value, Place, is_undented, deeper, entries_column, has_no_nodes, has_no_pairs, is_simple, is_simple_at}
-use Rattle.yaml_base.specs.Layout.{render_place, Body, body_at, render_properties, render_separation, render_body, choice_of, is_written_in_flow, entry_place}
-use Rattle.yaml_base.specs.reading.ReadTags.{ParsedTag, bare_parsed, name_parsed}
-use Rattle.yaml_base.specs.streams.StreamScalars.{name_read}
-use Rattle.yaml_base.specs.TidyBodies.{IsTidy}
+use Rattle.yaml_base.proofs.Common.{ℕ, if◌then◌else◌, Option, None, Some, codes, Bool, false, true, List, ◌≡◌, Text, Cursor, TagDirective, Scalar, scalar_tag}
+use Rattle.yaml_base.proofs.Common.{collection_tag, Node, alias_node, scalar_node, Nodes, sequence_node, Pairs, mapping_node, no_nodes, nodes_and, no_pairs}
+use Rattle.yaml_base.proofs.Common.{pairs_and, Body, render_properties, render_separation, render_body, choice_of, body_at, is_written_in_flow, entry_place}
+use Rattle.yaml_base.proofs.Common.{as_item, as_key, as_value, Place, is_undented, deeper, entries_column, has_no_nodes, has_no_pairs, is_simple}
+use Rattle.yaml_base.proofs.Common.{is_simple_at, render_place, read_in_style, Effective, spelling, spelled, IsTidy, ParsedTag, bare_parsed, name_parsed}
+use Rattle.yaml_base.proofs.Common.{name_read}
 use Rattle.yaml_base.proofs.stream_nodes.StreamProperties.{WrittenTag, IsNamed}
-use Rattle.yaml_base.proofs.stream_nodes.StreamTexts.{items_own, pairs_own, node_own}
+use Rattle.yaml_base.proofs.stream_nodes.StreamTexts.{node_own, items_own, pairs_own}
 
 -- Names and tags
 

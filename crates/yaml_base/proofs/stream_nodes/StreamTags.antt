@@ -1,27 +1,16 @@
 -- A tag as it is written in a stream is read as the tag.
-use Rattle.std.proofs.Common.{◌≡◌, refl, sym, ap, ◌∙◌, inl, inr, arith}
-use Rattle.std.proofs.lemmas.Bool.{and_parts, and_from, or_parts, not-true, or_from}
-use Rattle.std.proofs.lemmas.Bool.Decides.{nat_tests}
-use Rattle.std.proofs.lemmas.List.Folds.{list_any-append}
-use Rattle.std.specs.List.{list_all, list_any}
-use Rattle.std.specs.Str.{all_scalars}
-use Rattle.std.specs.Prelude.{ℕ, Bool, true, false, None, List, [], ◌∷◌, ◌++◌, ◌==◌, ◌||◌, not, codes, option_map, if◌then◌else◌}
-use Rattle.yaml_base.specs.Characters.{Text, is_alpha, is_among}
-use Rattle.yaml_base.specs.Event.{TagDirective}
-use Rattle.yaml_base.specs.Percent.{character_written, percent_escaped, suffix_escaped, is_tag_character}
-use Rattle.yaml_base.specs.reading.ReadPercent.{is_uri_character, percent_read}
-use Rattle.yaml_base.specs.reading.ReadTags.{bare_parsed, name_parsed, CutText, cut_after_exclamation, may_follow_handle, verbatim_parsed}
-use Rattle.yaml_base.specs.reading.ReadTags.{shorthand_parsed, tag_parsed}
-use Rattle.yaml_base.specs.reading.ReadTags.{without_closing_angle, name_joined, prefix_among, directives_assumed}
-use Rattle.yaml_base.specs.reading.CanonicalReader.{shorthand_read, tag_read, verbatim_read}
-use Rattle.yaml_base.specs.Tags.{exclamation_mark, directives_fault, directives_in_force, Spelling, verbatim, spelling, spelled}
-use Rattle.yaml_base.specs.StreamLaw.{has_flow_indicator}
-use Rattle.yaml_base.proofs.PercentLaws.{character_is_no_flow_indicator, stands_written, escaped_stands, suffix_stands, escaped_begins, suffix_begins}
-use Rattle.yaml_base.proofs.PercentLaws.{written_is_no_less, alpha_is_no_less, portable_suffix_has_no_flow_indicator}
-use Rattle.yaml_base.proofs.TagForms.{closing_angle_dropped, IsHandle, handle_form, in_force_found, spelling_is}
-use Rattle.yaml_base.proofs.TagReads.{stands_no_exclamation, cut_at_handle, written_tag_reads}
-use Rattle.yaml_base.proofs.TagWords.{written_tag_ends_no_word}
-use Rattle.yaml_base.proofs.stream_nodes.StreamProperties.{WrittenTag}
+use Rattle.yaml_base.proofs.Common.{ℕ, if◌then◌else◌, ◌==◌, option_map, None, codes, Bool, false, not, true, ◌||◌, List, [], ◌++◌, ◌∷◌, refl, ◌≡◌, inl, inr}
+use Rattle.yaml_base.proofs.Common.{ap, sym, ◌∙◌, arith, and_parts, and_from, or_parts, or_from, not-true, nat_tests, list_any-append, list_all, list_any}
+use Rattle.yaml_base.proofs.Common.{all_scalars, Text, is_among, is_alpha, TagDirective, is_tag_character, character_written, percent_escaped, suffix_escaped}
+use Rattle.yaml_base.proofs.Common.{exclamation_mark, directives_fault, directives_in_force, Spelling, verbatim, spelling, spelled, shorthand_read}
+use Rattle.yaml_base.proofs.Common.{verbatim_read, tag_read, is_uri_character, percent_read, name_parsed, CutText, prefix_among, directives_assumed}
+use Rattle.yaml_base.proofs.Common.{cut_after_exclamation, name_joined, without_closing_angle, tag_parsed}
+use Rattle.yaml_base.{proofs.TagReads.stands_no_exclamation, proofs.TagReads.cut_at_handle, proofs.TagReads.written_tag_reads}
+use Rattle.yaml_base.{proofs.TagWords.written_tag_ends_no_word, proofs.stream_nodes.StreamProperties.WrittenTag, specs.StreamLaw.has_flow_indicator}
+use Rattle.yaml_base.{specs.reading.ReadTags.may_follow_handle, specs.reading.ReadTags.shorthand_parsed, specs.reading.ReadTags.verbatim_parsed}
+use Rattle.yaml_base.proofs.PercentLaws.{stands_written, escaped_stands, suffix_stands, character_is_no_flow_indicator, portable_suffix_has_no_flow_indicator}
+use Rattle.yaml_base.proofs.PercentLaws.{written_is_no_less, alpha_is_no_less, escaped_begins, suffix_begins}
+use Rattle.yaml_base.proofs.TagForms.{closing_angle_dropped, IsHandle, handle_form, spelling_is, in_force_found}
 
 -- Characters
 

@@ -1,18 +1,11 @@
 -- A node's text by itself: what is rendered for it after the indicators of its place, as one text in place of pieces.
-use Rattle.std.proofs.Common.{◌≡◌, refl, ap, ◌∙◌, append_assoc, append-nil}
-use Rattle.std.proofs.lemmas.Grind.{flat_map-append}
-use Rattle.std.specs.Prelude.{ℕ, Bool, false, Option, None, List, [], ◌∷◌, ◌++◌, if◌then◌else◌}
-use Rattle.yaml_base.specs.Characters.{Text}
-use Rattle.yaml_base.specs.Settings.{Effective}
-use Rattle.yaml_base.specs.Event.{TagDirective, Scalar}
-use Rattle.yaml_base.specs.Cursor.{Cursor, Rendered, render_nothing, render_then}
-use Rattle.yaml_base.specs.Grammar.{Node, alias_node, scalar_node, sequence_node, mapping_node, Nodes, no_nodes, nodes_and, Pairs, no_pairs, pairs_and}
-use Rattle.yaml_base.specs.Event.{scalar_tag, collection_tag}
-use Rattle.yaml_base.specs.Layout.{as_item, as_key, as_value, Place, is_undented, deeper, entries_column, has_no_nodes, has_no_pairs, is_simple, is_simple_at}
-use Rattle.yaml_base.specs.Layout.{render_place, Piece, piece_text, text_of, Standing, RenderedPieces, then_pieces, render_properties, render_alias}
-use Rattle.yaml_base.specs.Layout.{render_separation}
-use Rattle.yaml_base.specs.Layout.{render_body, choice_of, is_written_in_flow, Brackets, square, curly, render_end, entry_place, render_node}
-use Rattle.yaml_base.specs.Layout.{render_nodes, render_pairs}
+use Rattle.yaml_base.proofs.Common.{ℕ, if◌then◌else◌, Option, None, Bool, false, List, [], ◌++◌, ◌∷◌, refl, ◌≡◌, append-nil, append_assoc, ap, ◌∙◌}
+use Rattle.yaml_base.proofs.Common.{flat_map-append, Text, Cursor, Rendered, render_nothing, render_then, TagDirective, Scalar, scalar_tag, collection_tag}
+use Rattle.yaml_base.proofs.Common.{Node, alias_node, scalar_node, Nodes, sequence_node, Pairs, mapping_node, no_nodes, nodes_and, no_pairs, pairs_and, Piece}
+use Rattle.yaml_base.proofs.Common.{piece_text, text_of, Standing, RenderedPieces, then_pieces, render_properties, render_alias, render_separation}
+use Rattle.yaml_base.proofs.Common.{render_body, choice_of, is_written_in_flow, Brackets, square, curly, render_end, entry_place, render_node, render_nodes}
+use Rattle.yaml_base.proofs.Common.{render_pairs, as_item, as_key, as_value, Place, is_undented, deeper, entries_column, has_no_nodes, has_no_pairs}
+use Rattle.yaml_base.proofs.Common.{is_simple, is_simple_at, render_place, Effective}
 
 -- a scalar's anchor, tag, space and body
 abbrev pub scalar_own : Effective → List TagDirective → Place → (simple : Bool) → Scalar → Cursor → Rendered

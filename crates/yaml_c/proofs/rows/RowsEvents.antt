@@ -1,15 +1,9 @@
 -- Worked rows: what arrays of events and an arena mean.
-use Rattle.std.proofs.Common.{◌≡◌, refl}
-use Rattle.std.specs.Char.{encode_utf8}
-use Rattle.std.specs.Str.{chars, is_utf8}
-use Rattle.std.specs.Prelude.{ℕ, pos, true, false, None, Some, List, [], ◌∷◌, codes}
-use Rattle.yaml_base.specs.Event.{alias, document_start, flow, literal, scalar, sequence_start, stream_end, stream_start}
-use Rattle.yaml_base.specs.Settings.{utf8}
-use Rattle.yaml_c.specs.Arena.{optional_text_at, text_at}
-use Rattle.yaml_c.specs.EventRecords.{directives_at, event_of, events_from}
-use Rattle.yaml_c.specs.declared.arena.Span.{Span}
-use Rattle.yaml_c.specs.declared.records.DirectiveRecord.{DirectiveRecord}
-use Rattle.yaml_c.specs.declared.records.EventRecord.{EventRecord}
+use Rattle.yaml_c.proofs.Common.{ℕ, None, Some, pos, false, true, List, [], ◌∷◌, refl, ◌≡◌, event_of, events_from}
+use Rattle.yaml_base.proofs.Common.{codes, literal, flow, stream_start, stream_end, document_start, alias, scalar, sequence_start, utf8}
+use Rattle.std.specs.{Char.encode_utf8, Str.chars, Str.is_utf8}
+use Rattle.yaml_c.specs.{Arena.text_at, Arena.optional_text_at, EventRecords.directives_at, declared.arena.Span.Span}
+use Rattle.yaml_c.specs.{declared.records.DirectiveRecord.DirectiveRecord, declared.records.EventRecord.EventRecord}
 
 -- "ab!x" and a byte that is in no UTF-8
 abbrev arena : List ℕ

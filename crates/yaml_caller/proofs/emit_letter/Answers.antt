@@ -1,9 +1,5 @@
-use Rattle.std.proofs.Common.{[], Err, map, codes, refl, ap, subst}
-use Rattle.yaml_base.specs.Seen.{seen_directive, seen_text}
-use Rattle.yaml_emitter.specs.Promises.{Promised}
-use Rattle.yaml_caller.specs.Letter.{letter_settings}
-use Rattle.yaml_caller.proofs.KnownStreams.{events_of, letter_bytes}
-use Rattle.yaml_caller.proofs.OnlyMemory.{call_memory, exit_memory}
+use Rattle.yaml_caller.proofs.Common.{Err, codes, [], map, refl, ap, subst, seen_text, seen_directive, letter_settings, Promised}
+use Rattle.yaml_caller.proofs.{KnownStreams.events_of, KnownStreams.letter_bytes, OnlyMemory.exit_memory, OnlyMemory.call_memory}
 use Rattle.yaml_caller.proofs.emit_letter.Goals as goal
 
 pub returns-clause-bytes : goal.returns-clause-bytes

@@ -1,6 +1,4 @@
-use Rattle.std.proofs.Common.{codes, refl, ap, ◌∙◌}
-use Rattle.std.specs.Str.{chars}
-use Rattle.yaml_base.proofs.Literals.{chars-literal}
+use Rattle.yaml_caller.proofs.Common.{codes, refl, ap, ◌∙◌, chars, chars-literal}
 use Rattle.yaml_caller.proofs.letter.Goals as goal
 
 pub returns-in-Ok-clause-letter : goal.returns-in-Ok-clause-letter

@@ -1,4 +1,4 @@
-use Rattle.std.proofs.Common.{◌≡◌, IfOk, ◌∙◌, subst}
+use Rattle.yaml_caller.proofs.Common.{IfOk, ◌≡◌, subst, ◌∙◌}
 use Rattle.yaml_caller.proofs.letter_written.Goals as goal
 
 pub returns-clause-bytes : goal.returns-clause-bytes

@@ -1,11 +1,10 @@
 -- Worked rows: a dump that fails after two documents keeps all bytes of these.
-use Rattle.yaml_dump.proofs.Common.{None, Err, List, [], ◌++◌, append_assoc, inl, inr, refl, subst, sym, ◌≡◌, Event, yaml_error_t, Graph, FailsAt}
-use Rattle.yaml_dump.proofs.Common.{StandsAfter, State}
-use Rattle.yaml_emitter.proofs.standing.{KeptDocuments.documents_kept, KeptDocuments.documents_stay, Promising.promised}
-use Rattle.yaml_base.specs.Prefix.{IsPrefix}
-use Rattle.yaml_emitter.proofs.rows.RowsKeptDocuments.{both, kept, not_empty, two}
-use Rattle.yaml_emitter.specs.Given.{nothing_given}
+use Rattle.yaml_dump.proofs.Common.{None, Err, List, [], ◌++◌, refl, ◌≡◌, append_assoc, inl, inr, subst, sym, Event, Graph, FailsAt, StandsAfter, State}
+use Rattle.yaml_emitter.proofs.Common.{nothing_given}
+use Rattle.yaml_base.specs.{Prefix.IsPrefix, declared.errors.yaml_error_t.yaml_error_t}
 use Rattle.yaml_dump.specs.Dumps.{Dumps}
+use Rattle.yaml_emitter.proofs.rows.RowsKeptDocuments.{two, both, kept, not_empty}
+use Rattle.yaml_emitter.proofs.standing.{KeptDocuments.documents_kept, KeptDocuments.documents_stay, Promising.promised}
 
 -- an emitter that stands after the two documents and what followed, without an error
 stays : (later : List Event) (state : State) → StandsAfter nothing_given (two ++ later) state → state.error ≡ None → IsPrefix both state.page.output

@@ -1,34 +1,16 @@
 -- Canonical bytes read as the content of their list.
-use Rattle.std.proofs.Common.{◌≡◌, ◌≤◌, refl, sym, ap, ◌∙◌, subst, append-nil}
-use Rattle.std.proofs.lemmas.Bool.{and_parts, and_from}
-use Rattle.std.specs.List.{list_all}
-use Rattle.std.specs.Str.{all_scalars}
-use Rattle.std.specs.Prelude.{Bool, true, false, Option, Some, option_map, option_and_then, unwrap_or, List, [], ◌∷◌, ◌++◌, ◌==◌, if◌then◌else◌}
+use Rattle.yaml_emitter.proofs.Common.{◌≤◌, if◌then◌else◌, ◌==◌, unwrap_or, option_map, option_and_then, Option, Some, Bool, false, true, List, [], ◌++◌, ◌∷◌}
+use Rattle.yaml_emitter.proofs.Common.{refl, ◌≡◌, append-nil, ap, subst, sym, ◌∙◌, and_parts, and_from, list_all, all_scalars, tree_of-stream_events}
+use Rattle.yaml_emitter.proofs.Common.{all_of_both, Text, line_feed, Event, stream_start, stream_end, Stream, documents_events, stream_events, layout, Piece}
+use Rattle.yaml_emitter.proofs.Common.{text_of, break_text, with_breaks_written, has_scalar_texts, bytes_written, list_layout, IsAccepted, LineBreak}
+use Rattle.yaml_emitter.proofs.Common.{carriage_return_break, line_feed_break, both_break, Effective, effective, documents_read, canonical_content, free}
+use Rattle.yaml_emitter.proofs.Common.{tokens_from, documents_content}
 use lib.Utf8.{scalar}
-use Rattle.yaml_base.specs.Characters.{Text, line_feed}
-use Rattle.yaml_base.specs.Settings.{LineBreak, carriage_return_break, line_feed_break, both_break, Effective, effective}
-use Rattle.yaml_base.specs.LineBreaks.{break_text, with_breaks_written, with_line_breaks_read}
-use Rattle.yaml_base.specs.Event.{Event, stream_start, stream_end}
-use Rattle.yaml_base.specs.Grammar.{Stream, stream_events, documents_events, tree_of}
-use Rattle.yaml_base.specs.Layout.{Piece, text_of, layout}
-use Rattle.yaml_base.specs.Pieces.{list_layout}
-use Rattle.yaml_base.specs.Output.{bytes_written}
-use Rattle.yaml_base.specs.Refusal.{IsAccepted}
-use Rattle.yaml_base.specs.reading.Content.{documents_content, content_of}
-use Rattle.yaml_base.specs.reading.CanonicalTokens.{free, tokens_from}
-use Rattle.yaml_base.specs.reading.CanonicalReader.{documents_read, canonical_content}
-use Rattle.yaml_base.specs.Meaning.{has_scalar_texts, CanonicalBytesRead}
-use Rattle.yaml_base.proofs.BreakLaws.{breaks-round}
-use Rattle.yaml_base.proofs.Trees.{tree_of-stream_events}
-use Rattle.yaml_base.proofs.stream_nodes.StreamNames.{all_good}
-use Rattle.yaml_base.proofs.stream_documents.StreamEachDocument.{all_of_both}
-use Rattle.yaml_emitter.proofs.canonical.CanonicalText.{scalars-append}
-use Rattle.yaml_emitter.proofs.canonical.CanonicalPlaces.{in_canonical}
-use Rattle.yaml_emitter.proofs.canonical.CanonicalTokens.{documents_tokens}
-use Rattle.yaml_emitter.proofs.canonical.CanonicalDocuments.{stream_read}
-use Rattle.yaml_emitter.proofs.canonical.CanonicalBytes.{characters_back}
-use Rattle.yaml_emitter.proofs.canonical.CanonicalSound.{is_good_canonical, documents_ok, each_document, DocumentsOk}
-use Rattle.yaml_emitter.proofs.canonical.CanonicalStream.{stream_says}
+use Rattle.yaml_base.{proofs.BreakLaws.breaks-round, proofs.stream_nodes.StreamNames.all_good, specs.Grammar.tree_of, specs.LineBreaks.with_line_breaks_read}
+use Rattle.yaml_base.{specs.Meaning.CanonicalBytesRead, specs.reading.Content.content_of}
+use Rattle.yaml_emitter.proofs.canonical.{CanonicalBytes.characters_back, CanonicalDocuments.stream_read, CanonicalPlaces.in_canonical}
+use Rattle.yaml_emitter.proofs.canonical.{CanonicalStream.stream_says, CanonicalText.scalars-append, CanonicalTokens.documents_tokens}
+use Rattle.yaml_emitter.proofs.canonical.CanonicalSound.{is_good_canonical, DocumentsOk, documents_ok, each_document}
 use Rattle.yaml_emitter.proofs.layouts.Meaning.{is_indent}
 
 -- line breaks are scalar values

@@ -1,22 +1,15 @@
 -- The canonical reader finds a text in its bytes.
-use Rattle.std.proofs.Common.{◌≡◌, refl, ap, ◌∙◌, ℕ, ◌+◌, ◌-◌, ◌*◌, ◌/◌, ◌%◌, ◌<◌, ◌≤◌, Bool, true, false, ◌&&◌, inl, inr, ⊎_elim, Some, None, List, [], ◌∷◌}
-use Rattle.std.proofs.Common.{◌++◌, nat_lt, nat_le, arith, lt-ltb, le-ltb, le-leb}
-use Rattle.std.specs.Prelude.{◌==◌, option_map, option_and_then}
-use Rattle.std.specs.Char.{IsScalar}
-use Rattle.std.specs.Char.Utf16.{is_high_surrogate, is_low_surrogate}
-use Rattle.std.specs.List.{list_all}
-use Rattle.std.specs.Str.{all_scalars, is_utf8}
-use Rattle.std.proofs.lemmas.Str.{chars-encodes, is_utf8-from_IsUtf8}
-use Rattle.std.proofs.lemmas.Bool.{lt-leb, cases_lt, and_parts}
-use Rattle.std.proofs.lemmas.Bool.Decides.{nat_tests}
-use Rattle.std.proofs.lemmas.List.Folds.{list_all-append}
-use lib.Utf8.{scalar, scalars, encode, encodes, scalar_cases}
-use Rattle.yaml_base.specs.Characters.{Text}
-use Rattle.yaml_base.specs.Settings.{Encoding, utf8, utf16_little, utf16_big}
-use Rattle.yaml_base.specs.Encoding as spec
-use Rattle.yaml_base.specs.Encoding.{utf16_units, upper_first, lower_first, text_bytes}
-use Rattle.yaml_base.specs.reading.ReadBytes.{units_read, utf16_read, utf8_read, characters_read}
+use Rattle.yaml_emitter.proofs.Common.{ℕ, ◌%◌, ◌+◌, ◌-◌, ◌/◌, ◌<◌, ◌≤◌, ◌==◌, option_map, option_and_then, None, Some, nat_le, nat_lt, Bool, false, true}
+use Rattle.yaml_emitter.proofs.Common.{◌&&◌, List, [], ◌++◌, ◌∷◌, refl, ◌≡◌, le-ltb, inl, inr, ap, ◌∙◌, arith, and_parts, nat_tests, list_all-append}
+use Rattle.yaml_emitter.proofs.Common.{list_all, all_scalars, Text, text_bytes, Encoding, utf8, utf16_little, utf16_big}
+use Rattle.yaml_base.proofs.Common.{◌*◌, le-leb, lt-ltb, chars-encodes, scalar_cases, scalars, characters_read}
+use Rattle.std.{proofs.Common.⊎_elim, proofs.lemmas.Bool.lt-leb, proofs.lemmas.Bool.cases_lt, proofs.lemmas.Str.is_utf8-from_IsUtf8, specs.Char.IsScalar}
+use Rattle.std.{specs.Char.Utf16.is_high_surrogate, specs.Char.Utf16.is_low_surrogate, specs.Str.is_utf8}
+use lib.Utf8.{encode, encodes, scalar}
 use Rattle.yaml_base.proofs.Decoding.{units_of, text_bytes-big, text_bytes-little, text_bytes-utf8}
+use Rattle.yaml_base.specs.Encoding.{utf16_units, upper_first, lower_first}
+use Rattle.yaml_base.specs.reading.ReadBytes.{units_read, utf16_read, utf8_read}
+use Rattle.yaml_base.specs.Encoding as spec
 
 -- UTF-8 has no byte of a byte order mark of UTF-16
 abbrev below : List ℕ → Bool

@@ -1,17 +1,12 @@
 -- The canonical reader makes the documents' contents of a stream's tokens.
-use Rattle.std.proofs.Common.{◌≡◌, refl, sym, ap, ◌∙◌, append_assoc, append-nil}
-use Rattle.std.proofs.lemmas.List.Sums.{fold-append}
-use Rattle.std.specs.Prelude.{Bool, true, false, Option, None, Some, List, [], ◌∷◌, ◌++◌, ◌&&◌, not, fold}
-use Rattle.yaml_base.specs.Event.{Version, TagDirective}
-use Rattle.yaml_base.specs.Grammar.{Document, Documents, no_documents, documents_and}
-use Rattle.yaml_base.specs.Layout.{has_directives}
-use Rattle.yaml_base.specs.reading.Content.{DocumentContent, document_content, documents_content}
-use Rattle.yaml_base.specs.reading.CanonicalTokens.{Token, document_begins}
-use Rattle.yaml_base.specs.reading.CanonicalReader.{Head, no_head, Reading, outside, within, node_awaited, token_read, documents_at_end, documents_read}
+use Rattle.yaml_emitter.proofs.Common.{fold, Option, None, Some, Bool, false, not, true, ◌&&◌, List, [], ◌++◌, ◌∷◌, refl, ◌≡◌, append-nil, append_assoc, ap}
+use Rattle.yaml_emitter.proofs.Common.{sym, ◌∙◌, fold-append, Version, TagDirective, Document, Documents, no_documents, documents_and, has_directives}
+use Rattle.yaml_emitter.proofs.Common.{node_awaited, Head, Reading, within, token_read, documents_read, Token, document_begins, DocumentContent}
+use Rattle.yaml_emitter.proofs.Common.{documents_content}
+use Rattle.yaml_base.specs.reading.{CanonicalReader.outside, CanonicalReader.no_head, CanonicalReader.documents_at_end, Content.document_content}
+use Rattle.yaml_emitter.proofs.canonical.{CanonicalEvents.EachNode, CanonicalFold.TagOf, CanonicalFold.node_fold}
 use Rattle.yaml_emitter.proofs.canonical.CanonicalTokens.{node_tokens, version_tokens, tag_line_tokens, end_tokens, document_tokens, left_open}
 use Rattle.yaml_emitter.proofs.canonical.CanonicalTokens.{documents_tokens}
-use Rattle.yaml_emitter.proofs.canonical.CanonicalEvents.{EachNode}
-use Rattle.yaml_emitter.proofs.canonical.CanonicalFold.{TagOf, node_fold}
 
 -- outside documents, after some directives
 record Outside (before : List DocumentContent) (head : Head) (reading : Reading) : Type 0 where

@@ -1,12 +1,8 @@
 -- What holds of each event of a tree.
-use Rattle.std.proofs.Common.{◌≡◌}
-use Rattle.std.proofs.lemmas.Bool.{and_parts}
-use Rattle.std.specs.List.{list_all}
-use Rattle.std.specs.Prelude.{Bool, true, [], ◌∷◌, ◌++◌}
-use Rattle.yaml_base.specs.Event.{Event, alias, scalar, sequence_start, sequence_end, mapping_start, mapping_end}
-use Rattle.yaml_base.specs.Grammar.{Node, alias_node, scalar_node, sequence_node, mapping_node, Nodes, no_nodes, nodes_and, Pairs, no_pairs, pairs_and}
-use Rattle.yaml_base.specs.Grammar.{node_events, nodes_events, pairs_events}
-use Rattle.yaml_base.proofs.stream_documents.StreamEachDocument.{all_of_both}
+use Rattle.yaml_emitter.proofs.Common.{Bool, true, [], ◌++◌, ◌∷◌, ◌≡◌, and_parts, list_all, all_of_both, Event, alias, scalar, sequence_start, sequence_end}
+use Rattle.yaml_emitter.proofs.Common.{mapping_start, mapping_end, Node, alias_node, scalar_node, Nodes, sequence_node, Pairs, mapping_node, no_nodes}
+use Rattle.yaml_emitter.proofs.Common.{nodes_and, no_pairs, pairs_and, node_events}
+use Rattle.yaml_base.proofs.Common.{nodes_events, pairs_events}
 
 abbrev mutual
   pub EachNode : Node → (Event → Type 0) → Type 0

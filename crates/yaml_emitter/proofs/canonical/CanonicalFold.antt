@@ -1,20 +1,14 @@
 -- The canonical reader makes a tree's content of its tokens.
-use Rattle.std.proofs.Common.{◌≡◌, refl, ap, ◌∙◌, append_assoc}
-use Rattle.std.proofs.lemmas.List.Sums.{fold-append}
-use Rattle.std.specs.Prelude.{Bool, true, false, Option, None, Some, List, [], ◌∷◌, ◌++◌, not, fold}
-use Rattle.yaml_base.specs.Characters.{Text}
-use Rattle.yaml_base.specs.Event.{TagDirective, Event, scalar, sequence_start, mapping_start}
-use Rattle.yaml_base.specs.Tags.{directives_in_force, spelling, spelled}
-use Rattle.yaml_base.specs.reading.ReadTags.{ParsedTag, bare_parsed, name_parsed}
-use Rattle.yaml_base.specs.Grammar.{Node, alias_node, scalar_node, sequence_node, mapping_node, Nodes, no_nodes, nodes_and, Pairs, no_pairs, pairs_and}
-use Rattle.yaml_base.specs.Layout.{has_no_nodes, has_no_pairs}
-use Rattle.yaml_base.specs.reading.Content.{content_tag, scalar_content, Contents, node_content, nodes_content, pairs_content, DocumentContent}
-use Rattle.yaml_base.specs.reading.CanonicalTokens.{Token, scalar_token, opens_sequence, closes_sequence, opens_mapping, closes_mapping, key_token, value_token}
-use Rattle.yaml_base.specs.reading.CanonicalTokens.{comma}
-use Rattle.yaml_base.specs.reading.CanonicalReader.{OpenContent, open_sequence, open_mapping, node_awaited, entry_awaited, comma_awaited, Head, Reading, within}
-use Rattle.yaml_base.specs.reading.CanonicalReader.{with_content, tag_read, with_tag, token_read}
-use Rattle.yaml_emitter.proofs.canonical.CanonicalTokens.{properties_tokens, entry_indicator, node_tokens, nodes_tokens, pairs_tokens}
+use Rattle.yaml_emitter.proofs.Common.{fold, Option, None, Some, Bool, false, not, true, List, [], ◌++◌, ◌∷◌, refl, ◌≡◌, append_assoc, ap, ◌∙◌, fold-append}
+use Rattle.yaml_emitter.proofs.Common.{Text, TagDirective, Event, scalar, sequence_start, mapping_start, Node, alias_node, scalar_node, Nodes, sequence_node}
+use Rattle.yaml_emitter.proofs.Common.{Pairs, mapping_node, no_nodes, nodes_and, no_pairs, pairs_and, has_no_nodes, has_no_pairs, directives_in_force}
+use Rattle.yaml_emitter.proofs.Common.{spelling, spelled, node_awaited, Head, Reading, within, token_read, Token, scalar_token, opens_sequence}
+use Rattle.yaml_emitter.proofs.Common.{closes_sequence, opens_mapping, closes_mapping, key_token, value_token, comma, DocumentContent}
+use Rattle.yaml_base.proofs.Common.{tag_read, scalar_content, node_content, ParsedTag, bare_parsed, name_parsed}
+use Rattle.yaml_base.specs.reading.CanonicalReader.{OpenContent, open_sequence, open_mapping, entry_awaited, comma_awaited, with_content, with_tag}
+use Rattle.yaml_base.specs.reading.Content.{Contents, content_tag, nodes_content, pairs_content}
 use Rattle.yaml_emitter.proofs.canonical.CanonicalEvents.{EachNode, EachItem, EachPair}
+use Rattle.yaml_emitter.proofs.canonical.CanonicalTokens.{properties_tokens, entry_indicator, node_tokens, nodes_tokens, pairs_tokens}
 
 abbrev parsed_of : Option Text → (bare : Bool) → Option ParsedTag
 parsed_of (Some tag) bare = Some (name_parsed tag)

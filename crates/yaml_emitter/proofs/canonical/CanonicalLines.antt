@@ -1,29 +1,18 @@
 -- What document markers and directives say to the canonical reader.
-use Rattle.std.proofs.Common.{◌≡◌, ◌⊎◌, ℕ, refl, sym, ap, ◌∙◌, subst, append_assoc, append-nil, arith, inl, inr}
-use Rattle.std.proofs.lemmas.Bool.{and_parts, and_from}
-use Rattle.std.proofs.lemmas.Bool.Decides.{nat_tests}
-use Rattle.std.proofs.lemmas.List.Folds.{list_all-append}
-use Rattle.std.proofs.lemmas.List.Splits.{slice_split-cons_yes, slice_split-cons_no}
-use Rattle.std.specs.List.{list_all, slice_split, onto_first}
-use Rattle.std.specs.Str.{all_scalars}
-use Rattle.std.specs.Prelude.{Bool, true, false, Option, None, Some, List, [], ◌∷◌, ◌++◌, ◌||◌, ◌==◌, not, codes, filter, length, replicate}
-use Rattle.yaml_base.specs.Characters.{Text, is_blank, space, line_feed}
-use Rattle.yaml_base.specs.LineBreaks.{is_read_break}
-use Rattle.yaml_base.specs.Cursor.{Cursor, new_line, space_if}
-use Rattle.yaml_base.specs.Event.{Version, TagDirective}
-use Rattle.yaml_base.specs.Percent.{prefix_escaped}
-use Rattle.yaml_base.specs.Tags.{version_fault, prefix_fault, exclamation_mark}
-use Rattle.yaml_base.specs.Indicators.{render_indicator, spaced, document_start, document_end, yaml_directive}
-use Rattle.yaml_base.specs.Layout.{render_closing_marker, render_version, render_tag_directive, render_tag_directives, render_document_marker}
-use Rattle.yaml_base.specs.reading.CanonicalTokens.{version_line, tag_line, document_begins, document_ends, free, in_line, tokens_from, words, directive_token}
-use Rattle.yaml_base.specs.reading.CanonicalTokens.{tag_line_of}
+use Rattle.yaml_emitter.proofs.Common.{ℕ, ◌==◌, filter, Option, None, Some, codes, length, replicate, Bool, false, not, true, ◌||◌, List, [], ◌++◌, ◌∷◌, ◌⊎◌}
+use Rattle.yaml_emitter.proofs.Common.{refl, ◌≡◌, append-nil, append_assoc, inl, inr, ap, subst, sym, ◌∙◌, arith, and_parts, and_from, nat_tests}
+use Rattle.yaml_emitter.proofs.Common.{list_all-append, list_all, all_scalars, rendered-append, IsHandle, Text, line_feed, space, Cursor, new_line, space_if}
+use Rattle.yaml_emitter.proofs.Common.{Version, TagDirective, render_indicator, spaced, yaml_directive, render_closing_marker, render_version}
+use Rattle.yaml_emitter.proofs.Common.{render_tag_directive, render_tag_directives, render_document_marker, prefix_escaped, version_fault, exclamation_mark}
+use Rattle.yaml_emitter.proofs.Common.{prefix_fault, version_line, tag_line, document_begins, document_ends, free, tokens_from}
+use Rattle.yaml_base.proofs.Common.{slice_split-cons_yes, slice_split-cons_no, onto_first, slice_split, is_blank, is_read_break}
 use Rattle.yaml_base.proofs.PercentLaws.{decoded_prefix, prefix_begins}
-use Rattle.yaml_base.proofs.TagForms.{IsHandle}
-use Rattle.yaml_base.proofs.BreakLaws.{rendered-append}
 use Rattle.yaml_base.proofs.stream_documents.StreamHeadings.{handle_reads, version_of, version_form}
-use Rattle.yaml_emitter.proofs.canonical.CanonicalText.{anything, Says, says_after, says_text, says_nothing, says_white, space_if-white, new_line-white}
-use Rattle.yaml_emitter.proofs.canonical.CanonicalText.{indicator_says, scalars-append, and_false}
+use Rattle.yaml_base.specs.Indicators.{document_start, document_end}
+use Rattle.yaml_base.specs.reading.CanonicalTokens.{in_line, words, tag_line_of, directive_token}
 use Rattle.yaml_emitter.proofs.canonical.CanonicalNames.{is_written, all_written, all-scalars, all-rendered, prefix-written, handle_text}
+use Rattle.yaml_emitter.proofs.canonical.CanonicalText.{anything, Says, scalars-append, says_after, says_text, says_nothing, says_white, space_if-white}
+use Rattle.yaml_emitter.proofs.canonical.CanonicalText.{new_line-white, indicator_says, and_false}
 use Rattle.yaml_emitter.proofs.canonical.CanonicalTokens.{version_tokens, tag_line_tokens}
 
 -- Marks.

@@ -1,22 +1,14 @@
 -- What anchors, aliases and tags say to the canonical reader.
-use Rattle.std.proofs.Common.{◌≡◌, ℕ, refl, sym, ap, ◌∙◌, subst, append_assoc, append-nil, arith, inl, inr}
-use Rattle.std.proofs.lemmas.Bool.{and_parts, and_from, false≢true}
-use Rattle.std.proofs.lemmas.Bool.Decides.{nat_tests}
-use Rattle.std.proofs.lemmas.List.Folds.{list_all-append}
-use Rattle.std.specs.List.{list_all}
-use Rattle.std.specs.Str.{all_scalars}
-use Rattle.std.specs.Prelude.{Bool, true, false, None, List, [], ◌∷◌, ◌++◌, ◌||◌, ◌==◌, not, codes}
+use Rattle.yaml_emitter.proofs.Common.{ℕ, ◌==◌, None, codes, Bool, false, not, true, ◌||◌, List, [], ◌++◌, ◌∷◌, refl, ◌≡◌, append-nil, append_assoc, inl, inr}
+use Rattle.yaml_emitter.proofs.Common.{ap, subst, sym, ◌∙◌, arith, and_parts, and_from, false≢true, nat_tests, list_all-append, list_all, all_scalars}
+use Rattle.yaml_emitter.proofs.Common.{IsHandle, handle_form, spelling_is, in_force_found, Text, carriage_return, next_line, space, is_alpha, is_space}
+use Rattle.yaml_emitter.proofs.Common.{TagDirective, is_rendered_text, percent_escaped, suffix_escaped, prefix_escaped, exclamation_mark, directives_fault}
+use Rattle.yaml_emitter.proofs.Common.{directives_in_force, Spelling, spelling, spelled, anchor_token, alias_token, tag_token, free, goes_to}
+use Rattle.yaml_emitter.proofs.Common.{step_between_tokens, tokens_from, begins_with}
+use Rattle.yaml_base.proofs.Common.{is_among}
 use lib.Utf8.{scalar}
-use Rattle.yaml_base.specs.Characters.{Text, is_alpha, is_among, is_space, space, carriage_return, next_line}
-use Rattle.yaml_base.specs.scalars.Analysis.{begins_with}
-use Rattle.yaml_base.specs.LineBreaks.{is_rendered_text}
-use Rattle.yaml_base.specs.Event.{TagDirective}
-use Rattle.yaml_base.specs.Percent.{percent_escaped, suffix_escaped, prefix_escaped}
-use Rattle.yaml_base.specs.Tags.{Spelling, spelling, spelled, directives_fault, directives_in_force, exclamation_mark}
-use Rattle.yaml_base.specs.reading.CanonicalTokens.{anchor_token, alias_token, tag_token, anchor_named, alias_named, free, in_anchor, in_alias, in_tag}
-use Rattle.yaml_base.specs.reading.CanonicalTokens.{tokens_from, step_between_tokens, goes_to}
 use Rattle.yaml_base.proofs.PercentLaws.{stands_written, escaped_stands, suffix_stands, stands_in_prefix, prefix_stands}
-use Rattle.yaml_base.proofs.TagForms.{IsHandle, handle_form, spelling_is, in_force_found}
+use Rattle.yaml_base.specs.reading.CanonicalTokens.{in_anchor, in_alias, in_tag, anchor_named, alias_named}
 use Rattle.yaml_emitter.proofs.canonical.CanonicalText.{name_ends, space_next, Says}
 
 -- what stands in a written tag, handle or prefix

@@ -1,32 +1,24 @@
 -- What the text of a node says to the canonical reader, after any text before it.
-use Rattle.std.proofs.Common.{◌≡◌, ℕ, ◌≤◌, refl, sym, ap, ◌∙◌, subst, append_assoc, append-nil, arith}
-use Rattle.std.proofs.lemmas.Grind.{flat_map-append}
-use Rattle.std.proofs.lemmas.Bool.{true≢false}
-use Rattle.std.specs.Str.{all_scalars}
-use Rattle.std.specs.Prelude.{Bool, true, false, Option, None, Some, List, [], ◌∷◌, ◌++◌, ◌&&◌, not, codes, is_some, if◌then◌else◌}
-use Rattle.yaml_base.specs.Characters.{Text, space}
-use Rattle.yaml_base.specs.Settings.{Effective}
-use Rattle.yaml_base.specs.Cursor.{Cursor, new_line, indicator, space_if, render_then}
-use Rattle.yaml_base.specs.scalars.DoubleQuoted.{double_quoted_body}
-use Rattle.yaml_base.specs.Event.{TagDirective, Scalar, Collection, Event, alias, scalar, sequence_start, mapping_start}
-use Rattle.yaml_base.specs.Tags.{directives_fault, directives_in_force}
-use Rattle.yaml_base.specs.Grammar.{Node, alias_node, scalar_node, sequence_node, mapping_node, Nodes, no_nodes, nodes_and, Pairs, no_pairs, pairs_and}
-use Rattle.yaml_base.specs.Layout.{as_item, as_key, as_value, Piece, piece_text, text_of, Standing, RenderedPieces, one_piece, is_key, is_undented, line_column}
-use Rattle.yaml_base.specs.Layout.{deeper, has_no_nodes, has_no_pairs, is_simple, render_place, render_properties, alias_piece, scalar_piece, start_piece}
-use Rattle.yaml_base.specs.Layout.{choice_of, scalar_lead, is_written_in_flow, Brackets, square, curly, render_end, end_piece, render_collection, render_node}
-use Rattle.yaml_base.specs.Layout.{render_nodes, render_pairs}
-use Rattle.yaml_base.specs.reading.CanonicalTokens.{Token, opens_sequence, closes_sequence, opens_mapping, closes_mapping, scalar_token, alias_token}
-use Rattle.yaml_emitter.proofs.canonical.CanonicalText.{Demand, anything, name_ends, space_next, Says, Opens, opens_append, opens_any, says_then, says_after}
-use Rattle.yaml_emitter.proofs.canonical.CanonicalText.{says_text, says_tokens, says_less, says_white, space_if-white, new_line-white, indicator_says}
-use Rattle.yaml_emitter.proofs.canonical.CanonicalText.{and_false}
-use Rattle.yaml_emitter.proofs.canonical.CanonicalNames.{IsName, alias_says}
-use Rattle.yaml_emitter.proofs.canonical.CanonicalQuotes.{body_says}
+use Rattle.yaml_emitter.proofs.Common.{ℕ, ◌≤◌, if◌then◌else◌, is_some, Option, None, Some, codes, Bool, false, not, true, ◌&&◌, List, [], ◌++◌, ◌∷◌, refl}
+use Rattle.yaml_emitter.proofs.Common.{◌≡◌, true≢false, append-nil, append_assoc, ap, subst, sym, ◌∙◌, arith, flat_map-append, all_scalars, Text, space}
+use Rattle.yaml_emitter.proofs.Common.{Cursor, render_then, new_line, space_if, indicator, TagDirective, Scalar, Collection, Event, alias, scalar}
+use Rattle.yaml_emitter.proofs.Common.{sequence_start, mapping_start, Node, alias_node, scalar_node, Nodes, sequence_node, Pairs, mapping_node, no_nodes}
+use Rattle.yaml_emitter.proofs.Common.{nodes_and, no_pairs, pairs_and, Piece, piece_text, text_of, Standing, RenderedPieces, render_properties, choice_of}
+use Rattle.yaml_emitter.proofs.Common.{scalar_lead, scalar_piece, alias_piece, start_piece, is_written_in_flow, Brackets, square, curly, render_end}
+use Rattle.yaml_emitter.proofs.Common.{end_piece, render_node, as_item, as_key, as_value, is_key, line_column, deeper, has_no_nodes, has_no_pairs}
+use Rattle.yaml_emitter.proofs.Common.{render_place, Effective, directives_fault, directives_in_force, Token, alias_token, scalar_token, opens_sequence}
+use Rattle.yaml_emitter.proofs.Common.{closes_sequence, opens_mapping, closes_mapping, double_quoted_body}
+use Rattle.yaml_base.specs.Layout.{is_undented, one_piece, is_simple, render_collection, render_nodes, render_pairs}
+use Rattle.yaml_emitter.proofs.canonical.{CanonicalEvents.EachNode, CanonicalEvents.EachItem, CanonicalEvents.EachPair, CanonicalNames.IsName}
+use Rattle.yaml_emitter.proofs.canonical.{CanonicalNames.alias_says, CanonicalQuotes.body_says}
 use Rattle.yaml_emitter.proofs.canonical.CanonicalPlaces.{in_canonical, Spot, place_of, spot_tokens, Fits, Entered, Follows, says_square, says_square_end}
 use Rattle.yaml_emitter.proofs.canonical.CanonicalPlaces.{says_curly, says_curly_end, says_comma, place_says, opening_opens, place_opens, AnchorOk, demand_of}
 use Rattle.yaml_emitter.proofs.canonical.CanonicalPlaces.{properties_say, properties_fit}
+use Rattle.yaml_emitter.proofs.canonical.CanonicalText.{Demand, anything, name_ends, space_next, Says, Opens, opens_append, opens_any, says_then, says_after}
+use Rattle.yaml_emitter.proofs.canonical.CanonicalText.{says_text, says_tokens, says_less, says_white, space_if-white, new_line-white, indicator_says}
+use Rattle.yaml_emitter.proofs.canonical.CanonicalText.{and_false}
 use Rattle.yaml_emitter.proofs.canonical.CanonicalTokens.{anchor_tokens, tag_tokens, properties_tokens, entry_indicator, node_tokens, nodes_tokens}
 use Rattle.yaml_emitter.proofs.canonical.CanonicalTokens.{pairs_tokens}
-use Rattle.yaml_emitter.proofs.canonical.CanonicalEvents.{EachNode, EachItem, EachPair}
 
 -- what an event's names and value must be
 abbrev pub EventOk : Event → Type 0

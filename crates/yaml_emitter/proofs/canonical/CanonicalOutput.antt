@@ -1,14 +1,7 @@
 -- The output of a list in canonical mode, where no limit cuts it, reads as its content.
-use Rattle.std.proofs.Common.{sym, ap, ◌∙◌}
-use Rattle.std.proofs.lemmas.List.{take_all}
-use Rattle.std.specs.Prelude.{List}
-use Rattle.yaml_base.specs.Settings.{Settings}
-use Rattle.yaml_base.specs.Event.{Event}
-use Rattle.yaml_base.specs.Pieces.{list_layout}
-use Rattle.yaml_base.specs.Output.{encoding_asked, settings_for, bytes_written}
-use Rattle.yaml_base.specs.reading.CanonicalReader.{canonical_content}
-use Rattle.yaml_emitter.specs.Uncut.{OutputReads, OutputTells}
-use Rattle.yaml_emitter.proofs.canonical.Canonical.{canonical_bytes_read}
+use Rattle.yaml_emitter.proofs.Common.{List, take_all, ap, sym, ◌∙◌, Event, encoding_asked, settings_for, bytes_written, list_layout, Settings}
+use Rattle.yaml_emitter.proofs.Common.{canonical_content}
+use Rattle.yaml_emitter.{proofs.canonical.Canonical.canonical_bytes_read, specs.Uncut.OutputReads, specs.Uncut.OutputTells}
 
 pub output_reads : (given : Settings) (events : List Event) → OutputReads given events
 output_reads given events whole =

@@ -1,20 +1,15 @@
 -- What the indicators of places and the properties of nodes say to the canonical reader.
-use Rattle.std.proofs.Common.{◌≡◌, ℕ, refl, sym, ◌∙◌, subst, append_assoc, append-nil}
-use Rattle.std.specs.Prelude.{Bool, true, false, Option, None, Some, List, [], ◌∷◌, ◌++◌, codes}
-use Rattle.yaml_base.specs.Characters.{Text}
-use Rattle.yaml_base.specs.Settings.{Effective}
-use Rattle.yaml_base.specs.Cursor.{Cursor, new_line, indicator, space_if}
-use Rattle.yaml_base.specs.Event.{TagDirective}
-use Rattle.yaml_base.specs.Percent.{percent_escaped, suffix_escaped}
-use Rattle.yaml_base.specs.Tags.{Spelling, shorthand, verbatim, spelling, spelled, directives_fault, directives_in_force}
-use Rattle.yaml_base.specs.Layout.{Role, as_root, as_item, as_key, as_value, Place, opening_or_comma, render_place, root_place, entry_place, render_anchor}
-use Rattle.yaml_base.specs.Layout.{render_spelling, render_properties}
-use Rattle.yaml_base.specs.reading.CanonicalTokens.{Token, opens_sequence, closes_sequence, opens_mapping, closes_mapping, key_token, value_token, comma}
-use Rattle.yaml_base.specs.reading.CanonicalTokens.{tag_token}
+use Rattle.yaml_emitter.proofs.Common.{ℕ, Option, None, Some, codes, Bool, false, true, List, [], ◌++◌, ◌∷◌, refl, ◌≡◌, append-nil, append_assoc, subst, sym}
+use Rattle.yaml_emitter.proofs.Common.{◌∙◌, Text, Cursor, new_line, space_if, indicator, TagDirective, root_place, render_anchor, render_spelling}
+use Rattle.yaml_emitter.proofs.Common.{render_properties, entry_place, Role, as_root, as_item, as_key, as_value, Place, opening_or_comma, render_place}
+use Rattle.yaml_emitter.proofs.Common.{percent_escaped, suffix_escaped, Effective, directives_fault, directives_in_force, Spelling, verbatim, spelling}
+use Rattle.yaml_emitter.proofs.Common.{spelled, Token, tag_token, opens_sequence, closes_sequence, opens_mapping, closes_mapping, key_token, value_token}
+use Rattle.yaml_emitter.proofs.Common.{comma}
+use Rattle.yaml_base.proofs.Common.{shorthand}
+use Rattle.yaml_emitter.proofs.canonical.CanonicalNames.{IsName, anchor_says, IsTagText, tag_says, tag_text}
 use Rattle.yaml_emitter.proofs.canonical.CanonicalText.{Demand, anything, name_ends, space_next, Says, Opens, opens_append, opens_any, says_then, says_after}
 use Rattle.yaml_emitter.proofs.canonical.CanonicalText.{says_text, says_nothing, says_white, white-opens, space_if-white, new_line-white, indicator_says}
 use Rattle.yaml_emitter.proofs.canonical.CanonicalText.{indicator_opens, space_first}
-use Rattle.yaml_emitter.proofs.canonical.CanonicalNames.{IsName, anchor_says, tag_says, IsTagText, tag_text}
 use Rattle.yaml_emitter.proofs.canonical.CanonicalTokens.{anchor_tokens, properties_tokens, entry_indicator}
 
 -- settings in canonical mode

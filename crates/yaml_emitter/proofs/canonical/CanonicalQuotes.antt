@@ -1,20 +1,16 @@
 -- What a double-quoted text says to the canonical reader.
-use Rattle.std.proofs.Common.{◌≡◌, ℕ, zero, suc, ◌≤◌, ◌/◌, ◌%◌, refl, sym, ap, ◌∙◌, append_assoc, append-nil, arith}
-use Rattle.std.proofs.lemmas.Bool.{and_parts, and_from, agree_below_at, eqb-true}
-use Rattle.std.specs.Str.{all_scalars}
-use Rattle.std.specs.Prelude.{Bool, true, false, Option, None, Some, List, [], ◌∷◌, ◌++◌, ◌&&◌, ◌==◌, nat_le, if◌then◌else◌}
+use Rattle.yaml_base.proofs.Common.{suc, zero, ℕ, ◌%◌, ◌/◌, ◌≤◌, if◌then◌else◌, ◌==◌, Option, None, Some, nat_le, Bool, false, true, ◌&&◌, List, [], ◌++◌}
+use Rattle.yaml_base.proofs.Common.{◌∷◌, refl, ◌≡◌, eqb-true, append-nil, append_assoc, ap, sym, ◌∙◌, arith, and_parts, and_from, agree_below_at, all_scalars}
+use Rattle.yaml_base.proofs.Common.{Text, is_space, hex_digit, hex_digits, Cursor, new_line, is_past_width, QuotePlace, between, goes_on, gives, ends_quotes}
+use Rattle.yaml_base.proofs.Common.{has_no_reading, Quoted, with_unit, after_step, quoted_from, quoted_reading, FoldUnit, folding_read, short_escapes}
+use Rattle.yaml_base.proofs.Common.{letter_among, escape_after_backslash, escape_text, needs_escape, character_text, double_inside, render_quote}
 use lib.Utf8.{scalar}
-use Rattle.yaml_base.specs.Characters.{Text, is_space, hex_digit, hex_digits}
-use Rattle.yaml_base.specs.Cursor.{Cursor, new_line, is_past_width, render_text}
-use Rattle.yaml_base.specs.scalars.DoubleQuoted.{quote, backslash, ShortEscape, short_escapes, letter_among, escape_after_backslash, escape_text, needs_escape}
-use Rattle.yaml_base.specs.scalars.DoubleQuoted.{character_text, may_fold, space_kept, double_character, double_inside, double_quoted_body, render_quote}
-use Rattle.yaml_base.specs.scalars.DoubleQuoted.{double_fold}
-use Rattle.yaml_base.specs.reading.ReadFolding.{FoldUnit, folding_read}
-use Rattle.yaml_base.specs.reading.ReadDouble.{QuotePlace, between, QuoteStep, goes_on, gives, ends_quotes, has_no_reading, quote_step, Quoted, QuotedReading}
-use Rattle.yaml_base.specs.reading.ReadDouble.{with_unit, after_step, quoted_from, quoted_reading, double_quoted_prefix}
-use Rattle.yaml_base.specs.reading.CanonicalTokens.{Token, scalar_token, free, in_quotes, tokens_from, quotes_step, step_between_tokens, goes_to}
+use Rattle.yaml_base.specs.Cursor.{render_text}
+use Rattle.yaml_base.specs.reading.CanonicalTokens.{Token, scalar_token, free, in_quotes, goes_to, step_between_tokens, quotes_step, tokens_from}
+use Rattle.yaml_base.specs.reading.ReadDouble.{QuoteStep, quote_step, QuotedReading, double_quoted_prefix}
+use Rattle.yaml_base.specs.scalars.DoubleQuoted.{quote, backslash, ShortEscape, may_fold, space_kept, double_fold, double_character, double_quoted_body}
+use Rattle.yaml_emitter.proofs.canonical.CanonicalText.{anything, Says, scalars-append, says_white, new_line-white}
 use Rattle.yaml_scalar.proofs.DoubleReads.{double-prefix, double-rendered}
-use Rattle.yaml_emitter.proofs.canonical.CanonicalText.{anything, Says, says_white, new_line-white, scalars-append}
 
 -- a unit before what was read
 with-unit : (unit : FoldUnit) (inner : Option Quoted) (q : Quoted) → with_unit unit inner ≡ Some q

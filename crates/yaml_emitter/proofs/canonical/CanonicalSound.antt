@@ -1,31 +1,16 @@
 -- What accepted events are to the canonical reader: names, tags and directives that it reads.
-use Rattle.std.proofs.Common.{◌≡◌, refl, ap}
-use Rattle.std.proofs.lemmas.Bool.{and_parts}
-use Rattle.std.specs.List.{list_all}
-use Rattle.std.specs.Option.{option_or}
-use Rattle.std.specs.Str.{all_scalars}
-use Rattle.std.specs.Prelude.{Bool, true, false, Option, None, Some, List, [], ◌∷◌, ◌++◌, option_and_then, if◌then◌else◌}
-use Rattle.yaml_base.specs.Characters.{Text, is_alpha}
-use Rattle.yaml_base.specs.Event.{Version, TagDirective, Event, document_start, document_end, alias, scalar, sequence_start, mapping_start}
-use Rattle.yaml_base.specs.Tags.{name_fault, anchor_fault, tag_fault, handle_fault, prefix_fault, directive_fault, next_directive_fault, directives_fault_after}
-use Rattle.yaml_base.specs.Tags.{directives_fault, version_fault, gives_handle}
-use Rattle.yaml_base.specs.Refusal.{properties_fault}
-use Rattle.yaml_base.specs.Grammar.{Document, Documents, no_documents, documents_and, node_events, document_events, documents_events}
-use Rattle.yaml_base.specs.Meaning.{option_scalars, directive_scalars}
-use Rattle.yaml_base.proofs.NoFaults.{neither}
-use Rattle.yaml_base.proofs.TagForms.{handle_form}
-use Rattle.yaml_base.proofs.TagReads.{written_tag_reads}
-use Rattle.yaml_base.proofs.stream_nodes.StreamNames.{is_good, no_faults}
-use Rattle.yaml_base.proofs.stream_documents.StreamEachDocument.{all_of_both}
-use Rattle.yaml_emitter.proofs.canonical.CanonicalNames.{IsName}
-use Rattle.yaml_emitter.proofs.canonical.CanonicalPlaces.{AnchorOk}
-use Rattle.yaml_emitter.proofs.canonical.CanonicalNodes.{EventOk}
-use Rattle.yaml_emitter.proofs.canonical.CanonicalLines.{VersionOk, EachDirective}
-use Rattle.yaml_emitter.proofs.canonical.CanonicalEvents.{EachNode, each_node}
-use Rattle.yaml_emitter.proofs.canonical.CanonicalFold.{TagReads, TagOf}
-use Rattle.yaml_emitter.proofs.canonical.CanonicalDocuments.{EachDocument}
-use Rattle.yaml_base.specs.declared.errors.yaml_error_t.TheVariants.{DuplicateDirective, AnchorEmpty, AnchorAlphabet, AliasEmpty, AliasAlphabet}
-use Rattle.yaml_base.specs.declared.errors.yaml_error_t.{yaml_error_t}
+use Rattle.yaml_emitter.proofs.Common.{if◌then◌else◌, option_and_then, Option, None, Some, Bool, false, true, List, [], ◌++◌, ◌∷◌, refl, ◌≡◌, ap, and_parts}
+use Rattle.yaml_emitter.proofs.Common.{list_all, option_or, all_scalars, neither, handle_form, all_of_both, Text, is_alpha, Version, TagDirective, Event}
+use Rattle.yaml_emitter.proofs.Common.{document_start, document_end, alias, scalar, sequence_start, mapping_start, Document, Documents, no_documents}
+use Rattle.yaml_emitter.proofs.Common.{documents_and, node_events, documents_events, option_scalars, directive_scalars, properties_fault, name_fault}
+use Rattle.yaml_emitter.proofs.Common.{anchor_fault, tag_fault, version_fault, handle_fault, prefix_fault, directive_fault, gives_handle}
+use Rattle.yaml_emitter.proofs.Common.{next_directive_fault, directives_fault_after, directives_fault}
+use Rattle.yaml_base.{proofs.TagReads.written_tag_reads, proofs.stream_nodes.StreamNames.is_good, proofs.stream_nodes.StreamNames.no_faults}
+use Rattle.yaml_base.{specs.Grammar.document_events, specs.declared.errors.yaml_error_t.yaml_error_t}
+use Rattle.yaml_base.specs.declared.errors.yaml_error_t.TheVariants.{AliasAlphabet, AliasEmpty, AnchorAlphabet, AnchorEmpty, DuplicateDirective}
+use Rattle.yaml_emitter.proofs.canonical.{CanonicalDocuments.EachDocument, CanonicalEvents.EachNode, CanonicalEvents.each_node, CanonicalFold.TagReads}
+use Rattle.yaml_emitter.proofs.canonical.{CanonicalFold.TagOf, CanonicalLines.VersionOk, CanonicalLines.EachDirective, CanonicalNames.IsName}
+use Rattle.yaml_emitter.proofs.canonical.{CanonicalNodes.EventOk, CanonicalPlaces.AnchorOk}
 
 -- an event is sound in canonical mode, and its texts are of scalar values
 abbrev pub is_good_canonical : Event → Bool

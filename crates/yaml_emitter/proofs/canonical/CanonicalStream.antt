@@ -1,23 +1,16 @@
 -- What the text of a stream says to the canonical reader.
-use Rattle.std.proofs.Common.{◌≡◌, ℕ, ◌≤◌, refl, sym, ap, ◌∙◌, subst, append_assoc, append-nil}
-use Rattle.std.proofs.lemmas.Bool.{false≢true}
-use Rattle.std.specs.Prelude.{Bool, true, false, None, List, [], ◌∷◌, ◌++◌, ◌&&◌, ◌||◌, ◌==◌, not, if◌then◌else◌}
-use Rattle.yaml_base.specs.Characters.{Text}
-use Rattle.yaml_base.specs.Settings.{Effective}
-use Rattle.yaml_base.specs.Cursor.{Cursor, new_line}
-use Rattle.yaml_base.specs.Tags.{directives_in_force}
-use Rattle.yaml_base.specs.Grammar.{Document, Documents, no_documents, documents_and, Stream}
-use Rattle.yaml_base.specs.Layout.{text_of, Standing, RenderedPieces, root_place, render_node, render_if, render_closing_marker, render_version}
-use Rattle.yaml_base.specs.Layout.{render_tag_directives}
-use Rattle.yaml_base.specs.Layout.{has_directives, is_explicit, render_document_marker, render_document_start, document_start_piece, document_end_piece}
-use Rattle.yaml_base.specs.Layout.{render_document, has_no_documents, render_documents, first_standing, stream_start_piece, stream_end_piece, layout}
-use Rattle.yaml_base.specs.reading.CanonicalTokens.{Token, document_begins}
+use Rattle.yaml_emitter.proofs.Common.{ℕ, ◌≤◌, if◌then◌else◌, ◌==◌, None, Bool, false, not, true, ◌&&◌, ◌||◌, List, [], ◌++◌, ◌∷◌, refl, ◌≡◌, append-nil}
+use Rattle.yaml_emitter.proofs.Common.{append_assoc, ap, subst, sym, ◌∙◌, false≢true, Text, Cursor, new_line, Document, Documents, no_documents}
+use Rattle.yaml_emitter.proofs.Common.{documents_and, Stream, render_if, render_closing_marker, render_version, render_tag_directives, has_directives}
+use Rattle.yaml_emitter.proofs.Common.{is_explicit, render_document_marker, render_document_start, document_start_piece, document_end_piece, root_place}
+use Rattle.yaml_emitter.proofs.Common.{first_standing, stream_end_piece, stream_start_piece, layout, text_of, Standing, RenderedPieces, render_node}
+use Rattle.yaml_emitter.proofs.Common.{Effective, directives_in_force, Token, document_begins}
+use Rattle.yaml_base.proofs.Common.{render_document, has_no_documents, render_documents}
+use Rattle.yaml_emitter.proofs.canonical.{CanonicalNodes.more_text, CanonicalNodes.lead_text, CanonicalNodes.node_after, CanonicalPlaces.in_canonical}
+use Rattle.yaml_emitter.proofs.canonical.{CanonicalSound.DocumentOk, CanonicalSound.DocumentsOk}
+use Rattle.yaml_emitter.proofs.canonical.CanonicalLines.{closing_says, marker_says, line_breaks, version_says, directives_say}
 use Rattle.yaml_emitter.proofs.canonical.CanonicalText.{anything, name_ends, Says, Opens, opens_append, says_then, says_after, says_text, says_tokens}
 use Rattle.yaml_emitter.proofs.canonical.CanonicalText.{says_nothing, says_white, new_line-white}
-use Rattle.yaml_emitter.proofs.canonical.CanonicalPlaces.{in_canonical}
-use Rattle.yaml_emitter.proofs.canonical.CanonicalNodes.{lead_text, more_text, node_after}
-use Rattle.yaml_emitter.proofs.canonical.CanonicalLines.{closing_says, marker_says, version_says, directives_say, line_breaks}
-use Rattle.yaml_emitter.proofs.canonical.CanonicalSound.{DocumentOk, DocumentsOk}
 use Rattle.yaml_emitter.proofs.canonical.CanonicalTokens.{node_tokens, version_tokens, tag_line_tokens, end_tokens, document_tokens, left_open}
 use Rattle.yaml_emitter.proofs.canonical.CanonicalTokens.{documents_tokens}
 

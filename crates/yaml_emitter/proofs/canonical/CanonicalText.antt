@@ -1,15 +1,9 @@
 -- What a text says to the canonical reader between tokens: the tokens that it is read as, where what follows meets a demand.
-use Rattle.std.proofs.Common.{◌≡◌, ℕ, zero, suc, refl, sym, ap, ◌∙◌, subst, append_assoc}
-use Rattle.std.proofs.lemmas.Bool.{and_parts, and_from, true≢false, eqb-true}
-use Rattle.std.specs.List.{list_all}
-use Rattle.std.specs.Str.{all_scalars}
-use Rattle.std.specs.Prelude.{Bool, true, false, List, [], ◌∷◌, ◌++◌, ◌&&◌, ◌||◌, ◌-◌, ◌==◌, not, replicate, if◌then◌else◌}
-use Rattle.yaml_base.specs.Characters.{Text, is_alpha, is_space, space, line_feed}
-use Rattle.yaml_base.specs.scalars.Analysis.{begins_with}
-use Rattle.yaml_base.specs.LineBreaks.{is_rendered_text}
-use Rattle.yaml_base.specs.Cursor.{Cursor, breaks_line, new_line, indicator, space_if}
-use Rattle.yaml_base.specs.reading.CanonicalTokens.{Token, free, tokens_from}
-use Rattle.yaml_base.proofs.BreakLaws.{rendered-append}
+use Rattle.yaml_emitter.proofs.Common.{suc, zero, ℕ, ◌-◌, if◌then◌else◌, ◌==◌, replicate, Bool, false, not, true, ◌&&◌, ◌||◌, List, [], ◌++◌, ◌∷◌, refl, ◌≡◌}
+use Rattle.yaml_emitter.proofs.Common.{eqb-true, true≢false, append_assoc, ap, subst, sym, ◌∙◌, and_parts, and_from, list_all, all_scalars, rendered-append}
+use Rattle.yaml_emitter.proofs.Common.{Text, line_feed, space, is_alpha, is_space, Cursor, new_line, space_if, indicator, is_rendered_text, Token, free}
+use Rattle.yaml_emitter.proofs.Common.{tokens_from, begins_with}
+use Rattle.yaml_base.proofs.Common.{breaks_line}
 
 -- what may follow a text: anything, no letter of a name, or a space alone
 pub data Demand : Type 0 where

@@ -1,13 +1,9 @@
 -- The tokens of a tree's canonical text, as they are rendered: a comma or an opening bracket stands before each entry.
-use Rattle.std.specs.Prelude.{Bool, true, false, Option, None, Some, List, [], ◌∷◌, ◌++◌, ◌&&◌, not, codes}
-use Rattle.yaml_base.specs.Characters.{Text}
-use Rattle.yaml_base.specs.Event.{Version, TagDirective}
-use Rattle.yaml_base.specs.Tags.{directives_in_force, spelling, spelled}
-use Rattle.yaml_base.specs.Grammar.{Node, alias_node, scalar_node, sequence_node, mapping_node, Nodes, no_nodes, nodes_and, Pairs, no_pairs, pairs_and}
-use Rattle.yaml_base.specs.Grammar.{Document, Documents, no_documents, documents_and}
-use Rattle.yaml_base.specs.Layout.{has_no_nodes, has_no_pairs, has_directives}
-use Rattle.yaml_base.specs.reading.CanonicalTokens.{Token, version_line, tag_line, document_begins, document_ends, anchor_token, alias_token, tag_token}
-use Rattle.yaml_base.specs.reading.CanonicalTokens.{scalar_token, opens_sequence, closes_sequence, opens_mapping, closes_mapping, key_token, value_token, comma}
+use Rattle.yaml_emitter.proofs.Common.{Option, None, Some, codes, Bool, false, not, true, ◌&&◌, List, [], ◌++◌, ◌∷◌, Text, Version, TagDirective, Node}
+use Rattle.yaml_emitter.proofs.Common.{alias_node, scalar_node, Nodes, sequence_node, Pairs, mapping_node, no_nodes, nodes_and, no_pairs, pairs_and, Document}
+use Rattle.yaml_emitter.proofs.Common.{Documents, no_documents, documents_and, has_directives, has_no_nodes, has_no_pairs, directives_in_force, spelling}
+use Rattle.yaml_emitter.proofs.Common.{spelled, Token, version_line, tag_line, document_begins, document_ends, anchor_token, alias_token, tag_token}
+use Rattle.yaml_emitter.proofs.Common.{scalar_token, opens_sequence, closes_sequence, opens_mapping, closes_mapping, key_token, value_token, comma}
 
 abbrev pub anchor_tokens : Option Text → List Token
 anchor_tokens None = []

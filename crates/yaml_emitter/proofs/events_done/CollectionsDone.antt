@@ -1,24 +1,14 @@
 -- The work of a collection's start and end, as a step of the emitter.
-use Rattle.std.proofs.Common.{◌≡◌, ℕ, Bool, true, false, not, ◌&&◌, Option, None, Some, Result, Ok, Err, List, ◌∷◌, refl, sym, ap, subst, ◌∙◌}
-use Rattle.std.specs.Option.{option_or}
-use Rattle.std.specs.Prelude.{nat_lt, length}
-use Rattle.yaml_base.specs.Cursor.{Cursor}
-use Rattle.yaml_base.specs.Settings.{Effective}
-use Rattle.yaml_base.specs.Event.{TagDirective, Collection, CollectionStyle}
-use Rattle.yaml_base.specs.Layout.{Place, is_key, is_simple_collection, start_piece, end_piece, is_written_in_flow, entry_place, entries_column}
-use Rattle.yaml_base.specs.Refusal.{name_or_tag_fault, some_if, most_open}
-use Rattle.yaml_base.specs.Output.{flushes}
-use Rattle.yaml_base.specs.Steps.{Frame, Stage, at_node, next_place, stage_after, stage_refusal, step, node_allowed, is_first}
-use Rattle.yaml_base.specs.declared.errors.yaml_error_t.{yaml_error_t}
-use Rattle.yaml_pen.specs.Page.{Page}
-use Rattle.yaml_pen.specs.Wrote.{Wrote}
-use Rattle.yaml_emitter.specs.State.{MachineState}
-use Rattle.yaml_emitter.specs.NodeEvents.{start_event, end_event, brackets_of, first_entry, starts_undented}
-use Rattle.yaml_emitter.specs.WrittenPieces.{piece_at}
-use Rattle.yaml_emitter.specs.Processing.{Processed}
-use Rattle.yaml_pen.specs.Page.{encoded, result_of_error}
-use Rattle.yaml_base.specs.declared.errors.yaml_error_t.TheVariants.{ExpectedNode, TooDeep, Memory}
-use Rattle.yaml_emitter.proofs.events_done.ProcessedBy.{IsInStream, processed_after_writing, processed_cut_at, processed_refused_at, processed_written_at}
+use Rattle.yaml_emitter.proofs.Common.{ℕ, Option, None, Some, Result, Err, Ok, nat_lt, length, Bool, false, not, true, ◌&&◌, List, ◌∷◌, refl, ◌≡◌, ap, subst}
+use Rattle.yaml_emitter.proofs.Common.{sym, ◌∙◌, option_or, Cursor, TagDirective, Collection, start_piece, is_written_in_flow, end_piece, entry_place, Place}
+use Rattle.yaml_emitter.proofs.Common.{is_key, flushes, some_if, name_or_tag_fault, most_open, Effective, Frame, Stage, at_node, next_place, stage_after}
+use Rattle.yaml_emitter.proofs.Common.{is_first, step, stage_refusal, start_event, end_event, brackets_of, Processed, MachineState, piece_at, Page, encoded}
+use Rattle.yaml_emitter.proofs.Common.{result_of_error, Wrote}
+use Rattle.yaml_base.specs.{Event.CollectionStyle, Layout.entries_column, Layout.is_simple_collection, Steps.node_allowed}
+use Rattle.yaml_base.specs.{declared.errors.yaml_error_t.yaml_error_t, declared.errors.yaml_error_t.TheVariants.ExpectedNode}
+use Rattle.yaml_base.specs.{declared.errors.yaml_error_t.TheVariants.Memory, declared.errors.yaml_error_t.TheVariants.TooDeep}
+use Rattle.yaml_emitter.proofs.events_done.ProcessedBy.{IsInStream, processed_refused_at, processed_written_at, processed_cut_at, processed_after_writing}
+use Rattle.yaml_emitter.specs.NodeEvents.{first_entry, starts_undented}
 
 -- Starts of collections
 

@@ -1,28 +1,18 @@
 -- A document's start, as a step of the emitter.
-use Rattle.std.proofs.Common.{◌≡◌, ◌≢◌, ◌==◌, Bool, true, false, not, ◌&&◌, ◌||◌, Option, None, Some, Ok, Err, List, [], ◌∷◌, ◌++◌, refl, sym, ap, ◌∙◌}
-use Rattle.std.specs.Prelude.{nat_lt, if◌then◌else◌, option_and_then}
-use Rattle.std.specs.Option.{option_or}
-use Rattle.std.specs.List.{list_all}
-use Rattle.yaml_base.specs.Characters.{Text, is_alpha}
-use Rattle.yaml_base.specs.Event.{Version, TagDirective, DocumentStart, Event, stream_start, stream_end, document_start, document_end, alias, scalar}
-use Rattle.yaml_base.specs.Event.{sequence_start, sequence_end, mapping_start, mapping_end}
-use Rattle.yaml_base.specs.Tags.{anchor_fault, tag_fault, name_fault, version_fault, handle_fault, prefix_fault, directive_fault, next_directive_fault}
-use Rattle.yaml_base.specs.Tags.{directives_fault, directives_fault_after, directives_in_force, gives_handle, equals_integer, last_from, without_last}
-use Rattle.yaml_base.specs.Tags.{exclamation_mark}
-use Rattle.yaml_base.specs.Refusal.{content_fault, properties_fault, name_or_tag_fault, some_if, begins_collection, most_open}
-use Rattle.yaml_base.specs.Event.{scalar_tag, collection_tag}
-use Rattle.yaml_base.specs.Layout.{document_start_piece}
-use Rattle.yaml_base.specs.Steps.{Frame, Stage, at_document, at_node, stage_refusal, stage_allows, stage_expected, open_frames}
-use Rattle.yaml_base.specs.declared.errors.yaml_error_t.{yaml_error_t}
-use Rattle.yaml_base.specs.declared.errors.yaml_error_t.TheVariants.{WriteError, Memory, TooDeep, IncompatibleVersion, TagHandleStart, TagHandleEnd}
-use Rattle.yaml_base.specs.declared.errors.yaml_error_t.TheVariants.{TagHandleAlphabet, DuplicateDirective, AnchorEmpty, AnchorAlphabet, AliasEmpty}
-use Rattle.yaml_base.specs.declared.errors.yaml_error_t.TheVariants.{AliasAlphabet}
-use Rattle.yaml_pen.specs.Page.{Page}
-use Rattle.yaml_pen.specs.Wrote.{Wrote}
-use Rattle.yaml_emitter.specs.State.{MachineState}
-use Rattle.yaml_emitter.specs.WrittenPieces.{piece_at}
-use Rattle.yaml_emitter.specs.Processing.{Processed}
-use Rattle.yaml_emitter.proofs.events_done.ProcessedBy.{processed_refused_at, processed_unwritten, processed_cut_at, processed_written_at}
+use Rattle.yaml_emitter.proofs.Common.{if◌then◌else◌, ◌==◌, option_and_then, Option, None, Some, Err, Ok, nat_lt, Bool, false, not, true, ◌&&◌, ◌||◌, List}
+use Rattle.yaml_emitter.proofs.Common.{[], ◌++◌, ◌∷◌, refl, ◌≡◌, ap, sym, ◌∙◌, list_all, option_or, Text, is_alpha, Version, TagDirective, DocumentStart}
+use Rattle.yaml_emitter.proofs.Common.{Event, stream_start, stream_end, document_start, document_end, alias, scalar, sequence_start, sequence_end}
+use Rattle.yaml_emitter.proofs.Common.{mapping_start, mapping_end, scalar_tag, collection_tag, document_start_piece, some_if, properties_fault}
+use Rattle.yaml_emitter.proofs.Common.{name_or_tag_fault, content_fault, most_open, begins_collection, Frame, Stage, at_document, at_node, stage_refusal}
+use Rattle.yaml_emitter.proofs.Common.{name_fault, anchor_fault, tag_fault, version_fault, exclamation_mark, last_from, without_last, handle_fault}
+use Rattle.yaml_emitter.proofs.Common.{prefix_fault, directive_fault, gives_handle, next_directive_fault, directives_fault_after, directives_fault}
+use Rattle.yaml_emitter.proofs.Common.{directives_in_force, Processed, MachineState, piece_at, Page, Wrote}
+use Rattle.std.proofs.Common.{◌≢◌}
+use Rattle.yaml_base.specs.{Steps.stage_allows, Steps.stage_expected, Steps.open_frames, Tags.equals_integer, declared.errors.yaml_error_t.yaml_error_t}
+use Rattle.yaml_base.specs.declared.errors.yaml_error_t.TheVariants.{AliasAlphabet, AliasEmpty, AnchorAlphabet, AnchorEmpty, DuplicateDirective}
+use Rattle.yaml_base.specs.declared.errors.yaml_error_t.TheVariants.{IncompatibleVersion, Memory, TagHandleAlphabet, TagHandleEnd, TagHandleStart, TooDeep}
+use Rattle.yaml_base.specs.declared.errors.yaml_error_t.TheVariants.{WriteError}
+use Rattle.yaml_emitter.proofs.events_done.ProcessedBy.{processed_unwritten, processed_refused_at, processed_written_at, processed_cut_at}
 
 -- a fault other than that of the output's limit
 abbrev is_other_fault : Option yaml_error_t → Bool

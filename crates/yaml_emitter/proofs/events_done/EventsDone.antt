@@ -1,17 +1,10 @@
 -- Each event's work, as a step of the emitter.
-use Rattle.std.proofs.Common.{◌≡◌, ◌==◌, ℕ, Bool, true, false, Option, None, Some, Ok, Err, refl, sym, ap, ◌∙◌}
-use Rattle.std.specs.Prelude.{if◌then◌else◌, IsSome, unwrap_or}
-use Rattle.yaml_base.specs.Settings.{Encoding, Effective, effective}
-use Rattle.yaml_base.specs.Event.{stream_start, stream_end, document_end}
-use Rattle.yaml_base.specs.Layout.{document_end_piece, stream_end_piece}
-use Rattle.yaml_base.specs.Steps.{at_stream, at_document, at_document_end, at_nothing, stage_refusal, step}
+use Rattle.yaml_emitter.proofs.Common.{ℕ, if◌then◌else◌, ◌==◌, unwrap_or, IsSome, Option, None, Some, Err, Ok, Bool, false, true, refl, ◌≡◌, ap, sym, ◌∙◌}
+use Rattle.yaml_emitter.proofs.Common.{stream_start, stream_end, document_end, document_end_piece, stream_end_piece, Encoding, Effective, effective}
+use Rattle.yaml_emitter.proofs.Common.{at_stream, at_document, at_document_end, at_nothing, step, stage_refusal, Processed, MachineState, piece_at, Page}
+use Rattle.yaml_emitter.proofs.Common.{encoded, Wrote}
 use Rattle.yaml_base.specs.declared.errors.yaml_error_t.{yaml_error_t}
-use Rattle.yaml_pen.specs.Page.{Page, encoded}
-use Rattle.yaml_pen.specs.Wrote.{Wrote}
-use Rattle.yaml_emitter.specs.State.{MachineState}
-use Rattle.yaml_emitter.specs.WrittenPieces.{piece_at}
-use Rattle.yaml_emitter.specs.Processing.{Processed}
-use Rattle.yaml_emitter.proofs.events_done.ProcessedBy.{processed_cut_at, processed_written_at}
+use Rattle.yaml_emitter.proofs.events_done.ProcessedBy.{processed_written_at, processed_cut_at}
 
 pub stream_started : (empty : Bool) (before : MachineState) (encoding : Option Encoding) (s : Effective) (page : Page) → before.stage ≡ at_stream
     → s ≡ effective before.given encoding

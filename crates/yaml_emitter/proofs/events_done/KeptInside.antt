@@ -1,19 +1,11 @@
 -- What an emitter keeps true, after a call that writes.
-use Rattle.std.proofs.Common.{◌≡◌, ℕ, Bool, refl, false, None, Result, List, [], sym, ap, subst, ◌∙◌}
-use Rattle.std.specs.Prelude.{IsSome, if◌then◌else◌}
-use Rattle.yaml_base.specs.Steps.{Frame, Stage, at_stream, at_document, at_node, at_document_end, at_nothing}
+use Rattle.yaml_emitter.proofs.Common.{ℕ, if◌then◌else◌, IsSome, None, Result, Bool, false, List, [], refl, ◌≡◌, ap, subst, sym, ◌∙◌, TagDirective, Frame}
+use Rattle.yaml_emitter.proofs.Common.{Stage, at_stream, at_document, at_node, at_document_end, at_nothing, some_handle_breaks, machine_state, IsMachine}
+use Rattle.yaml_emitter.proofs.Common.{seen_stage, MachineState, FitsPage, is_at_stream, Page, encoded, IsUntouched, IsReady, Flushed}
 use Rattle.yaml_base.specs.declared.errors.yaml_error_t.{yaml_error_t}
-use Rattle.yaml_pen.specs.Page.{Page, IsReady, IsUntouched, encoded}
-use Rattle.yaml_pen.specs.Wrote.{Flushed}
-use Rattle.yaml_emitter.specs.State.{MachineState, FitsPage, is_at_stream}
-use Rattle.yaml_base.specs.Event.{TagDirective}
-use Rattle.yaml_emitter.specs.Atoms.{some_handle_breaks}
-use Rattle.yaml_emitter.specs.Stages.{seen_stage}
-use Rattle.yaml_emitter.specs.MachineInside.{IsMachine, machine_state}
+use Rattle.yaml_emitter.specs.declared.{machine.Machine.TheInside.Inside, writing.open_ended.OpenEnded.OpenEnded}
+use Rattle.yaml_emitter.specs.declared.stage.Stage.TheVariants.{Document, DocumentEnd, Node, Nothing, Stream}
 use Rattle.yaml_emitter.specs.declared.stage.Stage as stage
-use Rattle.yaml_emitter.specs.declared.stage.Stage.TheVariants.{Stream, Document, Node, DocumentEnd, Nothing}
-use Rattle.yaml_emitter.specs.declared.writing.open_ended.OpenEnded.{OpenEnded}
-use Rattle.yaml_emitter.specs.declared.machine.Machine.TheInside.{Inside}
 
 -- a page that is ready fits every stage behind the stream's start
 pub fits_ready : (st : Stage) (page : Page) → is_at_stream st ≡ false → IsReady page → FitsPage st page

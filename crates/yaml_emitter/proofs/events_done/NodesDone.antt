@@ -1,34 +1,16 @@
 -- Each event's work within a document, as a step of the emitter.
-use Rattle.std.proofs.Common.{◌≡◌, ℕ, Bool, true, false, not, ◌&&◌, Option, None, Some, Result, Ok, Err, List, [], ◌∷◌, refl, sym, ap, subst, ◌∙◌}
-use Rattle.std.specs.Option.{option_or}
-use Rattle.yaml_base.specs.Characters.{Text}
-use Rattle.std.specs.Prelude.{is_some, option_and_then}
-use Rattle.yaml_base.specs.Settings.{Effective}
-use Rattle.yaml_base.specs.Event.{Event, TagDirective, Scalar, Collection, alias, scalar}
-use Rattle.yaml_base.specs.Layout.{Place, is_key, is_simple_alias, is_simple_scalar, alias_piece, scalar_piece}
-use Rattle.yaml_base.specs.Refusal.{name_or_tag_fault, some_if}
-use Rattle.yaml_base.specs.Event.{scalar_tag, collection_tag}
-use Rattle.yaml_base.specs.scalars.Style.{lacks_tag_and_flags}
-use Rattle.yaml_base.specs.Tags.{alias_fault, anchor_fault, tag_fault}
-use Rattle.yaml_base.specs.Steps.{Frame, Stage, at_node, next_place, stage_after, stage_refusal}
-use Rattle.yaml_base.specs.declared.errors.yaml_error_t.{yaml_error_t}
-use Rattle.yaml_pen.specs.Page.{Page, IsReady}
-use Rattle.yaml_pen.specs.Wrote.{Wrote}
-use Rattle.yaml_emitter.specs.State.{MachineState, FitsPage, is_at_stream}
-use Rattle.yaml_emitter.specs.Stages.{seen_stage}
-use Rattle.yaml_emitter.specs.MachineInside.{IsMachine, machine_state}
-use Rattle.yaml_emitter.specs.NodeEvents.{is_at_node, start_event}
-use Rattle.yaml_emitter.specs.Atoms.{name_breaks}
-use Rattle.yaml_emitter.specs.WrittenPieces.{piece_at}
-use Rattle.yaml_emitter.specs.Processing.{Processed}
+use Rattle.yaml_emitter.proofs.Common.{ℕ, is_some, option_and_then, Option, None, Some, Result, Err, Ok, Bool, false, not, true, ◌&&◌, List, [], ◌∷◌, refl}
+use Rattle.yaml_emitter.proofs.Common.{◌≡◌, ap, subst, sym, ◌∙◌, option_or, Text, TagDirective, Scalar, Collection, Event, alias, scalar, scalar_tag}
+use Rattle.yaml_emitter.proofs.Common.{collection_tag, scalar_piece, alias_piece, Place, is_key, is_simple_alias, is_simple_scalar, some_if}
+use Rattle.yaml_emitter.proofs.Common.{name_or_tag_fault, Effective, Frame, Stage, at_node, next_place, stage_after, stage_refusal, anchor_fault, alias_fault}
+use Rattle.yaml_emitter.proofs.Common.{tag_fault, lacks_tag_and_flags, name_breaks, machine_state, IsMachine, start_event, Processed, seen_stage}
+use Rattle.yaml_emitter.proofs.Common.{MachineState, FitsPage, is_at_stream, piece_at, Page, IsReady, Wrote}
+use Rattle.yaml_base.specs.declared.errors.{yaml_error_t.yaml_error_t, yaml_error_t.TheVariants.NoTagNorImplicit}
+use Rattle.yaml_emitter.proofs.{events_done.KeptInside.fits_ready, events_done.KeptInside.kept_writing, events_done.ProcessedBy.processed_refused_at}
+use Rattle.yaml_emitter.proofs.{events_done.ProcessedBy.processed_written_at, events_done.ProcessedBy.processed_cut_at, pieces.WritingNames.sound_anchor}
+use Rattle.yaml_emitter.specs.{NodeEvents.is_at_node, declared.machine.Machine.TheInside.Inside, declared.writing.open_ended.OpenEnded.OpenEnded}
+use Rattle.yaml_emitter.specs.declared.stage.Stage.TheVariants.{Document, DocumentEnd, Node, Nothing, Stream}
 use Rattle.yaml_emitter.specs.declared.stage.Stage as stage
-use Rattle.yaml_emitter.specs.declared.stage.Stage.TheVariants.{Stream, Document, Node, DocumentEnd, Nothing}
-use Rattle.yaml_base.specs.declared.errors.yaml_error_t.TheVariants.{NoTagNorImplicit}
-use Rattle.yaml_emitter.specs.declared.writing.open_ended.OpenEnded.{OpenEnded}
-use Rattle.yaml_emitter.specs.declared.machine.Machine.TheInside.{Inside}
-use Rattle.yaml_emitter.proofs.events_done.KeptInside.{kept_writing, fits_ready}
-use Rattle.yaml_emitter.proofs.events_done.ProcessedBy.{processed_cut_at, processed_refused_at, processed_written_at}
-use Rattle.yaml_emitter.proofs.pieces.WritingNames.{sound_anchor}
 
 -- The stage within a document
 

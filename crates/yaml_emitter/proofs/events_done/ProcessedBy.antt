@@ -1,18 +1,9 @@
 -- What an event did, from what the calls in its work did.
-use Rattle.std.proofs.Common.{◌≡◌, Bool, true, Option, None, Some, Result, Ok, Err, refl, sym, ap, subst, ◌∙◌, inl, inr}
-use Rattle.std.specs.Prelude.{◌⊎◌, IsErr, IsErrAnd}
-use Rattle.std.proofs.lemmas.Result.{err_from_is_err_and}
-use Rattle.yaml_base.specs.Event.{Event, stream_start}
-use Rattle.yaml_base.specs.Output.{flushes}
-use Rattle.yaml_base.specs.Steps.{Stage, stage_refusal, step}
-use Rattle.yaml_base.specs.declared.errors.yaml_error_t.{yaml_error_t}
-use Rattle.yaml_base.specs.declared.errors.yaml_error_t.TheVariants.{WriteError, Memory}
-use Rattle.yaml_pen.specs.Page.{result_of_error, encoded}
-use Rattle.yaml_pen.specs.Wrote.{Wrote}
-use Rattle.yaml_emitter.specs.State.{MachineState, standing_of}
-use Rattle.yaml_emitter.specs.Promises.{IsRefusal}
-use Rattle.yaml_emitter.specs.Processing.{Processed, CutShort, unwritten, partly_written, Keeps, WritesPage, refusal_now, render_event, event_stepped}
-use Rattle.yaml_emitter.specs.WrittenPieces.{piece_at}
+use Rattle.yaml_emitter.proofs.Common.{IsErrAnd, IsErr, Option, None, Some, Result, Err, Ok, Bool, true, ◌⊎◌, refl, ◌≡◌, inl, inr, ap, subst, sym, ◌∙◌}
+use Rattle.yaml_emitter.proofs.Common.{err_from_is_err_and, Event, stream_start, flushes, Stage, step, stage_refusal, event_stepped, render_event}
+use Rattle.yaml_emitter.proofs.Common.{refusal_now, Keeps, WritesPage, unwritten, partly_written, CutShort, Processed, IsRefusal, MachineState, standing_of}
+use Rattle.yaml_emitter.proofs.Common.{piece_at, encoded, result_of_error, Wrote}
+use Rattle.yaml_base.specs.declared.errors.{yaml_error_t.yaml_error_t, yaml_error_t.TheVariants.Memory, yaml_error_t.TheVariants.WriteError}
 
 -- a refused event changes nothing
 pub processed_refused : (event : Event) (empty : Bool) (state : MachineState) (error : yaml_error_t) → IsRefusal error

@@ -1,18 +1,12 @@
 -- The texts of events are strings, so they consist of Unicode scalar values.
-use Rattle.std.proofs.Common.{◌≡◌, true, Option, None, Some, List, [], ◌∷◌, ◌++◌, String, map, option_map, refl}
-use Rattle.std.specs.List.{list_all}
-use Rattle.std.specs.Str.{all_scalars}
-use Rattle.std.specs.String.{string_bytes}
-use Rattle.std.proofs.lemmas.Str.{IsUtf8-string_bytes, scalars-chars}
-use Rattle.std.proofs.lemmas.Bool.{and_parts, and_from}
-use Rattle.yaml_base.specs.Event.{Event, scalar}
-use Rattle.yaml_base.specs.Seen.{seen_text, seen_directive, seen_event}
-use Rattle.yaml_base.specs.Meaning.{has_scalar_values, option_scalars, directive_scalars, has_scalar_texts}
-use Rattle.yaml_base.specs.declared.directives.yaml_tag_directive_t.{yaml_tag_directive_t}
-use Rattle.yaml_base.specs.declared.events.yaml_event_t.{yaml_event_t}
-use Rattle.yaml_base.specs.declared.events.yaml_event_t.TheVariants.{YAML_STREAM_START_EVENT, YAML_STREAM_END_EVENT, YAML_DOCUMENT_START_EVENT}
-use Rattle.yaml_base.specs.declared.events.yaml_event_t.TheVariants.{YAML_DOCUMENT_END_EVENT, YAML_ALIAS_EVENT, YAML_SCALAR_EVENT, YAML_SEQUENCE_START_EVENT}
-use Rattle.yaml_base.specs.declared.events.yaml_event_t.TheVariants.{YAML_SEQUENCE_END_EVENT, YAML_MAPPING_START_EVENT, YAML_MAPPING_END_EVENT}
+use Rattle.yaml_emitter.proofs.Common.{option_map, Option, None, Some, true, List, [], map, ◌++◌, ◌∷◌, refl, ◌≡◌, and_parts, and_from, list_all, all_scalars}
+use Rattle.yaml_emitter.proofs.Common.{Event, scalar, has_scalar_values, option_scalars, directive_scalars, has_scalar_texts, seen_directive, seen_event}
+use Rattle.std.{proofs.Common.String, proofs.lemmas.Str.IsUtf8-string_bytes, proofs.lemmas.Str.scalars-chars, specs.String.string_bytes}
+use Rattle.yaml_base.specs.{Seen.seen_text, declared.directives.yaml_tag_directive_t.yaml_tag_directive_t, declared.events.yaml_event_t.yaml_event_t}
+use Rattle.yaml_base.specs.declared.events.yaml_event_t.TheVariants.{YAML_ALIAS_EVENT, YAML_DOCUMENT_END_EVENT, YAML_DOCUMENT_START_EVENT}
+use Rattle.yaml_base.specs.declared.events.yaml_event_t.TheVariants.{YAML_MAPPING_END_EVENT, YAML_MAPPING_START_EVENT, YAML_SCALAR_EVENT}
+use Rattle.yaml_base.specs.declared.events.yaml_event_t.TheVariants.{YAML_SEQUENCE_END_EVENT, YAML_SEQUENCE_START_EVENT, YAML_STREAM_END_EVENT}
+use Rattle.yaml_base.specs.declared.events.yaml_event_t.TheVariants.{YAML_STREAM_START_EVENT}
 
 string_scalars : {A : Type 0} (text : String A) → all_scalars (seen_text text) ≡ true
 string_scalars text = scalars-chars (string_bytes text) (IsUtf8-string_bytes text)

@@ -1,18 +1,9 @@
 -- Output in every encoding, without its byte order mark, has the characters of output in UTF-8.
-use Rattle.std.proofs.Common.{◌≡◌, refl, sym, ap, ◌∙◌}
-use Rattle.std.proofs.lemmas.List.{take_all}
-use Rattle.std.specs.Prelude.{ℕ, Some, List, ◌++◌}
-use Rattle.yaml_base.specs.Characters.{Text}
-use Rattle.yaml_base.specs.Settings.{Encoding, utf8, utf16_little, utf16_big, Settings}
-use Rattle.yaml_base.specs.Event.{Event}
-use Rattle.yaml_base.specs.Encoding.{text_bytes, encode}
+use Rattle.yaml_emitter.proofs.Common.{ℕ, Some, List, ◌++◌, refl, ◌≡◌, take_all, ap, sym, ◌∙◌, Text, text_bytes, encode, Event, settings_for, text_written}
+use Rattle.yaml_emitter.proofs.Common.{bytes_written, output_of, list_layout, Encoding, utf8, utf16_little, utf16_big, Settings, IsUncut}
 use Rattle.yaml_base.specs.Decode.{text_of_bytes, decode}
-use Rattle.yaml_base.specs.Pieces.{list_layout}
-use Rattle.yaml_base.specs.Output.{settings_for, text_written, bytes_written, output_of}
-use Rattle.yaml_emitter.specs.Uncut.{IsUncut}
+use Rattle.yaml_emitter.{proofs.layouts.RawTexts.streams_agree, specs.EncodedAlike.bom_bytes}
 use Rattle.yaml_emitter.specs.EncodedAlike as spec
-use Rattle.yaml_emitter.specs.EncodedAlike.{bom_bytes}
-use Rattle.yaml_emitter.proofs.layouts.RawTexts.{streams_agree}
 
 -- bytes begin with their byte order mark
 with_bom : (encoding : Encoding) (text : Text) → bom_bytes encoding ++ text_bytes encoding text ≡ encode (Some encoding) text

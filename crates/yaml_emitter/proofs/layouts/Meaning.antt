@@ -1,29 +1,15 @@
 -- What holds of each body that a value allows holds of all bodies of a stream's layout: so each scalar of it reads back as
 -- exactly its value.
-use Rattle.std.proofs.Common.{◌≡◌, refl, sym, ap, ◌∙◌, subst, arith}
-use Rattle.std.proofs.lemmas.Bool.{and_parts, leb-true}
-use Rattle.std.proofs.lemmas.List.Elements.{All-nil, All-cons}
-use Rattle.std.specs.List.{All, list_all}
-use Rattle.std.specs.Prelude.{ℕ, ℤ, pos, negsuc, Bool, true, false, ◌&&◌, nat_le, Option, None, Some, option_map, unwrap_or, List, [], ◌∷◌, is_some}
-use Rattle.std.specs.Prelude.{if◌then◌else◌}
-use Rattle.yaml_base.specs.scalars.Analysis.{allowances, is_empty}
-use Rattle.yaml_base.specs.Cursor.{Cursor}
-use Rattle.yaml_base.specs.Event.{ScalarStyle, TagDirective, Scalar, Event, stream_start, stream_end, document_start, document_end, scalar, sequence_end}
-use Rattle.yaml_base.specs.Event.{mapping_end}
-use Rattle.yaml_base.specs.Grammar.{Stream, stream_events}
-use Rattle.yaml_base.specs.Layout.{layout, first_standing}
-use Rattle.yaml_base.specs.Meaning.{BodyMeans, has_scalar_values, MeaningIsKept}
-use Rattle.yaml_base.specs.NodeLayout.{Body, Piece, bodies_of, Standing, charset_of, choice_of, scalar_lead, scalar_piece, body_at, render_body}
-use Rattle.yaml_base.specs.Pieces.{list_layout}
-use Rattle.yaml_base.specs.Places.{Place, deeper}
-use Rattle.yaml_base.specs.Refusal.{IsAccepted}
-use Rattle.yaml_base.specs.Event.{scalar_tag}
-use Rattle.yaml_base.specs.Settings.{Effective, effective, effective_indent}
-use Rattle.yaml_base.specs.Steps.{Frame, Stage, at_stream, at_document, at_node, at_document_end, step, node_step, ends_next, steps}
+use Rattle.yaml_emitter.proofs.Common.{ℕ, if◌then◌else◌, is_some, unwrap_or, option_map, Option, None, Some, nat_le, negsuc, pos, ℤ, Bool, false, true, ◌&&◌}
+use Rattle.yaml_emitter.proofs.Common.{List, [], ◌∷◌, refl, ◌≡◌, ap, subst, sym, ◌∙◌, arith, and_parts, All-nil, All-cons, All, list_all}
+use Rattle.yaml_emitter.proofs.Common.{tree_of-stream_events, Cursor, ScalarStyle, TagDirective, Scalar, Event, stream_start, stream_end, document_start}
+use Rattle.yaml_emitter.proofs.Common.{document_end, scalar, sequence_end, mapping_end, scalar_tag, Stream, stream_events, first_standing, layout, Piece}
+use Rattle.yaml_emitter.proofs.Common.{Standing, render_body, charset_of, choice_of, scalar_lead, body_at, scalar_piece, Place, deeper, BodyMeans}
+use Rattle.yaml_emitter.proofs.Common.{has_scalar_values, list_layout, IsAccepted, Effective, effective, Frame, Stage, at_stream, at_document, at_node}
+use Rattle.yaml_emitter.proofs.Common.{at_document_end, node_step, step, ends_next, steps, is_empty, allowances}
+use Rattle.yaml_base.proofs.Common.{leb-true, Body, bodies_of, MeaningIsKept, effective_indent}
 use Rattle.yaml_base.proofs.StepLaws.{stream_steps}
-use Rattle.yaml_base.proofs.Trees.{tree_of-stream_events}
-use Rattle.yaml_emitter.proofs.layouts.MeaningStyles.{Allows, chosen_allowed}
-use Rattle.yaml_emitter.proofs.layouts.MeaningBodies.{IsIndent, body_means}
+use Rattle.yaml_emitter.proofs.layouts.{MeaningBodies.IsIndent, MeaningBodies.body_means, MeaningStyles.Allows, MeaningStyles.chosen_allowed}
 
 module _ (s : Effective) (Holds : Body → Type 0) (is_good : Event → Bool)
     (each : (place : Place) (style : ScalarStyle) (limit : Option ℕ) (content : Scalar) (cursor : Cursor) → is_good (scalar content) ≡ true

@@ -1,22 +1,11 @@
 -- A body that stands in a layout reads as its value.
-use Rattle.std.proofs.Common.{◌≡◌, ◌≤◌, refl, arith}
-use Rattle.std.specs.Prelude.{ℕ, Bool, true, false, Option, None, Some}
-use Rattle.std.specs.Str.{all_scalars}
-use Rattle.yaml_base.specs.scalars.Analysis.{Charset, allowances, allows_plain}
-use Rattle.yaml_base.specs.scalars.BlockHeader.{Encloses}
-use Rattle.yaml_base.specs.Characters.{Text}
-use Rattle.yaml_base.specs.Cursor.{Cursor}
-use Rattle.yaml_base.specs.Event.{ScalarStyle, any_style, plain, single_quoted, double_quoted, literal, folded}
-use Rattle.yaml_base.specs.Meaning.{BodyMeans}
-use Rattle.yaml_base.specs.Places.{Place, deeper}
-use Rattle.yaml_base.specs.NodeLayout.{body_at, render_body, charset_of}
-use Rattle.yaml_base.specs.Settings.{Effective}
-use Rattle.yaml_base.proofs.Charsets.{plain_still, single_still, block_still}
-use Rattle.yaml_scalar.proofs.PlainReads.{plain-reads, plain-indented}
-use Rattle.yaml_scalar.proofs.SingleReads.{single-reads, single-indented}
-use Rattle.yaml_scalar.proofs.DoubleReads.{double-reads, double-indented}
-use Rattle.yaml_scalar.proofs.blocks.BlockLines.{literal-kept, folded-kept}
+use Rattle.yaml_emitter.proofs.Common.{ℕ, ◌≤◌, Option, None, Some, Bool, false, true, refl, ◌≡◌, arith, all_scalars, Text, Cursor, ScalarStyle, any_style}
+use Rattle.yaml_emitter.proofs.Common.{plain, single_quoted, double_quoted, literal, folded, render_body, charset_of, body_at, Place, deeper, BodyMeans}
+use Rattle.yaml_emitter.proofs.Common.{Effective, Charset, allows_plain, allowances}
+use Rattle.yaml_base.{proofs.Charsets.plain_still, proofs.Charsets.single_still, proofs.Charsets.block_still, specs.scalars.BlockHeader.Encloses}
 use Rattle.yaml_emitter.proofs.layouts.MeaningStyles.{Allows}
+use Rattle.yaml_scalar.proofs.{DoubleReads.double-reads, DoubleReads.double-indented, PlainReads.plain-reads, PlainReads.plain-indented}
+use Rattle.yaml_scalar.proofs.{SingleReads.single-reads, SingleReads.single-indented, blocks.BlockLines.literal-kept, blocks.BlockLines.folded-kept}
 
 -- an indent that settings come to
 pub record IsIndent (indent : ℕ) : Type 0 where

@@ -1,10 +1,6 @@
 -- The style that is chosen for a scalar is one that its value allows where it stands.
-use Rattle.std.proofs.Common.{◌≡◌, refl}
-use Rattle.std.proofs.lemmas.Bool.{and_parts}
-use Rattle.std.specs.Prelude.{Bool, true, false, ◌||◌, ◌&&◌, not, if◌then◌else◌}
-use Rattle.yaml_base.specs.scalars.Analysis.{Allowances}
-use Rattle.yaml_base.specs.Event.{ScalarStyle, any_style, plain, single_quoted, double_quoted, literal, folded}
-use Rattle.yaml_base.specs.scalars.Style.{chosen, fits_plain, requested_style, fitting_style, quoted_style}
+use Rattle.yaml_emitter.proofs.Common.{if◌then◌else◌, Bool, false, not, true, ◌&&◌, ◌||◌, refl, ◌≡◌, and_parts, ScalarStyle, any_style, plain, single_quoted}
+use Rattle.yaml_emitter.proofs.Common.{double_quoted, literal, folded, Allowances, requested_style, quoted_style, fitting_style, fits_plain, chosen}
 
 -- what a style needs of a value
 abbrev pub Allows : Allowances → (flow : Bool) → ScalarStyle → Type 0

@@ -1,35 +1,19 @@
 -- What stands raw in the text of an accepted list: no special character, and so what `HoldsRaw` says.
-use Rattle.std.proofs.Common.{◌≡◌, refl, sym, ap, ◌∙◌, ℕ, [], ◌∷◌, Bool, true, false, arith}
-use Rattle.std.proofs.lemmas.Bool.{and_from, and_parts, not-false, or_left, or_parts, false≢true}
-use Rattle.std.proofs.lemmas.Bool.Decides.{nat_tests}
+use Rattle.yaml_emitter.proofs.Common.{ℕ, if◌then◌else◌, ◌==◌, Option, Bool, false, not, true, ◌&&◌, ◌||◌, List, [], ◌∷◌, refl, ◌≡◌, ap, sym, ◌∙◌, arith}
+use Rattle.yaml_emitter.proofs.Common.{and_parts, and_from, or_parts, false≢true, nat_tests, list_all, list_any, all_scalars, list_layout_steps}
+use Rattle.yaml_emitter.proofs.Common.{stream_pushed, Text, line_feed, carriage_return, next_line, space, is_printable, Cursor, ScalarStyle, any_style, plain}
+use Rattle.yaml_emitter.proofs.Common.{single_quoted, double_quoted, literal, folded, Event, partial_of, first_standing, Piece, text_of, render_body}
+use Rattle.yaml_emitter.proofs.Common.{charset_of, Place, deeper, break_text, with_breaks_written, encoding_asked, list_layout, IsAccepted, LineBreak}
+use Rattle.yaml_emitter.proofs.Common.{carriage_return_break, line_feed_break, both_break, Effective, effective, at_stream, HoldsRaw, Charset, is_special}
+use Rattle.yaml_emitter.proofs.Common.{allowances, quote, backslash, needs_escape, any_both, any_one, is_graph, Spares}
+use Rattle.yaml_base.proofs.Common.{or_left, not-false, line_separator, paragraph_separator, is_ascii}
 use Rattle.std.proofs.Math.Utf8.{scalar}
-use Rattle.std.specs.Prelude.{Option, List, ◌==◌, ◌&&◌, ◌||◌, not, if◌then◌else◌}
-use Rattle.std.specs.List.{list_all, list_any}
-use Rattle.std.specs.Str.{all_scalars}
-use Rattle.yaml_base.specs.scalars.Analysis.{Charset, allowances, is_special}
-use Rattle.yaml_base.specs.Characters.{Text, carriage_return, is_ascii, is_printable, line_feed, line_separator, next_line, paragraph_separator, space}
-use Rattle.yaml_base.specs.Cursor.{Cursor}
-use Rattle.yaml_base.specs.scalars.DoubleQuoted.{backslash, needs_escape, quote}
-use Rattle.yaml_base.specs.Event.{Event, ScalarStyle, any_style, plain, single_quoted, double_quoted, literal, folded}
-use Rattle.yaml_base.specs.Layout.{Place, deeper, render_body, charset_of, first_standing, text_of, Piece}
-use Rattle.yaml_base.specs.LineBreaks.{with_breaks_written, break_text}
-use Rattle.yaml_base.specs.Output.{encoding_asked}
-use Rattle.yaml_base.specs.Pieces.{list_layout}
-use Rattle.yaml_base.specs.Refusal.{IsAccepted}
-use Rattle.yaml_base.specs.Settings.{Effective, LineBreak, carriage_return_break, line_feed_break, both_break, effective, escapes_separators}
-use Rattle.yaml_base.specs.Steps.{at_stream}
-use Rattle.yaml_base.specs.WrittenTexts.{is_separator, may_stand_raw, HoldsRaw, TextsHoldRaw, StreamsAgree}
-use Rattle.yaml_base.proofs.CallerLaws.{encodings_agree}
-use Rattle.yaml_base.proofs.PieceLaws.{list_layout_steps}
-use Rattle.yaml_base.proofs.Trees.{stream_pushed}
-use Rattle.yaml_base.specs.Grammar.{partial_of}
-use Rattle.yaml_scalar.proofs.LineTexts.{any_both, any_one}
-use Rattle.yaml_scalar.proofs.Sparing.{Spares, is_graph, lacks_plain, lacks_single, lacks_double}
+use Rattle.yaml_base.{proofs.CallerLaws.encodings_agree, specs.Settings.escapes_separators}
+use Rattle.yaml_base.specs.WrittenTexts.{is_separator, may_stand_raw, TextsHoldRaw, StreamsAgree}
+use Rattle.yaml_emitter.proofs.layouts.{Meaning.is_indent, MeaningBodies.IsIndent, MeaningBodies.plain_context, MeaningStyles.Allows, SparingSteps.Spared}
+use Rattle.yaml_emitter.proofs.layouts.{SparingSteps.lacks_steps}
+use Rattle.yaml_scalar.proofs.Sparing.{lacks_plain, lacks_single, lacks_double}
 use Rattle.yaml_scalar.proofs.SparingBlocks.{lacks_literal, lacks_folded, plain_unspecial, single_unspecial, block_unspecial}
-use Rattle.yaml_emitter.proofs.layouts.Meaning.{is_indent}
-use Rattle.yaml_emitter.proofs.layouts.MeaningBodies.{IsIndent, plain_context}
-use Rattle.yaml_emitter.proofs.layouts.MeaningStyles.{Allows}
-use Rattle.yaml_emitter.proofs.layouts.SparingSteps.{Spared, lacks_steps}
 
 -- No printable character of ASCII is special, nor LF, nor one that stands raw in double quotes.
 

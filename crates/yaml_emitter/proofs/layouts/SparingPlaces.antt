@@ -1,28 +1,22 @@
 -- What stands before a node, and on lines outside nodes, holds no character that meets a test which spares printable ASCII and
 -- LF: indicators, spaces, breaks, names, and tags in percent forms.
-use Rattle.std.proofs.Common.{◌≡◌, refl, ap, ◌∙◌, ℕ, [], ◌∷◌, ◌++◌, Bool, true, false, arith}
-use Rattle.std.proofs.lemmas.Bool.{and_from, and_parts}
-use Rattle.std.proofs.lemmas.Bool.Decides.{nat_tests}
-use Rattle.std.specs.Prelude.{Option, None, Some, List, ◌==◌, ◌&&◌, ◌||◌, not, codes, if◌then◌else◌}
-use Rattle.std.specs.List.{list_all, list_any}
-use Rattle.yaml_base.specs.Characters.{Text, is_alpha, space}
-use Rattle.yaml_base.specs.Cursor.{Cursor, Rendered, render_nothing, render_then, new_line, space_if, indicator, render_name, is_past_width}
-use Rattle.yaml_base.specs.Event.{ScalarStyle, any_style, plain, single_quoted, double_quoted, literal, folded, Version, TagDirective, DocumentStart}
-use Rattle.yaml_base.specs.Percent.{percent_escaped, suffix_escaped, prefix_escaped}
-use Rattle.yaml_base.specs.Settings.{Effective}
-use Rattle.yaml_base.specs.Tags.{Spelling, spelling, exclamation_mark}
-use Rattle.yaml_base.specs.Indicators.{render_indicator, spaced, document_start, document_end, yaml_directive, version_1_1, version_1_2, tag_directive}
-use Rattle.yaml_base.specs.Layout.{line_column, Role, as_root, as_item, as_key, as_value, Place, flow_break, opening_or_comma, key_indicator, render_flow_place}
-use Rattle.yaml_base.specs.Layout.{render_block_place, render_place, render_anchor, render_handle, render_spelling, render_tag, render_properties, render_alias}
-use Rattle.yaml_base.specs.Layout.{render_separation, Brackets, empty_or_comma, render_end, Standing, then_line_end, render_if, render_closing_marker}
-use Rattle.yaml_base.specs.Layout.{version_word}
-use Rattle.yaml_base.specs.Layout.{render_version, render_tag_directive, render_tag_directives, has_directives, is_explicit, render_document_marker}
-use Rattle.yaml_base.specs.Layout.{render_document_start}
-use Rattle.yaml_base.proofs.TagForms.{IsHandle, handle_form, AreFound, spelling_is}
-use Rattle.yaml_scalar.proofs.LineTexts.{any_both, any_cond, any_one}
-use Rattle.yaml_scalar.proofs.Sparing.{Spares, is_graph, lacks_graph, lacks_line}
-use Rattle.yaml_emitter.proofs.canonical.CanonicalNames.{is_written, all_written, escaped-written, suffix-written, prefix-written, alphas-written, handle_text}
+use Rattle.yaml_emitter.proofs.Common.{ℕ, if◌then◌else◌, ◌==◌, Option, None, Some, codes, Bool, false, not, true, ◌&&◌, ◌||◌, List, [], ◌++◌, ◌∷◌, refl, ◌≡◌}
+use Rattle.yaml_emitter.proofs.Common.{ap, ◌∙◌, arith, and_parts, and_from, nat_tests, list_all, list_any, IsHandle, handle_form, AreFound, spelling_is, Text}
+use Rattle.yaml_emitter.proofs.Common.{space, is_alpha, Cursor, Rendered, render_nothing, render_then, new_line, space_if, indicator, is_past_width}
+use Rattle.yaml_emitter.proofs.Common.{ScalarStyle, any_style, plain, single_quoted, double_quoted, literal, folded, Version, TagDirective, DocumentStart}
+use Rattle.yaml_emitter.proofs.Common.{render_indicator, spaced, yaml_directive, render_if, render_closing_marker, render_version, render_tag_directive}
+use Rattle.yaml_emitter.proofs.Common.{render_tag_directives, has_directives, is_explicit, render_document_marker, render_document_start, Standing}
+use Rattle.yaml_emitter.proofs.Common.{render_anchor, render_handle, render_spelling, render_tag, render_properties, render_alias, render_separation}
+use Rattle.yaml_emitter.proofs.Common.{Brackets, render_end, Role, as_root, as_item, as_key, as_value, Place, line_column, flow_break, opening_or_comma}
+use Rattle.yaml_emitter.proofs.Common.{render_flow_place, render_block_place, render_place, percent_escaped, suffix_escaped, prefix_escaped, Effective}
+use Rattle.yaml_emitter.proofs.Common.{exclamation_mark, Spelling, spelling, any_both, any_one, is_graph, Spares, lacks_line}
+use Rattle.yaml_base.proofs.Common.{version_1_1, version_1_2, empty_or_comma, key_indicator}
+use Rattle.yaml_base.specs.{Cursor.render_name, Indicators.document_start, Indicators.document_end, Indicators.tag_directive, Layout.then_line_end}
+use Rattle.yaml_base.specs.{Layout.version_word}
+use Rattle.yaml_emitter.proofs.canonical.CanonicalNames.{is_written, all_written, alphas-written, escaped-written, suffix-written, prefix-written}
+use Rattle.yaml_emitter.proofs.canonical.CanonicalNames.{handle_text}
 use Rattle.yaml_emitter.proofs.canonical.CanonicalPlaces.{AnchorOk}
+use Rattle.yaml_scalar.proofs.{LineTexts.any_cond, Sparing.lacks_graph}
 
 -- what stands in a tag is printable ASCII
 written_graph : (c : ℕ) → is_written c ≡ true → is_graph c ≡ true

@@ -1,34 +1,21 @@
 -- The pieces of a stream's events hold no character that meets a test which spares printable ASCII and LF, where no body that a
 -- value allows does.
-use Rattle.std.proofs.Common.{◌≡◌, refl, ℕ, [], ◌∷◌, ◌++◌, Bool, true, false}
-use Rattle.std.proofs.lemmas.Bool.{and_parts}
-use Rattle.std.specs.Prelude.{Option, None, List, ◌==◌, ◌&&◌, not, is_some, option_and_then, if◌then◌else◌}
-use Rattle.std.specs.List.{list_all, list_any}
-use Rattle.yaml_base.specs.scalars.Analysis.{allowances, is_empty}
-use Rattle.yaml_base.specs.Characters.{Text, is_alpha}
-use Rattle.yaml_base.specs.Cursor.{Cursor, Rendered, render_then, new_line}
-use Rattle.yaml_base.specs.Event.{ScalarStyle, TagDirective, Scalar, Collection, Event, stream_start, stream_end, document_start, document_end, alias, scalar}
-use Rattle.yaml_base.specs.Event.{sequence_start, sequence_end, mapping_start, mapping_end}
-use Rattle.yaml_base.specs.Layout.{Place, Piece, piece_text, text_of, Standing, deeper, render_body, choice_of, scalar_lead, scalar_piece, render_place}
-use Rattle.yaml_base.specs.Layout.{render_properties, render_separation, render_alias, start_piece, Brackets, square, curly, render_end, end_piece, render_if}
-use Rattle.yaml_base.specs.Layout.{render_closing_marker, is_key, is_simple_alias, render_document_start, document_end_piece}
-use Rattle.yaml_base.specs.Refusal.{is_sound, name_or_tag_fault, content_fault}
-use Rattle.yaml_base.specs.Event.{scalar_tag, collection_tag}
-use Rattle.yaml_base.specs.Settings.{Effective}
-use Rattle.yaml_base.specs.Steps.{Frame, Stage, at_stream, at_document, at_node, at_document_end, next_place, stage_after, is_first, step, node_step, ends_next}
-use Rattle.yaml_base.specs.Steps.{steps}
-use Rattle.yaml_base.specs.Tags.{version_fault, directives_fault}
-use Rattle.yaml_base.proofs.TagForms.{AreFound, in_force_found}
-use Rattle.yaml_scalar.proofs.LineTexts.{any_both}
-use Rattle.yaml_scalar.proofs.Sparing.{Spares, lacks_line}
-use Rattle.yaml_emitter.proofs.canonical.CanonicalPlaces.{AnchorOk}
-use Rattle.yaml_emitter.proofs.canonical.CanonicalSound.{anchor_is, name_is}
-use Rattle.yaml_base.proofs.NoFaults.{neither, is_none_none}
-use Rattle.yaml_base.specs.NodeLayout.{charset_of}
+use Rattle.yaml_emitter.proofs.Common.{ℕ, if◌then◌else◌, ◌==◌, is_some, option_and_then, Option, None, Bool, false, not, true, ◌&&◌, List, [], ◌++◌, ◌∷◌}
+use Rattle.yaml_emitter.proofs.Common.{refl, ◌≡◌, and_parts, list_all, list_any, neither, AreFound, in_force_found, Text, is_alpha, Cursor, Rendered}
+use Rattle.yaml_emitter.proofs.Common.{render_then, new_line, ScalarStyle, TagDirective, Scalar, Collection, Event, stream_start, stream_end, document_start}
+use Rattle.yaml_emitter.proofs.Common.{document_end, alias, scalar, sequence_start, sequence_end, mapping_start, mapping_end, scalar_tag, collection_tag}
+use Rattle.yaml_emitter.proofs.Common.{render_if, render_closing_marker, render_document_start, document_end_piece, Piece, piece_text, text_of, Standing}
+use Rattle.yaml_emitter.proofs.Common.{render_properties, render_alias, render_separation, render_body, charset_of, choice_of, scalar_lead, scalar_piece}
+use Rattle.yaml_emitter.proofs.Common.{start_piece, Brackets, square, curly, render_end, end_piece, Place, is_key, deeper, is_simple_alias, render_place}
+use Rattle.yaml_emitter.proofs.Common.{name_or_tag_fault, content_fault, is_sound, Effective, Frame, Stage, at_stream, at_document, at_node, at_document_end}
+use Rattle.yaml_emitter.proofs.Common.{next_place, stage_after, is_first, node_step, step, ends_next, steps, version_fault, directives_fault, is_empty}
+use Rattle.yaml_emitter.proofs.Common.{allowances, any_both, Spares, lacks_line}
+use Rattle.yaml_base.proofs.NoFaults.{is_none_none}
+use Rattle.yaml_base.specs.declared.errors.yaml_error_t.TheVariants.{AliasAlphabet, AliasEmpty}
+use Rattle.yaml_emitter.proofs.canonical.{CanonicalPlaces.AnchorOk, CanonicalSound.name_is, CanonicalSound.anchor_is}
 use Rattle.yaml_emitter.proofs.layouts.MeaningStyles.{Allows, chosen_allowed}
-use Rattle.yaml_emitter.proofs.layouts.SparingPlaces.{Lacks, lacks_alias, lacks_closing, lacks_document, lacks_end, lacks_if, lacks_place, lacks_properties}
-use Rattle.yaml_emitter.proofs.layouts.SparingPlaces.{lacks_separation, lacks_then}
-use Rattle.yaml_base.specs.declared.errors.yaml_error_t.TheVariants.{AliasEmpty, AliasAlphabet}
+use Rattle.yaml_emitter.proofs.layouts.SparingPlaces.{Lacks, lacks_then, lacks_place, lacks_properties, lacks_alias, lacks_separation, lacks_end, lacks_if}
+use Rattle.yaml_emitter.proofs.layouts.SparingPlaces.{lacks_closing, lacks_document}
 
 -- the names of an event are of the anchor alphabet, and no directive of it is refused
 abbrev pub NamesOk : Event → Type 0

@@ -1,16 +1,9 @@
 -- The output of an accepted list in any mode, where no limit cuts it, reads as documents that agree with it.
-use Rattle.std.proofs.Common.{◌≡◌, ap, ◌∙◌}
-use Rattle.std.proofs.lemmas.Bool.{false≢true}
-use Rattle.std.proofs.lemmas.List.{take_all}
-use Rattle.std.specs.Prelude.{ℕ, Bool, true, Option, None, Some, List}
-use Rattle.yaml_base.specs.Settings.{Settings}
-use Rattle.yaml_base.specs.Event.{Event}
-use Rattle.yaml_base.specs.Pieces.{list_layout}
-use Rattle.yaml_base.specs.Output.{encoding_asked, settings_for, bytes_written, output_of}
-use Rattle.yaml_base.specs.streams.StreamContent.{DocumentTree, agrees}
-use Rattle.yaml_base.specs.streams.StreamReader.{stream_trees}
-use Rattle.yaml_emitter.specs.Uncut.{IsReadable, OutputReadsBack, OutputTellsContent, HaveSameContent}
+use Rattle.yaml_emitter.proofs.Common.{ℕ, Option, None, Some, Bool, true, List, ◌≡◌, take_all, ap, ◌∙◌, false≢true, Event, encoding_asked, settings_for}
+use Rattle.yaml_emitter.proofs.Common.{bytes_written, output_of, list_layout, Settings, agrees, stream_trees}
+use Rattle.yaml_base.proofs.Common.{DocumentTree}
 use Rattle.yaml_emitter.proofs.layouts.StreamsReadBack.{stream_reads_back, portable_reads_back}
+use Rattle.yaml_emitter.specs.Uncut.{IsReadable, OutputReadsBack, HaveSameContent, OutputTellsContent}
 
 -- the output is all bytes, which read back
 pub output_reads_back : (given : Settings) (events : List Event) → OutputReadsBack given events

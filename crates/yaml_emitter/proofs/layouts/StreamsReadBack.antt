@@ -1,28 +1,13 @@
 -- Every stream reads back, in every mode.
-use Rattle.std.proofs.Common.{◌≡◌, sym, ap, ◌∙◌}
-use Rattle.std.specs.List.{list_all}
-use Rattle.std.specs.Prelude.{true, Option, Some, List, not}
-use Rattle.yaml_base.specs.Characters.{is_printable}
-use Rattle.yaml_base.specs.scalars.Analysis.{is_special}
-use Rattle.yaml_base.specs.Settings.{Encoding, Settings, effective}
-use Rattle.yaml_base.specs.Event.{Event}
-use Rattle.yaml_base.specs.Layout.{Piece, charset_of, text_of}
-use Rattle.yaml_base.specs.Meaning.{has_scalar_texts}
-use Rattle.yaml_base.specs.Pieces.{list_layout}
-use Rattle.yaml_base.specs.Output.{bytes_written, text_written}
-use Rattle.yaml_base.specs.Refusal.{IsAccepted}
-use Rattle.yaml_base.specs.StreamLaw.{StreamReadsBack, PortableReadsBack, reads_alike}
-use Rattle.yaml_base.specs.streams.StreamContent.{agrees}
-use Rattle.yaml_base.specs.streams.StreamReader.{stream_trees}
-use Rattle.yaml_base.proofs.CallerLaws.{breaks_agree}
-use Rattle.yaml_base.proofs.stream_documents.StreamAllStand.{LayoutsArePrintable, LayoutsAreRead, StreamsStand, streams_read_back, streams_stand}
-use Rattle.yaml_base.proofs.stream_documents.StreamLawStands.{stream_read_back}
-use Rattle.yaml_base.proofs.stream_documents.StreamWholeReads.{document_trees}
-use Rattle.yaml_emitter.proofs.layouts.Meaning.{is_indent, meaning_is_kept}
-use Rattle.yaml_emitter.proofs.layouts.TidyStreams.{bodies_are_tidy}
+use Rattle.yaml_emitter.proofs.Common.{Option, Some, not, true, List, ◌≡◌, ap, sym, ◌∙◌, list_all, is_printable, Event, Piece, text_of, charset_of}
+use Rattle.yaml_emitter.proofs.Common.{has_scalar_texts, text_written, bytes_written, list_layout, IsAccepted, Encoding, Settings, effective, reads_alike}
+use Rattle.yaml_emitter.proofs.Common.{is_special, agrees, stream_trees}
+use Rattle.yaml_base.proofs.{CallerLaws.breaks_agree, stream_documents.StreamLawStands.stream_read_back, stream_documents.StreamWholeReads.document_trees}
+use Rattle.yaml_base.proofs.stream_documents.StreamAllStand.{LayoutsArePrintable, LayoutsAreRead, StreamsStand, streams_stand, streams_read_back}
+use Rattle.yaml_base.specs.StreamLaw.{StreamReadsBack, PortableReadsBack}
+use Rattle.yaml_emitter.proofs.{canonical.CanonicalBytes.characters_back, events_done.SeenTexts.values_of_texts, layouts.Meaning.is_indent}
+use Rattle.yaml_emitter.proofs.{layouts.Meaning.meaning_is_kept, layouts.TidyStreams.bodies_are_tidy}
 use Rattle.yaml_emitter.proofs.layouts.RawTexts.{special_list, lacks_fewer, all_meet, special_printable, texts_hold_raw}
-use Rattle.yaml_emitter.proofs.canonical.CanonicalBytes.{characters_back}
-use Rattle.yaml_emitter.proofs.events_done.SeenTexts.{values_of_texts}
 
 -- the text of an accepted list is printable
 layouts_are_printable : LayoutsArePrintable

@@ -1,25 +1,13 @@
 -- The bodies of every accepted list's layout are tidy.
-use Rattle.std.proofs.Common.{◌≡◌, ◌≤◌, refl, ap, arith}
-use Rattle.std.proofs.lemmas.Bool.{and_from}
-use Rattle.std.specs.Prelude.{ℕ, suc, true, Option, List, [], ◌∷◌, not, unwrap_or}
-use Rattle.std.specs.List.{list_all}
-use Rattle.yaml_base.specs.scalars.Analysis.{allowances, is_special}
-use Rattle.yaml_base.specs.Characters.{Text, is_printable}
-use Rattle.yaml_base.specs.Cursor.{Cursor}
-use Rattle.yaml_base.specs.Event.{ScalarStyle, any_style, plain, single_quoted, double_quoted, literal, folded, Event}
-use Rattle.yaml_base.specs.NodeLayout.{body_at, render_body, charset_of}
-use Rattle.yaml_base.specs.Places.{Place, deeper}
-use Rattle.yaml_base.specs.Settings.{Effective, effective}
-use Rattle.yaml_base.specs.TidyBodies.{IsTidy}
-use Rattle.yaml_base.specs.reading.TidyText.{has_deep_lines, is_tidy_style}
-use Rattle.yaml_base.specs.WrittenTexts.{BodiesAreTidy}
-use Rattle.yaml_scalar.proofs.TidyLines.{plain_even, plain_edges, single_even}
-use Rattle.yaml_scalar.proofs.TidyQuoted.{double_even}
-use Rattle.yaml_scalar.proofs.TidyBlocks.{literal_deep, folded_deep}
-use Rattle.yaml_emitter.proofs.layouts.Meaning.{is_indent, list_holds}
+use Rattle.yaml_base.proofs.Common.{suc, ℕ, ◌≤◌, unwrap_or, Option, not, true, List, [], ◌∷◌, refl, ◌≡◌, ap, arith, and_from, list_all, Text, is_printable}
+use Rattle.yaml_base.proofs.Common.{Cursor, ScalarStyle, any_style, plain, single_quoted, double_quoted, literal, folded, Event, render_body, charset_of}
+use Rattle.yaml_base.proofs.Common.{body_at, Place, deeper, Effective, effective, IsTidy, BodiesAreTidy, has_deep_lines, is_tidy_style, is_special}
+use Rattle.yaml_base.proofs.Common.{allowances}
+use Rattle.yaml_emitter.proofs.layouts.{Meaning.list_holds, Meaning.is_indent, MeaningStyles.Allows}
 use Rattle.yaml_emitter.proofs.layouts.MeaningBodies.{IsIndent, plain_context, charset_by_breaks, allows_still}
-use Rattle.yaml_emitter.proofs.layouts.MeaningStyles.{Allows}
-use Rattle.yaml_emitter.proofs.layouts.RawTexts.{all_meet, lacks_fewer, special_printable, special_spared}
+use Rattle.yaml_emitter.proofs.layouts.RawTexts.{special_spared, lacks_fewer, all_meet, special_printable}
+use Rattle.yaml_scalar.proofs.{TidyBlocks.literal_deep, TidyBlocks.folded_deep, TidyLines.single_even, TidyLines.plain_even, TidyLines.plain_edges}
+use Rattle.yaml_scalar.proofs.{TidyQuoted.double_even}
 
 -- one column deeper than the entries around a scalar
 abbrev depth_of : Option ℕ → ℕ

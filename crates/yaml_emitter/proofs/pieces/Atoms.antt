@@ -1,12 +1,7 @@
 -- An atom's bytes are its characters, and none of them is a break.
-use Rattle.std.proofs.Common.{◌≡◌, ℕ, ◌<◌, true, false, List, [], ◌∷◌, ◌||◌, ◌==◌, refl, ap, ◌∙◌, arith}
-use Rattle.std.specs.List.{list_any, All}
-use Rattle.std.specs.Str.{chars}
-use Rattle.std.proofs.lemmas.Str.{chars-IsAscii}
-use Rattle.std.proofs.lemmas.Str.Ascii.{IsAscii-from_all}
-use Rattle.std.proofs.lemmas.Bool.{and_parts, ltb-true, ne_eqb}
-use Rattle.std.proofs.lemmas.List.Elements.{All-nil, All-cons}
-use Rattle.yaml_base.specs.Characters.{is_break}
+use Rattle.yaml_emitter.proofs.Common.{ℕ, ◌<◌, ◌==◌, false, true, ◌||◌, List, [], ◌∷◌, refl, ◌≡◌, ne_eqb, ap, ◌∙◌, arith, and_parts, All-nil, All-cons}
+use Rattle.yaml_emitter.proofs.Common.{chars-IsAscii, All, list_any, chars, is_break}
+use Rattle.std.proofs.lemmas.{Bool.ltb-true, Str.Ascii.IsAscii-from_all}
 use Rattle.yaml_emitter.specs.Atoms.{is_visible_ascii}
 
 -- a character of an atom, by its number

@@ -1,21 +1,11 @@
 -- Atoms that are written are what the definitions render.
-use Rattle.std.proofs.Common.{◌≡◌, ℕ, Bool, true, false, Option, None, Some, List, Result, refl, sym, ap, ◌∙◌, append-nil, if◌then◌else◌}
-use Rattle.std.specs.Prelude.{option_map, is_some, ◌++◌}
-use Rattle.yaml_base.specs.Characters.{Text}
-use Rattle.yaml_base.specs.Cursor.{Cursor, Rendered, render_nothing, render_then}
-use Rattle.yaml_base.specs.Event.{TagDirective}
-use Rattle.yaml_base.specs.Layout.{Place, Role, as_root, as_item, as_key, as_value, Brackets, render_flow_place, line_column, render_block_place, render_place}
-use Rattle.yaml_base.specs.Layout.{render_anchor, render_tag, render_properties, render_end, end_piece, tag_count}
-use Rattle.yaml_base.specs.Settings.{Effective}
-use Rattle.yaml_base.specs.Tags.{Spelling, spelling}
+use Rattle.yaml_emitter.proofs.Common.{ℕ, if◌then◌else◌, is_some, option_map, Option, None, Some, Result, Bool, false, true, List, ◌++◌, refl, ◌≡◌}
+use Rattle.yaml_emitter.proofs.Common.{append-nil, ap, sym, ◌∙◌, Text, Cursor, Rendered, render_nothing, render_then, TagDirective, render_anchor, render_tag}
+use Rattle.yaml_emitter.proofs.Common.{render_properties, Brackets, render_end, end_piece, Role, as_root, as_item, as_key, as_value, Place, line_column}
+use Rattle.yaml_emitter.proofs.Common.{tag_count, render_flow_place, render_block_place, render_place, Effective, Spelling, spelling, seen_tag}
+use Rattle.yaml_emitter.proofs.Common.{render_spelled_tag, spelled_count, piece_at, wrote_as, Page, Wrote}
 use Rattle.yaml_base.specs.declared.errors.yaml_error_t.{yaml_error_t}
-use Rattle.yaml_pen.specs.Page.{Page}
-use Rattle.yaml_pen.specs.Wrote.{Wrote}
-use Rattle.yaml_pen.proofs.Composing.{wrote_as}
-use Rattle.yaml_emitter.specs.WrittenPieces.{piece_at}
-use Rattle.yaml_emitter.specs.WrittenAtoms.{seen_tag, render_spelled_tag, spelled_count}
-use Rattle.yaml_emitter.specs.declared.writing.spelling.SpelledTag.{SpelledTag}
-use Rattle.yaml_emitter.proofs.pieces.WritingPieces.{wrote_lead}
+use Rattle.yaml_emitter.{proofs.pieces.WritingPieces.wrote_lead, specs.declared.writing.spelling.SpelledTag.SpelledTag}
 
 -- a place in flow, and one in a block
 pub flow_here : (s : Effective) (place : Place) (simple : Bool) (cursor : Cursor) → place.in_flow ≡ true

@@ -1,14 +1,8 @@
 -- Adding both defaults in turn gives the directives in force.
-use Rattle.std.proofs.Common.{◌≡◌, Bool, true, false, not, List, [], ◌∷◌, ◌++◌, refl, sym, ap, ◌∙◌, append_assoc, append-nil, codes, bytes_eq, ℕ, Result, Ok}
-use Rattle.std.proofs.Common.{Err, OnOk, Some}
-use Rattle.std.specs.Prelude.{if◌then◌else◌, length, slice_get}
-use Rattle.std.specs.List.{list_any}
-use Rattle.std.specs.Str.{chars}
+use Rattle.yaml_emitter.proofs.Common.{ℕ, if◌then◌else◌, OnOk, Some, Result, Err, Ok, codes, length, Bool, false, not, true, List, [], ◌++◌, ◌∷◌, refl, ◌≡◌}
+use Rattle.yaml_emitter.proofs.Common.{append-nil, append_assoc, ap, sym, ◌∙◌, list_any, TagDirective, gives_handle, default_directives, directives_in_force}
+use Rattle.std.{proofs.Common.bytes_eq, proofs.Math.Bool.or-false, proofs.lemmas.List.Folds.list_any-append, specs.Prelude.slice_get, specs.Str.chars}
 use Rattle.yaml_base.specs.declared.errors.yaml_error_t.{yaml_error_t}
-use Rattle.std.proofs.Math.Bool.{or-false}
-use Rattle.std.proofs.lemmas.List.Folds.{list_any-append}
-use Rattle.yaml_base.specs.Event.{TagDirective}
-use Rattle.yaml_base.specs.Tags.{gives_handle, default_directives, directives_in_force}
 use Rattle.yaml_emitter.specs.InForce.{with_default}
 
 abbrev pub own_default : TagDirective

@@ -1,30 +1,16 @@
 -- A scalar that stands plain as it is: plain is chosen for it, and nothing but its place stands before it.
-use Rattle.std.proofs.Common.{◌≡◌, ◌+◌, ℕ, Bool, true, false, ◌||◌, ◌&&◌, not, Option, Some, None, Result, List, refl, sym, ap, ◌∙◌, subst, if◌then◌else◌}
-use Rattle.std.proofs.Common.{chars}
-use Rattle.std.proofs.lemmas.Bool.{and_parts, not-true}
-use Rattle.std.specs.Prelude.{[], ◌∷◌, is_some, option_map}
-use Rattle.yaml_base.specs.scalars.Analysis.{Allowances, Charset, allows_plain, is_empty}
-use Rattle.yaml_base.specs.Characters.{Text}
-use Rattle.yaml_base.specs.Cursor.{Cursor, Rendered, render_then}
-use Rattle.yaml_base.specs.Event.{ScalarStyle, TagDirective, any_style, plain, single_quoted, double_quoted, literal, folded}
-use Rattle.yaml_base.specs.Layout.{Place, render_anchor, byte_count, choice_of, deeper, is_short, is_simple_scalar, name_count, render_place, scalar_piece}
-use Rattle.yaml_base.specs.Layout.{charset_of, tag_count}
-use Rattle.yaml_base.specs.Event.{scalar_tag}
-use Rattle.yaml_base.specs.Seen.{seen_scalar_style}
-use Rattle.yaml_base.specs.Settings.{Effective}
-use Rattle.yaml_base.specs.scalars.Style.{Choice, chosen, fits_plain, is_plain, lacks_tag_and_flags, requested_style, fitting_style, quoted_style}
-use Rattle.yaml_base.specs.Tags.{Spelling, spelling}
+use Rattle.yaml_emitter.proofs.Common.{ℕ, ◌+◌, if◌then◌else◌, is_some, option_map, Option, None, Some, Result, Bool, false, not, true, ◌&&◌, ◌||◌, List, []}
+use Rattle.yaml_emitter.proofs.Common.{◌∷◌, refl, ◌≡◌, ap, subst, sym, ◌∙◌, and_parts, Text, Cursor, Rendered, render_then, ScalarStyle, any_style, plain}
+use Rattle.yaml_emitter.proofs.Common.{single_quoted, double_quoted, literal, folded, TagDirective, scalar_tag, render_anchor, charset_of, choice_of}
+use Rattle.yaml_emitter.proofs.Common.{scalar_piece, Place, deeper, byte_count, name_count, tag_count, is_short, is_simple_scalar, render_place}
+use Rattle.yaml_emitter.proofs.Common.{seen_scalar_style, Effective, Spelling, spelling, Charset, Allowances, is_empty, allows_plain, Choice}
+use Rattle.yaml_emitter.proofs.Common.{lacks_tag_and_flags, is_plain, requested_style, quoted_style, fitting_style, fits_plain, chosen, seen_name}
+use Rattle.yaml_emitter.proofs.Common.{seen_scalar, render_scalar_text, StandsPlain, render_spelled_tag, piece_at, Page, Wrote}
+use Rattle.std.proofs.{Common.chars, lemmas.Bool.not-true}
 use Rattle.yaml_base.specs.declared.errors.yaml_error_t.{yaml_error_t}
-use Rattle.yaml_pen.specs.Page.{Page}
-use Rattle.yaml_pen.specs.Wrote.{Wrote}
-use Rattle.yaml_scalar.specs.UsualTexts.{IsUsual, all_allowed}
-use Rattle.yaml_emitter.specs.BorrowedTexts.{seen_name, seen_scalar}
-use Rattle.yaml_emitter.specs.ScalarTexts.{render_scalar_text}
-use Rattle.yaml_emitter.specs.UsualScalars.{StandsPlain, asks_plain, is_asked_plain}
-use Rattle.yaml_emitter.specs.WrittenPieces.{piece_at}
-use Rattle.yaml_emitter.specs.WrittenAtoms.{render_spelled_tag}
-use Rattle.yaml_emitter.specs.declared.writing.contents.ScalarContent.{ScalarContent}
 use Rattle.yaml_emitter.proofs.pieces.WritingScalars.{wrote_scalar}
+use Rattle.yaml_emitter.specs.{UsualScalars.asks_plain, UsualScalars.is_asked_plain, declared.writing.contents.ScalarContent.ScalarContent}
+use Rattle.yaml_scalar.specs.UsualTexts.{all_allowed, IsUsual}
 
 -- by the tests of its parts
 no_name : (name : Option Text) → not (is_some name) ≡ true → name ≡ None

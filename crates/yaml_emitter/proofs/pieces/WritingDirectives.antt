@@ -1,19 +1,10 @@
 -- Directives' lines, one after another.
-use Rattle.std.proofs.Common.{◌≡◌, ℕ, ◌+◌, ◌<◌, Bool, false, Result, Ok, Err, List, [], ◌∷◌, ◌++◌, length, take, drop, get_or, map, refl, sym, ap, ◌∙◌, subst}
-use Rattle.std.proofs.Common.{append_assoc, append-nil, add-one, drop-cons}
-use Rattle.std.specs.List.{list_any}
-use Rattle.std.proofs.lemmas.Bool.{false_from_ne_true, false≢true}
-use Rattle.std.proofs.lemmas.List.{take_more, map-append, take-append-drop, get_or-map, length-map}
-use Rattle.std.proofs.lemmas.List.Folds.{list_any_at}
-use Rattle.yaml_base.specs.Characters.{Text, is_break}
-use Rattle.yaml_base.specs.Cursor.{Cursor, Rendered, render_then}
-use Rattle.yaml_base.specs.Event.{TagDirective}
-use Rattle.yaml_base.specs.Layout.{render_tag_directive, render_tag_directives}
+use Rattle.yaml_emitter.proofs.Common.{ℕ, ◌+◌, ◌<◌, Result, Err, Ok, drop, length, slice_index_or as get_or, take, Bool, false, List, [], map, ◌++◌, ◌∷◌}
+use Rattle.yaml_emitter.proofs.Common.{refl, ◌≡◌, take-append-drop, drop-cons, append-nil, append_assoc, ap, subst, sym, ◌∙◌, add-one, false≢true, length-map}
+use Rattle.yaml_emitter.proofs.Common.{map-append, list_any, Text, is_break, Cursor, Rendered, render_then, TagDirective, render_tag_directive}
+use Rattle.yaml_emitter.proofs.Common.{render_tag_directives, some_handle_breaks, wrote_then, wrote_failed, wrote_as, Page, Wrote}
+use Rattle.std.proofs.lemmas.{Bool.false_from_ne_true, List.take_more, List.get_or-map, List.Folds.list_any_at}
 use Rattle.yaml_base.specs.declared.errors.yaml_error_t.{yaml_error_t}
-use Rattle.yaml_pen.specs.Page.{Page}
-use Rattle.yaml_pen.specs.Wrote.{Wrote}
-use Rattle.yaml_pen.proofs.Composing.{wrote_as, wrote_then, wrote_failed}
-use Rattle.yaml_emitter.specs.Atoms.{some_handle_breaks}
 
 tag_directives-append : (portable : Bool) (xs ys : List TagDirective) (cursor : Cursor)
     → render_then (render_tag_directives portable xs cursor) (render_tag_directives portable ys) ≡ render_tag_directives portable (xs ++ ys) cursor

@@ -1,21 +1,12 @@
 -- Names and handles that aren't refused hold no break.
-use Rattle.std.proofs.Common.{◌≡◌, ℕ, Bool, true, false, not, ◌||◌, ◌==◌, cond, Option, None, Some, List, [], ◌∷◌, ◌++◌, refl, ap, ◌∙◌, arith, filter}
-use Rattle.std.proofs.Common.{if◌then◌else◌}
-use Rattle.std.proofs.lemmas.Bool.{and_parts, or_parts, eqb-true}
-use Rattle.std.proofs.lemmas.Bool.Decides.{nat_tests}
-use Rattle.std.specs.List.{list_any, list_all}
-use Rattle.std.specs.Option.{option_or}
-use Rattle.std.specs.Prelude.{option_and_then}
-use Rattle.yaml_base.specs.Characters.{Text, is_alpha, is_break}
-use Rattle.yaml_base.specs.Event.{TagDirective}
-use Rattle.yaml_base.specs.Tags.{name_fault, anchor_fault, alias_fault, handle_fault, directive_fault, next_directive_fault, directives_fault}
-use Rattle.yaml_base.specs.Tags.{directives_fault_after, gives_handle, default_directives, directives_in_force, exclamation_mark, last_from}
-use Rattle.yaml_base.specs.Tags.{without_last, prefix_fault}
-use Rattle.yaml_base.proofs.TagForms.{prefix_and_last}
-use Rattle.yaml_emitter.specs.Atoms.{name_breaks, some_handle_breaks}
-use Rattle.yaml_base.specs.declared.errors.yaml_error_t.TheVariants.{TagHandleStart, TagHandleEnd, TagHandleAlphabet, AnchorEmpty, AnchorAlphabet, AliasEmpty}
-use Rattle.yaml_base.specs.declared.errors.yaml_error_t.TheVariants.{AliasAlphabet}
-use Rattle.yaml_base.specs.declared.errors.yaml_error_t.{yaml_error_t}
+use Rattle.yaml_emitter.proofs.Common.{ℕ, if◌then◌else◌, ◌==◌, filter, option_and_then, Option, None, Some, Bool, cond, false, not, true, ◌||◌, List, []}
+use Rattle.yaml_emitter.proofs.Common.{◌++◌, ◌∷◌, refl, ◌≡◌, eqb-true, ap, ◌∙◌, arith, and_parts, or_parts, nat_tests, list_all, list_any, option_or, Text}
+use Rattle.yaml_emitter.proofs.Common.{is_alpha, is_break, TagDirective, name_fault, anchor_fault, alias_fault, exclamation_mark, last_from, without_last}
+use Rattle.yaml_emitter.proofs.Common.{handle_fault, prefix_fault, directive_fault, gives_handle, next_directive_fault, directives_fault_after}
+use Rattle.yaml_emitter.proofs.Common.{directives_fault, default_directives, directives_in_force, name_breaks, some_handle_breaks}
+use Rattle.yaml_base.{proofs.TagForms.prefix_and_last, specs.declared.errors.yaml_error_t.yaml_error_t}
+use Rattle.yaml_base.specs.declared.errors.yaml_error_t.TheVariants.{AliasAlphabet, AliasEmpty, AnchorAlphabet, AnchorEmpty, TagHandleAlphabet, TagHandleEnd}
+use Rattle.yaml_base.specs.declared.errors.yaml_error_t.TheVariants.{TagHandleStart}
 
 letter_is_no_break : (c : ℕ) → is_alpha c ≡ true → is_break c ≡ false
 letter_is_no_break c letter = grind (arith, nat_tests)

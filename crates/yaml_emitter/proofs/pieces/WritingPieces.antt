@@ -1,17 +1,10 @@
 -- A piece without a body is its lead; the pieces of documents as their parts.
-use Rattle.std.proofs.Common.{◌≡◌, ℕ, Bool, true, false, not, ◌&&◌, ◌||◌, ◌==◌, ◌∙◌, Result, sym, ap, append-nil, append_assoc, if◌then◌else◌}
-use Rattle.yaml_base.specs.Characters.{Text}
-use Rattle.yaml_base.specs.Cursor.{Cursor, Rendered, render_then, new_line}
-use Rattle.yaml_base.specs.Event.{DocumentStart}
-use Rattle.yaml_base.specs.Indicators.{render_indicator, document_end}
-use Rattle.yaml_base.specs.Layout.{has_directives, is_explicit, render_document_start, document_start_piece, piece_without_body}
-use Rattle.yaml_base.specs.Layout.{render_closing_marker, document_end_piece}
-use Rattle.yaml_base.specs.Settings.{Effective}
-use Rattle.yaml_base.specs.declared.errors.yaml_error_t.{yaml_error_t}
-use Rattle.yaml_pen.specs.Page.{Page}
-use Rattle.yaml_pen.specs.Wrote.{Wrote}
-use Rattle.yaml_pen.proofs.Composing.{wrote_as}
-use Rattle.yaml_emitter.specs.WrittenPieces.{rendered_of, piece_at, render_document_end, render_document_head}
+use Rattle.yaml_emitter.proofs.Common.{ℕ, if◌then◌else◌, ◌==◌, Result, Bool, false, not, true, ◌&&◌, ◌||◌, ◌≡◌, append-nil, append_assoc, ap, sym, ◌∙◌, Text}
+use Rattle.yaml_emitter.proofs.Common.{Cursor, Rendered, render_then, new_line, DocumentStart, render_indicator, render_closing_marker, has_directives}
+use Rattle.yaml_emitter.proofs.Common.{is_explicit, render_document_start, document_start_piece, document_end_piece, Effective, piece_at, render_document_end}
+use Rattle.yaml_emitter.proofs.Common.{wrote_as, Page, Wrote}
+use Rattle.yaml_base.specs.{Indicators.document_end, Layout.piece_without_body, declared.errors.yaml_error_t.yaml_error_t}
+use Rattle.yaml_emitter.specs.WrittenPieces.{rendered_of, render_document_head}
 
 -- a lead by itself is what is rendered
 pub lead-rendered : (open_ended : ℕ) (rendered : Rendered) → rendered ≡ rendered_of (piece_without_body open_ended rendered)

@@ -1,39 +1,21 @@
 -- Scalars: what the writers of the styles write is the text that the layout puts there, and with what stands before it
 -- the scalar's piece.
-use Rattle.std.proofs.Common.{◌≡◌, ℕ, ℤ, pos, negsuc, ◌≤ℤ◌, Bool, true, false, ◌||◌, ◌&&◌, not, ◌==◌, inl, inr, length, Option, None, Result, Ok, Err, IsErr}
-use Rattle.std.proofs.Common.{IsErrAnd, List, refl, sym, ap, ◌∙◌, subst, append_assoc, if◌then◌else◌, arith}
-use Rattle.std.proofs.lemmas.Int.{ints}
-use Rattle.std.specs.Str.{chars, IsUtf8}
-use Rattle.std.specs.Result.{IfOk, MatchResult}
-use Rattle.std.specs.Prelude.{option_map}
-use Rattle.std.proofs.lemmas.Bool.{and_parts, cases_Bool}
-use Rattle.std.proofs.lemmas.Result.{err_from_is_err_and}
-use Rattle.yaml_base.specs.scalars.Analysis.{Allowances, is_empty, allows_block, somewhere, bars_block, allowances, Charset}
-use Rattle.yaml_base.specs.Characters.{Text}
-use Rattle.yaml_base.specs.Cursor.{Cursor, Rendered, render_then}
-use Rattle.yaml_base.specs.scalars.DoubleQuoted.{render_double_quoted}
-use Rattle.yaml_base.specs.Event.{ScalarStyle, any_style, plain, single_quoted, double_quoted, literal, folded, Scalar, TagDirective}
-use Rattle.yaml_base.specs.scalars.Folded.{render_folded}
-use Rattle.yaml_base.specs.Layout.{Place, render_anchor, render_place, render_properties, choice_of, deeper, scalar_piece, render_separation, render_body}
-use Rattle.yaml_base.specs.NodeLayout.{charset_of}
-use Rattle.yaml_base.specs.scalars.Plain.{render_plain}
-use Rattle.yaml_base.specs.Event.{scalar_tag}
-use Rattle.yaml_base.specs.Settings.{Effective}
-use Rattle.yaml_base.specs.scalars.SingleQuoted.{render_single_quoted}
-use Rattle.yaml_base.specs.scalars.Style.{Choice, chosen, fits_plain, is_plain, requested_style, fitting_style, quoted_style}
-use Rattle.yaml_base.specs.Tags.{Spelling, spelling}
+use Rattle.yaml_emitter.proofs.Common.{ℕ, if◌then◌else◌, ◌==◌, option_map, IsErrAnd, IsErr, Option, None, Result, Err, Ok, negsuc, pos, ℤ, length, Bool}
+use Rattle.yaml_emitter.proofs.Common.{false, not, true, ◌&&◌, ◌||◌, List, refl, ◌≡◌, append_assoc, inl, inr, ap, subst, sym, ◌∙◌, arith, and_parts, ints}
+use Rattle.yaml_emitter.proofs.Common.{err_from_is_err_and, chars, Text, Cursor, Rendered, render_then, ScalarStyle, any_style, plain, single_quoted}
+use Rattle.yaml_emitter.proofs.Common.{double_quoted, literal, folded, TagDirective, Scalar, scalar_tag, render_anchor, render_properties, render_separation}
+use Rattle.yaml_emitter.proofs.Common.{render_body, charset_of, choice_of, scalar_piece, Place, deeper, render_place, Effective, Spelling, spelling, Charset}
+use Rattle.yaml_emitter.proofs.Common.{Allowances, is_empty, allowances, Choice, is_plain, requested_style, quoted_style, fitting_style, fits_plain, chosen}
+use Rattle.yaml_emitter.proofs.Common.{seen_effective, render_scalar_text, style_fits, render_spelled_tag, piece_at, wrote_as, Page, Wrote}
+use Rattle.yaml_base.proofs.Common.{somewhere, bars_block, allows_block}
+use Rattle.yaml_scalar.proofs.Common.{limit_of, limit_where}
+use Rattle.std.{proofs.Common.◌≤ℤ◌, proofs.lemmas.Bool.cases_Bool, specs.Result.IfOk, specs.Result.MatchResult, specs.Str.IsUtf8}
 use Rattle.yaml_base.specs.declared.errors.yaml_error_t.{yaml_error_t}
-use Rattle.yaml_pen.specs.Page.{Page, natural}
-use Rattle.yaml_pen.specs.Wrote.{Wrote}
-use Rattle.yaml_pen.proofs.Composing.{wrote_as}
-use Rattle.yaml_mark.proofs.HandleLemmas.{no_characters, characters_begin}
-use Rattle.yaml_scalar.specs.Width.{limit_of, limit_where}
-use Rattle.yaml_emitter.specs.declared.effective.EffectiveSettings.{EffectiveSettings}
-use Rattle.yaml_emitter.specs.Given.{seen_effective, seen_width}
-use Rattle.yaml_emitter.specs.ScalarTexts.{render_scalar_text, style_fits, without_answer}
-use Rattle.yaml_emitter.specs.WrittenPieces.{piece_at}
-use Rattle.yaml_emitter.specs.WrittenAtoms.{render_spelled_tag}
+use Rattle.yaml_base.specs.scalars.{DoubleQuoted.render_double_quoted, Folded.render_folded, Plain.render_plain, SingleQuoted.render_single_quoted}
 use Rattle.yaml_emitter.proofs.pieces.AtomsWritten.{lead-spelled}
+use Rattle.yaml_emitter.specs.{Given.seen_width, ScalarTexts.without_answer, declared.effective.EffectiveSettings.EffectiveSettings}
+use Rattle.yaml_mark.proofs.HandleLemmas.{no_characters, characters_begin}
+use Rattle.yaml_pen.specs.Page.{natural}
 
 -- the exit of a `?` tells the error of the call that failed
 pub wrote_exit_from : {T : Type 0} {render : Cursor → Rendered} {before after : Page} {error : yaml_error_t} (answer : Result T yaml_error_t)

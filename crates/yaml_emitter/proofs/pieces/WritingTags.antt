@@ -1,15 +1,9 @@
 -- How tags are spelled: an empty one, and the handles that stand in spellings. And which counts are short.
-use Rattle.std.proofs.Common.{◌≡◌, ℕ, ◌+◌, Bool, true, false, ◌&&◌, not, Option, None, Some, List, [], ◌∷◌, refl, sym, ap, ◌∙◌, zero-add}
-use Rattle.std.specs.List.{list_any}
-use Rattle.std.proofs.lemmas.Bool.{or_parts}
-use Rattle.yaml_base.specs.Characters.{Text, is_break}
-use Rattle.yaml_base.specs.Event.{TagDirective}
-use Rattle.yaml_base.specs.Layout.{is_short}
-use Rattle.yaml_base.specs.Tags.{Spelling, verbatim, spelling, spelling_by, behind, tag_fault}
-use Rattle.yaml_emitter.specs.Atoms.{some_handle_breaks}
+use Rattle.yaml_emitter.proofs.Common.{ℕ, ◌+◌, option_map, Option, None, Some, Bool, false, not, true, ◌&&◌, List, [], ◌∷◌, refl, ◌≡◌, ap, sym, ◌∙◌, zero-add}
+use Rattle.yaml_emitter.proofs.Common.{or_parts, list_any, Text, is_break, TagDirective, is_short, tag_fault, Spelling, verbatim, spelling}
+use Rattle.yaml_emitter.proofs.Common.{some_handle_breaks}
+use Rattle.yaml_base.specs.{Tags.behind, Tags.spelling_by, declared.errors.yaml_error_t.yaml_error_t}
 use Rattle.yaml_emitter.specs.WrittenAtoms.{spelling_breaks}
-use Rattle.std.specs.Prelude.{option_map}
-use Rattle.yaml_base.specs.declared.errors.yaml_error_t.{yaml_error_t}
 
 nothing_behind : (prefix : Text) → behind prefix [] ≡ None
 nothing_behind [] = refl

@@ -1,19 +1,10 @@
 -- Worked rows: two documents, and what follows them. An output that keeps what was flushed begins with all bytes of the two, whatever
 -- comes in the third: an event that is refused, a want of memory, a limit that is passed. So it isn't empty.
-use Rattle.std.proofs.Common.{◌≡◌, refl, subst, arith}
-use Rattle.std.specs.Prelude.{ℕ, ◌≤◌, false, true, Some, None, List, [], ◌∷◌, ◌++◌, codes, length}
-use Rattle.yaml_base.specs.Characters.{Text}
-use Rattle.yaml_base.specs.Event.{DocumentStart, Event, any_style, document_start, mapping_end}
-use Rattle.yaml_base.specs.Grammar.{Document, Documents, documents_and, no_documents, scalar_node}
-use Rattle.yaml_base.specs.Output.{bytes_written, settings_for}
-use Rattle.yaml_base.specs.Pieces.{pieces}
-use Rattle.yaml_base.specs.Prefix.{IsPrefix}
-use Rattle.yaml_base.specs.Refusal.{refusal}
+use Rattle.yaml_emitter.proofs.Common.{ℕ, ◌≤◌, None, Some, codes, length, false, true, List, [], ◌++◌, ◌∷◌, refl, ◌≡◌, subst, arith, Text, any_style}
+use Rattle.yaml_emitter.proofs.Common.{DocumentStart, Event, document_start, mapping_end, scalar_node, Document, Documents, no_documents, documents_and}
+use Rattle.yaml_emitter.proofs.Common.{settings_for, bytes_written, pieces, IsPrefix, refusal, nothing_given, BeginsOutput, State, StaysFlushed}
+use Rattle.yaml_emitter.proofs.Common.{whole_documents, KeepsDocuments}
 use Rattle.yaml_base.specs.declared.errors.yaml_error_t.TheVariants.{ExpectedNode}
-use Rattle.yaml_emitter.specs.Given.{nothing_given}
-use Rattle.yaml_emitter.specs.Promises.{BeginsOutput}
-use Rattle.yaml_emitter.specs.State.{State}
-use Rattle.yaml_emitter.specs.StaysFlushed.{KeepsDocuments, StaysFlushed, whole_documents}
 
 -- a start without directives
 abbrev start : DocumentStart

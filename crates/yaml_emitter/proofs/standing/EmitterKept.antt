@@ -1,15 +1,9 @@
 -- What an emitter keeps true.
-use Rattle.std.proofs.Common.{◌≡◌, ◌≤◌, ◌<◌, ◌∙◌, ℕ, true, false, List, [], ◌∷◌, ◌++◌, map, length, ap, sym, subst, arith, refl}
-use Rattle.std.specs.Prelude.{Some, vec_capacity, vec_len, ℤ}
-use Rattle.std.proofs.lemmas.List.{length-map, map-append}
-use Rattle.yaml_base.specs.Event.{Event}
-use Rattle.yaml_base.specs.Seen.{seen_event, seen_events}
-use Rattle.yaml_base.specs.Settings.{Effective, Settings}
-use Rattle.yaml_emitter.specs.Inside.{IsEmitter, state_of}
-use Rattle.yaml_emitter.specs.Queue.{is_head_ready}
-use Rattle.yaml_emitter.specs.State.{MachineState, State}
-use Rattle.yaml_emitter.specs.declared.emitter.yaml_emitter_t.TheInside.{Inside}
+use Rattle.yaml_emitter.proofs.Common.{ℕ, ◌<◌, ◌≤◌, Some, vec_len, vec_capacity, ℤ, length, false, true, List, [], map, ◌++◌, ◌∷◌, refl, ◌≡◌, ap, subst, sym}
+use Rattle.yaml_emitter.proofs.Common.{◌∙◌, arith, length-map, map-append, Event, seen_event, seen_events, Settings, Effective, state_of, IsEmitter}
+use Rattle.yaml_emitter.proofs.Common.{is_head_ready, State, MachineState}
 use Rattle.yaml_emitter.proofs.standing.StandingPromises.{held_few, most_few}
+use Rattle.yaml_emitter.specs.declared.emitter.yaml_emitter_t.TheInside.{Inside}
 
 -- Where the first event that waits isn't ready, at most three wait.
 pub waiting_few : {E : Type 0} (seen : E → Event) (xs : List E) → is_head_ready (map seen xs) ≡ false → length xs ≤ 3

@@ -1,25 +1,14 @@
 -- The events that wait are written one after another.
-use Rattle.std.proofs.Common.{ℕ, arith, ◌≡◌, ◌≤◌, true, None, Some, Result, Ok, Err, List, [], ◌∷◌, ◌++◌, length, take, sym, ap, subst, false, ◌+◌}
-use Rattle.std.proofs.Common.{suc, Bool, refl}
-use Rattle.std.proofs.Common.{◌∙◌, ◌-◌, drop, map}
-use Rattle.std.proofs.lemmas.List.{drop-drop, drop-map, length-drop, length-map, take_rest}
-use Rattle.yaml_base.specs.Settings.{Settings}
-use Rattle.yaml_base.specs.Event.{Event, alias, document_end, document_start, mapping_end, mapping_start, scalar, sequence_end, sequence_start, stream_end}
-use Rattle.yaml_base.specs.Event.{stream_start}
-use Rattle.std.specs.Prelude.{if◌then◌else◌}
-use Rattle.yaml_base.specs.Ready.{is_ready, written, held_back}
-use Rattle.yaml_base.proofs.Progress.{written-append}
-use Rattle.yaml_base.specs.declared.errors.yaml_error_t.{yaml_error_t}
-use Rattle.yaml_base.specs.declared.errors.yaml_error_t.TheVariants.{WriteError, Memory}
-use Rattle.yaml_emitter.specs.State.{MachineState, State, machine_of}
-use Rattle.yaml_emitter.specs.Queue.{is_head_ready}
-use Rattle.yaml_emitter.specs.StandsAfter.{FailedReady, Reached, ReachedOn, MachineStands, StateStands, StandsWithoutError, ProcessedFirst}
-use Rattle.yaml_emitter.specs.StandsAfter.{WroteReady, failed_by}
-use Rattle.yaml_emitter.specs.Processing.{Processed, closes_at_once}
-use Rattle.yaml_emitter.proofs.standing.Standing.{reached_first}
-use Rattle.yaml_emitter.proofs.standing.StandingSteps.{reached_end, reached_next}
-use Rattle.yaml_emitter.proofs.standing.StandingFailed.{reached_failed}
-use Rattle.yaml_emitter.proofs.standing.StandingPromises.{stands_well}
+use Rattle.yaml_emitter.proofs.Common.{suc, ℕ, ◌+◌, ◌-◌, ◌≤◌, if◌then◌else◌, None, Some, Result, Err, Ok, drop, length, take, Bool, false, true, List, []}
+use Rattle.yaml_emitter.proofs.Common.{map, ◌++◌, ◌∷◌, refl, ◌≡◌, drop-drop, ap, subst, sym, ◌∙◌, arith, drop-map, length-map, written-append, Event}
+use Rattle.yaml_emitter.proofs.Common.{stream_start, stream_end, document_start, document_end, alias, scalar, sequence_start, sequence_end, mapping_start}
+use Rattle.yaml_emitter.proofs.Common.{mapping_end, is_ready, written, held_back, Settings, closes_at_once, Processed, is_head_ready, StandsWithoutError}
+use Rattle.yaml_emitter.proofs.Common.{MachineStands, StateStands, Reached, failed_by, ReachedOn, ProcessedFirst, State, MachineState, machine_of}
+use Rattle.std.proofs.lemmas.List.{length-drop, take_rest}
+use Rattle.yaml_base.specs.declared.errors.{yaml_error_t.yaml_error_t, yaml_error_t.TheVariants.Memory, yaml_error_t.TheVariants.WriteError}
+use Rattle.yaml_emitter.proofs.standing.{Standing.reached_first, StandingFailed.reached_failed, StandingPromises.stands_well, StandingSteps.reached_next}
+use Rattle.yaml_emitter.proofs.standing.{StandingSteps.reached_end}
+use Rattle.yaml_emitter.specs.StandsAfter.{WroteReady, FailedReady}
 
 -- The first of the events that wait was ready.
 took_ready : (waiting : List Event) (before after : MachineState) (answer : Result (Unit {0}) yaml_error_t) (h : ProcessedFirst waiting before after answer)

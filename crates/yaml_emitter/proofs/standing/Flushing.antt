@@ -1,14 +1,9 @@
 -- What was flushed stays flushed, as events come and the output grows.
-use Rattle.std.proofs.Common.{◌≡◌, refl, sym, ap, ◌∙◌, arith, subst, append_assoc, inl, inr}
-use Rattle.std.proofs.lemmas.List.{length-append, take-append-le, take_at}
-use Rattle.std.specs.Prelude.{ℕ, zero, suc, ◌≤◌, ◌⊎◌, true, Option, List, [], ◌∷◌, ◌++◌, length, take}
-use Rattle.yaml_base.proofs.Prefixes.{prefix_same, prefix_then}
-use Rattle.yaml_base.specs.Event.{Event, stream_start}
-use Rattle.yaml_base.specs.Pieces.{completion, list_layout, pieces}
-use Rattle.yaml_base.specs.Prefix.{IsPrefix}
-use Rattle.yaml_base.specs.Settings.{Effective, Encoding, Settings}
-use Rattle.yaml_base.specs.Output.{bytes_written, flushes, last_flushes, settings_for}
-use Rattle.yaml_emitter.specs.StaysFlushed.{StaysFlushed}
+use Rattle.yaml_emitter.proofs.Common.{suc, zero, ℕ, ◌≤◌, Option, length, take, true, List, [], ◌++◌, ◌∷◌, ◌⊎◌, refl, ◌≡◌, length-append, take_at}
+use Rattle.yaml_emitter.proofs.Common.{append_assoc, inl, inr, ap, subst, sym, ◌∙◌, arith, prefix_same, prefix_then, Event, stream_start, settings_for}
+use Rattle.yaml_emitter.proofs.Common.{bytes_written, flushes, last_flushes, completion, list_layout, pieces, IsPrefix, Encoding, Settings, Effective}
+use Rattle.yaml_emitter.proofs.Common.{StaysFlushed}
+use Rattle.std.proofs.lemmas.List.{take-append-le}
 
 -- Of no events nothing was flushed.
 pub flushed_none : (given : Settings) (all : List Event) (output : List ℕ) → StaysFlushed given all 0 output

@@ -1,15 +1,8 @@
 -- Nothing that was written is lost by an event.
-use Rattle.std.proofs.Common.{◌≡◌, refl, sym, ap, subst, Bool, Option, None, Some, List, Result, Ok, Err, IsSome}
-use Rattle.yaml_base.specs.Event.{Event, stream_start}
-use Rattle.yaml_base.specs.declared.errors.yaml_error_t.{yaml_error_t}
-use Rattle.yaml_base.specs.declared.errors.yaml_error_t.TheVariants.{WriteError, Memory}
-use Rattle.yaml_base.proofs.Prefixes.{prefix_same}
-use Rattle.yaml_pen.specs.Page.{Page}
-use Rattle.yaml_pen.specs.Wrote.{Flushed, Grows}
+use Rattle.yaml_emitter.proofs.Common.{IsSome, Option, None, Some, Result, Err, Ok, Bool, List, refl, ◌≡◌, ap, subst, sym, prefix_same, Event, stream_start}
+use Rattle.yaml_emitter.proofs.Common.{WritesPage, CutPage, unwritten, partly_written, Processed, ProcessedFirst, MachineState, Page, Grows, Flushed}
+use Rattle.yaml_base.specs.declared.errors.{yaml_error_t.yaml_error_t, yaml_error_t.TheVariants.Memory, yaml_error_t.TheVariants.WriteError}
 use Rattle.yaml_pen.proofs.Composing.{wrote_grows}
-use Rattle.yaml_emitter.specs.State.{MachineState}
-use Rattle.yaml_emitter.specs.Processing.{WritesPage, CutPage, unwritten, partly_written, Processed}
-use Rattle.yaml_emitter.specs.StandsAfter.{ProcessedFirst}
 
 -- a page grows by nothing where text and output are equal
 pub grows_same : (before after : Page) → after.text ≡ before.text → after.output ≡ before.output → Grows before after

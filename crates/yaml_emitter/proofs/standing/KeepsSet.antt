@@ -1,12 +1,7 @@
 -- Calls that write keep what the caller set.
-use Rattle.std.proofs.Common.{◌≡◌, Bool, true, Result, Ok, Err, List, refl, ap, ◌∙◌}
-use Rattle.yaml_base.specs.Event.{Event, stream_start}
-use Rattle.yaml_base.specs.declared.errors.yaml_error_t.{yaml_error_t}
-use Rattle.yaml_base.specs.declared.errors.yaml_error_t.TheVariants.{WriteError, Memory}
-use Rattle.yaml_pen.specs.Page.{Page}
-use Rattle.yaml_emitter.specs.State.{KeepsGiven, KeepsSet, MachineState, State, machine_of}
-use Rattle.yaml_emitter.specs.Processing.{CutPage, Keeps, Processed, WritesPage, partly_written, unwritten}
-use Rattle.yaml_emitter.specs.StandsAfter.{ProcessedFirst}
+use Rattle.yaml_emitter.proofs.Common.{Result, Err, Ok, Bool, true, List, refl, ◌≡◌, ap, ◌∙◌, Event, stream_start, Keeps, WritesPage, CutPage, unwritten}
+use Rattle.yaml_emitter.proofs.Common.{partly_written, Processed, ProcessedFirst, State, MachineState, machine_of, KeepsGiven, KeepsSet, Page}
+use Rattle.yaml_base.specs.declared.errors.{yaml_error_t.yaml_error_t, yaml_error_t.TheVariants.Memory, yaml_error_t.TheVariants.WriteError}
 
 pub keeps_given_same : (machine : MachineState) → KeepsGiven machine machine
 keeps_given_same machine = record { given = refl; taken = refl }

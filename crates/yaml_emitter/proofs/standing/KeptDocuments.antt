@@ -1,19 +1,9 @@
 -- The bytes of whole documents are in the output, and stay there.
-use Rattle.std.proofs.Common.{◌≡◌, refl, sym, ap, ◌∙◌, subst, arith, append_assoc}
-use Rattle.std.proofs.lemmas.List.{take_at}
-use Rattle.std.specs.Prelude.{ℕ, ◌≤◌, true, Option, None, List, [], ◌∷◌, ◌++◌, length, take}
-use Rattle.yaml_base.proofs.Prefixes.{prefix_then}
-use Rattle.yaml_base.proofs.QueueLaws.{documents_whole}
-use Rattle.yaml_base.specs.Event.{Event, document_end, document_start, stream_start}
-use Rattle.yaml_base.specs.Grammar.{Document, Documents, documents_and, documents_events, node_events}
-use Rattle.yaml_base.specs.Output.{last_flushes}
-use Rattle.yaml_base.specs.Prefix.{IsPrefix}
-use Rattle.yaml_base.specs.Ready.{written}
-use Rattle.yaml_base.specs.Settings.{Encoding, Settings}
-use Rattle.yaml_base.specs.declared.errors.yaml_error_t.{yaml_error_t}
-use Rattle.yaml_emitter.specs.Promises.{BeginsOutput, OutputBegins, Promised}
-use Rattle.yaml_emitter.specs.State.{State}
-use Rattle.yaml_emitter.specs.StaysFlushed.{KeepsDocuments, whole_documents}
+use Rattle.yaml_emitter.proofs.Common.{ℕ, ◌≤◌, Option, None, length, take, true, List, [], ◌++◌, ◌∷◌, refl, ◌≡◌, take_at, append_assoc, ap, subst, sym, ◌∙◌}
+use Rattle.yaml_emitter.proofs.Common.{arith, prefix_then, Event, stream_start, document_start, document_end, Document, Documents, documents_and, node_events}
+use Rattle.yaml_emitter.proofs.Common.{documents_events, last_flushes, IsPrefix, written, Encoding, Settings, BeginsOutput, OutputBegins, Promised, State}
+use Rattle.yaml_emitter.proofs.Common.{whole_documents, KeepsDocuments}
+use Rattle.yaml_base.{proofs.QueueLaws.documents_whole, specs.declared.errors.yaml_error_t.yaml_error_t}
 use Rattle.yaml_emitter.proofs.standing.Flushing.{last_flushes-append}
 
 -- whole documents are written, whatever follows

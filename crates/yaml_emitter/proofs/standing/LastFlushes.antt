@@ -1,12 +1,8 @@
 -- A flush after a call that writes.
-use Rattle.std.proofs.Common.{◌≡◌, ap, append-nil, Result}
-use Rattle.yaml_base.specs.Characters.{Text}
-use Rattle.yaml_base.specs.Cursor.{Cursor, Rendered, render_nothing, render_then}
+use Rattle.yaml_emitter.proofs.Common.{Result, Ok, ◌≡◌, append-nil, ap, Text, Cursor, Rendered, render_nothing, render_then, wrote_then, wrote_as, Page}
+use Rattle.yaml_emitter.proofs.Common.{Wrote, Flushed}
 use Rattle.yaml_base.specs.declared.errors.yaml_error_t.{yaml_error_t}
-use Rattle.std.specs.Prelude.{Ok}
-use Rattle.yaml_pen.specs.Page.{Page}
-use Rattle.yaml_pen.specs.Wrote.{Wrote, Flushed}
-use Rattle.yaml_pen.proofs.Composing.{wrote_then, wrote_as, flushed_wrote}
+use Rattle.yaml_pen.proofs.Composing.{flushed_wrote}
 
 nothing_more : (rendered : Rendered) → render_then rendered render_nothing ≡ rendered
 nothing_more rendered =

@@ -1,45 +1,18 @@
 -- All that an emitter promises where it stands.
-use Rattle.std.proofs.Common.{◌≡◌, ◌≤◌, refl, sym, ap, ◌∙◌, subst}
-use Rattle.std.specs.Prelude.{ℕ, zero, suc, Bool, true, Option, None, Some, IsSome, Result, Ok, Err, OnOk, List, [], ◌∷◌, ◌++◌, length, take}
-use Rattle.std.proofs.lemmas.List.{length-take-le}
-use Rattle.yaml_base.specs.Characters.{Text}
-use Rattle.yaml_base.specs.Settings.{Settings, Effective}
-use Rattle.yaml_base.specs.Encoding.{encode}
-use Rattle.yaml_base.specs.Event.{Event, stream_start, stream_end}
-use Rattle.yaml_base.specs.Grammar.{documents_events}
-use Rattle.yaml_base.specs.Refusal.{IsAccepted}
-use Rattle.yaml_base.specs.Ready.{written}
-use Rattle.yaml_base.specs.Layout.{Piece}
-use Rattle.yaml_base.specs.Pieces.{list_layout, pieces}
-use Rattle.yaml_base.specs.Steps.{progress}
-use Rattle.yaml_base.specs.Output.{encoding_asked, settings_for, text_written, last_flushes}
-use Rattle.yaml_base.specs.reading.CanonicalReader.{canonical_content}
-use Rattle.yaml_base.specs.Meaning.{has_scalar_texts}
-use Rattle.yaml_base.specs.StreamLaw.{reads_alike}
-use Rattle.yaml_base.specs.streams.StreamContent.{agrees}
-use Rattle.yaml_base.specs.streams.StreamReader.{stream_trees}
-use Rattle.yaml_base.specs.Seen.{seen_event}
-use Rattle.yaml_base.specs.declared.events.yaml_event_t.{yaml_event_t}
-use Rattle.std.specs.List.{list_all}
-use Rattle.yaml_base.specs.declared.errors.yaml_error_t.{yaml_error_t}
-use Rattle.yaml_base.proofs.QueueLaws.{written_within}
-use Rattle.yaml_pen.specs.Page.{Page, encoded, result_of_error}
-use Rattle.yaml_pen.proofs.Writing.{none_from_result}
-use Rattle.yaml_emitter.specs.State.{State, machine_of}
-use Rattle.yaml_emitter.specs.Uncut.{IsUncut}
-use Rattle.yaml_emitter.specs.StandsAfter.{HoldsPieces, StandsWithoutError, MachineStands, StateStands, StandsAfter}
-use Rattle.yaml_base.specs.WrittenTexts.{HoldsRaw}
-use Rattle.yaml_emitter.proofs.layouts.RawTexts.{texts_hold_raw}
-use Rattle.yaml_emitter.proofs.layouts.TidyStreams.{bodies_are_tidy}
-use Rattle.yaml_emitter.specs.Promises.{bytes_of_some, HasAllBytes, ends_stream, EndsExactly, IsWritten, Promised}
+use Rattle.yaml_emitter.proofs.Common.{suc, zero, ℕ, ◌≤◌, IsSome, OnOk, Option, None, Some, Result, Err, Ok, length, take, Bool, true, List, [], ◌++◌, ◌∷◌}
+use Rattle.yaml_emitter.proofs.Common.{refl, ◌≡◌, length-take-le, ap, subst, sym, ◌∙◌, list_all, written_within, Text, encode, Event, stream_start}
+use Rattle.yaml_emitter.proofs.Common.{stream_end, documents_events, Piece, has_scalar_texts, encoding_asked, settings_for, text_written, last_flushes}
+use Rattle.yaml_emitter.proofs.Common.{list_layout, pieces, written, IsAccepted, seen_event, Settings, Effective, progress, reads_alike, HoldsRaw}
+use Rattle.yaml_emitter.proofs.Common.{canonical_content, agrees, stream_trees, ends_stream, EndsExactly, Promised, HoldsPieces, StandsWithoutError}
+use Rattle.yaml_emitter.proofs.Common.{MachineStands, StateStands, StandsAfter, State, machine_of, IsUncut, none_from_result, Page, encoded, result_of_error}
+use Rattle.yaml_base.specs.declared.{errors.yaml_error_t.yaml_error_t, events.yaml_event_t.yaml_event_t}
+use Rattle.yaml_emitter.proofs.{canonical.CanonicalOutput.output_reads, events_done.SeenTexts.seen_scalars, events_done.SeenTexts.texts_more}
+use Rattle.yaml_emitter.proofs.{events_done.SeenTexts.values_of_texts, layouts.Meaning.meaning_is_kept, layouts.RawTexts.texts_hold_raw}
+use Rattle.yaml_emitter.proofs.{layouts.StreamOutput.output_reads_back, layouts.StreamOutput.output_reads_by_either, layouts.TidyStreams.bodies_are_tidy}
+use Rattle.yaml_emitter.proofs.{standing.PromisingRoom.promises_fits, standing.StandingEnds.all_written, standing.StandingEnds.promises_end}
+use Rattle.yaml_emitter.proofs.{standing.StandingEnds.whole_text, standing.StandingFull.take-length, standing.StandingFull.promises_full}
 use Rattle.yaml_emitter.proofs.standing.StandingPromises.{stands_well, promises_text, promises_held, promises_refusal, promises_output, promises_within}
-use Rattle.yaml_emitter.proofs.standing.StandingFull.{take-length, promises_full}
-use Rattle.yaml_emitter.proofs.standing.PromisingRoom.{promises_fits}
-use Rattle.yaml_emitter.proofs.standing.StandingEnds.{promises_end, all_written, whole_text}
-use Rattle.yaml_emitter.proofs.layouts.Meaning.{meaning_is_kept}
-use Rattle.yaml_emitter.proofs.canonical.CanonicalOutput.{output_reads}
-use Rattle.yaml_emitter.proofs.layouts.StreamOutput.{output_reads_back, output_reads_by_either}
-use Rattle.yaml_emitter.proofs.events_done.SeenTexts.{seen_scalars, texts_more, values_of_texts}
+use Rattle.yaml_emitter.specs.Promises.{bytes_of_some, HasAllBytes, IsWritten}
 
 -- All that is flushed is the bytes of the pieces.
 page_bytes : (prefix : List Event) (n : ℕ) (s : Effective) (rendered : List Piece) (text : Text) (page : Page) → length prefix ≡ n

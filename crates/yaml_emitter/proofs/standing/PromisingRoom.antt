@@ -1,17 +1,10 @@
 -- Where an accepted list fits the limit, an emitter that stands failed only for want of memory.
-use Rattle.std.proofs.Common.{◌≡◌, refl, sym, ap, ◌∙◌, subst, append_assoc}
-use Rattle.std.specs.Prelude.{Option, None, Some, Result, IfErr, List, [], ◌∷◌, ◌++◌}
-use Rattle.yaml_base.specs.Event.{Event}
-use Rattle.yaml_base.specs.Refusal.{IsAccepted}
-use Rattle.yaml_base.specs.Settings.{Settings}
-use Rattle.yaml_base.specs.declared.errors.yaml_error_t.{yaml_error_t}
-use Rattle.yaml_base.specs.declared.errors.yaml_error_t.TheVariants.{WriteError, Memory}
-use Rattle.yaml_pen.specs.Page.{result_of_error}
-use Rattle.yaml_emitter.specs.State.{State}
-use Rattle.yaml_emitter.specs.StandsAfter.{StateStands}
-use Rattle.yaml_emitter.specs.Promises.{RefusedAt, FitsLimit, FailsOnlyByMemory}
-use Rattle.yaml_emitter.proofs.standing.StandingPromises.{promises_refusal}
-use Rattle.yaml_emitter.proofs.standing.StandingFull.{promises_full}
+use Rattle.yaml_emitter.proofs.Common.{Option, None, Some, Result, List, [], ◌++◌, ◌∷◌, refl, ◌≡◌, append_assoc, ap, subst, sym, ◌∙◌, Event, IsAccepted}
+use Rattle.yaml_emitter.proofs.Common.{Settings, RefusedAt, StateStands, State, result_of_error}
+use Rattle.std.specs.Prelude.{IfErr}
+use Rattle.yaml_base.specs.declared.errors.{yaml_error_t.yaml_error_t, yaml_error_t.TheVariants.Memory, yaml_error_t.TheVariants.WriteError}
+use Rattle.yaml_emitter.proofs.standing.{StandingFull.promises_full, StandingPromises.promises_refusal}
+use Rattle.yaml_emitter.specs.Promises.{FitsLimit, FailsOnlyByMemory}
 
 -- no event of an accepted list is refused
 refused_unfit : (given : Settings) (all : List Event) (error : yaml_error_t) (state : State) → RefusedAt given all error state → FitsLimit given all → ⊥

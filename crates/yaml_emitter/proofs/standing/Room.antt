@@ -1,14 +1,6 @@
 -- The bytes of a page beside those of a layout that goes on from its text.
-use Rattle.std.proofs.Common.{◌≡◌, sym, ap, ◌∙◌, arith}
-use Rattle.std.proofs.lemmas.List.{length-append}
-use Rattle.std.specs.Prelude.{◌≤◌, Some, List, ◌++◌, length}
-use Rattle.yaml_base.specs.Encoding.{encode, text_bytes}
-use Rattle.yaml_base.specs.Layout.{Piece}
-use Rattle.yaml_base.specs.Output.{text_written, bytes_written}
-use Rattle.yaml_base.specs.Prefix.{IsPrefix}
-use Rattle.yaml_base.specs.Settings.{Effective}
-use Rattle.yaml_pen.proofs.Adding.{encode-append}
-use Rattle.yaml_pen.specs.Page.{Page, encoded}
+use Rattle.yaml_emitter.proofs.Common.{◌≤◌, Some, length, List, ◌++◌, ◌≡◌, length-append, ap, sym, ◌∙◌, arith, text_bytes, encode, Piece, text_written}
+use Rattle.yaml_emitter.proofs.Common.{bytes_written, IsPrefix, Effective, encode-append, Page, encoded}
 
 -- a text that goes on from a page's has no fewer bytes
 pub more_bytes : (s : Effective) (page : Page) (whole : List Piece) → page.encoding ≡ Some s.encoding → IsPrefix page.text (text_written s whole)

@@ -1,34 +1,20 @@
 -- A machine stands after its events: as one more comes, as each that is ready is written, and when no more is ready.
-use Rattle.std.proofs.Common.{◌≡◌, refl, sym, ap, ◌∙◌, subst, arith, append_assoc, append-nil, inl}
-use Rattle.std.proofs.lemmas.List.{length-append, take-append-drop, length-take-le}
-use Rattle.std.proofs.lemmas.List.Concat.{flat_map-append}
-use Rattle.std.specs.Prelude.{◌+◌, Bool, true, false, ◌&&◌, Option, None, Some, Result, Ok, List, [], ◌∷◌, ◌++◌, length, take, option_and_then}
-use Rattle.yaml_base.specs.Settings.{Encoding, Settings, Effective, effective}
-use Rattle.yaml_base.specs.LineBreaks.{with_breaks_written}
-use Rattle.yaml_base.specs.Cursor.{Cursor, Rendered}
-use Rattle.yaml_base.specs.Event.{Event, stream_start, sequence_start, sequence_end, mapping_start, mapping_end}
-use Rattle.yaml_base.specs.Grammar.{at_item, at_key, at_value, Partial, before_stream, within_document, push, pushed, partial_of}
-use Rattle.yaml_base.specs.Refusal.{begins_collection, ends_collection, BeginsAccepted, refusal}
-use Rattle.yaml_base.specs.Ready.{written, held_back}
-use Rattle.yaml_base.specs.Layout.{Piece, Standing, first_standing, piece_text, text_of, stream_start_piece}
-use Rattle.yaml_base.specs.Steps.{at_stream, Stepped, Steps, step, steps, stage_refusal}
-use Rattle.yaml_base.specs.Pieces.{last_begins_collection, first_ends_collection}
-use Rattle.yaml_base.specs.Output.{encoding_asked, settings_for, text_written, last_flushes}
-use Rattle.yaml_base.specs.declared.errors.yaml_error_t.{yaml_error_t}
-use Rattle.yaml_base.proofs.Accepted.{stands_from_begins, refused_exactly}
-use Rattle.yaml_base.proofs.Pushes.{partial_of_events}
-use Rattle.yaml_base.proofs.QueueLaws.{written_within, open_at_written}
-use Rattle.yaml_base.proofs.Progress.{written-append}
-use Rattle.yaml_base.proofs.PieceLaws.{steps-append, steps_same}
-use Rattle.yaml_base.proofs.Stages.{stage_refusal_after}
-use Rattle.yaml_pen.specs.Page.{Page, encoded, new_page}
-use Rattle.yaml_pen.specs.Wrote.{Wrote, named_text}
-use Rattle.yaml_pen.proofs.Composing.{with_breaks_written-append, wrote_all, wrote_no_error}
-use Rattle.yaml_emitter.specs.State.{MachineState, standing_of}
-use Rattle.yaml_emitter.specs.Processing.{closes_at_once, render_event, refusal_now, WritesPage, WritesEvent}
-use Rattle.yaml_emitter.specs.StaysFlushed.{StaysFlushed}
-use Rattle.yaml_emitter.proofs.standing.Flushing.{flushed_first, flushed_grown, flushed_none}
-use Rattle.yaml_emitter.specs.StandsAfter.{IsPage, HoldsPieces, IsSettled, HasProgress, StandsWithoutError, closes_last, Reached}
+use Rattle.yaml_emitter.proofs.Common.{◌+◌, option_and_then, Option, None, Some, Result, Ok, length, take, Bool, false, true, ◌&&◌, List, [], ◌++◌, ◌∷◌, refl}
+use Rattle.yaml_emitter.proofs.Common.{◌≡◌, length-append, take-append-drop, length-take-le, append-nil, append_assoc, inl, ap, subst, sym, ◌∙◌, arith}
+use Rattle.yaml_emitter.proofs.Common.{flat_map-append, stands_from_begins, refused_exactly, steps-append, steps_same, written-append, written_within}
+use Rattle.yaml_emitter.proofs.Common.{open_at_written, Cursor, Rendered, Event, stream_start, sequence_start, sequence_end, mapping_start, mapping_end}
+use Rattle.yaml_emitter.proofs.Common.{at_item, at_key, at_value, Partial, before_stream, within_document, push, pushed, partial_of, first_standing}
+use Rattle.yaml_emitter.proofs.Common.{stream_start_piece, Piece, piece_text, text_of, Standing, with_breaks_written, encoding_asked, settings_for}
+use Rattle.yaml_emitter.proofs.Common.{text_written, last_flushes, last_begins_collection, first_ends_collection, written, held_back, begins_collection}
+use Rattle.yaml_emitter.proofs.Common.{ends_collection, refusal, BeginsAccepted, Encoding, Settings, Effective, effective, at_stream, step, Steps, steps}
+use Rattle.yaml_emitter.proofs.Common.{stage_refusal, closes_at_once, render_event, refusal_now, WritesPage, WritesEvent, IsPage, HoldsPieces, HasProgress}
+use Rattle.yaml_emitter.proofs.Common.{StandsWithoutError, closes_last, Reached, MachineState, standing_of, StaysFlushed, wrote_all, Page, encoded, new_page}
+use Rattle.yaml_emitter.proofs.Common.{Wrote}
+use Rattle.yaml_base.proofs.Common.{Stepped}
+use Rattle.yaml_base.{proofs.Pushes.partial_of_events, proofs.Stages.stage_refusal_after, specs.declared.errors.yaml_error_t.yaml_error_t}
+use Rattle.yaml_emitter.proofs.standing.Flushing.{flushed_none, flushed_first, flushed_grown}
+use Rattle.yaml_emitter.specs.StandsAfter.{IsSettled}
+use Rattle.yaml_pen.{proofs.Composing.with_breaks_written-append, proofs.Composing.wrote_no_error, specs.Wrote.named_text}
 
 -- Settings are those of the first event.
 asked_more : (event : Event) (rest more : List Event) → encoding_asked (event ∷ (rest ++ more)) ≡ encoding_asked (event ∷ rest)

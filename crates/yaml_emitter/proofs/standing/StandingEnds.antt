@@ -1,31 +1,14 @@
 -- What an emitter that stands promises at the stream's end, and of a list that is written whole.
-use Rattle.std.proofs.Common.{◌≡◌, refl, sym, ap, ◌∙◌, subst, arith, append_assoc, append-nil}
-use Rattle.std.proofs.lemmas.List.{take-append-drop}
-use Rattle.std.specs.Prelude.{ℕ, zero, suc, ◌≤◌, Bool, false, Option, None, Some, List, [], ◌∷◌, ◌++◌, length, take, drop, option_and_then}
-use Rattle.yaml_base.specs.Settings.{Settings, Effective}
-use Rattle.yaml_base.specs.Encoding.{encode, cut}
-use Rattle.yaml_base.specs.Event.{Event, stream_end}
-use Rattle.yaml_base.specs.Grammar.{at_item, at_key, at_value, Stream, stream_events, Partial, before_stream, between_documents, within_document, after_stream}
-use Rattle.yaml_base.specs.Grammar.{pushed, partial_of}
-use Rattle.yaml_base.specs.Refusal.{IsAccepted, BeginsAccepted}
-use Rattle.yaml_base.specs.Ready.{written}
-use Rattle.yaml_base.specs.Layout.{first_standing}
-use Rattle.yaml_base.specs.Steps.{at_stream, steps}
-use Rattle.yaml_base.specs.Pieces.{list_layout}
-use Rattle.yaml_base.specs.Output.{settings_for, text_written, bytes_written, output_of}
-use Rattle.yaml_base.specs.declared.errors.yaml_error_t.{yaml_error_t}
-use Rattle.yaml_base.proofs.Accepted.{stands_from_begins}
-use Rattle.yaml_base.proofs.Completions.{prefix_is_partial, pushed-append}
-use Rattle.yaml_base.proofs.Trees.{stream_pushed}
-use Rattle.yaml_base.proofs.PieceLaws.{list_layout_steps}
-use Rattle.yaml_base.proofs.QueueLaws.{stream_written}
-use Rattle.yaml_pen.specs.Page.{Page, encoded}
-use Rattle.yaml_emitter.specs.State.{State, machine_of}
-use Rattle.yaml_emitter.specs.StandsAfter.{HoldsPiecesWith, StandsWithoutError, StateStands}
-use Rattle.yaml_emitter.specs.Promises.{RefusedAt, HasRoom, EndsExactly}
-use Rattle.yaml_emitter.proofs.standing.StandingTexts.{holds_text}
-use Rattle.yaml_emitter.proofs.standing.StandingPromises.{stands_well, promises_refusal}
-use Rattle.yaml_emitter.proofs.standing.StandingFull.{drop-all, take-length}
+use Rattle.yaml_emitter.proofs.Common.{suc, zero, ℕ, ◌≤◌, option_and_then, Option, None, Some, drop, length, take, Bool, false, List, [], ◌++◌, ◌∷◌, refl}
+use Rattle.yaml_emitter.proofs.Common.{◌≡◌, take-append-drop, append-nil, append_assoc, ap, subst, sym, ◌∙◌, arith, stands_from_begins, pushed-append}
+use Rattle.yaml_emitter.proofs.Common.{prefix_is_partial, list_layout_steps, stream_pushed, encode, cut, Event, stream_end, Stream, stream_events, at_item}
+use Rattle.yaml_emitter.proofs.Common.{at_key, at_value, Partial, before_stream, within_document, after_stream, pushed, partial_of, first_standing}
+use Rattle.yaml_emitter.proofs.Common.{settings_for, text_written, bytes_written, output_of, list_layout, written, IsAccepted, BeginsAccepted, Settings}
+use Rattle.yaml_emitter.proofs.Common.{Effective, at_stream, steps, RefusedAt, EndsExactly, HoldsPiecesWith, StandsWithoutError, StateStands, State}
+use Rattle.yaml_emitter.proofs.Common.{machine_of, Page, encoded}
+use Rattle.yaml_base.{proofs.QueueLaws.stream_written, specs.Grammar.between_documents, specs.declared.errors.yaml_error_t.yaml_error_t}
+use Rattle.yaml_emitter.{proofs.standing.StandingFull.drop-all, proofs.standing.StandingFull.take-length, proofs.standing.StandingPromises.stands_well}
+use Rattle.yaml_emitter.{proofs.standing.StandingPromises.promises_refusal, proofs.standing.StandingTexts.holds_text, specs.Promises.HasRoom}
 
 -- The stream's end.
 finishes : (p q : Partial) → pushed p (stream_end ∷ []) ≡ Some q → (t : Stream) × (q ≡ after_stream t)

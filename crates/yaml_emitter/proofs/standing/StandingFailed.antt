@@ -1,30 +1,15 @@
 -- An emitter that failed stands after the events that it was given, and after those that come later.
-use Rattle.std.proofs.Common.{◌≡◌, refl, sym, ap, ◌∙◌, subst, arith, append_assoc}
-use Rattle.std.proofs.lemmas.Bool.{false≢true}
-use Rattle.std.specs.Prelude.{suc, Bool, true, false, Option, None, Some, IsSome, Result, Err, List, [], ◌∷◌, ◌++◌, length, option_and_then, if◌then◌else◌}
-use Rattle.yaml_base.specs.Settings.{Settings}
-use Rattle.yaml_base.specs.Prefix.{IsPrefix}
-use Rattle.yaml_base.specs.Event.{Event, sequence_start, sequence_end, mapping_start, mapping_end}
-use Rattle.yaml_base.specs.Grammar.{Partial, before_stream, within_document, no_nodes, no_pairs, at_item, at_key, push, pushed}
-use Rattle.yaml_base.specs.Refusal.{BeginsAccepted, refusal_at, refusal}
-use Rattle.yaml_base.specs.Ready.{is_ready, written}
-use Rattle.yaml_base.specs.Layout.{first_standing}
-use Rattle.yaml_base.specs.Steps.{Steps, at_stream, steps}
-use Rattle.yaml_base.specs.Output.{settings_for, text_written}
-use Rattle.yaml_base.specs.declared.errors.yaml_error_t.{yaml_error_t}
-use Rattle.yaml_base.specs.declared.errors.yaml_error_t.TheVariants.{WriteError, Memory}
-use Rattle.yaml_base.proofs.Accepted.{stands_from_begins}
-use Rattle.yaml_pen.specs.Page.{Page}
-use Rattle.yaml_pen.specs.Wrote.{Wrote}
-use Rattle.yaml_emitter.specs.State.{MachineState}
-use Rattle.yaml_emitter.specs.Processing.{closes_at_once, event_stepped, render_event, CutShort, unwritten, partly_written, Refused, Processed}
-use Rattle.yaml_emitter.specs.StandsAfter.{IsPage, HoldsPieces, HasProgress, FailedAt, closes_last, StandsRefused, holds_before, holds_part}
-use Rattle.yaml_emitter.specs.StandsAfter.{StandsCut, StandsFailed}
-use Rattle.yaml_emitter.specs.StandsAfter.{Reached, failed_by, at_event}
-use Rattle.yaml_emitter.proofs.standing.Flushing.{flushed_output}
-use Rattle.yaml_emitter.proofs.standing.Growing.{cut_grows}
-use Rattle.yaml_emitter.proofs.standing.Standing.{taken_same, refusal_same, accepted_next, named_more, is_page_wrote}
-use Rattle.yaml_emitter.proofs.standing.StandingSteps.{stepped_steps}
+use Rattle.yaml_emitter.proofs.Common.{suc, if◌then◌else◌, IsSome, option_and_then, Option, None, Some, Result, Err, length, Bool, false, true, List, []}
+use Rattle.yaml_emitter.proofs.Common.{◌++◌, ◌∷◌, refl, ◌≡◌, append_assoc, ap, subst, sym, ◌∙◌, arith, false≢true, stands_from_begins, Event, sequence_start}
+use Rattle.yaml_emitter.proofs.Common.{sequence_end, mapping_start, mapping_end, no_nodes, no_pairs, at_item, at_key, Partial, before_stream, within_document}
+use Rattle.yaml_emitter.proofs.Common.{push, pushed, first_standing, settings_for, text_written, IsPrefix, is_ready, written, refusal_at, refusal}
+use Rattle.yaml_emitter.proofs.Common.{BeginsAccepted, Settings, at_stream, Steps, steps, closes_at_once, event_stepped, render_event, unwritten}
+use Rattle.yaml_emitter.proofs.Common.{partly_written, CutShort, Processed, IsPage, HoldsPieces, HasProgress, FailedAt, closes_last, StandsRefused}
+use Rattle.yaml_emitter.proofs.Common.{holds_before, holds_part, StandsCut, at_event, StandsFailed, Reached, failed_by, MachineState, Page, Wrote}
+use Rattle.yaml_base.specs.declared.errors.{yaml_error_t.yaml_error_t, yaml_error_t.TheVariants.Memory, yaml_error_t.TheVariants.WriteError}
+use Rattle.yaml_emitter.proofs.standing.{Flushing.flushed_output, Growing.cut_grows, StandingSteps.stepped_steps}
+use Rattle.yaml_emitter.proofs.standing.Standing.{taken_same, refusal_same, accepted_next, is_page_wrote, named_more}
+use Rattle.yaml_emitter.specs.Processing.{Refused}
 
 failed_at : (given : Settings) (all prefix rest : List Event) (event : Event) (before : MachineState) → Reached given all prefix (event ∷ rest) before
     → is_ready event rest ≡ true → FailedAt all prefix event rest

@@ -1,37 +1,17 @@
 -- What an emitter that stands promises where the output's limit was passed.
-use Rattle.std.proofs.Common.{◌≡◌, refl, sym, ap, ◌∙◌, subst, arith, append_assoc}
-use Rattle.std.proofs.lemmas.List.{take-append-drop}
-use Rattle.std.specs.Prelude.{ℕ, ◌<◌, ◌≤◌, Bool, true, false, Some, List, [], ◌∷◌, ◌++◌, length, take, drop}
-use Rattle.yaml_base.specs.Settings.{Settings, Effective}
-use Rattle.yaml_base.specs.Encoding.{cut}
-use Rattle.yaml_base.specs.Prefix.{IsPrefix}
-use Rattle.yaml_base.specs.Event.{Event, sequence_start, mapping_start}
-use Rattle.yaml_base.specs.Grammar.{Partial, before_stream, after_stream, partial_of}
-use Rattle.yaml_base.specs.Refusal.{begins_collection, IsAccepted}
-use Rattle.yaml_base.specs.Ready.{is_ready, written}
-use Rattle.yaml_base.specs.Layout.{Piece, first_standing}
-use Rattle.yaml_base.specs.Steps.{Steps, at_stream, ends_next, steps}
-use Rattle.yaml_base.specs.Pieces.{list_layout, pieces, last_begins_collection, first_ends_collection}
-use Rattle.yaml_base.specs.Pieces as closes
-use Rattle.yaml_base.specs.Output.{settings_for, text_written, bytes_written}
-use Rattle.yaml_base.specs.declared.errors.yaml_error_t.TheVariants.{WriteError, Memory}
-use Rattle.yaml_base.proofs.Completions.{prefix_is_partial}
-use Rattle.yaml_base.proofs.Prefixes.{prefix_same}
-use Rattle.yaml_base.proofs.Trees.{stream_pushed}
-use Rattle.yaml_base.proofs.PieceLaws.{steps_same, prefix_layout, list_layout_steps}
-use Rattle.yaml_base.proofs.QueueLaws.{open_at_written}
-use Rattle.yaml_pen.specs.Page.{Page, encoded, IsFlushedOutput}
-use Rattle.yaml_emitter.specs.State.{State, machine_of}
-use Rattle.yaml_emitter.specs.Processing.{closes_at_once}
-use Rattle.yaml_emitter.specs.StandsAfter.{IsPage, HoldsPiecesWith, holds_before, holds_part, StandsCut, StandsUnflushed, StateStands, at_event, between_events}
+use Rattle.yaml_emitter.proofs.Common.{ℕ, ◌<◌, ◌≤◌, Some, drop, length, take, Bool, false, true, List, [], ◌++◌, ◌∷◌, refl, ◌≡◌, take-append-drop}
+use Rattle.yaml_emitter.proofs.Common.{append_assoc, ap, subst, sym, ◌∙◌, arith, prefix_is_partial, steps_same, list_layout_steps, prefix_layout, prefix_same}
+use Rattle.yaml_emitter.proofs.Common.{open_at_written, stream_pushed, cut, Event, sequence_start, mapping_start, Partial, before_stream, after_stream}
+use Rattle.yaml_emitter.proofs.Common.{partial_of, first_standing, Piece, settings_for, text_written, bytes_written, list_layout, pieces}
+use Rattle.yaml_emitter.proofs.Common.{last_begins_collection, IsPrefix, is_ready, written, begins_collection, IsAccepted, Settings, Effective, at_stream}
+use Rattle.yaml_emitter.proofs.Common.{ends_next, Steps, steps, closes_at_once, IsPage, HoldsPiecesWith, holds_before, holds_part, StandsCut, StandsUnflushed}
+use Rattle.yaml_emitter.proofs.Common.{at_event, between_events, StateStands, State, machine_of, IsUncut, Page, encoded, IsFlushedOutput}
+use Rattle.yaml_base.specs.declared.errors.yaml_error_t.TheVariants.{Memory, WriteError}
+use Rattle.yaml_emitter.proofs.standing.{Room.more_bytes, Standing.settings_grown, Standing.own_end, StandingMore.settings_failed, StandingMore.ready_at}
+use Rattle.yaml_emitter.proofs.standing.{StandingPromises.stands_failed, StandingPromises.steps_begin, StandingSteps.closes_last-append}
+use Rattle.yaml_emitter.proofs.standing.{StandingTexts.begin_taken, StandingTexts.prefix_longer, StandingTexts.output_fills}
 use Rattle.yaml_emitter.specs.Promises.{FillsLimit}
-use Rattle.yaml_emitter.specs.Uncut.{IsUncut}
-use Rattle.yaml_emitter.proofs.standing.Room.{more_bytes}
-use Rattle.yaml_emitter.proofs.standing.Standing.{own_end, settings_grown}
-use Rattle.yaml_emitter.proofs.standing.StandingSteps.{closes_last-append}
-use Rattle.yaml_emitter.proofs.standing.StandingMore.{ready_at, settings_failed}
-use Rattle.yaml_emitter.proofs.standing.StandingTexts.{begin_taken, prefix_longer, output_fills}
-use Rattle.yaml_emitter.proofs.standing.StandingPromises.{stands_failed, steps_begin}
+use Rattle.yaml_base.specs.Pieces as closes
 
 -- The output's limit.
 not_memory : WriteError ≡ Memory → ⊥

@@ -1,34 +1,16 @@
 -- An emitter that failed stands after all events that are still given; a new one and one that was flushed stand too.
-use Rattle.std.proofs.Common.{◌≡◌, refl, sym, ap, ◌∙◌, subst, arith, append_assoc, append-nil, inl, inr}
-use Rattle.std.proofs.lemmas.List.{length-append, length-take-le, take-append-drop}
-use Rattle.std.specs.Prelude.{ℕ, zero, suc, ◌<◌, ◌≤◌, ◌⊎◌, Bool, true, false, Option, None, Some, Result, Ok, Err, List, [], ◌∷◌, ◌++◌, length, take, drop}
-use Rattle.std.specs.Prelude.{if◌then◌else◌}
-use Rattle.yaml_base.specs.Settings.{Settings, Effective}
-use Rattle.yaml_base.specs.Event.{Event, sequence_start, sequence_end, mapping_start, mapping_end}
-use Rattle.yaml_base.specs.Grammar.{before_stream}
-use Rattle.yaml_base.specs.Refusal.{open_count, most_open, BeginsAccepted}
-use Rattle.yaml_base.specs.Ready.{is_ready, written}
-use Rattle.yaml_base.specs.Layout.{Piece, Standing, first_standing}
-use Rattle.yaml_base.specs.Steps.{at_stream, steps, progress}
-use Rattle.yaml_base.specs.Output.{settings_for}
-use Rattle.yaml_base.specs.declared.errors.yaml_error_t.{yaml_error_t}
-use Rattle.yaml_base.specs.declared.errors.yaml_error_t.TheVariants.{WriteError, Memory}
-use Rattle.yaml_base.proofs.Accepted.{begins_from_stands}
-use Rattle.yaml_base.proofs.ReadyLaws.{written_grows}
-use Rattle.yaml_pen.specs.Page.{Page, new_page, result_of_error}
-use Rattle.yaml_base.specs.Encoding.{encode}
-use Rattle.yaml_pen.specs.Wrote.{Flushed}
-use Rattle.yaml_pen.proofs.Writing.{none_from_result}
-use Rattle.yaml_emitter.specs.State.{MachineState, State, machine_of, new_machine}
-use Rattle.yaml_emitter.specs.Given.{nothing_given}
-use Rattle.yaml_emitter.specs.Processing.{closes_at_once}
-use Rattle.yaml_emitter.specs.StandsAfter.{HoldsPieces, HoldsPiecesWith, StandsWithoutError, FailedAt, closes_last, StandsRefused, HoldsCut}
-use Rattle.yaml_emitter.specs.StandsAfter.{StandsCut, StandsUnflushed}
-use Rattle.yaml_emitter.specs.StandsAfter.{StandsStopped, StandsFailed, MachineStands, StateStands, at_event, between_events}
-use Rattle.yaml_base.proofs.QueueLaws.{written_within}
-use Rattle.yaml_emitter.specs.StaysFlushed.{StaysFlushed}
-use Rattle.yaml_emitter.proofs.standing.Flushing.{flushed_grown, flushed_none, flushed_output}
-use Rattle.yaml_emitter.proofs.standing.Standing.{settings_grown, settled_same, taken_grown}
+use Rattle.yaml_emitter.proofs.Common.{suc, zero, ℕ, ◌<◌, ◌≤◌, if◌then◌else◌, Option, None, Some, Result, Err, Ok, drop, length, take, Bool, false, true}
+use Rattle.yaml_emitter.proofs.Common.{List, [], ◌++◌, ◌∷◌, ◌⊎◌, refl, ◌≡◌, length-append, take-append-drop, length-take-le, append-nil, append_assoc, inl}
+use Rattle.yaml_emitter.proofs.Common.{inr, ap, subst, sym, ◌∙◌, arith, written_within, encode, Event, sequence_start, sequence_end, mapping_start}
+use Rattle.yaml_emitter.proofs.Common.{mapping_end, before_stream, first_standing, Piece, Standing, settings_for, is_ready, written, most_open, open_count}
+use Rattle.yaml_emitter.proofs.Common.{BeginsAccepted, Settings, Effective, at_stream, steps, progress, nothing_given, closes_at_once, HoldsPiecesWith}
+use Rattle.yaml_emitter.proofs.Common.{HoldsPieces, StandsWithoutError, FailedAt, closes_last, StandsRefused, HoldsCut, StandsCut, StandsUnflushed}
+use Rattle.yaml_emitter.proofs.Common.{StandsStopped, at_event, between_events, StandsFailed, MachineStands, StateStands, State, MachineState, machine_of}
+use Rattle.yaml_emitter.proofs.Common.{new_machine, StaysFlushed, none_from_result, Page, result_of_error, new_page, Flushed}
+use Rattle.yaml_base.{proofs.Accepted.begins_from_stands, proofs.ReadyLaws.written_grows, specs.declared.errors.yaml_error_t.yaml_error_t}
+use Rattle.yaml_base.{specs.declared.errors.yaml_error_t.TheVariants.Memory, specs.declared.errors.yaml_error_t.TheVariants.WriteError}
+use Rattle.yaml_emitter.proofs.standing.Flushing.{flushed_none, flushed_output, flushed_grown}
+use Rattle.yaml_emitter.proofs.standing.Standing.{settings_grown, taken_grown, settled_same}
 
 -- More events after a failure.
 failed_grown : (all prefix : List Event) (event : Event) (later more : List Event) → FailedAt all prefix event later

@@ -1,41 +1,20 @@
 -- What an emitter that stands promises its caller.
-use Rattle.std.proofs.Common.{◌≡◌, refl, sym, ap, ◌∙◌, subst, arith, append_assoc}
-use Rattle.std.proofs.lemmas.List.{take-append-drop, length-take-le}
-use Rattle.std.proofs.lemmas.Bool.{false≢true}
-use Rattle.std.specs.Prelude.{◌≤◌, Bool, true, false, ◌&&◌, Option, None, Some, List, [], ◌∷◌, ◌++◌, length, take, drop, option_and_then}
-use Rattle.yaml_base.specs.Settings.{Settings, Effective}
-use Rattle.yaml_base.specs.Encoding.{cut}
-use Rattle.yaml_base.specs.Prefix.{IsPrefix}
-use Rattle.yaml_base.specs.Event.{Event, document_start, sequence_start, sequence_end, mapping_start, mapping_end}
-use Rattle.yaml_base.specs.Grammar.{before_stream}
-use Rattle.yaml_base.specs.Refusal.{ends_collection, IsAccepted, BeginsAccepted, refusal_at, refusal}
-use Rattle.yaml_base.specs.Ready.{is_ready, written, held_back}
-use Rattle.yaml_base.specs.Layout.{Piece, first_standing}
-use Rattle.yaml_base.specs.Steps.{Steps, at_stream, ends_next, steps}
-use Rattle.yaml_base.specs.Pieces.{list_layout, pieces, last_begins_collection}
-use Rattle.yaml_base.specs.Output.{settings_for, text_written}
-use Rattle.yaml_base.specs.declared.errors.yaml_error_t.{yaml_error_t}
-use Rattle.yaml_base.specs.declared.errors.yaml_error_t.TheVariants.{WriteError, Memory}
-use Rattle.yaml_base.proofs.Accepted.{stands_from_begins, refused_exactly}
-use Rattle.yaml_base.proofs.Prefixes.{prefix_same, prefix_then}
-use Rattle.yaml_base.proofs.PieceLaws.{steps_count, steps-append}
-use Rattle.yaml_base.proofs.Progress.{progress_pieces}
-use Rattle.yaml_base.proofs.QueueLaws.{held_is_short, held_waits, written_within}
-use Rattle.yaml_pen.specs.Page.{Page}
-use Rattle.yaml_emitter.specs.State.{State, machine_of}
-use Rattle.yaml_emitter.specs.StaysFlushed.{StaysFlushed}
-use Rattle.yaml_emitter.specs.Queue.{is_head_ready}
-use Rattle.yaml_emitter.specs.Processing.{closes_at_once}
-use Rattle.yaml_emitter.specs.StandsAfter.{HoldsPiecesWith, StandsWithoutError, closes_last, StandsRefused, holds_before, holds_part, StandsCut}
-use Rattle.yaml_emitter.specs.StandsAfter.{StandsUnflushed}
-use Rattle.yaml_emitter.specs.StandsAfter.{StandsStopped, StandsFailed, MachineStands, StateStands, at_event, between_events}
-use Rattle.yaml_emitter.specs.Promises.{HasText, begins_with_start, most_held, QueuesUnready, RefusedAt, BeginsOutput, StopsWriting, stops_before, stops_within}
-use Rattle.yaml_emitter.specs.Promises.{OutputBegins, IsRefusal}
-use Rattle.yaml_emitter.proofs.standing.Standing.{open_last, end_next}
-use Rattle.yaml_emitter.proofs.standing.StandingSteps.{awaits_few, closes_last-append}
-use Rattle.yaml_emitter.proofs.standing.StandingFailed.{own_accepted}
+use Rattle.yaml_emitter.proofs.Common.{◌≤◌, option_and_then, Option, None, Some, drop, length, take, Bool, false, true, ◌&&◌, List, [], ◌++◌, ◌∷◌, refl, ◌≡◌}
+use Rattle.yaml_emitter.proofs.Common.{take-append-drop, length-take-le, append_assoc, ap, subst, sym, ◌∙◌, arith, false≢true, stands_from_begins}
+use Rattle.yaml_emitter.proofs.Common.{refused_exactly, steps-append, prefix_same, prefix_then, written_within, cut, Event, document_start, sequence_start}
+use Rattle.yaml_emitter.proofs.Common.{sequence_end, mapping_start, mapping_end, before_stream, first_standing, Piece, settings_for, text_written}
+use Rattle.yaml_emitter.proofs.Common.{list_layout, pieces, last_begins_collection, IsPrefix, is_ready, written, held_back, ends_collection, refusal_at}
+use Rattle.yaml_emitter.proofs.Common.{refusal, IsAccepted, BeginsAccepted, Settings, Effective, at_stream, ends_next, Steps, steps, closes_at_once}
+use Rattle.yaml_emitter.proofs.Common.{RefusedAt, BeginsOutput, OutputBegins, IsRefusal, is_head_ready, HoldsPiecesWith, StandsWithoutError, closes_last}
+use Rattle.yaml_emitter.proofs.Common.{StandsRefused, holds_before, holds_part, StandsCut, StandsUnflushed, StandsStopped, at_event, between_events}
+use Rattle.yaml_emitter.proofs.Common.{StandsFailed, MachineStands, StateStands, State, machine_of, StaysFlushed, Page}
+use Rattle.yaml_base.proofs.{PieceLaws.steps_count, Progress.progress_pieces, QueueLaws.held_waits, QueueLaws.held_is_short}
+use Rattle.yaml_base.specs.declared.errors.{yaml_error_t.yaml_error_t, yaml_error_t.TheVariants.Memory, yaml_error_t.TheVariants.WriteError}
+use Rattle.yaml_emitter.proofs.standing.{Standing.open_last, Standing.end_next, StandingFailed.own_accepted, StandingSteps.closes_last-append}
+use Rattle.yaml_emitter.proofs.standing.{StandingSteps.awaits_few}
 use Rattle.yaml_emitter.proofs.standing.StandingTexts.{holds_text, pieces_prefix, begin_take, prefix_longer, ContinuesScript, goes_on, output_begins}
 use Rattle.yaml_emitter.proofs.standing.StandingTexts.{holds_output}
+use Rattle.yaml_emitter.specs.Promises.{HasText, begins_with_start, most_held, QueuesUnready, StopsWriting, stops_before, stops_within}
 
 pub stands_well : (given : Settings) (all : List Event) (state : State) → StateStands given all state → state.error ≡ None
     → StandsWithoutError given all state.held (machine_of state)

@@ -1,21 +1,10 @@
 -- An emitter that was given no event stands as its caller sets it.
-use Rattle.std.proofs.Common.{◌≡◌, refl, sym, ap, ◌∙◌, subst, arith}
-use Rattle.std.specs.Prelude.{ℕ, true, Option, None, Some, List, [], ◌∷◌, ◌++◌, take}
-use Rattle.yaml_base.specs.Settings.{Settings, Effective}
-use Rattle.yaml_base.specs.Event.{Event}
-use Rattle.yaml_base.specs.Ready.{written}
-use Rattle.yaml_base.specs.Layout.{Standing}
-use Rattle.yaml_base.specs.Steps.{progress}
-use Rattle.yaml_base.specs.Output.{settings_for}
-use Rattle.yaml_base.specs.declared.errors.yaml_error_t.{yaml_error_t}
-use Rattle.yaml_base.specs.declared.errors.yaml_error_t.TheVariants.{WriteError, Memory}
-use Rattle.yaml_pen.specs.Page.{Page, new_page, encoded, IsFlushedOutput}
-use Rattle.yaml_emitter.specs.State.{MachineState, State, machine_of}
-use Rattle.yaml_emitter.specs.StandsAfter.{HoldsPiecesWith, FailedAt, StandsWithoutError, StandsUnflushed, StandsStopped, StandsFailed, MachineStands}
-use Rattle.yaml_emitter.specs.StandsAfter.{StandsAfter}
-use Rattle.yaml_emitter.specs.StandsAfter.{at_event, between_events}
-use Rattle.yaml_emitter.proofs.standing.Flushing.{flushed_none}
-use Rattle.yaml_emitter.proofs.standing.StandingMore.{nothing_begins}
+use Rattle.yaml_emitter.proofs.Common.{ℕ, Option, None, Some, take, true, List, [], ◌++◌, ◌∷◌, refl, ◌≡◌, ap, subst, sym, ◌∙◌, arith, Event, Standing}
+use Rattle.yaml_emitter.proofs.Common.{settings_for, written, Settings, Effective, progress, HoldsPiecesWith, StandsWithoutError, FailedAt, StandsUnflushed}
+use Rattle.yaml_emitter.proofs.Common.{StandsStopped, at_event, between_events, StandsFailed, MachineStands, StandsAfter, State, MachineState, machine_of}
+use Rattle.yaml_emitter.proofs.Common.{Page, encoded, IsFlushedOutput, new_page}
+use Rattle.yaml_base.specs.declared.errors.{yaml_error_t.yaml_error_t, yaml_error_t.TheVariants.Memory, yaml_error_t.TheVariants.WriteError}
+use Rattle.yaml_emitter.proofs.standing.{Flushing.flushed_none, StandingMore.nothing_begins}
 
 -- what is set: what was given, what it comes to, and the page's limit
 abbrev pub IsSet : MachineState → MachineState → Type 0

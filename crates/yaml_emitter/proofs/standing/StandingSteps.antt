@@ -1,30 +1,16 @@
 -- An emitter stands as each event that is ready is written, and when no more is.
-use Rattle.std.proofs.Common.{◌≡◌, refl, sym, ap, ◌∙◌, subst, arith, append_assoc}
-use Rattle.std.proofs.lemmas.List.{length-append, take_at, drop_at}
-use Rattle.std.specs.Prelude.{suc, ◌+◌, ◌≤◌, Bool, true, false, ◌&&◌, Some, Ok, List, [], ◌∷◌, ◌++◌, length, take, drop, option_and_then, if◌then◌else◌}
-use Rattle.yaml_base.specs.Settings.{Effective, Settings}
-use Rattle.yaml_base.specs.Encoding.{encode}
-use Rattle.yaml_base.specs.Event.{Event, document_start, document_end, sequence_start, mapping_start, stream_end}
-use Rattle.yaml_base.specs.Grammar.{Partial, before_stream, pushed, partial_of}
-use Rattle.yaml_base.specs.Refusal.{BeginsAccepted}
-use Rattle.yaml_base.specs.Ready.{is_ready, written, awaited, held_back}
-use Rattle.yaml_base.specs.Layout.{Piece, Standing, first_standing}
-use Rattle.yaml_base.specs.Steps.{Steps, at_stream, step, steps}
-use Rattle.yaml_base.specs.Pieces.{last_begins_collection, first_ends_collection}
-use Rattle.yaml_base.specs.Output.{settings_for, bytes_written, flushes}
-use Rattle.yaml_base.proofs.Accepted.{stands_from_begins}
-use Rattle.yaml_base.proofs.Completions.{pushed-append}
+use Rattle.yaml_emitter.proofs.Common.{suc, ◌+◌, ◌≤◌, if◌then◌else◌, option_and_then, Some, Ok, drop, length, take, Bool, false, true, ◌&&◌, List, [], ◌++◌}
+use Rattle.yaml_emitter.proofs.Common.{◌∷◌, refl, ◌≡◌, length-append, take_at, append_assoc, ap, subst, sym, ◌∙◌, arith, stands_from_begins, pushed-append}
+use Rattle.yaml_emitter.proofs.Common.{encode, Event, stream_end, document_start, document_end, sequence_start, mapping_start, Partial, before_stream, pushed}
+use Rattle.yaml_emitter.proofs.Common.{partial_of, first_standing, Piece, Standing, settings_for, bytes_written, flushes, last_begins_collection}
+use Rattle.yaml_emitter.proofs.Common.{first_ends_collection, awaited, is_ready, written, held_back, BeginsAccepted, Settings, Effective, at_stream, step}
+use Rattle.yaml_emitter.proofs.Common.{Steps, steps, closes_at_once, event_stepped, render_event, WritesEvent, Processed, is_head_ready, HoldsPieces}
+use Rattle.yaml_emitter.proofs.Common.{HasProgress, StandsWithoutError, closes_last, Reached, MachineState, standing_of, wrote_all, Page, encoded}
+use Rattle.std.proofs.lemmas.List.{drop_at}
 use Rattle.yaml_base.proofs.QueueLaws.{no_end_held}
-use Rattle.yaml_pen.specs.Page.{Page, encoded}
-use Rattle.yaml_pen.proofs.Composing.{wrote_all}
-use Rattle.yaml_emitter.specs.State.{MachineState, standing_of}
-use Rattle.yaml_emitter.specs.Queue.{is_head_ready}
-use Rattle.yaml_emitter.specs.Processing.{closes_at_once, event_stepped, render_event, WritesEvent, Processed}
-use Rattle.yaml_emitter.specs.StandsAfter.{HasProgress, HoldsPieces, StandsWithoutError, closes_last, Reached}
-use Rattle.yaml_emitter.proofs.standing.Flushing.{flushed_more, last_flushes-append}
-use Rattle.yaml_emitter.proofs.standing.StandingTexts.{pieces_prefix}
-use Rattle.yaml_emitter.proofs.standing.Standing.{open_last, taken_same, IsLater, starts_only, not_begun, pushes_later, one_more, next_steps, accepted_next}
-use Rattle.yaml_emitter.proofs.standing.Standing.{page_more, writes_later, taken_first}
+use Rattle.yaml_emitter.proofs.standing.{Flushing.last_flushes-append, Flushing.flushed_more, StandingTexts.pieces_prefix}
+use Rattle.yaml_emitter.proofs.standing.Standing.{open_last, IsLater, starts_only, not_begun, pushes_later, one_more, next_steps, accepted_next, page_more}
+use Rattle.yaml_emitter.proofs.standing.Standing.{writes_later, taken_first}
 
 -- Any later event: its piece is the next.
 pub stepped_steps : (given : Settings) (all : List Event) (x : Event) (prefix rest : List Event) (event : Event) (q : Partial) (before : MachineState)

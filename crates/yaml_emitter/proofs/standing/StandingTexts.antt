@@ -1,27 +1,13 @@
 -- The text and the output of an emitter that stands, beside the layouts of lists that go on from its events.
-use Rattle.std.proofs.Common.{◌≡◌, refl, sym, ap, ◌∙◌, subst, arith, append_assoc}
-use Rattle.std.proofs.lemmas.List.{take-append-drop, length-take-le, take_at}
-use Rattle.std.specs.Prelude.{ℕ, zero, suc, ◌≤◌, Bool, true, false, ◌&&◌, Option, None, Some, List, [], ◌∷◌, ◌++◌, length, take, drop, option_and_then}
-use Rattle.yaml_base.specs.Characters.{Text}
-use Rattle.yaml_base.specs.Settings.{Effective}
-use Rattle.yaml_base.specs.Encoding.{encode, cut, text_bytes}
-use Rattle.yaml_base.specs.Prefix.{IsPrefix}
-use Rattle.yaml_base.specs.Event.{Event, sequence_start, mapping_start}
-use Rattle.yaml_base.specs.Grammar.{no_nodes, no_pairs, at_item, at_key, Partial, before_stream, within_document, after_stream, push, pushed, partial_of}
-use Rattle.yaml_base.specs.Refusal.{refusal_at, refusal, IsAccepted, BeginsAccepted}
-use Rattle.yaml_base.specs.Layout.{Piece, first_standing}
-use Rattle.yaml_base.specs.Steps.{at_stream, steps}
-use Rattle.yaml_base.specs.Pieces.{empty_scalar, list_layout, completion, last_begins_collection, first_ends_collection, closes_at_once, pieces}
-use Rattle.yaml_base.specs.Output.{text_written, bytes_written}
-use Rattle.yaml_base.specs.declared.errors.yaml_error_t.{yaml_error_t}
-use Rattle.yaml_base.specs.declared.errors.yaml_error_t.TheVariants.{WriteError}
-use Rattle.yaml_base.proofs.Accepted.{stands_from_begins, refused_exactly}
-use Rattle.yaml_base.proofs.Prefixes.{prefix_same}
-use Rattle.yaml_base.proofs.Trees.{stream_pushed}
-use Rattle.yaml_base.proofs.PieceLaws.{begun_pieces, prefix_layout}
-use Rattle.yaml_pen.specs.Page.{Page, encoded}
-use Rattle.yaml_pen.proofs.Adding.{encode-append}
-use Rattle.yaml_emitter.specs.StandsAfter.{IsPage, HoldsPiecesWith}
+use Rattle.yaml_emitter.proofs.Common.{suc, zero, ℕ, ◌≤◌, option_and_then, Option, None, Some, drop, length, take, Bool, false, true, ◌&&◌, List, [], ◌++◌}
+use Rattle.yaml_emitter.proofs.Common.{◌∷◌, refl, ◌≡◌, take-append-drop, length-take-le, take_at, append_assoc, ap, subst, sym, ◌∙◌, arith}
+use Rattle.yaml_emitter.proofs.Common.{stands_from_begins, refused_exactly, prefix_layout, prefix_same, stream_pushed, Text, text_bytes, encode, cut, Event}
+use Rattle.yaml_emitter.proofs.Common.{sequence_start, mapping_start, no_nodes, no_pairs, at_item, at_key, Partial, before_stream, within_document}
+use Rattle.yaml_emitter.proofs.Common.{after_stream, push, pushed, partial_of, first_standing, Piece, text_written, bytes_written, completion, list_layout}
+use Rattle.yaml_emitter.proofs.Common.{pieces, last_begins_collection, first_ends_collection, IsPrefix, refusal_at, refusal, IsAccepted, BeginsAccepted}
+use Rattle.yaml_emitter.proofs.Common.{Effective, at_stream, steps, IsPage, HoldsPiecesWith, encode-append, Page, encoded}
+use Rattle.yaml_base.{proofs.PieceLaws.begun_pieces, specs.Pieces.empty_scalar, specs.Pieces.closes_at_once, specs.declared.errors.yaml_error_t.yaml_error_t}
+use Rattle.yaml_base.{specs.declared.errors.yaml_error_t.TheVariants.WriteError}
 use Rattle.yaml_emitter.proofs.standing.Standing.{text_written-append}
 
 -- A page's text is that of its pieces.

@@ -1,23 +1,11 @@
 -- An emitter stands where it stood, whatever its caller takes of the output.
-use Rattle.std.proofs.Common.{refl, ap, false, Option, None, Some, List, [], ◌∷◌, ◌++◌, take}
-use Rattle.yaml_base.specs.Event.{Event}
-use Rattle.yaml_base.specs.Layout.{Piece, first_standing}
-use Rattle.yaml_base.specs.Ready.{written}
-use Rattle.yaml_base.specs.Settings.{Effective, Settings}
-use Rattle.yaml_base.specs.Steps.{Stage, Steps, at_document, at_document_end, at_node, at_nothing, at_stream, progress, steps}
-use Rattle.yaml_base.specs.Output.{settings_for}
-use Rattle.yaml_base.specs.declared.errors.yaml_error_t.{yaml_error_t}
-use Rattle.yaml_base.specs.declared.errors.yaml_error_t.TheVariants.{WriteError, Memory}
-use Rattle.yaml_pen.specs.Page.{Page, IsReady, IsUntouched, all_taken}
-use Rattle.yaml_emitter.specs.MachineInside.{IsMachine}
-use Rattle.yaml_emitter.specs.State.{FitsPage, MachineState, State, machine_of, with_all_taken}
-use Rattle.yaml_emitter.specs.Processing.{closes_at_once}
-use Rattle.yaml_emitter.specs.Stages.{seen_stage}
-use Rattle.yaml_emitter.specs.StandsAfter.{HasProgress, HoldsCut, HoldsPiecesWith, IsPage, StandsAfter, MachineStands, StandsFailed, StandsRefused}
-use Rattle.yaml_emitter.specs.StandsAfter.{StandsStopped}
-use Rattle.yaml_emitter.specs.StandsAfter.{closes_last, holds_before, holds_part, at_event, between_events}
-use Rattle.yaml_emitter.specs.declared.machine.Machine.TheInside.{Inside}
-use Rattle.yaml_emitter.proofs.standing.Standing.{settled_same}
+use Rattle.yaml_emitter.proofs.Common.{Option, None, Some, take, false, List, [], ◌++◌, ◌∷◌, refl, ap, Event, first_standing, Piece, settings_for, written}
+use Rattle.yaml_emitter.proofs.Common.{Settings, Effective, Stage, at_stream, at_document, at_node, at_document_end, at_nothing, Steps, steps, progress}
+use Rattle.yaml_emitter.proofs.Common.{IsMachine, closes_at_once, seen_stage, IsPage, HoldsPiecesWith, HasProgress, closes_last, StandsRefused, HoldsCut}
+use Rattle.yaml_emitter.proofs.Common.{holds_before, holds_part, StandsStopped, at_event, between_events, StandsFailed, MachineStands, StandsAfter, State}
+use Rattle.yaml_emitter.proofs.Common.{MachineState, machine_of, FitsPage, with_all_taken, Page, all_taken, IsUntouched, IsReady}
+use Rattle.yaml_base.specs.declared.errors.{yaml_error_t.yaml_error_t, yaml_error_t.TheVariants.Memory, yaml_error_t.TheVariants.WriteError}
+use Rattle.yaml_emitter.{proofs.standing.Standing.settled_same, specs.declared.machine.Machine.TheInside.Inside}
 
 page_taken : (s : Effective) (page : Page) → IsPage s page → IsPage s (all_taken page)
 page_taken s page h = record { encoding = h.encoding; bom_written = h.bom_written; line_break = h.line_break; limit = h.limit; sound_output = h.sound_output }

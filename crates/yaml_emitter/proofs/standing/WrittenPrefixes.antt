@@ -1,11 +1,9 @@
 -- A balanced prefix of a list, found by counting along.
-use Rattle.std.proofs.Common.{◌≡◌, ℕ, ◌+◌, ◌<◌, ◌≤◌, Bool, true, false, ◌==◌, ◌||◌, cond, List, [], ◌∷◌, map, drop, length, get_or, refl, sym, ap, ◌∙◌, arith}
-use Rattle.std.proofs.Common.{add_assoc, add-zero, zero-add, add-one, drop-cons}
-use Rattle.std.specs.Prelude.{count_by}
-use Rattle.std.specs.List.{list_any}
-use Rattle.std.proofs.lemmas.List.Sums.{sum_by-cons}
-use Rattle.yaml_base.specs.Event.{Event, document_start, mapping_start, sequence_start}
-use Rattle.yaml_base.specs.Ready.{awaited, is_start, is_end, is_balanced, nonempty_prefixes}
+use Rattle.yaml_emitter.proofs.Common.{ℕ, ◌+◌, ◌<◌, ◌≤◌, ◌==◌, count_by, drop, length, slice_index_or as get_or, Bool, cond, false, true, ◌||◌, List, [], map}
+use Rattle.yaml_emitter.proofs.Common.{◌∷◌, refl, ◌≡◌, drop-cons, ap, sym, ◌∙◌, zero-add, add-one, arith, list_any, Event, document_start, sequence_start}
+use Rattle.yaml_emitter.proofs.Common.{mapping_start, awaited, is_balanced, nonempty_prefixes}
+use Rattle.std.proofs.{Common.add-zero, Common.add_assoc, lemmas.List.Sums.sum_by-cons}
+use Rattle.yaml_base.specs.Ready.{is_start, is_end}
 
 abbrev pub one_if : Bool → ℕ
 one_if b = cond b 1 0

@@ -1,18 +1,7 @@
 -- What a writer of literal or folded scalars wrote reads back.
-use Rattle.std.proofs.lemmas.Int.{ints}
-use Rattle.std.proofs.Common.{◌≡◌, ◌≤◌, ℕ, true, Ok, arith, pos, negsuc, ℤ, ◌≤ℤ◌}
-use Rattle.std.specs.Prelude.{Option}
-use Rattle.yaml_base.specs.scalars.Analysis.{Charset, allows_block}
-use Rattle.yaml_base.specs.scalars.BlockHeader.{Encloses}
-use Rattle.yaml_base.specs.Characters.{Text}
-use Rattle.yaml_base.specs.scalars.Literal.{literal_body, render_literal}
-use Rattle.yaml_base.specs.scalars.Folded.{folded_body, render_folded}
-use Rattle.yaml_base.specs.reading.ReadBlock.{read_block}
-use Rattle.yaml_pen.specs.Page.{Page, natural}
-use Rattle.yaml_pen.specs.Wrote.{Wrote}
-use Rattle.yaml_scalar.specs.ReadsBack.{ReadsBack}
-use Rattle.yaml_scalar.proofs.blocks.BlockLines.{literal-kept, folded-kept}
-use Rattle.yaml_scalar.proofs.LinesReadBack.{body_back, two_or_more}
+use Rattle.yaml_scalar.proofs.Common.{ℕ, ◌≤◌, Option, Ok, negsuc, pos, ℤ, ◌≤ℤ◌, true, ◌≡◌, arith, ints, Text, read_block, Charset, allows_block, Encloses}
+use Rattle.yaml_scalar.proofs.Common.{folded_body, render_folded, literal_body, render_literal, Page, natural, Wrote, ReadsBack}
+use Rattle.yaml_scalar.proofs.{LinesReadBack.two_or_more, LinesReadBack.body_back, blocks.BlockLines.literal-kept, blocks.BlockLines.folded-kept}
 
 -- the conditions on the two indents, as whole numbers
 pub record Indents (indent best_indent : ℕ) : Type 0 where

@@ -1,13 +1,9 @@
 -- The breaks at a block scalar's end: the header's indicator says what chomping needs to keep them.
-use Rattle.std.proofs.Common.{◌≡◌, refl, sym, ap, ◌∙◌, append_assoc, inl, inr}
-use Rattle.std.proofs.lemmas.Bool.{cases_Bool, false≢true}
-use Rattle.std.specs.Prelude.{ℕ, Bool, true, false, List, [], ◌∷◌, ◌++◌, ◌==◌, ◌&&◌, if◌then◌else◌}
-use Rattle.yaml_base.specs.Characters.{Text, is_break, line_feed}
-use Rattle.yaml_base.specs.scalars.Lines.{Part, line, line_break, begun, parts}
-use Rattle.yaml_base.specs.scalars.BlockHeader.{Ending, without_break, one_break, more_breaks, ending}
-use Rattle.yaml_base.specs.reading.ReadBlock.{Element, content, line_end, joined, unfolded, has_content, kept_lines, final_ends, begins_unindented}
-use Rattle.yaml_base.specs.reading.ReadBlock.{next_content_unindented, fold_read}
-use Rattle.yaml_base.specs.reading.ReadBlock.{Chomping, strip, clip, keep, chomped}
+use Rattle.yaml_scalar.proofs.Common.{ℕ, if◌then◌else◌, ◌==◌, Bool, false, true, ◌&&◌, List, [], ◌++◌, ◌∷◌, refl, ◌≡◌, append_assoc, inl, inr, ap, sym, ◌∙◌}
+use Rattle.yaml_scalar.proofs.Common.{cases_Bool, false≢true, Text, line_feed, is_break, Element, content, line_end, has_content, kept_lines, final_ends}
+use Rattle.yaml_scalar.proofs.Common.{joined, begins_unindented, next_content_unindented, unfolded, chomped, Ending, without_break, one_break, more_breaks}
+use Rattle.yaml_scalar.proofs.Common.{ending, Part, line, line_break, begun, parts}
+use Rattle.yaml_base.specs.reading.ReadBlock.{fold_read, Chomping, strip, clip, keep}
 use Rattle.yaml_scalar.proofs.blocks.BlockParts.{bare}
 
 -- where there is no content, nothing is kept

@@ -1,13 +1,9 @@
 -- Folded parts: they are clean, end as the value does, and read as the value.
-use Rattle.std.proofs.Common.{◌≡◌, refl, ap, ◌∙◌}
-use Rattle.std.proofs.lemmas.Bool.{false≢true, and_parts, not-true, eqb-true}
-use Rattle.std.specs.Prelude.{ℕ, Bool, true, false, List, [], ◌∷◌, ◌++◌, ◌==◌, ◌&&◌, ◌+◌, not, Option, if◌then◌else◌}
-use Rattle.yaml_base.specs.scalars.Analysis.{begins_with}
-use Rattle.yaml_base.specs.Characters.{Text, is_break, is_space, line_feed, space}
-use Rattle.yaml_base.specs.scalars.Lines.{Part, line, line_break, begun}
-use Rattle.yaml_base.specs.scalars.Folded.{is_past_limit, folds, cut_from, cut_line, next_line_unindented, folded_parts}
-use Rattle.yaml_base.specs.reading.ReadBlock.{joined, unfolded, has_content, final_ends, begins_unindented, next_content_unindented}
-use Rattle.yaml_scalar.proofs.blocks.BlockParts.{bare, Clean, IsLine, Ordinary, BeginsBroken, BeginsFlush, clean-begun}
+use Rattle.yaml_scalar.proofs.Common.{ℕ, ◌+◌, if◌then◌else◌, ◌==◌, Option, Bool, false, not, true, ◌&&◌, List, [], ◌++◌, ◌∷◌, refl, ◌≡◌, eqb-true, ap, ◌∙◌}
+use Rattle.yaml_scalar.proofs.Common.{and_parts, not-true, false≢true, Text, line_feed, space, is_space, is_break, has_content, final_ends, joined}
+use Rattle.yaml_scalar.proofs.Common.{begins_unindented, next_content_unindented, unfolded, begins_with, is_past_limit, folds, cut_from, cut_line}
+use Rattle.yaml_scalar.proofs.Common.{next_line_unindented, folded_parts, Part, line, line_break, begun}
+use Rattle.yaml_scalar.proofs.blocks.BlockParts.{Ordinary, IsLine, BeginsBroken, Clean, clean-begun, bare, BeginsFlush}
 
 -- a line feed is ordinary
 feed-ordinary : (breaks12 : Bool) → Ordinary breaks12 line_feed

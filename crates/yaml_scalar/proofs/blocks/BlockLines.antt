@@ -1,22 +1,15 @@
 -- A literal or folded body holds no CR and no U+0085, and each of its nonempty lines after the header begins with
 -- two spaces at least; so both hold as its line breaks are written, and reading it gives the value.
-use Rattle.std.proofs.Common.{◌≡◌, ◌≤◌, refl, ap, ◌∙◌, append_assoc, arith}
-use Rattle.std.proofs.lemmas.Bool.{and_from, or_from, or_left, or_right, not_from_false, ne_eqb}
-use Rattle.std.specs.Prelude.{ℕ, zero, suc, Bool, true, false, List, [], ◌∷◌, ◌++◌, ◌==◌, ◌||◌, ◌+◌, not, Option, Some, replicate}
-use Rattle.yaml_base.specs.scalars.Analysis.{Charset, allows_block}
-use Rattle.yaml_base.specs.Characters.{Text, is_break, space, line_feed, carriage_return, next_line, line_separator, paragraph_separator}
-use Rattle.yaml_base.specs.Settings.{LineBreak}
-use Rattle.yaml_base.specs.LineBreaks.{is_rendered_text, begins_indented, is_indented_text, with_breaks_written, with_line_breaks_read}
-use Rattle.yaml_base.specs.Cursor.{Cursor}
-use Rattle.yaml_base.specs.scalars.Lines.{Part, line, line_break, parts}
-use Rattle.yaml_base.specs.scalars.BlockHeader.{Ending, without_break, one_break, more_breaks, ending, begins_blank, ending_hint, block_body, Encloses}
-use Rattle.yaml_base.specs.scalars.Literal.{indented, literal_body}
-use Rattle.yaml_base.specs.scalars.Folded.{folded_parts, folded_body}
-use Rattle.yaml_base.specs.reading.ReadBlock.{read_block}
-use Rattle.yaml_base.proofs.BreakLaws.{breaks-round, rendered-append, indented-written}
-use Rattle.yaml_scalar.proofs.blocks.BlockParts.{Ordinary, IsLine, Clean, parts-clean}
+use Rattle.yaml_scalar.proofs.Common.{suc, zero, ℕ, ◌+◌, ◌≤◌, ◌==◌, Option, Some, replicate, Bool, false, not, true, ◌||◌, List, [], ◌++◌, ◌∷◌, refl, ◌≡◌}
+use Rattle.yaml_scalar.proofs.Common.{append_assoc, ap, ◌∙◌, arith, and_from, or_from, or_left, or_right, not_from_false, breaks-round, rendered-append}
+use Rattle.yaml_scalar.proofs.Common.{indented-written, Text, line_feed, carriage_return, next_line, line_separator, paragraph_separator, space, is_break}
+use Rattle.yaml_scalar.proofs.Common.{Cursor, with_breaks_written, with_line_breaks_read, is_rendered_text, begins_indented, is_indented_text, LineBreak}
+use Rattle.yaml_scalar.proofs.Common.{read_block, Charset, allows_block, Ending, without_break, one_break, more_breaks, ending, begins_blank, ending_hint}
+use Rattle.yaml_scalar.proofs.Common.{block_body, Encloses, folded_parts, folded_body, Part, line, line_break, parts, indented, literal_body}
+use Rattle.yaml_base.proofs.Common.{ne_eqb}
 use Rattle.yaml_scalar.proofs.blocks.BlockFolds.{folded-clean}
-use Rattle.yaml_scalar.proofs.blocks.BlockReads.{allowed-ordinary, digit_text, block_indicator_of, block-text, literal-reads, folded-read}
+use Rattle.yaml_scalar.proofs.blocks.BlockParts.{Ordinary, IsLine, Clean, parts-clean}
+use Rattle.yaml_scalar.proofs.blocks.BlockReads.{allowed-ordinary, block-text, digit_text, block_indicator_of, literal-reads, folded-read}
 
 -- an ordinary character may stand in a rendered text
 ordinary-rendered : (breaks12 : Bool) (c : ℕ) → Ordinary breaks12 c → not (c == carriage_return || c == next_line) ≡ true

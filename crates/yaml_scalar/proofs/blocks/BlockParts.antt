@@ -1,13 +1,8 @@
 -- A value's parts, and that a reader cuts indented parts where they were joined.
-use Rattle.std.proofs.Common.{◌≡◌, refl, ap, ◌∙◌}
-use Rattle.std.specs.Prelude.{ℕ, zero, suc, Bool, true, false, List, [], ◌∷◌, ◌++◌, ◌==◌, Some, replicate, option_map, if◌then◌else◌}
-use Rattle.yaml_base.specs.scalars.Analysis.{begins_with}
-use Rattle.yaml_base.specs.Characters.{Text, is_break, is_blank, is_space, space, carriage_return, next_line}
-use Rattle.yaml_base.specs.LineBreaks.{is_read_break}
-use Rattle.yaml_base.specs.scalars.Lines.{Part, line, line_break, begun, parts}
-use Rattle.yaml_base.specs.scalars.Literal.{indented}
-use Rattle.yaml_base.specs.reading.ReadBlock.{Element, content, line_end, elements, prepend_to_elements, joined, leading_spaces, detected_indentation}
-use Rattle.yaml_base.specs.reading.ReadBlock.{unindented, all_unindented}
+use Rattle.yaml_scalar.proofs.Common.{suc, zero, ℕ, if◌then◌else◌, ◌==◌, option_map, Some, replicate, Bool, false, true, List, [], ◌++◌, ◌∷◌, refl, ◌≡◌, ap}
+use Rattle.yaml_scalar.proofs.Common.{◌∙◌, Text, carriage_return, next_line, space, is_space, is_blank, is_break, is_read_break, Element, content, line_end}
+use Rattle.yaml_scalar.proofs.Common.{elements, all_unindented, joined, begins_with, Part, line, line_break, begun, parts, indented}
+use Rattle.yaml_base.specs.reading.ReadBlock.{prepend_to_elements, leading_spaces, detected_indentation, unindented}
 
 -- a character that a writer and a reader take for the same: a break or not, a space or no blank;
 -- and no break that reads as another

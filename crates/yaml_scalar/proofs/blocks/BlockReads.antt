@@ -1,23 +1,17 @@
 -- A literal or folded body is read as exactly its value.
-use Rattle.std.proofs.Common.{◌≡◌, ◌≤◌, refl, sym, ap, ◌∙◌, append_assoc, arith}
-use Rattle.std.proofs.lemmas.Bool.{false≢true, or_parts, not-false, not-true, eqb-true, false_from_ne_true, and_from, le-leb}
-use Rattle.std.specs.Prelude.{ℕ, zero, suc, Bool, true, false, List, [], ◌∷◌, ◌++◌, ◌==◌, ◌&&◌, ◌||◌, ◌+◌, ◌-◌, not, Option, None, Some, option_map}
-use Rattle.std.specs.Prelude.{if◌then◌else◌}
-use Rattle.yaml_base.specs.scalars.Analysis.{Charset, somewhere, is_empty, is_special, is_trailing_space, bars_block, allows_block}
-use Rattle.yaml_base.specs.Characters.{Text, is_break, is_ascii, is_printable, is_between, is_space, space, tab, line_feed, carriage_return, next_line}
-use Rattle.yaml_base.specs.Characters.{line_separator, paragraph_separator}
-use Rattle.yaml_base.specs.Cursor.{Cursor}
-use Rattle.yaml_base.specs.scalars.Lines.{Part, line, line_break, begun, parts}
-use Rattle.yaml_base.specs.scalars.BlockHeader.{Ending, without_break, one_break, more_breaks, ending, begins_blank, indentation_hint, ending_hint, render_hint}
-use Rattle.yaml_base.specs.scalars.BlockHeader.{block_body, Encloses}
-use Rattle.yaml_base.specs.scalars.Literal.{indented, literal_body}
-use Rattle.yaml_base.specs.scalars.Folded.{folded_parts, folded_body}
-use Rattle.yaml_base.specs.reading.ReadBlock.{elements, unfolded, has_content, kept_lines, final_ends, read_indentation, all_unindented, chomped, lines_read}
-use Rattle.yaml_base.specs.reading.ReadBlock.{read_lines, digit_first, after_digit, read_block}
-use Rattle.yaml_scalar.proofs.blocks.BlockParts.{Ordinary, AllOrdinary, Clean, BeginsFlush, bare, shifted, parts-clean, joined-parts, elements-indented}
-use Rattle.yaml_scalar.proofs.blocks.BlockParts.{unindented-shifted, detected_indentation-shifted}
-use Rattle.yaml_scalar.proofs.blocks.BlockFinal.{ends-parts, chomping_of, chomped-ends, joined-kept, unfolded-kept}
+use Rattle.yaml_scalar.proofs.Common.{suc, zero, ℕ, ◌+◌, ◌-◌, ◌≤◌, if◌then◌else◌, ◌==◌, option_map, Option, None, Some, Bool, false, not, true, ◌&&◌, ◌||◌}
+use Rattle.yaml_scalar.proofs.Common.{List, [], ◌++◌, ◌∷◌, refl, ◌≡◌, eqb-true, le-leb, append_assoc, ap, sym, ◌∙◌, arith, and_from, or_parts}
+use Rattle.yaml_scalar.proofs.Common.{false_from_ne_true, not-false, not-true, false≢true, Text, is_between, line_feed, carriage_return, next_line}
+use Rattle.yaml_scalar.proofs.Common.{line_separator, paragraph_separator, space, tab, is_ascii, is_space, is_break, is_printable, Cursor, elements}
+use Rattle.yaml_scalar.proofs.Common.{all_unindented, has_content, kept_lines, final_ends, unfolded, chomped, read_block, Charset, somewhere, is_empty}
+use Rattle.yaml_scalar.proofs.Common.{is_special, is_trailing_space, bars_block, allows_block, Ending, without_break, one_break, more_breaks, ending}
+use Rattle.yaml_scalar.proofs.Common.{begins_blank, indentation_hint, ending_hint, render_hint, block_body, Encloses, folded_parts, folded_body, Part, line}
+use Rattle.yaml_scalar.proofs.Common.{line_break, begun, parts, indented, literal_body}
+use Rattle.yaml_base.specs.reading.ReadBlock.{read_indentation, lines_read, digit_first, after_digit, read_lines}
+use Rattle.yaml_scalar.proofs.blocks.BlockFinal.{joined-kept, unfolded-kept, ends-parts, chomping_of, chomped-ends}
 use Rattle.yaml_scalar.proofs.blocks.BlockFolds.{folded-clean, folded-content, folded-reads, folded-ends, folded-flush}
+use Rattle.yaml_scalar.proofs.blocks.BlockParts.{Ordinary, AllOrdinary, Clean, parts-clean, bare, shifted, joined-parts, elements-indented}
+use Rattle.yaml_scalar.proofs.blocks.BlockParts.{unindented-shifted, BeginsFlush, detected_indentation-shifted}
 
 -- what isn't printable isn't among printable characters
 other-than : (c d : ℕ) → is_printable c ≡ true → is_printable d ≡ false → (c == d) ≡ false

@@ -1,21 +1,12 @@
 -- What stays in a block scalar's line is rendered as itself.
-use Rattle.std.proofs.Common.{◌≡◌, refl, ap, sym, ◌∙◌}
-use Rattle.std.specs.Prelude.{ℕ, Bool, true, false, not, Option, Ok, [], ◌∷◌, if◌then◌else◌}
-use Rattle.yaml_base.specs.scalars.Analysis.{begins_with}
-use Rattle.yaml_base.specs.Characters.{Text, is_break, is_space}
-use Rattle.yaml_base.specs.Cursor.{Cursor, Rendered, render_text, render_then, with_flags}
-use Rattle.yaml_base.specs.scalars.Folded.{folds, is_past_limit}
-use Rattle.yaml_pen.proofs.Composing.{wrote_all}
-use Rattle.yaml_pen.specs.Page.{Page}
-use Rattle.yaml_pen.specs.Wrote.{Wrote}
-use Rattle.yaml_scalar.specs.BlockSteps.{render_content, render_end, render_folded, render_inner, is_doubled, lines_from, place_after, stays_at}
-use Rattle.yaml_scalar.specs.BlockSteps.{render_step, within}
-use Rattle.yaml_scalar.specs.WholeRuns.{has_limit}
-use Rattle.yaml_scalar.specs.declared.block_lines.Place.{Place}
-use Rattle.yaml_scalar.specs.declared.block_lines.Place.TheVariants.{LineStart, Folding, Fixed}
-use Rattle.yaml_scalar.proofs.RunsWritten.{StandAlone}
+use Rattle.yaml_scalar.proofs.Common.{ℕ, if◌then◌else◌, Option, Ok, Bool, false, not, true, [], ◌∷◌, refl, ◌≡◌, ap, sym, ◌∙◌, Text, is_space, is_break}
+use Rattle.yaml_scalar.proofs.Common.{Cursor, Rendered, render_then, render_text, begins_with, is_past_limit, folds, wrote_all, Page, Wrote, place_after}
+use Rattle.yaml_scalar.proofs.Common.{render_content, render_inner, is_doubled, render_end, render_step, stays_at, lines_from, has_limit}
+use Rattle.yaml_base.specs.Cursor.{with_flags}
+use Rattle.yaml_scalar.{proofs.RunsWritten.StandAlone, proofs.WholeRuns.no_fold, specs.BlockSteps.within, specs.BlockSteps.render_folded}
+use Rattle.yaml_scalar.{specs.declared.block_lines.Place.Place, specs.declared.block_lines.Place.TheVariants.Fixed}
+use Rattle.yaml_scalar.{specs.declared.block_lines.Place.TheVariants.Folding, specs.declared.block_lines.Place.TheVariants.LineStart}
 use Rattle.yaml_scalar.proofs.StaysInLine as line
-use Rattle.yaml_scalar.proofs.WholeRuns.{no_fold}
 
 -- it is no break
 pub stays_unbroken : (limit : Option ℕ) (place : Place) (c : ℕ) → stays_at limit place c ≡ true → is_break c ≡ false

@@ -1,16 +1,13 @@
 -- Lines rendered character by character, as code writes them, are the literal and the folded layout.
-use Rattle.std.proofs.Common.{◌≡◌, ◌≤◌, refl, sym, ap, ◌∙◌, append_assoc, arith, inl, inr}
-use Rattle.std.proofs.lemmas.Bool.{cases_Bool, and_right, or_from, le-ltb, or_parts, ltb-false}
-use Rattle.std.specs.Prelude.{ℕ, zero, suc, Bool, true, false, List, [], ◌∷◌, ◌++◌, ◌==◌, ◌&&◌, ◌||◌, ◌+◌, ◌-◌, not, Option, replicate, nat_lt, if◌then◌else◌}
-use Rattle.yaml_base.specs.Characters.{Text, is_break, space, line_feed}
-use Rattle.yaml_base.specs.Cursor.{Cursor, Rendered, first_cursor, render_then, next_column, column_after, breaks_line, new_line}
-use Rattle.yaml_base.specs.scalars.Lines.{Part, line, line_break, begun, parts}
-use Rattle.yaml_base.specs.scalars.BlockHeader.{without_break, one_break, more_breaks, ending, ends_in_break, render_lines}
-use Rattle.yaml_base.specs.scalars.Literal.{indented}
-use Rattle.yaml_scalar.specs.declared.block_lines.Place.{Place}
-use Rattle.yaml_scalar.specs.declared.block_lines.Place.TheVariants.{LineStart, Folding, Fixed}
-use Rattle.yaml_scalar.specs.BlockSteps.{place_after, render_folded, render_inner, is_doubled, render_end, render_step, lines_from}
-use Rattle.yaml_base.specs.scalars.Folded.{folds}
+use Rattle.yaml_scalar.proofs.Common.{suc, zero, ℕ, ◌+◌, ◌-◌, ◌≤◌, if◌then◌else◌, ◌==◌, Option, nat_lt, replicate, Bool, false, not, true, ◌&&◌, ◌||◌, List}
+use Rattle.yaml_scalar.proofs.Common.{[], ◌++◌, ◌∷◌, refl, ◌≡◌, le-ltb, append_assoc, inl, inr, ap, sym, ◌∙◌, arith, cases_Bool, and_right, or_parts, or_from}
+use Rattle.yaml_scalar.proofs.Common.{Text, line_feed, space, is_break, Cursor, Rendered, first_cursor, render_then, next_column, column_after, breaks_line}
+use Rattle.yaml_scalar.proofs.Common.{new_line, without_break, one_break, more_breaks, ending, render_lines, folds, Part, line, line_break, begun, parts}
+use Rattle.yaml_scalar.proofs.Common.{indented, place_after, render_inner, is_doubled, render_end, render_step, lines_from}
+use Rattle.yaml_base.proofs.Common.{ends_in_break}
+use Rattle.std.proofs.lemmas.Bool.{ltb-false}
+use Rattle.yaml_scalar.specs.BlockSteps.{render_folded}
+use Rattle.yaml_scalar.specs.declared.block_lines.{Place.Place, Place.TheVariants.Fixed, Place.TheVariants.Folding, Place.TheVariants.LineStart}
 
 abbrev first_line : ℕ → Text → Rendered
 first_line indent text = record { text = text; cursor = record { column = indent; whitespace = true; indention = true } }

@@ -1,20 +1,11 @@
 -- The calls of a block scalar's writer make up its layout.
-use Rattle.std.proofs.Common.{◌≡◌, refl, sym, ap, ◌∙◌, append_assoc}
-use Rattle.std.specs.Prelude.{ℕ, Bool, true, false, [], ◌∷◌, ◌++◌, Option}
-use Rattle.std.proofs.lemmas.Bool.{false≢true}
-use Rattle.yaml_base.specs.scalars.Analysis.{is_empty}
-use Rattle.yaml_base.specs.Characters.{Text}
-use Rattle.yaml_base.specs.Cursor.{Cursor, Rendered, render_then, render_text, space_if, indicator}
-use Rattle.yaml_base.specs.scalars.BlockHeader.{render_hints, render_header}
-use Rattle.yaml_base.specs.scalars.Literal.{render_literal}
-use Rattle.yaml_base.specs.scalars.Folded.{render_folded}
-use Rattle.yaml_pen.specs.Page.{Page}
-use Rattle.yaml_scalar.specs.declared.block_lines.Place.{Place}
-use Rattle.yaml_scalar.specs.declared.block_lines.Place.TheVariants.{LineStart}
-use Rattle.yaml_scalar.specs.BlockSteps.{lines_from, block_indicator_of, separated_header, header_end, render_block}
-use Rattle.yaml_scalar.proofs.StillToWrite.{StillToWrite}
-use Rattle.yaml_scalar.proofs.blocks.BlockSteps.{literal-lines-from}
-use Rattle.yaml_scalar.proofs.blocks.FoldedSteps.{folded-lines-from}
+use Rattle.yaml_scalar.proofs.Common.{ℕ, Option, Bool, false, true, [], ◌++◌, ◌∷◌, refl, ◌≡◌, append_assoc, ap, sym, ◌∙◌, false≢true, Text, Cursor, Rendered}
+use Rattle.yaml_scalar.proofs.Common.{render_then, render_text, space_if, indicator, is_empty, render_hints, render_folded, render_literal, Page, lines_from}
+use Rattle.yaml_scalar.proofs.Common.{separated_header, header_end}
+use Rattle.yaml_base.specs.scalars.BlockHeader.{render_header}
+use Rattle.yaml_scalar.{proofs.StillToWrite.StillToWrite, proofs.blocks.BlockSteps.literal-lines-from, proofs.blocks.FoldedSteps.folded-lines-from}
+use Rattle.yaml_scalar.{specs.BlockSteps.block_indicator_of, specs.BlockSteps.render_block, specs.declared.block_lines.Place.Place}
+use Rattle.yaml_scalar.{specs.declared.block_lines.Place.TheVariants.LineStart}
 
 -- one after another, in either grouping
 then-assoc : (a : Rendered) (f g : Cursor → Rendered) → render_then (render_then a f) g ≡ render_then a (λ k. render_then (f k) g)

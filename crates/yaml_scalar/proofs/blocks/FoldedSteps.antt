@@ -1,18 +1,12 @@
 -- Folded lines rendered character by character, as code writes them, are the folded layout.
-use Rattle.std.proofs.Common.{◌≡◌, refl, sym, ap, ◌∙◌, append_assoc, inl, inr}
-use Rattle.std.proofs.lemmas.Bool.{cases_Bool, false≢true, false_from_ne_true, eqb-true}
-use Rattle.std.specs.Prelude.{ℕ, Bool, true, false, List, [], ◌∷◌, ◌++◌, ◌==◌, ◌&&◌, ◌+◌, not, Option, replicate, if◌then◌else◌}
-use Rattle.yaml_base.specs.scalars.Analysis.{begins_with}
-use Rattle.yaml_base.specs.Characters.{Text, is_break, is_space, space, line_feed}
-use Rattle.yaml_base.specs.Cursor.{first_cursor}
-use Rattle.yaml_base.specs.scalars.Lines.{Part, line, line_break, begun, prepend_part, parts}
-use Rattle.yaml_base.specs.scalars.BlockHeader.{render_lines}
-use Rattle.yaml_base.specs.scalars.Literal.{indented}
-use Rattle.yaml_scalar.specs.declared.block_lines.Place.TheVariants.{LineStart, Folding, Fixed}
-use Rattle.yaml_scalar.specs.BlockSteps.{render_step, lines_from}
-use Rattle.yaml_base.specs.scalars.Folded.{is_past_limit, folds, cut_from, next_line_unindented, folded_parts}
+use Rattle.yaml_scalar.proofs.Common.{ℕ, ◌+◌, if◌then◌else◌, ◌==◌, Option, replicate, Bool, false, not, true, ◌&&◌, List, [], ◌++◌, ◌∷◌, refl, ◌≡◌, eqb-true}
+use Rattle.yaml_scalar.proofs.Common.{append_assoc, inl, inr, ap, sym, ◌∙◌, cases_Bool, false_from_ne_true, false≢true, Text, line_feed, space, is_space}
+use Rattle.yaml_scalar.proofs.Common.{is_break, first_cursor, begins_with, render_lines, is_past_limit, folds, cut_from, next_line_unindented, folded_parts}
+use Rattle.yaml_scalar.proofs.Common.{Part, line, line_break, begun, parts, indented, render_step, lines_from}
+use Rattle.yaml_base.specs.scalars.Lines.{prepend_part}
 use Rattle.yaml_scalar.proofs.blocks.BlockSteps.{after_text, spot, lines-cursor, ending-last, start-step, from-step, break-step, content-step, continued}
 use Rattle.yaml_scalar.proofs.blocks.BlockSteps.{rendered-by}
+use Rattle.yaml_scalar.specs.declared.block_lines.Place.TheVariants.{Fixed, Folding, LineStart}
 
 -- a line of folded parts goes on, where it is never folded
 abbrev fixed_text : Option ℕ → ℕ → List Part → Text

@@ -1,9 +1,6 @@
 -- The next line that isn't empty, character by character.
-use Rattle.std.proofs.Common.{◌≡◌, refl}
-use Rattle.std.specs.Prelude.{ℕ, true, false, List, [], ◌∷◌, not}
-use Rattle.yaml_base.specs.Characters.{Text, is_break, is_space}
-use Rattle.yaml_base.specs.scalars.Folded.{next_line_unindented}
-use Rattle.yaml_base.specs.scalars.Lines.{Part, line, line_break, begun, parts}
+use Rattle.yaml_scalar.proofs.Common.{ℕ, false, not, true, List, [], ◌∷◌, refl, ◌≡◌, Text, is_space, is_break, next_line_unindented, Part, line, line_break}
+use Rattle.yaml_scalar.proofs.Common.{begun, parts}
 
 even-begun : (c : ℕ) (ps : List Part) → next_line_unindented (begun c ps) ≡ not (is_space c)
 even-begun c [] = refl

@@ -1,8 +1,9 @@
 -- Worked rows: a run that stops in its third document has written all bytes of the first two.
-use Rattle.yaml_tool.proofs.Common.{ℕ, List, [], ◌++◌, ◌≡◌, Event, yaml_error_t, Numbered, State, events_in, RefusesAt}
-use Rattle.yaml_base.specs.{Prefix.IsPrefix, declared.errors.yaml_error_t.TheVariants.ExpectedNode, declared.errors.yaml_error_t.TheVariants.Memory}
-use Rattle.yaml_emitter.proofs.rows.RowsKeptDocuments.{begun, both, kept, not_empty, third, two}
-use Rattle.yaml_emitter.specs.Given.{nothing_given}
+use Rattle.yaml_tool.proofs.Common.{ℕ, List, [], ◌++◌, ◌≡◌, Event, Numbered, State, events_in, RefusesAt}
+use Rattle.yaml_emitter.proofs.Common.{nothing_given}
+use Rattle.yaml_base.specs.Prefix.{IsPrefix}
+use Rattle.yaml_base.specs.declared.errors.{yaml_error_t.yaml_error_t, yaml_error_t.TheVariants.ExpectedNode, yaml_error_t.TheVariants.Memory}
+use Rattle.yaml_emitter.proofs.rows.RowsKeptDocuments.{two, third, begun, both, kept, not_empty}
 use Rattle.yaml_tool.specs.Runs.{FlushFails}
 
 module _ (all : List Numbered) (line : ℕ) (later : List Event) (state : State) where

@@ -1,17 +1,10 @@
 -- Worked rows: a writer keeps all bytes of the documents that it ended, whatever its later calls answer.
-use Rattle.std.proofs.Common.{◌≡◌, refl}
-use Rattle.std.specs.Prelude.{ℕ, false, true, Option, None, Result, List, [], ◌∷◌, ◌++◌, codes}
-use Rattle.yaml_base.proofs.Prefixes.{prefix_then}
-use Rattle.yaml_base.specs.Event.{Event, document_end}
-use Rattle.yaml_base.specs.Prefix.{IsPrefix}
-use Rattle.yaml_base.specs.declared.errors.yaml_error_t.{yaml_error_t}
-use Rattle.yaml_pen.specs.Wrote.{Grows}
-use Rattle.yaml_emitter.proofs.rows.RowsKeptDocuments.{begun, both, kept, not_empty, two}
-use Rattle.yaml_emitter.proofs.standing.KeptDocuments.{documents_kept}
-use Rattle.yaml_emitter.proofs.standing.Promising.{promised}
-use Rattle.yaml_emitter.specs.Given.{nothing_given}
-use Rattle.yaml_emitter.specs.State.{new_state}
-use Rattle.yaml_writer.specs.Writing.{EndedCollection, GaveEvent, PassedEvents, StandsTaken, WriterState, opening, plain_start, text_event}
+use Rattle.yaml_writer.proofs.Common.{ℕ, Option, None, Result, codes, false, true, List, [], ◌++◌, ◌∷◌, refl, ◌≡◌, prefix_then, Event, document_end, Grows}
+use Rattle.yaml_writer.proofs.Common.{WriterState, plain_start, StandsTaken, PassedEvents, GaveEvent}
+use Rattle.yaml_base.specs.{Prefix.IsPrefix, declared.errors.yaml_error_t.yaml_error_t}
+use Rattle.yaml_emitter.{proofs.standing.KeptDocuments.documents_kept, proofs.standing.Promising.promised, specs.Given.nothing_given, specs.State.new_state}
+use Rattle.yaml_emitter.proofs.rows.RowsKeptDocuments.{two, begun, both, kept, not_empty}
+use Rattle.yaml_writer.specs.Writing.{opening, text_event, EndedCollection}
 
 -- a writer without properties for the next node
 abbrev bare : WriterState

@@ -1,7 +1,4 @@
-use Rattle.std.proofs.Common.{refl}
-use Rattle.std.proofs.lemmas.Bool.{agree_below_at, eqb-true, ltb-true}
-use Rattle.std.specs.Prelude.{true, false, ◌==◌, nat_lt, slice_index}
-use Rattle.yaml_base.specs.Characters.{hex_digit, is_break}
+use Rattle.yaml_base.proofs.Common.{◌==◌, slice_index, nat_lt, false, true, refl, eqb-true, ltb-true, agree_below_at, is_break, hex_digit}
 use Rattle.yaml_base.specs.declared.characters.TheConstants.{HEX_DIGITS}
 use Rattle.yaml_base.proofs.characters.hex_digit.Goals as goal
 

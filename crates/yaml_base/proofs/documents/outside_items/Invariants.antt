@@ -1,5 +1,4 @@
-use Rattle.std.proofs.Common.{◌≡◌, drop}
-use Rattle.yaml_base.specs.graphs.SeenNodes.{first_outside}
+use Rattle.yaml_base.proofs.Common.{drop, ◌≡◌, first_outside}
 use Rattle.yaml_base.proofs.documents.outside_items.Given as goal
 
 abbrev pub invariant-loop-item : goal.invariant-loop-item

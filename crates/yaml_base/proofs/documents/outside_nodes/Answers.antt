@@ -1,4 +1,4 @@
-use Rattle.std.proofs.Common.{sym, ◌∙◌, arith}
+use Rattle.yaml_base.proofs.Common.{sym, ◌∙◌, arith}
 use Rattle.yaml_base.proofs.NumbersOutside.{held_outside, none_held}
 use Rattle.yaml_base.proofs.documents.outside_nodes.Goals as goal
 

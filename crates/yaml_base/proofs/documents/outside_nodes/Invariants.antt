@@ -1,5 +1,4 @@
-use Rattle.std.proofs.Common.{◌≡◌, drop}
-use Rattle.yaml_base.specs.graphs.SeenNodes.{first_outside, all_numbers}
+use Rattle.yaml_base.proofs.Common.{drop, ◌≡◌, all_numbers, first_outside}
 use Rattle.yaml_base.proofs.documents.outside_nodes.Given as goal
 
 abbrev pub invariant-loop-node : goal.invariant-loop-node

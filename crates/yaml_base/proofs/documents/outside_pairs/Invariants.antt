@@ -1,5 +1,4 @@
-use Rattle.std.proofs.Common.{◌≡◌, drop}
-use Rattle.yaml_base.specs.graphs.SeenNodes.{first_outside, numbers_of_pairs}
+use Rattle.yaml_base.proofs.Common.{drop, ◌≡◌, numbers_of_pairs, first_outside}
 use Rattle.yaml_base.proofs.documents.outside_pairs.Given as goal
 
 abbrev pub invariant-loop-pair : goal.invariant-loop-pair

@@ -1,9 +1,8 @@
-use Rattle.std.proofs.Common.{rules, ◌≤◌, length, refl, ap, sym, ◌∙◌, inl, option_map}
+use Rattle.yaml_c.proofs.Common.{◌≤◌, option_map, length, refl, rules, inl, ap, sym, ◌∙◌, events_in}
 use Rattle.yaml_base.specs.Seen.{seen_event}
-use Rattle.yaml_pen.proofs.Writing.{none_from_result}
-use Rattle.yaml_tool.specs.Runs.{events_in}
-use Rattle.yaml_tool.proofs.RunLemmas.{some_told}
 use Rattle.yaml_c.proofs.EmissionLemmas.{given_more, refused_next, ended_flushed}
+use Rattle.yaml_pen.proofs.Writing.{none_from_result}
+use Rattle.yaml_tool.proofs.RunLemmas.{some_told}
 use Rattle.yaml_c.proofs.events.emit_records.Goals as goal
 
 pub returns-in-Err-clause-emits : goal.returns-in-Err-clause-emits

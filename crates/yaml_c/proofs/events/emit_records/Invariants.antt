@@ -1,4 +1,4 @@
-use Rattle.std.proofs.Common.{◌≡◌, ◌≤◌, length, None, true}
+use Rattle.yaml_c.proofs.Common.{◌≤◌, None, length, true, ◌≡◌}
 use Rattle.yaml_c.proofs.EmissionLemmas.{HasGiven}
 use Rattle.yaml_c.proofs.events.emit_records.Given as goal
 

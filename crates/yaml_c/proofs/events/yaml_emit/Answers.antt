@@ -1,13 +1,7 @@
-use Rattle.std.proofs.Common.{◌≡◌, pos, Option, Some, refl, ap, sym, subst, ◌∙◌, option_map}
+use Rattle.yaml_c.proofs.Common.{option_map, Option, Some, pos, refl, ◌≡◌, ap, subst, sym, ◌∙◌, Settings, events_from, seen_settings}
+use Rattle.yaml_c.specs.{Answers.nothing_reported, Emission.IsEmissionBy, GivenSettings.settings_given, declared.events.Emission.TheVariants.NoMemory}
+use Rattle.yaml_c.specs.{declared.results.CallResult.CallResult}
 use Rattle.yaml_emitter.specs.State.{new_state}
-use Rattle.yaml_writer.specs.Given.{seen_settings}
-use Rattle.yaml_base.specs.Settings.{Settings}
-use Rattle.yaml_c.specs.Answers.{nothing_reported}
-use Rattle.yaml_c.specs.Emission.{IsEmissionBy}
-use Rattle.yaml_c.specs.EventRecords.{events_from}
-use Rattle.yaml_c.specs.GivenSettings.{settings_given}
-use Rattle.yaml_c.specs.declared.events.Emission.TheVariants.{NoMemory}
-use Rattle.yaml_c.specs.declared.results.CallResult.{CallResult}
 use Rattle.yaml_c.proofs.events.yaml_emit.Goals as goal
 
 pub returns-in_default-emitter_by : goal.returns-in_default-emitter_by

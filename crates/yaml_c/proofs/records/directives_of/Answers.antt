@@ -1,8 +1,5 @@
-use Rattle.std.proofs.Common.{rules, ◌≡◌, ◌++◌, ◌∷◌, [], ◌+◌, List, map, drop, option_map, ap, sym, ◌∙◌}
+use Rattle.yaml_c.proofs.Common.{◌+◌, option_map, drop, List, [], map, ◌++◌, ◌∷◌, ◌≡◌, rules, ap, sym, ◌∙◌, TagDirective, seen_directive, directives_of}
 use Rattle.std.proofs.lemmas.List.{map_push}
-use Rattle.yaml_base.specs.Event.{TagDirective}
-use Rattle.yaml_base.specs.Seen.{seen_directive}
-use Rattle.yaml_c.specs.EventRecords.{directives_of}
 use Rattle.yaml_c.proofs.DirectiveLemmas.{behind, read_more}
 use Rattle.yaml_c.proofs.records.directives_of.Goals as goal
 

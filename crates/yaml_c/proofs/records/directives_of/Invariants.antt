@@ -1,6 +1,4 @@
-use Rattle.std.proofs.Common.{◌≡◌, ◌≤◌, ◌++◌, length, map, drop, option_map}
-use Rattle.yaml_base.specs.Seen.{seen_directive}
-use Rattle.yaml_c.specs.EventRecords.{directives_of}
+use Rattle.yaml_c.proofs.Common.{◌≤◌, option_map, drop, length, map, ◌++◌, ◌≡◌, seen_directive, directives_of}
 use Rattle.yaml_c.proofs.records.directives_of.Given as goal
 
 abbrev pub invariant-loop-directive : goal.invariant-loop-directive

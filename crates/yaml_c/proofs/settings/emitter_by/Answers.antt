@@ -1,8 +1,6 @@
-use Rattle.std.proofs.Common.{◌≡◌, [], ℤ, Some, sym, ap, ap₂, ◌∙◌, subst, to_z, of_z, w32, rules}
-use Rattle.yaml_base.specs.Seen.{seen_break, seen_encoding}
-use Rattle.yaml_base.specs.Settings.{Settings}
-use Rattle.yaml_emitter.specs.State.{State}
-use Rattle.yaml_emitter.specs.StandsAfter.{StandsAfter}
+use Rattle.yaml_c.proofs.Common.{Some, ℤ, [], ◌≡◌, rules, ap, subst, sym, ◌∙◌, w32, of_z, to_z, Settings, StandsAfter, State}
+use Rattle.std.proofs.Common.{ap₂}
+use Rattle.yaml_base.specs.Seen.{seen_encoding, seen_break}
 use Rattle.yaml_c.proofs.settings.emitter_by.Goals as goal
 
 abbrev given : State → Settings

@@ -1,8 +1,4 @@
-use Rattle.std.proofs.Common.{codes, refl, ap, ◌∙◌}
-use Rattle.std.specs.Str.{chars}
-use Rattle.yaml_base.specs.graphs.Meetings.{string_tag}
-use Rattle.yaml_base.specs.Seen.{seen_text}
-use Rattle.yaml_base.proofs.Literals.{chars-literal}
+use Rattle.yaml_caller.proofs.Common.{codes, refl, ap, ◌∙◌, chars, chars-literal, seen_text, string_tag}
 use Rattle.yaml_caller.proofs.Dumped.{string_node}
 use Rattle.yaml_caller.proofs.cycles.cycle_key.Goals as goal
 

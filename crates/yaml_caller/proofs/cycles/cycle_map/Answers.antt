@@ -1,8 +1,5 @@
-use Rattle.std.proofs.Common.{refl, ap, map, ◌∙◌}
-use Rattle.std.specs.Str.{chars}
-use Rattle.yaml_base.specs.graphs.Meetings.{mapping_tag}
+use Rattle.yaml_caller.proofs.Common.{map, refl, ap, ◌∙◌, chars, chars-literal, mapping_tag}
 use Rattle.yaml_base.specs.graphs.SeenNodes.{seen_pair}
-use Rattle.yaml_base.proofs.Literals.{chars-literal}
 use Rattle.yaml_caller.proofs.Dumped.{mapping_of}
 use Rattle.yaml_caller.proofs.cycles.cycle_map.Goals as goal
 

@@ -1,8 +1,6 @@
-use Rattle.std.proofs.Common.{◌≡◌, IfOk, false, [], ◌∷◌, ◌∙◌, subst, sym}
-use Rattle.yaml_base.specs.graphs.Dumped.{GraphsRead}
-use Rattle.yaml_dump.specs.GraphTrees.{GraphsReadBack}
-use Rattle.yaml_caller.specs.Cycle.{cycle_graph}
+use Rattle.yaml_caller.proofs.Common.{IfOk, false, [], ◌∷◌, ◌≡◌, subst, sym, ◌∙◌, GraphsRead, cycle_graph}
 use Rattle.yaml_caller.proofs.Dumped.{copy_holds}
+use Rattle.yaml_dump.specs.GraphTrees.{GraphsReadBack}
 use Rattle.yaml_caller.proofs.cycles.cycle_written.Goals as goal
 
 pub returns-clause-bytes : goal.returns-clause-bytes

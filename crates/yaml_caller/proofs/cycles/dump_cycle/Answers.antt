@@ -1,11 +1,6 @@
-use Rattle.std.proofs.Common.{◌∷◌, [], refl, rules}
-use Rattle.yaml_base.specs.graphs.Documents.{graph_of}
-use Rattle.yaml_caller.specs.Letter.{letter_settings}
-use Rattle.yaml_caller.specs.Cycle.{cycle_bytes, cycle_graph}
-use Rattle.yaml_caller.proofs.KnownStreams.{stream_bytes}
-use Rattle.yaml_caller.proofs.OnlyMemory.{prefix_memory, exit_memory}
-use Rattle.yaml_caller.proofs.CycleFits.{cycle_fits, dump_memory}
-use Rattle.yaml_caller.proofs.Dumped.{dumped_cycle, cycle_events, none_waits, cycle_row, all_portable, one_dumped, after_dump, still_open, then_ok}
+use Rattle.yaml_caller.proofs.Common.{[], ◌∷◌, refl, rules, graph_of, cycle_graph, cycle_bytes, letter_settings}
+use Rattle.yaml_caller.proofs.{CycleFits.cycle_fits, CycleFits.dump_memory, KnownStreams.stream_bytes, OnlyMemory.prefix_memory, OnlyMemory.exit_memory}
+use Rattle.yaml_caller.proofs.Dumped.{dumped_cycle, cycle_events, cycle_row, none_waits, all_portable, one_dumped, after_dump, still_open, then_ok}
 use Rattle.yaml_caller.proofs.cycles.dump_cycle.Goals as goal
 
 pub returns : goal.returns

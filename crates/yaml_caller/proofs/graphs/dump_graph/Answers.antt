@@ -1,8 +1,4 @@
-use Rattle.std.proofs.Common.{refl, ap, ◌∙◌}
-use Rattle.std.specs.Prelude.{Bool, ◌||◌, ◌==◌, length}
-use Rattle.yaml_base.specs.graphs.Documents.{graph_of}
-use Rattle.yaml_base.specs.values.TypedValues.{typed_settings}
-use Rattle.yaml_caller.specs.GraphBytes.{graph_events}
+use Rattle.yaml_caller.proofs.Common.{◌==◌, length, Bool, ◌||◌, refl, ap, ◌∙◌, graph_of, typed_settings, graph_events}
 use Rattle.yaml_caller.proofs.Dumped.{then_ok}
 use Rattle.yaml_caller.proofs.GraphsCompared.{Fails, before_end, stands_dumped, dump_fails, close_fails, close_writes, is_document, passed_on}
 use Rattle.yaml_caller.proofs.graphs.dump_graph.Goals as goal

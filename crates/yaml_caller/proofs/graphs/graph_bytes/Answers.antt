@@ -1,10 +1,5 @@
-use Rattle.std.proofs.Common.{ap, ◌∙◌, sym, length}
-use Rattle.std.specs.Prelude.{◌==◌}
-use Rattle.yaml_base.specs.graphs.Documents.{graph_of}
-use Rattle.yaml_base.specs.graphs.Meetings.{Graph}
-use Rattle.yaml_base.specs.graphs.Isomorphic.{bare}
-use Rattle.yaml_caller.specs.GraphBytes.{IsRefused}
-use Rattle.yaml_caller.proofs.GraphsCompared.{copy_writes, copy_fails, dump_refused}
+use Rattle.yaml_caller.proofs.Common.{◌==◌, length, ap, sym, ◌∙◌, graph_of, bare, Graph, IsRefused}
+use Rattle.yaml_caller.proofs.GraphsCompared.{copy_writes, dump_refused, copy_fails}
 use Rattle.yaml_caller.proofs.graphs.graph_bytes.Goals as goal
 
 pub dump_graph-answer-requires-clause-is_bare : goal.dump_graph-answer-requires-clause-is_bare

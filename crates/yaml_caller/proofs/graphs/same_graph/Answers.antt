@@ -1,5 +1,4 @@
-use Rattle.std.proofs.Common.{sym, ◌∙◌}
-use Rattle.yaml_base.specs.graphs.Documents.{graph_of}
+use Rattle.yaml_caller.proofs.Common.{sym, ◌∙◌, graph_of}
 use Rattle.yaml_caller.proofs.GraphsCompared.{first_empty, second_empty}
 use Rattle.yaml_caller.proofs.graphs.same_graph.Goals as goal
 

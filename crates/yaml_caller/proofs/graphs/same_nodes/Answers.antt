@@ -1,7 +1,5 @@
-use Rattle.std.proofs.Common.{◌≡◌, ◌⊎◌, bytes_eq, rules}
-use Rattle.yaml_base.specs.graphs.Documents.{graph_of}
+use Rattle.yaml_caller.proofs.Common.{bytes_eq, ◌⊎◌, ◌≡◌, rules, graph_of, IsRefused}
 use Rattle.yaml_base.specs.declared.errors.yaml_error_t.TheVariants.{Memory, TagEmpty, TooDeep}
-use Rattle.yaml_caller.specs.GraphBytes.{IsRefused}
 use Rattle.yaml_caller.proofs.GraphsCompared.{graphs_decide, is_document, passed_on, named_so, first_refused, second_refused}
 use Rattle.yaml_caller.proofs.graphs.same_nodes.Goals as goal
 

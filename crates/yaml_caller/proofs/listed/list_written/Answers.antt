@@ -1,9 +1,7 @@
-use Rattle.std.proofs.Common.{chars, codes, refl, ap, ◌∙◌}
-use Rattle.yaml_base.proofs.Literals.{chars-literal}
-use Rattle.yaml_base.specs.Settings.{Settings}
-use Rattle.yaml_writer.proofs.Finishing.{nothing_awaited}
-use Rattle.yaml_writer.specs.Given.{seen_settings}
-use Rattle.yaml_caller.proofs.Listing.{list_answered, list_bytes}
+use Rattle.yaml_caller.proofs.Common.{codes, refl, ap, ◌∙◌, chars-literal, Settings}
+use Rattle.std.proofs.Common.{chars}
+use Rattle.yaml_caller.proofs.Listing.{list_bytes, list_answered}
+use Rattle.yaml_writer.{proofs.Finishing.nothing_awaited, specs.Given.seen_settings}
 use Rattle.yaml_caller.proofs.listed.list_written.Goals as goal
 
 pub returns : goal.returns

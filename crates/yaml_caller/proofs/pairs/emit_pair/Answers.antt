@@ -1,6 +1,5 @@
-use Rattle.std.proofs.Common.{[], map, ap}
-use Rattle.yaml_base.specs.Seen.{seen_directive, seen_event, seen_text}
-use Rattle.yaml_caller.specs.Pair.{portable_settings}
+use Rattle.yaml_caller.proofs.Common.{[], map, ap, seen_text, seen_directive, portable_settings}
+use Rattle.yaml_base.specs.Seen.{seen_event}
 use Rattle.yaml_caller.proofs.PairReads.{pair_promised, pair_reads}
 use Rattle.yaml_caller.proofs.pairs.emit_pair.Goals as goal
 

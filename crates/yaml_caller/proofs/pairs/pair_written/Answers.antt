@@ -1,8 +1,4 @@
-use Rattle.std.proofs.Common.{◌≡◌, ◌∙◌, true, false, sym, subst, List, ℕ}
-use Rattle.yaml_base.specs.Seen.{seen_text}
-use Rattle.yaml_base.specs.streams.StreamContent.{agrees}
-use Rattle.yaml_base.specs.streams.StreamReader.{stream_trees}
-use Rattle.yaml_caller.specs.Pair.{pair_events}
+use Rattle.yaml_caller.proofs.Common.{ℕ, false, true, List, ◌≡◌, subst, sym, ◌∙◌, seen_text, agrees, stream_trees, pair_events}
 use Rattle.yaml_caller.proofs.PairReads.{copy_agrees}
 use Rattle.yaml_caller.proofs.pairs.pair_written.Goals as goal
 

@@ -1,5 +1,5 @@
-use Rattle.std.proofs.Common.{◌≡◌, bytes_eq, rules}
-use Rattle.yaml_value.specs.SeenValues.{seen_value}
+use Rattle.yaml_caller.proofs.Common.{bytes_eq, ◌≡◌, rules}
+use Rattle.yaml_value.proofs.Common.{seen_value}
 use Rattle.yaml_caller.proofs.SameBytes.{same_decides}
 use Rattle.yaml_caller.proofs.values.same_bytes.Goals as goal
 

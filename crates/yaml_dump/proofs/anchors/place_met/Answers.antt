@@ -1,4 +1,4 @@
-use Rattle.yaml_dump.proofs.Common.{length, [], ◌++◌, ◌∷◌, ◌+◌, ◌-◌, set, subst, sym, arith, IsNumbered, Places, seen_step}
+use Rattle.yaml_dump.proofs.Common.{◌+◌, ◌-◌, length, slice_set as set, [], ◌++◌, ◌∷◌, subst, sym, arith, IsNumbered, Places, seen_step}
 use Rattle.yaml_dump.proofs.AnchorLemmas.{meets_none, other_step, met_before, met_first}
 use Rattle.yaml_dump.proofs.anchors.place_met.Goals as goal
 

@@ -1,5 +1,6 @@
-use Rattle.yaml_dump.proofs.Common.{length, [], map, ◌++◌, ◌∷◌, drop, get_or, take, ap, subst, sym, ◌∙◌, ◌≡◌, arith, Places, seen_step, Enters}
+use Rattle.yaml_dump.proofs.Common.{drop, length, slice_index_or as get_or, take, [], map, ◌++◌, ◌∷◌, ◌≡◌, ap, subst, sym, ◌∙◌, arith, Places, seen_step}
 use Rattle.yaml_dump.proofs.AnchorLemmas.{step_numbered, seen_more, whole_slice}
+use Rattle.yaml_dump.specs.declared.steps.Step.TheVariants.{Enters}
 use Rattle.yaml_dump.proofs.anchors.shared_places.Goals as goal
 
 pub place_met-shared-requires-clause-numbered :

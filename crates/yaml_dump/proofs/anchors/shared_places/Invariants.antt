@@ -1,4 +1,4 @@
-use Rattle.yaml_dump.proofs.Common.{length, map, ◌≤◌, take, ◌≡◌, Places, seen_step}
+use Rattle.yaml_dump.proofs.Common.{◌≤◌, length, take, map, ◌≡◌, Places, seen_step}
 use Rattle.yaml_dump.proofs.anchors.shared_places.Given as goal
 
 abbrev pub invariant-loop-step : goal.invariant-loop-step

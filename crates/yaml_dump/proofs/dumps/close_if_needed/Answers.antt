@@ -1,4 +1,4 @@
-use Rattle.yaml_dump.proofs.Common.{Bool, inl, inr, refl, subst, sym, ◌∙◌, stream_end, EmitsAll, EmitsEach, closing}
+use Rattle.yaml_dump.proofs.Common.{Bool, refl, inl, inr, subst, sym, ◌∙◌, stream_end, EmitsAll, EmitsEach, closing}
 use Rattle.yaml_dump.proofs.Emissions.{emits_nothing, emits_one}
 use Rattle.yaml_dump.proofs.dumps.close_if_needed.Goals as goal
 

@@ -1,4 +1,4 @@
-use Rattle.yaml_dump.proofs.Common.{length, true, map, ap, subst, sym, ◌∙◌, ◌≡◌, graph_of, is_numbered, seen_step}
+use Rattle.yaml_dump.proofs.Common.{length, true, map, ◌≡◌, ap, subst, sym, ◌∙◌, graph_of, is_numbered, seen_step}
 use Rattle.yaml_dump.proofs.{EventLemmas.named_numbered, GraphLemmas.walk_unfolds}
 use Rattle.yaml_dump.proofs.dumps.events_of_nodes.Goals as goal
 

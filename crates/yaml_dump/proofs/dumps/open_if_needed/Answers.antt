@@ -1,6 +1,5 @@
-use Rattle.yaml_dump.proofs.Common.{None, Bool, inl, inr, refl, subst, sym, ◌∙◌, EmitsAll, EmitsEach, opening}
-use Rattle.yaml_base.specs.Event.{stream_start}
-use Rattle.yaml_dump.proofs.Emissions.{emits_nothing, emits_one}
+use Rattle.yaml_base.proofs.Common.{None, Bool, refl, inl, inr, subst, sym, ◌∙◌, stream_start}
+use Rattle.yaml_dump.{proofs.Emissions.emits_nothing, proofs.Emissions.emits_one, specs.Dumps.EmitsAll, specs.Dumps.EmitsEach, specs.Dumps.opening}
 use Rattle.yaml_dump.proofs.dumps.open_if_needed.Goals as goal
 
 pub returns-then-is_opened-clause-emits : goal.returns-then-is_opened-clause-emits

@@ -1,8 +1,8 @@
-use Rattle.yaml_dump.proofs.Common.{◌==◌, length, ◌||◌, map, ◌++◌, inr, ap, sym, ◌∙◌, false≢true, document_unfolds, seen_event, graph_of}
-use Rattle.yaml_dump.proofs.Common.{document_event_list, opening, closing, grows_then, none_from_result}
+use Rattle.yaml_dump.proofs.Common.{◌==◌, length, ◌||◌, map, ◌++◌, inr, ap, sym, ◌∙◌, false≢true, document_unfolds, seen_event, graph_of, document_event_list}
+use Rattle.yaml_dump.proofs.Common.{opening, closing, grows_then, none_from_result}
 use Rattle.std.proofs.Math.Bool.{or-false}
+use Rattle.yaml_dump.proofs.Emissions.{on_ok, closed_by, exit_dumps, dumps_closing, dumps_events, on_err, begun_then}
 use Rattle.yaml_dump.proofs.GraphLemmas.{closing_reads, closing_trees}
-use Rattle.yaml_dump.proofs.Emissions.{begun_then, on_ok, on_err, closed_by, exit_dumps, dumps_closing, dumps_events}
 use Rattle.yaml_dump.proofs.dumps.yaml_emitter_dump.Goals as goal
 
 pub returns-in_err-open_if_needed-clause-dumps : goal.returns-in_err-open_if_needed-clause-dumps

@@ -1,8 +1,8 @@
-use Rattle.yaml_dump.proofs.Common.{map, ◌++◌, rules, append-nil, inl, inr, ap, refl, subst, sym, ◌∙◌, into_iter_items, seen_event, StandsAfter}
-use Rattle.yaml_dump.proofs.Common.{grows_then, none_from_result}
+use Rattle.yaml_dump.proofs.Common.{map, ◌++◌, refl, rules, append-nil, inl, inr, ap, subst, sym, ◌∙◌, into_iter_items, seen_event, StandsAfter, grows_then}
+use Rattle.yaml_dump.proofs.Common.{none_from_result}
 use Rattle.std.proofs.lemmas.{Iterator.Adapters.YieldsList-from_vec, Iterator.Consumers.YieldsList-end, List.map-id}
-use Rattle.yaml_pen.proofs.Composing.{grows_itself}
 use Rattle.yaml_dump.proofs.Emissions.{keeps_same, keeps_more, some_told, events_more, parts_more, failed_at}
+use Rattle.yaml_pen.proofs.Composing.{grows_itself}
 use Rattle.yaml_dump.proofs.emitting.emit_each.Goals as goal
 
 pub returns-in-Err-clause-emits : goal.returns-in-Err-clause-emits

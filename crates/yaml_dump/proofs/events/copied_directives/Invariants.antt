@@ -1,4 +1,4 @@
-use Rattle.yaml_dump.proofs.Common.{map, take, ◌≡◌}
+use Rattle.yaml_dump.proofs.Common.{take, map, ◌≡◌}
 use Rattle.yaml_base.specs.Seen.{seen_directive}
 use Rattle.yaml_dump.proofs.events.copied_directives.Given as goal
 

@@ -1,5 +1,5 @@
-use Rattle.yaml_dump.proofs.Common.{length, map, ap, subst, sym, ◌∙◌, document_start, seen_events, graph_of, step_events, HasPlaces, seen_step, Enters}
-use Rattle.yaml_dump.proofs.{AnchorLemmas.step_placed, EventLemmas.events_more}
+use Rattle.yaml_dump.proofs.Common.{length, map, ap, subst, sym, ◌∙◌, document_start, seen_events, graph_of, step_events, HasPlaces, seen_step}
+use Rattle.yaml_dump.{proofs.AnchorLemmas.step_placed, proofs.EventLemmas.events_more, specs.declared.steps.Step.TheVariants.Enters}
 use Rattle.yaml_dump.proofs.events.events_of_walk.Goals as goal
 
 pub push_event-requires-clause-placed : goal.push_event-requires-clause-placed

@@ -1,5 +1,5 @@
-use Rattle.yaml_dump.proofs.Common.{map, ◌∷◌, take, ◌≡◌, document_start, seen_events, graph_of, step_events, seen_step}
-use Rattle.std.specs.List.{flat_map}
+use Rattle.yaml_dump.proofs.Common.{take, map, ◌∷◌, ◌≡◌, document_start, seen_events, graph_of, step_events, seen_step}
+use Rattle.yaml_base.proofs.Common.{flat_map}
 use Rattle.yaml_dump.proofs.events.events_of_walk.Given as goal
 
 abbrev pub invariant-loop-step : goal.invariant-loop-step

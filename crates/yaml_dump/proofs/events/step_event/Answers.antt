@@ -1,4 +1,4 @@
-use Rattle.yaml_dump.proofs.Common.{length, subst, sym, ◌≡◌, IfOk-weaker, graph_of, step_events, IsNumbered, seen_events_of, seen_step}
+use Rattle.yaml_dump.proofs.Common.{length, ◌≡◌, subst, sym, IfOk-weaker, graph_of, step_events, IsNumbered, seen_events_of, seen_step}
 use Rattle.yaml_dump.proofs.EventLemmas.{entered}
 use Rattle.yaml_dump.proofs.events.step_event.Goals as goal
 

@@ -1,4 +1,4 @@
-use Rattle.yaml_dump.proofs.Common.{Some, ℕ, rules, ap, sym, ◌∙◌, ◌≡◌, w32, FitsSigned, arith, to_z-of_z, seen_number}
+use Rattle.yaml_dump.proofs.Common.{ℕ, Some, ◌≡◌, FitsSigned, rules, ap, sym, ◌∙◌, w32, arith, to_z-of_z, seen_number}
 use Rattle.yaml_dump.proofs.ChildLemmas.{none_behind, key_seen, value_seen}
 use Rattle.yaml_dump.proofs.walk.number_in_pairs.Goals as goal
 

@@ -1,6 +1,6 @@
-use Rattle.yaml_dump.proofs.Common.{length, rules, reverse, ap, w32, FitsSigned, arith, to_z-of_z, graph_of, seen_walker}
+use Rattle.yaml_dump.proofs.Common.{length, reverse, FitsSigned, rules, ap, w32, arith, to_z-of_z, graph_of, seen_walker}
 use Rattle.std.proofs.{Math.IntN.nat_abs, lemmas.Bool.eqb-false, lemmas.List.nil_from_length}
-use Rattle.yaml_dump.proofs.WalkStateLemmas.{stands_first, stands_popped, stands_behind, steps_fewer, steps_whole, innermost_named, walk_named}
+use Rattle.yaml_dump.proofs.WalkStateLemmas.{steps_whole, stands_first, stands_popped, stands_behind, steps_fewer, innermost_named, walk_named}
 use Rattle.yaml_dump.proofs.walk.walk.Goals as goal
 
 pub loop-visit-init : goal.loop-visit-init

@@ -1,4 +1,4 @@
-use Rattle.yaml_dump.proofs.Common.{length, ◌-◌, graph_of, seen_walker}
+use Rattle.yaml_dump.proofs.Common.{◌-◌, length, graph_of, seen_walker}
 use Rattle.yaml_dump.proofs.WalkStateLemmas.{Stands}
 use Rattle.yaml_base.specs.graphs.Meetings as meetings
 use Rattle.yaml_dump.proofs.walk.walk.Given as goal

@@ -1,4 +1,4 @@
-use Rattle.std.proofs.Common.{sym}
+use Rattle.yaml_emitter.proofs.Common.{sym}
 use Rattle.yaml_mark.proofs.TagLemmas.{empty_tag, good_tag}
 use Rattle.yaml_emitter.proofs.check.check_tag_text.Goals as goal
 

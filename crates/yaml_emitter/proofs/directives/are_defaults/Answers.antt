@@ -1,4 +1,4 @@
-use Rattle.std.proofs.Common.{sym, arith, ◌∙◌}
+use Rattle.yaml_emitter.proofs.Common.{sym, ◌∙◌, arith}
 use Rattle.yaml_emitter.proofs.pieces.Defaults.{two_defaults}
 use Rattle.yaml_emitter.proofs.directives.are_defaults.Goals as goal
 

@@ -1,5 +1,4 @@
-use Rattle.std.proofs.Common.{arith}
-use Rattle.std.proofs.lemmas.Grind.{common_steps}
+use Rattle.yaml_emitter.proofs.Common.{arith, common_steps}
 use Rattle.yaml_emitter.proofs.directives.next_directives.Goals as goal
 
 pub returns-clause-refusal : goal.returns-clause-refusal

@@ -1,5 +1,4 @@
-use Rattle.std.proofs.Common.{arith}
-use Rattle.std.proofs.lemmas.Grind.{common_steps, elements}
+use Rattle.yaml_emitter.proofs.Common.{arith, common_steps, elements}
 use Rattle.yaml_emitter.proofs.directives.read_directives.Goals as goal
 
 pub returns-clause-read : goal.returns-clause-read

@@ -1,6 +1,4 @@
-use Rattle.std.proofs.Common.{◌≡◌, map, take, drop}
-use Rattle.yaml_base.specs.Seen.{seen_directive}
-use Rattle.yaml_base.specs.Tags.{directives_fault, directives_fault_after}
+use Rattle.yaml_emitter.proofs.Common.{drop, take, map, ◌≡◌, seen_directive, directives_fault_after, directives_fault}
 use Rattle.yaml_emitter.proofs.directives.read_directives.Given as goal
 
 abbrev pub invariant-loop-directive : goal.invariant-loop-directive

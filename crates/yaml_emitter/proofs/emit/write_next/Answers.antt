@@ -1,6 +1,4 @@
-use Rattle.std.proofs.Common.{subst}
-use Rattle.yaml_base.specs.Seen.{seen_event, seen_events}
-use Rattle.yaml_emitter.specs.Processing.{Processed}
+use Rattle.yaml_emitter.proofs.Common.{subst, seen_event, seen_events, Processed}
 use Rattle.yaml_emitter.proofs.emit.write_next.Goals as goal
 
 pub returns : goal.returns

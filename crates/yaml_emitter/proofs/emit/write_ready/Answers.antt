@@ -1,14 +1,9 @@
-use Rattle.std.proofs.Common.{◌≡◌, ◌+◌, true, drop, ap, sym, arith, ◌∙◌, Ok, Err, refl}
-use Rattle.std.proofs.lemmas.Grind.{common_steps}
-use Rattle.std.proofs.lemmas.Bool.{false≢true}
-use Rattle.std.proofs.lemmas.List.{length-map}
-use Rattle.yaml_base.specs.Seen.{seen_event, seen_events}
-use Rattle.yaml_emitter.specs.Queue.{is_head_ready}
-use Rattle.yaml_emitter.specs.StandsAfter.{ProcessedFirst}
-use Rattle.yaml_pen.proofs.Composing.{grows_then}
-use Rattle.yaml_emitter.proofs.standing.Emitting.{next_behind, reached_on, seen_behind, took_behind, took_error, took_failed, took_next, took_within}
+use Rattle.yaml_emitter.proofs.Common.{◌+◌, Err, Ok, drop, true, refl, ◌≡◌, ap, sym, ◌∙◌, arith, false≢true, common_steps, length-map, seen_event}
+use Rattle.yaml_emitter.proofs.Common.{seen_events, is_head_ready, ProcessedFirst}
+use Rattle.yaml_emitter.proofs.standing.Emitting.{took_error, took_next, took_failed, reached_on, seen_behind, took_behind, next_behind, took_within}
 use Rattle.yaml_emitter.proofs.standing.Growing.{grows_page, took_grows}
 use Rattle.yaml_emitter.proofs.standing.KeepsSet.{keeps_given_same, keeps_given_then, took_keeps_given}
+use Rattle.yaml_pen.proofs.Composing.{grows_then}
 use Rattle.yaml_emitter.proofs.emit.write_ready.Goals as goal
 
 pub events-init : goal.events-init

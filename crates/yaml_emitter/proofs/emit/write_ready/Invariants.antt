@@ -1,9 +1,4 @@
-use Rattle.std.proofs.Common.{◌≡◌, ◌≤◌, ◌-◌, false, drop, length, None}
-use Rattle.yaml_base.specs.Seen.{seen_events}
-use Rattle.yaml_pen.specs.Wrote.{Grows}
-use Rattle.yaml_emitter.specs.State.{KeepsGiven}
-use Rattle.yaml_emitter.specs.Queue.{is_head_ready}
-use Rattle.yaml_emitter.specs.StandsAfter.{ReachedOn}
+use Rattle.yaml_emitter.proofs.Common.{◌-◌, ◌≤◌, None, drop, length, false, ◌≡◌, seen_events, is_head_ready, ReachedOn, KeepsGiven, Grows}
 use Rattle.yaml_emitter.proofs.emit.write_ready.Given as goal
 
 abbrev pub invariant-events : goal.invariant-events

@@ -1,20 +1,10 @@
-use Rattle.std.proofs.Common.{Err, ◌++◌, ◌∷◌, ◌≤◌, [], drop, List, sym, subst, ap, refl, ◌∙◌, ◌≡◌, false, true, Some}
-use Rattle.std.proofs.lemmas.Bool.{false≢true}
-use Rattle.yaml_base.specs.Event.{Event}
-use Rattle.yaml_base.specs.Seen.{seen_event, seen_events}
-use Rattle.yaml_pen.specs.Page.{result_of_error}
-use Rattle.yaml_pen.specs.Wrote.{Grows}
-use Rattle.yaml_emitter.specs.Inside.{state_of}
-use Rattle.yaml_emitter.specs.Queue.{is_head_ready}
-use Rattle.yaml_emitter.specs.State.{KeepsGiven, KeepsSet, MachineState, State, machine_of}
-use Rattle.yaml_emitter.specs.StandsAfter.{StandsAfter, MachineStands, failed_by}
-use Rattle.yaml_emitter.proofs.standing.Emitting.{none_became_ready, stands_alone, stands_failing, stands_written}
-use Rattle.yaml_emitter.proofs.standing.EmitterKept.{has_output_inside, kept_emitting, room_left, seen_more, within_count}
-use Rattle.yaml_emitter.proofs.standing.Growing.{grows_page}
-use Rattle.yaml_emitter.proofs.standing.KeepsSet.{emitting_keeps}
-use Rattle.yaml_emitter.proofs.standing.Promising.{promised, stands_with}
-use Rattle.yaml_emitter.proofs.standing.PromisingRoom.{memory_only}
-use Rattle.yaml_emitter.proofs.standing.StandingMore.{failed_more}
+use Rattle.yaml_emitter.proofs.Common.{◌≤◌, Some, Err, drop, false, true, List, [], ◌++◌, ◌∷◌, refl, ◌≡◌, ap, subst, sym, ◌∙◌, false≢true, Event, seen_event}
+use Rattle.yaml_emitter.proofs.Common.{seen_events, state_of, is_head_ready, MachineStands, StandsAfter, failed_by, State, MachineState, machine_of}
+use Rattle.yaml_emitter.proofs.Common.{KeepsGiven, KeepsSet, result_of_error, Grows}
+use Rattle.yaml_emitter.proofs.standing.{Growing.grows_page, KeepsSet.emitting_keeps, Promising.promised, Promising.stands_with, PromisingRoom.memory_only}
+use Rattle.yaml_emitter.proofs.standing.{StandingMore.failed_more}
+use Rattle.yaml_emitter.proofs.standing.EmitterKept.{room_left, seen_more, within_count, has_output_inside, kept_emitting}
+use Rattle.yaml_emitter.proofs.standing.Emitting.{none_became_ready, stands_written, stands_failing, stands_alone}
 use Rattle.yaml_emitter.proofs.emit.yaml_emitter_emit.Goals as goal
 
 pub push_reserved-requires : goal.push_reserved-requires

@@ -1,20 +1,10 @@
-use Rattle.std.proofs.Common.{Err, List, ◌∙◌, ◌≡◌, ◌≤◌, None, Some, ap, sym, subst, refl}
-use Rattle.yaml_base.specs.Event.{Event}
-use Rattle.yaml_base.specs.Seen.{seen_events}
+use Rattle.yaml_emitter.proofs.Common.{◌≤◌, None, Some, Err, List, refl, ◌≡◌, ap, subst, sym, ◌∙◌, Event, seen_events, state_of, is_head_ready, MachineStands}
+use Rattle.yaml_emitter.proofs.Common.{StandsAfter, State, MachineState, none_from_result, encoded, result_of_error, Grows}
 use Rattle.yaml_base.specs.declared.errors.yaml_error_t.TheVariants.{Memory}
-use Rattle.yaml_pen.specs.Page.{encoded, result_of_error}
-use Rattle.yaml_pen.specs.Wrote.{Grows}
-use Rattle.yaml_pen.proofs.Writing.{none_from_result}
+use Rattle.yaml_emitter.proofs.standing.{EmitterKept.has_output_inside, EmitterKept.kept_emitting, Growing.flushed_unflushed, PromisingRoom.memory_only}
+use Rattle.yaml_emitter.proofs.standing.{StandingMore.flush_stands, StandingMore.some_from_result, StandingMore.flush_failed}
+use Rattle.yaml_emitter.proofs.standing.Promising.{promises_bytes, promised, stands_unfailed, stands_encoded}
 use Rattle.yaml_pen.proofs.Composing.{flushed_grows}
-use Rattle.yaml_emitter.specs.Inside.{state_of}
-use Rattle.yaml_emitter.specs.Queue.{is_head_ready}
-use Rattle.yaml_emitter.specs.State.{MachineState, State}
-use Rattle.yaml_emitter.specs.StandsAfter.{StandsAfter, MachineStands}
-use Rattle.yaml_emitter.proofs.standing.EmitterKept.{has_output_inside, kept_emitting}
-use Rattle.yaml_emitter.proofs.standing.Growing.{flushed_unflushed}
-use Rattle.yaml_emitter.proofs.standing.Promising.{promised, promises_bytes, stands_encoded, stands_unfailed}
-use Rattle.yaml_emitter.proofs.standing.PromisingRoom.{memory_only}
-use Rattle.yaml_emitter.proofs.standing.StandingMore.{flush_failed, flush_stands, some_from_result}
 use Rattle.yaml_emitter.proofs.emit.yaml_emitter_flush.Goals as goal
 
 pub invariant_of-emitter : goal.invariant_of-emitter

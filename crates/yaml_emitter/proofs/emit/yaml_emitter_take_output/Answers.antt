@@ -1,11 +1,5 @@
-use Rattle.std.proofs.Common.{◌∙◌, ap, subst, sym, List}
-use Rattle.yaml_base.specs.Event.{Event}
-use Rattle.yaml_base.specs.Settings.{Settings}
-use Rattle.yaml_emitter.specs.Inside.{IsEmitter, state_of}
-use Rattle.yaml_emitter.specs.State.{MachineState, State, with_all_taken}
-use Rattle.yaml_emitter.specs.StandsAfter.{StandsAfter}
-use Rattle.yaml_emitter.proofs.standing.Promising.{promised}
-use Rattle.yaml_emitter.proofs.standing.Taking.{stands_taken, untouched_taken}
+use Rattle.yaml_emitter.proofs.Common.{List, ap, subst, sym, ◌∙◌, Event, Settings, state_of, IsEmitter, StandsAfter, State, MachineState, with_all_taken}
+use Rattle.yaml_emitter.proofs.standing.{Promising.promised, Taking.stands_taken, Taking.untouched_taken}
 use Rattle.yaml_emitter.proofs.emit.yaml_emitter_take_output.Goals as goal
 
 pub invariant_of-emitter : goal.invariant_of-emitter

@@ -1,5 +1,4 @@
-use Rattle.std.proofs.Common.{arith}
-use Rattle.std.proofs.lemmas.Grind.{common_steps}
+use Rattle.yaml_emitter.proofs.Common.{arith, common_steps}
 use Rattle.yaml_emitter.proofs.emitter.room_for_four.Goals as goal
 
 pub returns-clause-room : goal.returns-clause-room

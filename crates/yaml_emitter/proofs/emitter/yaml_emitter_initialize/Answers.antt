@@ -1,8 +1,5 @@
-use Rattle.std.proofs.Common.{◌≡◌, ◌∙◌, true, false, refl, ap, subst, sym}
-use Rattle.yaml_base.specs.Seen.{seen_events}
-use Rattle.yaml_pen.specs.Page.{IsUntouched}
-use Rattle.yaml_emitter.specs.Queue.{is_head_ready}
-use Rattle.yaml_emitter.specs.State.{MachineState, is_at_stream, new_machine}
+use Rattle.yaml_emitter.proofs.Common.{false, true, refl, ◌≡◌, ap, subst, sym, ◌∙◌, seen_events, is_head_ready, MachineState, new_machine, is_at_stream}
+use Rattle.yaml_emitter.proofs.Common.{IsUntouched}
 use Rattle.yaml_emitter.proofs.standing.StandingMore.{new_emitter_stands}
 use Rattle.yaml_emitter.proofs.emitter.yaml_emitter_initialize.Goals as goal
 

@@ -1,4 +1,4 @@
-use Rattle.yaml_pen.proofs.Composing.{wrote_exit}
+use Rattle.yaml_emitter.proofs.Common.{wrote_exit}
 use Rattle.yaml_emitter.proofs.standing.LastFlushes.{wrote_flushed}
 use Rattle.yaml_emitter.proofs.process.flush_document_end.Goals as goal
 

@@ -1,7 +1,5 @@
-use Rattle.std.proofs.Common.{◌+◌, ◌||◌, drop, ap, sym, ◌∙◌, arith, eq-eqb, ne_eqb}
-use Rattle.std.proofs.lemmas.Grind.{common_steps}
-use Rattle.std.proofs.lemmas.List.{drop_all}
-use Rattle.yaml_base.specs.Seen.{seen_event, seen_events}
+use Rattle.yaml_emitter.proofs.Common.{◌+◌, drop, ◌||◌, ne_eqb, ap, sym, ◌∙◌, arith, common_steps, seen_event, seen_events}
+use Rattle.std.proofs.{Common.eq-eqb, lemmas.List.drop_all}
 use Rattle.yaml_emitter.proofs.standing.WrittenPrefixes.{one_if, closes_after, closes_after-none, closes_after-next, one_if-le-one}
 use Rattle.yaml_emitter.proofs.queue.closes.Goals as goal
 

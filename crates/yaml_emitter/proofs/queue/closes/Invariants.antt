@@ -1,5 +1,4 @@
-use Rattle.std.proofs.Common.{◌≡◌, ◌≤◌, drop}
-use Rattle.yaml_base.specs.Seen.{seen_events}
+use Rattle.yaml_emitter.proofs.Common.{◌≤◌, drop, ◌≡◌, seen_events}
 use Rattle.yaml_emitter.proofs.standing.WrittenPrefixes.{closes_after}
 use Rattle.yaml_emitter.proofs.queue.closes.Given as goal
 

@@ -1,6 +1,4 @@
-use Rattle.std.proofs.Common.{ℕ, arith, ◌≡◌, ◌+◌, ◌-◌, drop, ap, sym, ◌∙◌}
-use Rattle.std.proofs.lemmas.List.{drop-drop, drop-map}
-use Rattle.yaml_base.specs.Seen.{seen_event, seen_events}
+use Rattle.yaml_emitter.proofs.Common.{ℕ, ◌+◌, ◌-◌, drop, ◌≡◌, drop-drop, ap, sym, ◌∙◌, arith, drop-map, seen_event, seen_events}
 use Rattle.yaml_emitter.proofs.queue.drop_one_by_one.Goals as goal
 
 pub events-preserved : goal.events-preserved

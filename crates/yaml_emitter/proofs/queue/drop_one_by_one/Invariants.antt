@@ -1,6 +1,4 @@
-use Rattle.std.proofs.Common.{◌≡◌, ◌≤◌, drop}
-use Rattle.std.specs.Prelude.{vec_capacity, vec_len}
-use Rattle.yaml_base.specs.Seen.{seen_events}
+use Rattle.yaml_emitter.proofs.Common.{◌≤◌, vec_len, vec_capacity, drop, ◌≡◌, seen_events}
 use Rattle.yaml_emitter.proofs.queue.drop_one_by_one.Given as goal
 
 abbrev pub invariant-events : goal.invariant-events

@@ -1,5 +1,4 @@
-use Rattle.std.proofs.Common.{arith}
-use Rattle.std.proofs.lemmas.Grind.{common_steps}
+use Rattle.yaml_emitter.proofs.Common.{arith, common_steps}
 use Rattle.yaml_emitter.proofs.queue.first_and_rest.Goals as goal
 
 pub bounds-waiting-0 : goal.bounds-waiting-0

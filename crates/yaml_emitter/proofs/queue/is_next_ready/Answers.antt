@@ -1,12 +1,6 @@
-use Rattle.std.proofs.Common.{◌≡◌, ◌∙◌, ℕ, List, [], ◌∷◌, Bool, false, ◌≤◌, ◌==◌, ◌||◌, length, map, get_or, refl, sym, ap, arith, ne_eqb}
-use Rattle.std.proofs.lemmas.Grind.{common_steps}
-use Rattle.std.proofs.lemmas.Bool.{le-ltb}
-use Rattle.std.specs.List.{list_any}
-use Rattle.std.specs.Prelude.{nat_lt}
-use Rattle.yaml_base.specs.Event.{Event}
-use Rattle.yaml_base.specs.Ready.{awaited, nonempty_prefixes, is_balanced}
-use Rattle.yaml_base.specs.Seen.{seen_event}
-use Rattle.yaml_emitter.specs.Queue.{is_head_ready}
+use Rattle.yaml_emitter.proofs.Common.{ℕ, ◌≤◌, ◌==◌, nat_lt, length, slice_index_or as get_or, Bool, false, ◌||◌, List, [], map, ◌∷◌, refl, ◌≡◌, le-ltb}
+use Rattle.yaml_emitter.proofs.Common.{ne_eqb, ap, sym, ◌∙◌, arith, common_steps, list_any, Event, awaited, is_balanced, nonempty_prefixes, seen_event}
+use Rattle.yaml_emitter.proofs.Common.{is_head_ready}
 use Rattle.yaml_emitter.proofs.standing.WrittenPrefixes.{alone_open}
 use Rattle.yaml_emitter.proofs.queue.is_next_ready.Goals as goal
 

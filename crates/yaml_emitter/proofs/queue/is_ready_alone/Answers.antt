@@ -1,12 +1,6 @@
-use Rattle.std.proofs.Common.{◌≡◌, ◌∙◌, ap, sym, true, Bool, [], ◌∷◌, length}
-use Rattle.std.proofs.lemmas.Bool.{eqb-true}
+use Rattle.yaml_emitter.proofs.Common.{◌==◌, nat_lt, length, Bool, true, ◌||◌, [], ◌∷◌, ◌≡◌, eqb-true, ap, sym, ◌∙◌, list_any, Event, awaited, is_balanced}
+use Rattle.yaml_emitter.proofs.Common.{nonempty_prefixes, seen_event, is_head_ready}
 use Rattle.std.proofs.lemmas.List.{nil_from_length}
-use Rattle.std.specs.List.{list_any}
-use Rattle.std.specs.Prelude.{◌==◌, ◌||◌, nat_lt}
-use Rattle.yaml_base.specs.Event.{Event}
-use Rattle.yaml_base.specs.Ready.{awaited, nonempty_prefixes, is_balanced}
-use Rattle.yaml_base.specs.Seen.{seen_event}
-use Rattle.yaml_emitter.specs.Queue.{is_head_ready}
 use Rattle.yaml_emitter.proofs.queue.is_ready_alone.Goals as goal
 
 -- an event that awaits nothing is ready alone

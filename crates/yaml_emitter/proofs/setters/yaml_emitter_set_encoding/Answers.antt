@@ -1,9 +1,5 @@
-use Rattle.std.proofs.Common.{◌∙◌, ap, refl}
-use Rattle.yaml_base.specs.Seen.{seen_encoding}
-use Rattle.yaml_emitter.specs.Inside.{state_of}
-use Rattle.yaml_emitter.specs.State.{MachineState, State}
-use Rattle.yaml_emitter.proofs.standing.EmitterKept.{kept_given}
-use Rattle.yaml_emitter.proofs.standing.StandingSet.{stands_given}
+use Rattle.yaml_emitter.proofs.Common.{refl, ap, ◌∙◌, seen_encoding, state_of, State, MachineState}
+use Rattle.yaml_emitter.proofs.standing.{EmitterKept.kept_given, StandingSet.stands_given}
 use Rattle.yaml_emitter.proofs.setters.yaml_emitter_set_encoding.Goals as goal
 
 pub invariant_of-emitter : goal.invariant_of-emitter

@@ -1,7 +1,6 @@
-use Rattle.std.proofs.Common.{◌≡◌, ◌∙◌, ℤ, Some, arith, ap, refl, of_z, to_z, to_z-of_z, w32}
-use Rattle.yaml_emitter.specs.State.{State}
-use Rattle.yaml_emitter.proofs.standing.EmitterKept.{indent_set, kept_given}
-use Rattle.yaml_emitter.proofs.standing.StandingSet.{stands_given}
+use Rattle.yaml_emitter.proofs.Common.{Some, ℤ, refl, ◌≡◌, ap, ◌∙◌, w32, of_z, to_z, arith, State}
+use Rattle.std.proofs.Common.{to_z-of_z}
+use Rattle.yaml_emitter.proofs.standing.{EmitterKept.kept_given, EmitterKept.indent_set, StandingSet.stands_given}
 use Rattle.yaml_emitter.proofs.setters.yaml_emitter_set_indent.Goals as goal
 
 pub invariant_of-emitter : goal.invariant_of-emitter

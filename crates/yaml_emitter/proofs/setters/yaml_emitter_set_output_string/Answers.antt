@@ -1,8 +1,5 @@
-use Rattle.std.proofs.Common.{◌∙◌, ap, true}
-use Rattle.yaml_emitter.specs.Inside.{state_of}
-use Rattle.yaml_emitter.specs.State.{MachineState, State}
-use Rattle.yaml_emitter.proofs.standing.EmitterKept.{kept_limited}
-use Rattle.yaml_emitter.proofs.standing.StandingSet.{stands_limited}
+use Rattle.yaml_emitter.proofs.Common.{true, ap, ◌∙◌, state_of, State, MachineState}
+use Rattle.yaml_emitter.proofs.standing.{EmitterKept.kept_limited, StandingSet.stands_limited}
 use Rattle.yaml_emitter.proofs.setters.yaml_emitter_set_output_string.Goals as goal
 
 pub set_limit-requires : goal.set_limit-requires

@@ -1,7 +1,5 @@
-use Rattle.std.proofs.Common.{◌≡◌, ◌<◌, ℕ, None, Some, arith, get_or, length}
-use Rattle.yaml_json.specs.Cuts.{HasScanned}
-use Rattle.yaml_json.specs.Texts.{after_byte}
-use Rattle.yaml_json.proofs.Cutting.{one_cut, one_scanned}
+use Rattle.yaml_json.proofs.Common.{◌<◌, None, Some, length, arith}
+use Rattle.yaml_json.proofs.Cutting.{one_scanned, one_cut}
 use Rattle.yaml_json.proofs.cuts.find_end.Goals as goal
 
 pub returns-in-None : goal.returns-in-None

@@ -1,7 +1,4 @@
-use Rattle.std.proofs.Common.{◌≡◌, sym, subst, drop, length, take}
-use Rattle.std.specs.Prelude.{ℕ, List}
-use Rattle.yaml_json.specs.Cuts.{CutsAt, HasScanned}
-use Rattle.yaml_json.specs.Texts.{CutsFirstText}
+use Rattle.yaml_json.proofs.Common.{ℕ, length, take, List, ◌≡◌, subst, sym, HasScanned, CutsAt, CutsFirstText}
 use Rattle.yaml_json.proofs.Cutting.{cuts_first, whole_first}
 use Rattle.yaml_json.proofs.cuts.first_cut.Goals as goal
 

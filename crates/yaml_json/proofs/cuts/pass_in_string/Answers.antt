@@ -1,6 +1,5 @@
-use Rattle.std.proofs.Common.{◌≡◌, ◌<◌, ◌≤◌, ◌+◌, Some, arith, get_or, length}
-use Rattle.yaml_json.specs.Texts.{after_byte}
-use Rattle.yaml_json.proofs.Cutting.{one_scanned, string_stays}
+use Rattle.yaml_json.proofs.Common.{◌<◌, ◌≤◌, Some, length, slice_index_or as get_or, ◌≡◌, arith, after_byte}
+use Rattle.yaml_json.proofs.Cutting.{string_stays, one_scanned}
 use Rattle.yaml_json.proofs.cuts.pass_in_string.Goals as goal
 
 pub bytes-preserved : goal.bytes-preserved

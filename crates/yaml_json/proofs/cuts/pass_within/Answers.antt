@@ -1,6 +1,5 @@
-use Rattle.std.proofs.Common.{◌≡◌, ◌<◌, ◌≤◌, ◌+◌, Some, arith, get_or, length}
-use Rattle.yaml_json.specs.Texts.{after_byte}
-use Rattle.yaml_json.proofs.Cutting.{one_scanned, within_stays}
+use Rattle.yaml_json.proofs.Common.{◌<◌, ◌≤◌, Some, length, slice_index_or as get_or, ◌≡◌, arith, after_byte}
+use Rattle.yaml_json.proofs.Cutting.{within_stays, one_scanned}
 use Rattle.yaml_json.proofs.cuts.pass_within.Goals as goal
 
 pub bytes-preserved : goal.bytes-preserved

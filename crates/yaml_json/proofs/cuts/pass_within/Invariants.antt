@@ -1,5 +1,4 @@
-use Rattle.std.proofs.Common.{◌-◌, ◌≤◌, length}
-use Rattle.yaml_json.specs.Cuts.{HasScanned}
+use Rattle.yaml_json.proofs.Common.{◌-◌, ◌≤◌, length, HasScanned}
 use Rattle.yaml_json.proofs.cuts.pass_within.Given as goal
 
 abbrev pub invariant-bytes : goal.invariant-bytes

@@ -1,4 +1,4 @@
-use Rattle.yaml_json.proofs.SingleFault.{deep_not_twice, not_deep, not_twice}
+use Rattle.yaml_json.proofs.SingleFault.{not_deep, not_twice, deep_not_twice}
 use Rattle.yaml_json.proofs.laws.faults_differ.Goals as goal
 
 pub returns : goal.returns

@@ -1,9 +1,6 @@
-use Rattle.yaml_base.specs.Event.{scalar}
-use Rattle.yaml_base.specs.values.TypedValues.{bool_tag, bool_text}
+use Rattle.yaml_json.proofs.Common.{scalar, bool_tag, bool_text, bool_content}
+use Rattle.yaml_json.proofs.{Stopping.event_failed, WroteLemmas.wrote_event, WroteLemmas.word_is}
 use Rattle.yaml_writer.specs.Writing.{bool_event}
-use Rattle.yaml_json.proofs.Stopping.{event_failed}
-use Rattle.yaml_json.proofs.WroteLemmas.{word_is, wrote_event}
-use Rattle.yaml_json.specs.JsonEvents.{bool_content}
 use Rattle.yaml_json.proofs.scalars.write_bool.Goals as goal
 
 pub returns-in-Ok-clause-written : goal.returns-in-Ok-clause-written

@@ -1,10 +1,6 @@
-use Rattle.std.specs.Prelude.{codes}
-use Rattle.yaml_base.specs.Event.{scalar}
-use Rattle.yaml_base.specs.values.TypedValues.{null_tag}
+use Rattle.yaml_json.proofs.Common.{codes, scalar, null_tag, null_content}
+use Rattle.yaml_json.proofs.{Stopping.event_failed, WroteLemmas.wrote_event, WroteLemmas.word_is}
 use Rattle.yaml_writer.specs.Writing.{null_event}
-use Rattle.yaml_json.proofs.Stopping.{event_failed}
-use Rattle.yaml_json.proofs.WroteLemmas.{word_is, wrote_event}
-use Rattle.yaml_json.specs.JsonEvents.{null_content}
 use Rattle.yaml_json.proofs.scalars.write_null.Goals as goal
 
 pub returns-in-Ok-clause-written : goal.returns-in-Ok-clause-written

@@ -1,9 +1,5 @@
-use Rattle.yaml_base.specs.Event.{scalar}
-use Rattle.yaml_writer.specs.NumberParts.{number_in}
-use Rattle.yaml_writer.specs.Writing.{number_event}
-use Rattle.yaml_json.proofs.Stopping.{event_failed}
-use Rattle.yaml_json.proofs.WroteLemmas.{number_event_is, wrote_event}
-use Rattle.yaml_json.specs.JsonEvents.{number_content}
+use Rattle.yaml_json.proofs.Common.{scalar, number_content, number_in, number_event}
+use Rattle.yaml_json.proofs.{Stopping.event_failed, WroteLemmas.wrote_event, WroteLemmas.number_event_is}
 use Rattle.yaml_json.proofs.scalars.write_number.Goals as goal
 
 pub returns-in-Ok-clause-written : goal.returns-in-Ok-clause-written

@@ -1,9 +1,5 @@
-use Rattle.std.specs.Str.{chars}
-use Rattle.yaml_base.specs.Event.{scalar}
-use Rattle.yaml_writer.specs.Writing.{text_event}
-use Rattle.yaml_json.proofs.Stopping.{event_failed}
-use Rattle.yaml_json.proofs.WroteLemmas.{text_is, wrote_event}
-use Rattle.yaml_json.specs.JsonEvents.{text_content}
+use Rattle.yaml_json.proofs.Common.{chars, scalar, text_content, text_event}
+use Rattle.yaml_json.proofs.{Stopping.event_failed, WroteLemmas.wrote_event, WroteLemmas.text_is}
 use Rattle.yaml_json.proofs.scalars.write_text.Goals as goal
 
 pub returns-in-Ok-clause-written : goal.returns-in-Ok-clause-written

@@ -1,12 +1,9 @@
-use Rattle.std.proofs.Common.{rules, subst, sym}
-use Rattle.std.specs.Prelude.{IfSome, Option}
+use Rattle.yaml_json.proofs.Common.{IfSome, Option, subst, sym, failure_of, FailedInTexts}
+use Rattle.std.proofs.Common.{rules}
 use Rattle.yaml_base.specs.declared.errors.yaml_error_t.{yaml_error_t}
-use Rattle.yaml_json.proofs.Stopping.{if_some}
-use Rattle.yaml_json.proofs.WroteLemmas.{bare_awaits_none}
-use Rattle.yaml_json.proofs.Refusing.{why_told}
-use Rattle.yaml_json.proofs.TextsInTurn.{is_more, next_failed, no_more, some_more, text_refused, texts_begin, texts_done, texts_failed, texts_go_on}
-use Rattle.yaml_json.proofs.TextsInTurn.{texts_names, texts_read}
-use Rattle.yaml_json.specs.Failing.{FailedInTexts, failure_of}
+use Rattle.yaml_json.proofs.{Refusing.why_told, Stopping.if_some, WroteLemmas.bare_awaits_none}
+use Rattle.yaml_json.proofs.TextsInTurn.{texts_begin, texts_go_on, next_failed, texts_done, texts_names, texts_read, no_more, is_more, some_more}
+use Rattle.yaml_json.proofs.TextsInTurn.{text_refused, texts_failed}
 use Rattle.yaml_json.proofs.several.write_json_texts.Goals as goal
 
 pub texts-init : goal.texts-init

@@ -1,4 +1,4 @@
-use Rattle.std.proofs.Common.{length}
+use Rattle.yaml_json.proofs.Common.{length}
 use denote.Shadow.{shadow}
 use denote.Text.{Utf8}
 use Rattle.yaml_json.proofs.TextsInTurn.{TextsSoFar}

@@ -1,7 +1,5 @@
-use Rattle.std.proofs.Common.{ℕ, List, subst}
-use Rattle.std.specs.Io.KnownBytes.{Appends}
-use Rattle.yaml_json.proofs.Sending.{begun_taken}
-use Rattle.yaml_json.proofs.WroteLemmas.{bare_awaits_none}
+use Rattle.yaml_json.proofs.Common.{subst, Appends}
+use Rattle.yaml_json.proofs.{Sending.begun_taken, WroteLemmas.bare_awaits_none}
 use Rattle.yaml_json.proofs.stream.begin_next.Goals as goal
 
 pub returns-in-Ok-clause-begun : goal.returns-in-Ok-clause-begun

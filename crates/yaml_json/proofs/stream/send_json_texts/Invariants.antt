@@ -1,6 +1,4 @@
-use Rattle.std.specs.Prelude.{IfSome}
-use Rattle.yaml_json.specs.Sent.{IsScanned}
-use Rattle.yaml_json.specs.Wrote.{IsBare}
+use Rattle.yaml_json.proofs.Common.{IfSome, IsScanned, IsBare}
 use Rattle.yaml_json.proofs.Sending.{Comes}
 use Rattle.yaml_json.proofs.stream.send_json_texts.Given as goal
 

@@ -1,7 +1,5 @@
-use Rattle.std.proofs.Common.{◌≡◌, ◌-◌, ◌≤◌, ℕ, List, refl, sym, subst, drop, length}
-use Rattle.yaml_json.specs.Cuts.{HasScanned}
-use Rattle.yaml_json.specs.Sent.{Advances, StopsWithin}
-use Rattle.yaml_json.proofs.Sending.{advances_left, left_scanned, left_within, stops_by_none}
+use Rattle.yaml_json.proofs.Common.{ℕ, ◌-◌, drop, length, List, refl, subst, sym, HasScanned, StopsWithin}
+use Rattle.yaml_json.proofs.Sending.{left_scanned, left_within, advances_left, stops_by_none}
 use Rattle.yaml_json.proofs.stream.write_complete.Goals as goal
 
 pub write_texts-requires : goal.write_texts-requires

@@ -1,5 +1,4 @@
-use Rattle.std.proofs.Common.{ℕ, List, subst}
-use Rattle.yaml_json.specs.Sent.{ExplainsPart}
+use Rattle.yaml_json.proofs.Common.{ℕ, List, subst, ExplainsPart}
 use Rattle.yaml_json.proofs.stream.write_last.Goals as goal
 
 pub returns-in-Err-clause-refused : goal.returns-in-Err-clause-refused

@@ -1,11 +1,6 @@
-use Rattle.std.proofs.Common.{◌≡◌, ◌∙◌, ◌-◌, ◌<◌, ◌≤◌, ◌+◌, ℕ, List, [], true, refl, sym, ap, subst, arith, drop, length}
-use Rattle.std.proofs.lemmas.List.{length-drop}
-use Rattle.json.specs.Lex.{tokens}
-use Rattle.yaml_json.specs.Cuts.{HasScanned}
-use Rattle.yaml_json.specs.Names.{NamesOnce}
-use Rattle.yaml_json.specs.Sent.{ExplainsPart}
-use Rattle.yaml_json.specs.Wrote.{WroteText}
-use Rattle.yaml_json.proofs.Sending.{advances_none, advances_on, advances_same, stops_at_first, stops_by_none, suffix_on, whole_suffix}
+use Rattle.yaml_json.proofs.Common.{ℕ, ◌-◌, drop, length, true, List, [], refl, ◌≡◌, length-drop, ap, subst, sym, ◌∙◌, arith, tokens, NamesOnce, ExplainsPart}
+use Rattle.yaml_json.proofs.Common.{WroteText}
+use Rattle.yaml_json.proofs.Sending.{whole_suffix, suffix_on, advances_none, advances_same, stops_by_none, stops_at_first, advances_on}
 use Rattle.yaml_json.proofs.stream.write_texts.Goals as goal
 
 pub texts-init : goal.texts-init

@@ -1,7 +1,4 @@
-use Rattle.std.proofs.Common.{◌≡◌, ◌-◌, ◌≤◌, drop, length}
-use Rattle.yaml_json.specs.Cuts.{HasScanned}
-use Rattle.yaml_json.specs.Sent.{Advances}
-use Rattle.yaml_json.specs.Wrote.{IsBare}
+use Rattle.yaml_json.proofs.Common.{◌-◌, ◌≤◌, drop, length, ◌≡◌, HasScanned, Advances, IsBare}
 use Rattle.yaml_json.proofs.stream.write_texts.Given as goal
 
 abbrev pub invariant-texts : goal.invariant-texts

@@ -1,5 +1,4 @@
-use Rattle.yaml_json.proofs.Refusing.{why_no_json, why_told}
-use Rattle.yaml_json.proofs.TextsInTurn.{text_names}
+use Rattle.yaml_json.proofs.{Refusing.why_no_json, Refusing.why_told, TextsInTurn.text_names}
 use Rattle.yaml_json.proofs.texts.write_json.Goals as goal
 
 pub returns-clause-refused : goal.returns-clause-refused

@@ -1,10 +1,7 @@
-use Rattle.std.proofs.Common.{inl, refl}
-use Rattle.yaml_writer.specs.Given.{seen_settings}
-use Rattle.yaml_json.proofs.Stopping.{if_some}
-use Rattle.yaml_json.proofs.WhyFailed.{finish_failed, text_failed}
-use Rattle.yaml_json.proofs.WroteLemmas.{bare_awaits_none}
-use Rattle.yaml_json.proofs.YamlOf.{yaml_of}
+use Rattle.yaml_json.proofs.Common.{refl, inl}
+use Rattle.yaml_json.proofs.{Stopping.if_some, WhyFailed.text_failed, WhyFailed.finish_failed, WroteLemmas.bare_awaits_none, YamlOf.yaml_of}
 use Rattle.yaml_json.specs.Failing.{writers_error}
+use Rattle.yaml_writer.specs.Given.{seen_settings}
 use Rattle.yaml_json.proofs.texts.yaml_from_json.Goals as goal
 
 pub returns-in-Ok-finish-clause-stream : goal.returns-in-Ok-finish-clause-stream

@@ -1,9 +1,6 @@
-use Rattle.std.proofs.Common.{◌<◌, length, arith, refl}
-use Rattle.yaml_json.proofs.KeepingNames.{keeps_opener}
-use Rattle.yaml_json.proofs.Stopping.{if_some}
-use Rattle.yaml_json.proofs.Taking.{opener_began, opener_failed, opener_without_memory}
-use Rattle.yaml_json.proofs.WroteLemmas.{always, on_ok}
-use Rattle.yaml_json.specs.Failing.{failure}
+use Rattle.yaml_json.proofs.Common.{◌<◌, length, arith, failure}
+use Rattle.yaml_json.proofs.{KeepingNames.keeps_opener, Stopping.if_some, Taking.opener_began, Taking.opener_failed, Taking.opener_without_memory}
+use Rattle.yaml_json.proofs.{WroteLemmas.on_ok, WroteLemmas.always}
 use Rattle.yaml_json.proofs.values.begin.Goals as goal
 
 pub returns-in-Err-clause-stopped : goal.returns-in-Err-clause-stopped

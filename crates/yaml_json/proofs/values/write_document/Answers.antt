@@ -1,6 +1,4 @@
-use Rattle.std.proofs.Common.{◌≡◌, ◌∷◌, Some, ap, ◌∙◌}
-use Rattle.json.specs.Reads.{token_of}
-use Rattle.json.specs.Json.{value}
+use Rattle.yaml_json.proofs.Common.{Some, ◌∷◌, ◌≡◌, ap, ◌∙◌, value, token_of}
 use Rattle.yaml_json.proofs.Refusing.{past_refused, value_names}
 use Rattle.yaml_json.proofs.values.write_document.Goals as goal
 

@@ -1,8 +1,5 @@
-use Rattle.std.proofs.Common.{◌∷◌, []}
-use Rattle.json.specs.Reads.{token_of}
-use Rattle.yaml_json.proofs.Stops.{first_none}
-use Rattle.yaml_json.proofs.WroteLemmas.{on_ok}
-use Rattle.yaml_json.specs.declared.values.Spot.TheVariants.{At}
+use Rattle.yaml_json.proofs.Common.{[], ◌∷◌, token_of}
+use Rattle.yaml_json.{proofs.Stops.first_none, proofs.WroteLemmas.on_ok, specs.declared.values.Spot.TheVariants.At}
 use Rattle.yaml_json.proofs.values.write_first.Goals as goal
 
 pub returns-in_default-clause-refused : goal.returns-in_default-clause-refused

@@ -1,18 +1,11 @@
-use Rattle.std.proofs.Common.{◌≡◌, ◌∷◌, [], List, ap, ◌∙◌, refl}
-use Rattle.json.specs.Reads.{token_of}
-use Rattle.json.specs.Token as tokens
+use Rattle.yaml_json.proofs.Common.{[], ◌∷◌, refl, ◌≡◌, ap, ◌∙◌, token_of, failure, Refuses}
 use Rattle.json.specs.declared.token.Token.{Token}
-use Rattle.json.specs.declared.token.Token.TheVariants as variants
+use Rattle.yaml_json.{proofs.KeepingNames.keeps_closer, proofs.Refusing.unrefused, proofs.Stopping.if_some, proofs.Stops.item_none, proofs.Stops.item_stopped}
+use Rattle.yaml_json.{proofs.WroteLemmas.on_ok, proofs.WroteLemmas.always, proofs.WroteLemmas.on_err, specs.declared.values.Spot.TheVariants.At}
+use Rattle.yaml_json.proofs.Taking.{step_closes, step_unclosed, step_item, step_no_item}
 use Rattle.yaml_writer.specs.declared.kinds.CollectionKind.TheVariants.{Sequence}
-use Rattle.yaml_json.proofs.KeepingNames.{keeps_closer}
-use Rattle.yaml_json.proofs.Refusing.{unrefused}
-use Rattle.yaml_json.proofs.Stopping.{if_some}
-use Rattle.yaml_json.proofs.Stops.{item_none, item_stopped}
-use Rattle.yaml_json.proofs.Taking.{step_closes, step_item, step_no_item, step_unclosed}
-use Rattle.yaml_json.proofs.WroteLemmas.{always, on_err, on_ok}
-use Rattle.yaml_json.specs.Failing.{failure}
-use Rattle.yaml_json.specs.Walk.{Refuses}
-use Rattle.yaml_json.specs.declared.values.Spot.TheVariants.{At}
+use Rattle.json.specs.Token as tokens
+use Rattle.json.specs.declared.token.Token.TheVariants as variants
 use Rattle.yaml_json.proofs.values.write_item.Goals as goal
 
 -- a token that isn't the end of an array

@@ -1,21 +1,13 @@
-use Rattle.std.proofs.Common.{◌≡◌, ◌∷◌, [], Bor, List, ℕ, false, true, ap, ◌∙◌, arith, refl}
-use Rattle.std.specs.Str.{chars}
-use Rattle.json.specs.Reads.{token_of}
-use Rattle.json.specs.Token as tokens
+use Rattle.yaml_json.proofs.Common.{ℕ, false, true, List, [], ◌∷◌, refl, ◌≡◌, Bor, ap, ◌∙◌, arith, chars, token_of, scalar, failure_of, failure, text_content}
 use Rattle.json.specs.declared.token.Token.{Token}
-use Rattle.json.specs.declared.token.Token.TheVariants as variants
-use Rattle.yaml_base.specs.Event.{scalar}
-use Rattle.yaml_writer.specs.declared.kinds.CollectionKind.TheVariants.{Mapping}
-use Rattle.yaml_json.proofs.KeepingNames.{keeps_closer, keeps_name, keeps_then}
-use Rattle.yaml_json.proofs.Refusing.{IsNoKey}
-use Rattle.yaml_json.proofs.Stopping.{if_some}
-use Rattle.yaml_json.proofs.Stops.{again_stopped, member_none, member_stopped, named_stopped}
-use Rattle.yaml_json.proofs.Taking.{fails_scalar, gives_scalar, step_closes, step_member, step_no_member, step_unclosed, step_unnamed}
-use Rattle.yaml_json.proofs.Taking.{step_without_memory}
-use Rattle.yaml_json.proofs.WroteLemmas.{always, on_err, on_ok}
-use Rattle.yaml_json.specs.Failing.{failure, failure_of}
-use Rattle.yaml_json.specs.JsonEvents.{text_content}
+use Rattle.yaml_json.proofs.{KeepingNames.keeps_closer, KeepingNames.keeps_name, KeepingNames.keeps_then, Refusing.IsNoKey, Stopping.if_some}
+use Rattle.yaml_json.proofs.{WroteLemmas.on_ok, WroteLemmas.always, WroteLemmas.on_err}
+use Rattle.yaml_json.proofs.Stops.{member_none, member_stopped, again_stopped, named_stopped}
+use Rattle.yaml_json.proofs.Taking.{gives_scalar, fails_scalar, step_closes, step_unclosed, step_without_memory, step_unnamed, step_member, step_no_member}
 use Rattle.yaml_json.specs.declared.values.Spot.TheVariants.{At, PastString}
+use Rattle.yaml_writer.specs.declared.kinds.CollectionKind.TheVariants.{Mapping}
+use Rattle.json.specs.Token as tokens
+use Rattle.json.specs.declared.token.Token.TheVariants as variants
 use Rattle.yaml_json.proofs.values.write_member.Goals as goal
 
 -- a token that is neither a key nor the end of an object

@@ -1,24 +1,11 @@
-use Rattle.std.proofs.Common.{◌≡◌, [], ◌∷◌, Bor, List, ℕ, refl, sym, subst}
-use Rattle.std.specs.Prelude.{IfErr, IfSome, OnOk}
-use Rattle.std.specs.Str.{chars}
+use Rattle.yaml_json.proofs.Common.{ℕ, IfSome, OnOk, List, [], ◌∷◌, refl, ◌≡◌, Bor, subst, sym, chars, token_of, scalar, failure, null_content, bool_content}
+use Rattle.yaml_json.proofs.Common.{number_content, text_content, RefusesText, Keeps, BeganValue, BeginFailed, RefusesToken, number_in}
+use Rattle.json.specs.{Print.IsPrintable, declared.token.Token.Token}
+use Rattle.yaml_json.proofs.{KeepingNames.keeps_scalar, NumberBridge.number_is, Refusing.unrefused, Stopping.if_some, Taking.scalar_began}
+use Rattle.yaml_json.proofs.{Taking.scalar_failed, WroteLemmas.on_ok, WroteLemmas.always}
 use Rattle.json.specs.Print as json
-use Rattle.json.specs.Print.{IsPrintable}
-use Rattle.json.specs.Reads.{token_of}
 use Rattle.json.specs.Token as tokens
-use Rattle.json.specs.declared.token.Token.{Token}
 use Rattle.json.specs.declared.token.Token.TheVariants as variants
-use Rattle.yaml_base.specs.Event.{scalar}
-use Rattle.yaml_writer.specs.NumberParts.{number_in}
-use Rattle.yaml_json.proofs.KeepingNames.{keeps_scalar}
-use Rattle.yaml_json.proofs.NumberBridge.{number_is}
-use Rattle.yaml_json.proofs.Refusing.{unrefused}
-use Rattle.yaml_json.proofs.Stopping.{if_some}
-use Rattle.yaml_json.proofs.Taking.{scalar_began, scalar_failed}
-use Rattle.yaml_json.proofs.WroteLemmas.{always, on_ok}
-use Rattle.yaml_json.specs.Failing.{failure}
-use Rattle.yaml_json.specs.JsonEvents.{bool_content, null_content, number_content, text_content}
-use Rattle.yaml_json.specs.Refused.{RefusesText}
-use Rattle.yaml_json.specs.Walk.{BeginFailed, BeganValue, Keeps, RefusesToken}
 use Rattle.yaml_json.proofs.values.write_token.Goals as goal
 
 number_apart : (text : Bor (List ℕ)) (token : Token) → token ≡ variants.Number text → token ≡ variants.Bad → ⊥

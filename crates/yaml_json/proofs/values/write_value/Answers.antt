@@ -1,13 +1,7 @@
-use Rattle.std.proofs.Common.{◌≡◌, List, [], subst, arith}
-use Rattle.std.specs.Prelude.{IfSome}
+use Rattle.yaml_json.proofs.Common.{IfSome, List, [], ◌≡◌, subst, arith, failure_of, BeganFirstValue, FirstFailed, RefusesFirst}
+use Rattle.yaml_json.proofs.{KeepingNames.names_begin, KeepingNames.names_on, Refusing.first_refused, Stopping.if_some, Walking.awaiting_whole}
+use Rattle.yaml_json.proofs.Taking.{first_so_far, first_failed, steps_on, step_failed, step_stopped, all_written}
 use Rattle.yaml_writer.specs.declared.kinds.CollectionKind.{CollectionKind}
-use Rattle.yaml_json.specs.Failing.{failure_of}
-use Rattle.yaml_json.specs.Walk.{BeganFirstValue, FirstFailed, RefusesFirst}
-use Rattle.yaml_json.proofs.KeepingNames.{names_begin, names_on}
-use Rattle.yaml_json.proofs.Refusing.{first_refused}
-use Rattle.yaml_json.proofs.Stopping.{if_some}
-use Rattle.yaml_json.proofs.Taking.{all_written, first_failed, first_so_far, step_failed, step_stopped, steps_on}
-use Rattle.yaml_json.proofs.Walking.{awaiting_whole}
 use Rattle.yaml_json.proofs.values.write_value.Goals as goal
 
 pub returns-in-Err-clause-refused : goal.returns-in-Err-clause-refused

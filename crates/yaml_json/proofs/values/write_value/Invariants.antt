@@ -1,7 +1,5 @@
-use Rattle.std.proofs.Common.{length}
-use Rattle.yaml_json.proofs.KeepingNames.{NamesSoFar}
-use Rattle.yaml_json.specs.Nests.{IsNesting}
-use Rattle.yaml_json.specs.Walk.{WalkProgress}
+use Rattle.yaml_json.proofs.Common.{length, WalkProgress}
+use Rattle.yaml_json.{proofs.KeepingNames.NamesSoFar, specs.Nests.IsNesting}
 use Rattle.yaml_json.proofs.values.write_value.Given as goal
 
 abbrev pub invariant-each_token : goal.invariant-each_token

@@ -1,5 +1,5 @@
-use Rattle.std.proofs.Common.{sym, lit<, false, true}
-use Rattle.std.proofs.lemmas.Str.Pattern.{strip_prefix_char, strip_suffix_char}
+use Rattle.yaml_mark.proofs.Common.{false, true, lit<, sym, strip_prefix_char}
+use Rattle.std.proofs.lemmas.Str.Pattern.{strip_suffix_char}
 use Rattle.yaml_mark.proofs.HandleLemmas as fact
 use Rattle.yaml_mark.proofs.names.analyze_handle.Goals as goal
 

@@ -1,5 +1,5 @@
-use Rattle.std.proofs.Common.{sym}
-use Rattle.yaml_mark.specs.Names.{alphabet_error, empty_error}
+use Rattle.yaml_mark.proofs.Common.{sym}
+use Rattle.yaml_mark.specs.Names.{empty_error, alphabet_error}
 use Rattle.yaml_mark.proofs.HandleLemmas as fact
 use Rattle.yaml_mark.proofs.names.analyze_name.Goals as goal
 

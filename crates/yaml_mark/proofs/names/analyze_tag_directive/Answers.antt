@@ -1,7 +1,7 @@
-use Rattle.std.proofs.Common.{sym, Some, None}
+use Rattle.yaml_mark.proofs.Common.{None, Some, sym}
+use Rattle.yaml_base.specs.declared.errors.yaml_error_t.TheVariants.{TagPrefixEmpty}
 use Rattle.yaml_mark.proofs.HandleLemmas as fact
 use Rattle.yaml_mark.proofs.names.analyze_tag_directive.Goals as goal
-use Rattle.yaml_base.specs.declared.errors.yaml_error_t.TheVariants.{TagPrefixEmpty}
 
 pub returns-then-is_empty : goal.returns-then-is_empty
 returns-then-is_empty g c =

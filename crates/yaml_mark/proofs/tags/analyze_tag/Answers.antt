@@ -1,5 +1,5 @@
-use Rattle.std.proofs.Common.{sym, refl}
-use Rattle.yaml_mark.proofs.TagLemmas.{empty_tag, good_tag, spelled_whole, spelled_short}
+use Rattle.yaml_mark.proofs.Common.{refl, sym}
+use Rattle.yaml_mark.proofs.TagLemmas.{spelled_whole, spelled_short, empty_tag, good_tag}
 use Rattle.yaml_mark.proofs.tags.analyze_tag.Goals as goal
 
 pub returns-then-is_empty-clause-refusal : goal.returns-then-is_empty-clause-refusal

@@ -1,5 +1,4 @@
-use Rattle.std.proofs.Common.{lit<}
-use Rattle.std.proofs.lemmas.Str.Pattern.{strip_prefix_char}
+use Rattle.yaml_mark.proofs.Common.{lit<, strip_prefix_char}
 use Rattle.yaml_mark.proofs.EscapingLemmas.{prefix_answer}
 use Rattle.yaml_mark.proofs.writing.after_raw_exclamation.Goals as goal
 

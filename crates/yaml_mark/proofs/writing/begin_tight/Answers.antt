@@ -1,8 +1,5 @@
-use Rattle.std.proofs.Common.{◌∙◌, ap}
-use Rattle.std.specs.List.{list_any}
-use Rattle.std.proofs.lemmas.Str.{chars-nil}
-use Rattle.yaml_base.specs.Characters.{is_break}
-use Rattle.yaml_base.specs.Indicators.{Indicator, tight}
+use Rattle.yaml_mark.proofs.Common.{ap, ◌∙◌, chars-nil, list_any, is_break, Indicator}
+use Rattle.yaml_base.specs.Indicators.{tight}
 use Rattle.yaml_mark.proofs.EscapingLemmas.{no_indicator}
 use Rattle.yaml_mark.proofs.writing.begin_tight.Goals as goal
 

@@ -1,8 +1,5 @@
-use Rattle.std.proofs.Common.{ap, sym, subst, List, ℕ, length, arith}
-use Rattle.std.proofs.lemmas.List.Sums.{prefix_len-le-length}
-use Rattle.yaml_base.specs.Percent.{is_tag_character}
-use Rattle.yaml_mark.specs.Escaping.{IsPrefixRun}
-use Rattle.yaml_mark.proofs.EscapingLemmas.{marked_run, prefix_run}
+use Rattle.yaml_mark.proofs.Common.{ℕ, length, List, ap, subst, sym, arith, prefix_len-le-length, is_tag_character, IsPrefixRun}
+use Rattle.yaml_mark.proofs.EscapingLemmas.{prefix_run, marked_run}
 use Rattle.yaml_mark.proofs.writing.prefix_run_length.Goals as goal
 
 pub overflow_sub-exclamation : goal.overflow_sub-exclamation

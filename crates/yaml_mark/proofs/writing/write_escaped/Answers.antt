@@ -1,14 +1,8 @@
-use Rattle.std.proofs.Common.{◌∙◌, ap, sym, subst, ℕ, arith}
-use Rattle.std.proofs.lemmas.Bool.{eqb-true}
-use Rattle.std.proofs.lemmas.List.{nil_from_length}
-use Rattle.std.proofs.lemmas.Str.{chars-nil}
-use Rattle.std.specs.Str.{IsCharBoundary, chars}
-use Rattle.yaml_base.specs.Percent.{byte_escaped, suffix_escaped}
-use Rattle.std.specs.List.{flat_map}
-use Rattle.yaml_pen.proofs.Composing.{wrote_exit}
+use Rattle.yaml_mark.proofs.Common.{ℕ, eqb-true, ap, subst, sym, ◌∙◌, arith, chars-nil, IsCharBoundary, chars, byte_escaped, suffix_escaped, are_escaped}
+use Rattle.yaml_mark.proofs.Common.{wrote_exit}
+use Rattle.std.{proofs.lemmas.List.nil_from_length, specs.List.flat_map}
+use Rattle.yaml_mark.proofs.EscapingLemmas.{run_boundary, next_boundary, run_cut, forms_cut, moves_on}
 use Rattle.yaml_pen.proofs.WrittenPrefixes.{prefix_more, prefix_failed, prefix_whole}
-use Rattle.yaml_mark.specs.Escaping.{are_escaped}
-use Rattle.yaml_mark.proofs.EscapingLemmas.{forms_cut, moves_on, next_boundary, run_boundary, run_cut}
 use Rattle.yaml_mark.proofs.writing.write_escaped.Goals as goal
 
 pub split_at-requires : goal.split_at-requires

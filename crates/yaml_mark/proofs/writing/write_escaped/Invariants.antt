@@ -1,8 +1,6 @@
-use Rattle.std.proofs.Common.{length}
-use Rattle.std.specs.Str.{chars, IsUtf8}
-use Rattle.yaml_base.specs.Percent.{suffix_escaped}
+use Rattle.yaml_mark.proofs.Common.{length, chars, suffix_escaped, are_escaped}
+use Rattle.std.specs.Str.{IsUtf8}
 use Rattle.yaml_pen.proofs.WrittenPrefixes.{WrotePrefix}
-use Rattle.yaml_mark.specs.Escaping.{are_escaped}
 use Rattle.yaml_mark.proofs.writing.write_escaped.Given as goal
 
 abbrev pub invariant-loop-rest : goal.invariant-loop-rest

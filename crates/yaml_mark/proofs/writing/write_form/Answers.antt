@@ -1,9 +1,6 @@
-use Rattle.std.proofs.Common.{Ok, refl, sym, subst, [], ◌∷◌, ◌%◌}
-use Rattle.yaml_base.specs.Characters.{hex_digit, hex_digits, Text}
-use Rattle.yaml_base.specs.Cursor.{render_text}
-use Rattle.yaml_base.specs.Percent.{byte_escaped}
-use Rattle.yaml_pen.specs.Wrote.{Wrote}
-use Rattle.yaml_pen.proofs.Composing.{wrote_exit, wrote_cut, wrote_text_then}
+use Rattle.yaml_mark.proofs.Common.{◌%◌, Ok, [], ◌∷◌, refl, subst, sym, Text, hex_digit, render_text, byte_escaped, wrote_text_then, wrote_exit, wrote_cut}
+use Rattle.yaml_mark.proofs.Common.{Wrote}
+use Rattle.yaml_base.proofs.Common.{hex_digits}
 use Rattle.yaml_mark.proofs.EscapingLemmas.{form_is}
 use Rattle.yaml_mark.proofs.writing.write_form.Goals as goal
 

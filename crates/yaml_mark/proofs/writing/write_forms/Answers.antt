@@ -1,5 +1,4 @@
-use Rattle.yaml_base.specs.Percent.{byte_escaped}
-use Rattle.yaml_pen.proofs.Composing.{wrote_exit}
+use Rattle.yaml_mark.proofs.Common.{byte_escaped, wrote_exit}
 use Rattle.yaml_mark.proofs.EscapingLemmas.{bytes_more, bytes_failed, bytes_whole, same_bytes}
 use Rattle.yaml_mark.proofs.writing.write_forms.Goals as goal
 

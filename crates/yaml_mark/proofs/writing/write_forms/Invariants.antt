@@ -1,8 +1,4 @@
-use Rattle.std.proofs.Common.{take, Ok}
-use Rattle.std.specs.Prelude.{flat_map}
-use Rattle.yaml_base.specs.Cursor.{render_text}
-use Rattle.yaml_base.specs.Percent.{byte_escaped}
-use Rattle.yaml_pen.specs.Wrote.{Wrote}
+use Rattle.yaml_mark.proofs.Common.{flat_map, Ok, take, render_text, byte_escaped, Wrote}
 use Rattle.yaml_mark.proofs.writing.write_forms.Given as goal
 
 abbrev pub invariant-loop-byte : goal.invariant-loop-byte

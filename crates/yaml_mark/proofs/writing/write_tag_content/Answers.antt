@@ -1,6 +1,4 @@
-use Rattle.std.specs.Str.{chars}
-use Rattle.yaml_base.specs.Percent.{percent_escaped}
-use Rattle.yaml_pen.proofs.Composing.{wrote_exit}
+use Rattle.yaml_mark.proofs.Common.{chars, percent_escaped, wrote_exit}
 use Rattle.yaml_mark.proofs.EscapingLemmas.{content_cut, content_whole}
 use Rattle.yaml_mark.proofs.writing.write_tag_content.Goals as goal
 

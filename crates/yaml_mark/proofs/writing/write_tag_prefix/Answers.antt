@@ -1,11 +1,6 @@
-use Rattle.std.proofs.Common.{Err, true, subst}
-use Rattle.std.specs.Str.{chars}
-use Rattle.yaml_base.specs.Characters.{Text}
-use Rattle.yaml_base.specs.Cursor.{render_text}
-use Rattle.yaml_base.specs.Percent.{percent_escaped, prefix_escaped}
-use Rattle.yaml_pen.specs.Wrote.{Wrote}
-use Rattle.yaml_pen.proofs.Composing.{wrote_exit, wrote_text_failed, wrote_text_then}
+use Rattle.yaml_mark.proofs.Common.{Err, true, subst, chars, Text, render_text, percent_escaped, prefix_escaped, wrote_text_then, wrote_exit, Wrote}
 use Rattle.yaml_mark.proofs.EscapingLemmas.{content_cut, content_whole, prefix_parts, prefix_unbroken}
+use Rattle.yaml_pen.proofs.Composing.{wrote_text_failed}
 use Rattle.yaml_mark.proofs.writing.write_tag_prefix.Goals as goal
 
 pub split_at-requires : goal.split_at-requires

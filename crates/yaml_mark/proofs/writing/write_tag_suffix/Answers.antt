@@ -1,9 +1,4 @@
-use Rattle.std.proofs.Common.{Bool, false, subst}
-use Rattle.std.specs.Str.{chars}
-use Rattle.yaml_base.specs.Cursor.{render_text}
-use Rattle.yaml_base.specs.Percent.{suffix_escaped}
-use Rattle.yaml_pen.specs.Wrote.{Wrote}
-use Rattle.yaml_pen.proofs.Composing.{wrote_exit}
+use Rattle.yaml_mark.proofs.Common.{Bool, false, subst, chars, render_text, suffix_escaped, wrote_exit, Wrote}
 use Rattle.yaml_mark.proofs.EscapingLemmas.{content_cut, content_whole}
 use Rattle.yaml_mark.proofs.writing.write_tag_suffix.Goals as goal
 

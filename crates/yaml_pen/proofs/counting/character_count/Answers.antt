@@ -1,7 +1,6 @@
-use Rattle.std.proofs.Common.{ap, ◌∙◌, arith, List, ℕ, get_or}
+use Rattle.yaml_pen.proofs.Common.{ℕ, slice_index_or as get_or, List, ap, ◌∙◌, arith, is_char_start}
 use Rattle.std.proofs.lemmas.List.{take_all}
-use Rattle.std.specs.Fmt.{is_char_start}
-use Rattle.yaml_pen.proofs.CharacterStarts.{bool_byte_most, starts, starts-chars, starts_step}
+use Rattle.yaml_pen.proofs.CharacterStarts.{starts, starts_step, bool_byte_most, starts-chars}
 use Rattle.yaml_pen.proofs.counting.character_count.Goals as goal
 
 pub loop-place-preserved : goal.loop-place-preserved

@@ -1,4 +1,4 @@
-use Rattle.std.specs.Prelude.{◌≡◌, ◌≤◌, ◌-◌, length, take}
+use Rattle.yaml_pen.proofs.Common.{◌-◌, ◌≤◌, length, take, ◌≡◌}
 use Rattle.yaml_pen.proofs.CharacterStarts.{starts}
 use Rattle.yaml_pen.proofs.counting.character_count.Given as goal
 

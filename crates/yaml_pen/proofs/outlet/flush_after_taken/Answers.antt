@@ -1,5 +1,5 @@
-use Rattle.std.proofs.Common.{arith, ap, ◌∙◌, sym, ℕ, ◌+◌, length}
-use Rattle.yaml_pen.proofs.Outlets.{hands_on, whole_length}
+use Rattle.yaml_pen.proofs.Common.{ℕ, ◌+◌, length, ap, sym, ◌∙◌, arith}
+use Rattle.yaml_pen.proofs.Outlets.{whole_length, hands_on}
 use Rattle.yaml_pen.proofs.outlet.flush_after_taken.Goals as goal
 
 pub overflow_sub-limit : goal.overflow_sub-limit

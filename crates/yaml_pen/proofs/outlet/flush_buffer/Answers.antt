@@ -1,5 +1,4 @@
-use Rattle.std.proofs.Common.{arith}
-use Rattle.std.proofs.lemmas.Grind.{elements}
+use Rattle.yaml_pen.proofs.Common.{arith, elements}
 use Rattle.yaml_pen.proofs.outlet.flush_buffer.Goals as goal
 
 pub returns-in_ok-map_err : goal.returns-in_ok-map_err

@@ -1,10 +1,6 @@
-use Rattle.std.proofs.Common.{◌∙◌, ap, sym, chars, List, ℕ}
-use Rattle.std.specs.List.{list_any}
-use Rattle.yaml_base.specs.scalars.Analysis.{Allowances, Charset}
-use Rattle.yaml_base.specs.Characters.{Text, is_break}
-use Rattle.yaml_base.specs.scalars.Style.{Choice, chosen}
-use Rattle.yaml_scalar.specs.Barred.{Barred, allowed_by, seen_barred}
-use Rattle.yaml_scalar.proofs.Choices.{alike, allowed_whole}
+use Rattle.yaml_scalar.proofs.Common.{ℕ, chars, List, ap, sym, ◌∙◌, list_any, Text, is_break, Charset, Allowances, Choice, chosen, Barred, seen_barred}
+use Rattle.yaml_scalar.proofs.Common.{allowed_by}
+use Rattle.yaml_scalar.proofs.Choices.{allowed_whole, alike}
 use Rattle.yaml_scalar.proofs.analysis.analyze_for_style.Goals as goal
 
 pub returns : goal.returns

@@ -1,5 +1,4 @@
-use Rattle.std.proofs.Common.{◌∙◌, ap, sym, chars}
-use Rattle.yaml_scalar.specs.Barred.{Barred, allowed_by}
+use Rattle.yaml_scalar.proofs.Common.{chars, ap, sym, ◌∙◌, Barred, allowed_by}
 use Rattle.yaml_scalar.proofs.Choices.{allowed_whole}
 use Rattle.yaml_scalar.proofs.analysis.analyze_scalar.Goals as goal
 

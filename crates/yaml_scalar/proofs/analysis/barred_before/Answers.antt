@@ -1,12 +1,6 @@
-use Rattle.std.proofs.Common.{ℕ, Bool, List, sym, ap, subst, ◌∙◌, IsUtf8, chars}
-use Rattle.std.proofs.lemmas.Bool.{and_parts}
-use Rattle.std.proofs.lemmas.Str.{chars-nil}
-use Rattle.std.specs.List.{list_any}
-use Rattle.std.specs.Prelude.{◌&&◌, ◌||◌}
-use Rattle.yaml_base.specs.Characters.{is_break}
-use Rattle.yaml_scalar.specs.Barred.{Barred, barred_in, either, seen_barred}
-use Rattle.yaml_scalar.specs.ScalarData.{seen_charset}
-use Rattle.yaml_scalar.proofs.Barred.{all_barred, barred_more, barred_whole, or_none}
+use Rattle.yaml_scalar.proofs.Common.{ℕ, chars, IsUtf8, Bool, ◌&&◌, ◌||◌, List, ap, subst, sym, ◌∙◌, and_parts, chars-nil, list_any, is_break, Barred}
+use Rattle.yaml_scalar.proofs.Common.{seen_barred, barred_in, either, seen_charset}
+use Rattle.yaml_scalar.proofs.Barred.{or_none, barred_more, barred_whole, all_barred}
 use Rattle.yaml_scalar.proofs.analysis.barred_before.Goals as goal
 
 pub loop-c-preserved : goal.loop-c-preserved

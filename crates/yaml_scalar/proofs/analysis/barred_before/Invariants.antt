@@ -1,7 +1,4 @@
-use Rattle.std.proofs.Common.{◌≡◌, IsUtf8, chars, length}
-use Rattle.std.specs.Str.Iter.{chars_rest}
-use Rattle.yaml_scalar.specs.Barred.{barred_in, either, seen_barred}
-use Rattle.yaml_scalar.specs.ScalarData.{seen_charset}
+use Rattle.yaml_scalar.proofs.Common.{chars, IsUtf8, length, ◌≡◌, chars_rest, seen_barred, barred_in, either, seen_charset}
 use Rattle.yaml_scalar.proofs.analysis.barred_before.Given as goal
 
 abbrev pub invariant-loop-c : goal.invariant-loop-c

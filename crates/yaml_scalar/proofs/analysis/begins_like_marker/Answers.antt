@@ -1,5 +1,5 @@
-use Rattle.std.proofs.Common.{sym, ◌∙◌}
-use Rattle.yaml_scalar.proofs.FirstCharacters.{marker-of-one, marker-of-three, marker-of-two}
+use Rattle.yaml_scalar.proofs.Common.{sym, ◌∙◌}
+use Rattle.yaml_scalar.proofs.FirstCharacters.{marker-of-three, marker-of-two, marker-of-one}
 use Rattle.yaml_scalar.proofs.analysis.begins_like_marker.Goals as goal
 
 pub returns-in-Some-Some-Some : goal.returns-in-Some-Some-Some

@@ -1,8 +1,6 @@
-use Rattle.std.proofs.Common.{◌≡◌, ℕ, List, ◌∷◌, sym, ap, ◌∙◌, chars}
-use Rattle.std.proofs.lemmas.Str.{chars_past_char}
-use Rattle.std.specs.Prelude.{◌||◌, ◌&&◌, codes}
-use Rattle.yaml_base.specs.scalars.Analysis.{begins_like_marker, begins_unlike_plain, ends_word, is_indicator}
-use Rattle.yaml_base.specs.Characters.{Text, is_among, is_space}
+use Rattle.yaml_scalar.proofs.Common.{ℕ, chars, codes, ◌&&◌, ◌||◌, List, ◌∷◌, ◌≡◌, ap, sym, ◌∙◌, chars_past_char, Text, is_among, is_space, ends_word}
+use Rattle.yaml_scalar.proofs.Common.{begins_like_marker, begins_unlike_plain}
+use Rattle.yaml_base.specs.scalars.Analysis.{is_indicator}
 use Rattle.yaml_scalar.proofs.FirstCharacters.{ordinary_plain}
 use Rattle.yaml_scalar.proofs.analysis.begins_unlike_plain.Goals as goal
 

@@ -1,10 +1,5 @@
-use Rattle.std.proofs.Common.{ℕ, List, sym, ap, subst, ◌∙◌, IsUtf8}
-use Rattle.std.proofs.lemmas.List.{nil_from_length}
-use Rattle.std.proofs.lemmas.Str.{chars-nil, chars_past_char}
-use Rattle.std.specs.List.{list_any}
-use Rattle.std.specs.Prelude.{◌||◌}
-use Rattle.std.specs.Str.{chars}
-use Rattle.yaml_base.specs.Characters.{is_break}
+use Rattle.yaml_scalar.proofs.Common.{ℕ, IsUtf8, ◌||◌, List, ap, subst, sym, ◌∙◌, nil_from_length, chars-nil, chars_past_char, list_any, is_break}
+use Rattle.yaml_base.proofs.Common.{chars}
 use Rattle.yaml_scalar.proofs.analysis.holds_break.Goals as goal
 
 pub loop-c-preserved : goal.loop-c-preserved

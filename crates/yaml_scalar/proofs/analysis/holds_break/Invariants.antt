@@ -1,7 +1,4 @@
-use Rattle.std.proofs.Common.{◌≡◌, IsUtf8, chars, length}
-use Rattle.std.specs.List.{list_any}
-use Rattle.std.specs.Str.Iter.{chars_rest}
-use Rattle.yaml_base.specs.Characters.{is_break}
+use Rattle.yaml_scalar.proofs.Common.{chars, IsUtf8, length, ◌≡◌, list_any, chars_rest, is_break}
 use Rattle.yaml_scalar.proofs.analysis.holds_break.Given as goal
 
 abbrev pub invariant-loop-c : goal.invariant-loop-c

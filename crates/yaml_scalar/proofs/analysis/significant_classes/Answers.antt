@@ -1,7 +1,5 @@
-use Rattle.std.proofs.Common.{Bool, true, false, refl}
+use Rattle.yaml_scalar.proofs.Common.{Bool, false, true, refl, is_quiet, ImpliesTest}
 use Rattle.yaml_scalar.proofs.ByteRuns.{ascii_only_tells, quiet_tells}
-use Rattle.yaml_scalar.specs.Barred.{is_quiet}
-use Rattle.yaml_scalar.specs.ByteClasses.{ImpliesTest}
 use Rattle.yaml_scalar.proofs.analysis.significant_classes.Goals as goal
 
 unicode_is_quiet : (breaks12 : Bool) → ImpliesTest 41 (is_quiet (record { unicode = true; breaks12 = breaks12 }))

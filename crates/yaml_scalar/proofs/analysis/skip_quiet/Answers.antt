@@ -1,13 +1,7 @@
-use Rattle.std.proofs.Common.{◌≡◌, ℕ, List, sym, ap, subst, true, ◌∙◌, IsUtf8}
-use Rattle.std.proofs.lemmas.Str.{IsUtf8-drop}
-use Rattle.std.specs.List.{list_all}
-use Rattle.std.specs.Str.{chars}
-use Rattle.yaml_pen.proofs.Cuts.{chars-cut}
-use Rattle.yaml_scalar.specs.Barred.{Barred, barred_by_space, barred_in, either, is_quiet, seen_barred}
-use Rattle.yaml_scalar.specs.ScalarData.{seen_charset}
-use Rattle.yaml_scalar.specs.WholeRuns.{last_from}
-use Rattle.yaml_scalar.proofs.Barred.{either_more, quiet_run}
-use Rattle.yaml_scalar.proofs.ByteRuns.{free_passes, run_boundary}
+use Rattle.yaml_scalar.proofs.Common.{ℕ, IsUtf8, true, List, ◌≡◌, ap, subst, sym, ◌∙◌, IsUtf8-drop, list_all, chars-cut, Barred, seen_barred, barred_in}
+use Rattle.yaml_scalar.proofs.Common.{either, is_quiet, barred_by_space, seen_charset, last_from}
+use Rattle.yaml_base.proofs.Common.{chars}
+use Rattle.yaml_scalar.proofs.{Barred.either_more, Barred.quiet_run, ByteRuns.run_boundary, ByteRuns.free_passes}
 use Rattle.yaml_scalar.proofs.analysis.skip_quiet.Goals as goal
 
 pub split_at-requires : goal.split_at-requires

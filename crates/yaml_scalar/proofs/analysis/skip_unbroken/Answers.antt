@@ -1,14 +1,6 @@
-use Rattle.std.proofs.Common.{◌≡◌, ℕ, List, refl, ap, false, ◌∙◌}
-use Rattle.std.proofs.lemmas.List.Folds.{list_any-append}
-use Rattle.std.specs.List.{list_any}
-use Rattle.std.specs.Prelude.{◌||◌}
-use Rattle.std.specs.Str.{chars}
-use Rattle.yaml_base.specs.Characters.{is_break}
-use Rattle.yaml_pen.proofs.Cuts.{chars-cut}
-use Rattle.yaml_scalar.specs.WholeRuns.{stays_in_line}
-use Rattle.yaml_scalar.proofs.ByteRuns.{free_run, line_tells, run_boundary}
-use Rattle.yaml_scalar.proofs.StaysInLine.{stays_unbroken}
-use Rattle.yaml_scalar.proofs.WholeRuns.{run_unbroken}
+use Rattle.yaml_scalar.proofs.Common.{ℕ, false, ◌||◌, List, refl, ◌≡◌, ap, ◌∙◌, list_any-append, list_any, is_break, chars-cut, stays_in_line}
+use Rattle.yaml_base.proofs.Common.{chars}
+use Rattle.yaml_scalar.proofs.{ByteRuns.run_boundary, ByteRuns.free_run, ByteRuns.line_tells, StaysInLine.stays_unbroken, WholeRuns.run_unbroken}
 use Rattle.yaml_scalar.proofs.analysis.skip_unbroken.Goals as goal
 
 pub split_at-requires : goal.split_at-requires

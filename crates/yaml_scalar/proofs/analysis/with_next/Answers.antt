@@ -1,6 +1,4 @@
-use Rattle.std.proofs.Common.{◌∙◌, chars, sym}
-use Rattle.yaml_scalar.specs.Barred.{seen_barred}
-use Rattle.yaml_scalar.specs.ScalarData.{seen_charset}
+use Rattle.yaml_scalar.proofs.Common.{chars, sym, ◌∙◌, seen_barred, seen_charset}
 use Rattle.yaml_scalar.proofs.Barred.{indicator_seen}
 use Rattle.yaml_scalar.proofs.analysis.with_next.Goals as goal
 

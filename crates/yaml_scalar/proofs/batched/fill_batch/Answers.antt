@@ -1,6 +1,5 @@
-use Rattle.std.proofs.Common.{List, ℕ, arith, chars, subst, sym}
-use Rattle.yaml_scalar.specs.Batch.{AreBatched}
-use Rattle.yaml_scalar.proofs.BatchTexts.{batched_more, batched_none}
+use Rattle.yaml_scalar.proofs.Common.{ℕ, chars, List, subst, sym, arith, AreBatched}
+use Rattle.yaml_scalar.proofs.BatchTexts.{batched_none, batched_more}
 use Rattle.yaml_scalar.proofs.batched.fill_batch.Goals as goal
 
 pub loop-c-init : goal.loop-c-init

@@ -1,6 +1,5 @@
-use Rattle.std.proofs.Common.{◌≤◌, length}
+use Rattle.yaml_scalar.proofs.Common.{◌≤◌, length, AreBatched}
 use Rattle.std.specs.Str.{IsUtf8, chars}
-use Rattle.yaml_scalar.specs.Batch.{AreBatched}
 use Rattle.yaml_scalar.proofs.batched.fill_batch.Given as goal
 
 abbrev pub invariant-loop-c : goal.invariant-loop-c

@@ -1,6 +1,4 @@
-use Rattle.std.proofs.Common.{◌≡◌, ◌++◌, ap, sym, ◌∙◌}
-use Rattle.std.specs.Char.{encode_utf8}
-use Rattle.std.proofs.lemmas.Str.{chars_past_char}
+use Rattle.yaml_scalar.proofs.Common.{◌++◌, ◌≡◌, ap, sym, ◌∙◌, chars_past_char, encode_utf8}
 use Rattle.yaml_scalar.proofs.batched.next_batched.Goals as goal
 
 pub returns-in-Some-clause-characters : goal.returns-in-Some-clause-characters

@@ -1,5 +1,4 @@
-use Rattle.std.proofs.Common.{refl}
-use Rattle.std.specs.Str.{chars}
+use Rattle.std.{proofs.Common.refl, specs.Str.chars}
 use Rattle.yaml_scalar.proofs.block_header.block_indicator.Goals as goal
 
 pub returns-in-Literal : goal.returns-in-Literal

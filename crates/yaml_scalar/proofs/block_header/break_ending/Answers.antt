@@ -1,6 +1,5 @@
-use Rattle.std.proofs.Common.{sym, ap, ◌∙◌, encode_utf8, if◌then◌else◌}
-use Rattle.std.proofs.lemmas.Str.{IsUtf8-append, IsUtf8-encode}
-use Rattle.yaml_base.specs.scalars.BlockHeader.{more_breaks, one_break}
+use Rattle.yaml_scalar.proofs.Common.{if◌then◌else◌, ap, sym, ◌∙◌, IsUtf8-encode, one_break, more_breaks}
+use Rattle.std.proofs.{Common.encode_utf8, lemmas.Str.IsUtf8-append}
 use Rattle.yaml_scalar.proofs.LastCharacters.{two-end}
 use Rattle.yaml_scalar.proofs.block_header.break_ending.Goals as goal
 

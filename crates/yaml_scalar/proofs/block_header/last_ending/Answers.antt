@@ -1,7 +1,4 @@
-use Rattle.std.proofs.Common.{sym, ap, ◌∙◌}
-use Rattle.std.specs.Str.{chars}
-use Rattle.std.proofs.lemmas.List.{nil_from_length}
-use Rattle.std.proofs.lemmas.Str.{chars-nil}
+use Rattle.std.{proofs.Common.ap, proofs.Common.sym, proofs.Common.◌∙◌, proofs.lemmas.List.nil_from_length, proofs.lemmas.Str.chars-nil, specs.Str.chars}
 use Rattle.yaml_scalar.proofs.LastCharacters.{other-ends, break-ends}
 use Rattle.yaml_scalar.proofs.block_header.last_ending.Goals as goal
 

@@ -1,8 +1,5 @@
-use Rattle.std.proofs.Common.{sym, ap, ◌∙◌}
-use Rattle.std.specs.Str.{chars}
-use Rattle.std.proofs.lemmas.List.{nil_from_length}
-use Rattle.std.proofs.lemmas.Str.{chars-nil}
-use Rattle.yaml_base.specs.scalars.BlockHeader.{ending}
+use Rattle.yaml_scalar.proofs.Common.{ap, sym, ◌∙◌, nil_from_length, chars-nil, ending}
+use Rattle.yaml_base.proofs.Common.{chars}
 use Rattle.yaml_scalar.proofs.block_header.value_ending.Goals as goal
 
 pub returns-in-None : goal.returns-in-None

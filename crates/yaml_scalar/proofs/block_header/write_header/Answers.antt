@@ -1,11 +1,6 @@
-use Rattle.std.proofs.Common.{Ok, Err, rules}
-use Rattle.std.specs.Str.{chars}
-use Rattle.yaml_base.specs.scalars.BlockHeader.{render_hints}
-use Rattle.yaml_pen.specs.Page.{natural}
-use Rattle.yaml_pen.specs.Wrote.{Wrote}
-use Rattle.yaml_pen.proofs.Composing.{wrote_exit, wrote_as, wrote_failed, wrote_then}
-use Rattle.yaml_scalar.specs.BlockCode.{is_folded}
-use Rattle.yaml_scalar.specs.BlockSteps.{separated_header, header_end}
+use Rattle.yaml_scalar.proofs.Common.{Err, Ok, rules, render_hints, wrote_then, wrote_failed, wrote_as, wrote_exit, natural, Wrote, is_folded}
+use Rattle.yaml_scalar.proofs.Common.{separated_header, header_end}
+use Rattle.yaml_base.proofs.Common.{chars}
 use Rattle.yaml_scalar.proofs.blocks.BlockWrites.{header-steps}
 use Rattle.yaml_scalar.proofs.block_header.write_header.Goals as goal
 

@@ -1,9 +1,6 @@
-use Rattle.std.proofs.Common.{Ok, Err, rules}
-use Rattle.std.specs.Str.{chars}
-use Rattle.yaml_base.specs.scalars.BlockHeader.{ending, ending_hint, indentation_hint, render_hint}
-use Rattle.yaml_pen.specs.Page.{natural}
-use Rattle.yaml_pen.specs.Wrote.{Wrote}
-use Rattle.yaml_pen.proofs.Composing.{wrote_exit, wrote_failed, wrote_then}
+use Rattle.yaml_scalar.proofs.Common.{Err, Ok, rules, ending, indentation_hint, ending_hint, render_hint, wrote_then, wrote_failed, wrote_exit, natural}
+use Rattle.yaml_scalar.proofs.Common.{Wrote}
+use Rattle.yaml_base.proofs.Common.{chars}
 use Rattle.yaml_scalar.proofs.block_header.write_hints.Goals as goal
 
 pub returns-in_err-write_indentation_hint : goal.returns-in_err-write_indentation_hint

@@ -1,11 +1,6 @@
-use Rattle.std.proofs.Common.{ap, sym, ◌∙◌, not}
-use Rattle.std.specs.Str.{chars}
-use Rattle.std.specs.Str.Iter.{chars_rest}
-use Rattle.std.proofs.lemmas.List.{nil_from_length}
-use Rattle.std.proofs.lemmas.Str.{chars_past_char, IsUtf8-past_char, chars-nil}
-use Rattle.yaml_base.specs.Characters.{Text}
-use Rattle.yaml_base.specs.scalars.Folded.{next_line_unindented}
-use Rattle.yaml_base.specs.scalars.Lines.{parts}
+use Rattle.yaml_scalar.proofs.Common.{not, ap, sym, ◌∙◌, nil_from_length, chars-nil, IsUtf8-past_char, chars_past_char, chars_rest, Text}
+use Rattle.yaml_scalar.proofs.Common.{next_line_unindented, parts}
+use Rattle.yaml_base.proofs.Common.{chars}
 use Rattle.yaml_scalar.proofs.blocks.NextEven.{even-line, even-break}
 use Rattle.yaml_scalar.proofs.block_lines.next_line_unindented.Goals as goal
 

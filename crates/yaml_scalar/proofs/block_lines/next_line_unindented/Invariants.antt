@@ -1,8 +1,5 @@
-use Rattle.std.proofs.Common.{◌≡◌, length}
-use Rattle.std.specs.Str.{chars, IsUtf8}
-use Rattle.std.specs.Str.Iter.{chars_rest}
-use Rattle.yaml_base.specs.scalars.Folded.{next_line_unindented}
-use Rattle.yaml_base.specs.scalars.Lines.{parts}
+use Rattle.yaml_scalar.proofs.Common.{length, ◌≡◌, chars_rest, next_line_unindented, parts}
+use Rattle.std.specs.Str.{IsUtf8, chars}
 use Rattle.yaml_scalar.proofs.block_lines.next_line_unindented.Given as goal
 
 abbrev pub invariant-loop-character : goal.invariant-loop-character

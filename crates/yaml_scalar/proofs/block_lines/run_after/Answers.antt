@@ -1,6 +1,4 @@
-use Rattle.yaml_scalar.specs.BlockSteps.{stays_at}
-use Rattle.yaml_scalar.specs.Width.{limit_of}
-use Rattle.yaml_scalar.proofs.WholeRuns.{no_run}
+use Rattle.yaml_scalar.{proofs.WholeRuns.no_run, specs.BlockSteps.stays_at, specs.Width.limit_of}
 use Rattle.yaml_scalar.proofs.block_lines.run_after.Goals as goal
 
 pub returns-in-LineStart : goal.returns-in-LineStart

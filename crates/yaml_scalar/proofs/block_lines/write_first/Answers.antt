@@ -1,9 +1,4 @@
-use Rattle.std.proofs.Common.{Ok, Err, rules}
-use Rattle.yaml_base.specs.Cursor.{new_line}
-use Rattle.yaml_pen.specs.Page.{natural}
-use Rattle.yaml_pen.specs.Wrote.{Wrote}
-use Rattle.yaml_pen.proofs.Composing.{wrote_exit, wrote_failed, wrote_then}
-use Rattle.yaml_scalar.specs.BlockSteps.{render_content}
+use Rattle.yaml_scalar.proofs.Common.{Err, Ok, rules, new_line, wrote_then, wrote_failed, wrote_exit, natural, Wrote, render_content}
 use Rattle.yaml_scalar.proofs.block_lines.write_first.Goals as goal
 
 pub returns-in_err-write_indent : goal.returns-in_err-write_indent

@@ -1,19 +1,9 @@
-use Rattle.std.proofs.Common.{◌∙◌, sym, subst, chars, IsUtf8, List, ℕ}
-use Rattle.std.specs.Str.Iter.{chars_rest}
-use Rattle.std.proofs.lemmas.Str.{IsUtf8-drop, IsUtf8-past_char}
-use Rattle.yaml_base.specs.Characters.{Text}
-use Rattle.yaml_base.specs.Cursor.{Cursor, Rendered}
-use Rattle.yaml_pen.specs.Page.{natural}
-use Rattle.yaml_pen.proofs.Composing.{wrote_exit}
-use Rattle.yaml_scalar.specs.BlockCode.{is_folded}
-use Rattle.yaml_scalar.specs.Width.{limit_of}
-use Rattle.yaml_scalar.specs.BlockSteps.{lines_from, place_after}
+use Rattle.yaml_scalar.proofs.Common.{ℕ, chars, IsUtf8, List, subst, sym, ◌∙◌, IsUtf8-drop, IsUtf8-past_char, chars_rest, Text, Cursor, Rendered, wrote_exit}
+use Rattle.yaml_scalar.proofs.Common.{natural, is_folded, place_after, lines_from, limit_of}
+use Rattle.yaml_scalar.proofs.{StillToWrite.still_rest, StillToWrite.still_failed, WholeRuns.run_unbroken, blocks.BlockStays.stays_unbroken}
+use Rattle.yaml_scalar.proofs.{blocks.BlockStays.block_alone, blocks.BlockWrites.LinesLeft}
+use Rattle.yaml_scalar.proofs.RunsWritten.{character_still, run_more, run_failed, end_still}
 use Rattle.yaml_scalar.specs.declared.block_lines.Place.{Place}
-use Rattle.yaml_scalar.proofs.blocks.BlockStays.{block_alone, stays_unbroken}
-use Rattle.yaml_scalar.proofs.blocks.BlockWrites.{LinesLeft}
-use Rattle.yaml_scalar.proofs.RunsWritten.{character_still, end_still, run_failed, run_more}
-use Rattle.yaml_scalar.proofs.StillToWrite.{still_failed, still_rest}
-use Rattle.yaml_scalar.proofs.WholeRuns.{run_unbroken}
 use Rattle.yaml_scalar.proofs.block_lines.write_lines.Goals as goal
 
 pub split_at-requires : goal.split_at-requires

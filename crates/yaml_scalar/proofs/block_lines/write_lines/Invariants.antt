@@ -1,9 +1,5 @@
-use Rattle.std.specs.Str.{chars, IsUtf8}
-use Rattle.std.specs.Str.Iter.{chars_rest}
-use Rattle.std.proofs.Common.{length}
-use Rattle.yaml_pen.specs.Page.{natural}
-use Rattle.yaml_scalar.specs.BlockCode.{is_folded}
-use Rattle.yaml_scalar.specs.Width.{limit_of}
+use Rattle.yaml_scalar.proofs.Common.{length, chars_rest, natural, is_folded, limit_of}
+use Rattle.std.specs.Str.{IsUtf8, chars}
 use Rattle.yaml_scalar.proofs.blocks.BlockWrites.{LinesLeft}
 use Rattle.yaml_scalar.proofs.block_lines.write_lines.Given as goal
 

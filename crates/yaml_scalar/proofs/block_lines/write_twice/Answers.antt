@@ -1,4 +1,4 @@
-use Rattle.yaml_pen.proofs.Composing.{wrote_exit, wrote_failed, wrote_then}
+use Rattle.yaml_scalar.proofs.Common.{wrote_then, wrote_failed, wrote_exit}
 use Rattle.yaml_scalar.specs.BlockSteps.{render_broken}
 use Rattle.yaml_scalar.proofs.block_lines.write_twice.Goals as goal
 

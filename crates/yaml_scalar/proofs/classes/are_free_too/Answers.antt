@@ -1,4 +1,4 @@
-use Rattle.std.proofs.Common.{sym, ◌∙◌}
+use Rattle.yaml_scalar.proofs.Common.{sym, ◌∙◌}
 use Rattle.yaml_scalar.proofs.ByteRuns.{free_four}
 use Rattle.yaml_scalar.proofs.classes.are_free_too.Goals as goal
 

@@ -1,6 +1,4 @@
-use Rattle.std.specs.List.{list_all}
-use Rattle.std.specs.Prelude.{◌≡◌, ◌≤◌, ◌-◌, true, length, take}
-use Rattle.yaml_scalar.specs.ByteClasses.{is_free}
+use Rattle.yaml_scalar.proofs.Common.{◌-◌, ◌≤◌, length, take, true, ◌≡◌, list_all, is_free}
 use Rattle.yaml_scalar.proofs.classes.free_length.Given as goal
 
 abbrev pub invariant-loop-length : goal.invariant-loop-length

@@ -1,9 +1,5 @@
-use Rattle.std.proofs.Common.{sym, ap, ◌∙◌}
-use Rattle.std.proofs.lemmas.List.{nil_from_length}
-use Rattle.std.proofs.lemmas.Str.{chars-nil}
-use Rattle.std.specs.Str.{chars}
-use Rattle.yaml_scalar.specs.WholeRuns.{last_from}
-use Rattle.yaml_scalar.proofs.LastCharacters.{last-is}
+use Rattle.std.{proofs.Common.ap, proofs.Common.sym, proofs.Common.◌∙◌, proofs.lemmas.List.nil_from_length, proofs.lemmas.Str.chars-nil, specs.Str.chars}
+use Rattle.yaml_scalar.{proofs.LastCharacters.last-is, specs.WholeRuns.last_from}
 use Rattle.yaml_scalar.proofs.classes.last_of.Goals as goal
 
 pub returns-in-Some : goal.returns-in-Some

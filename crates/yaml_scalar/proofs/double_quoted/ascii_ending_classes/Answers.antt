@@ -1,6 +1,5 @@
-use Rattle.std.proofs.Common.{refl, true, false}
+use Rattle.yaml_scalar.proofs.Common.{false, true, refl, stays_where}
 use Rattle.yaml_scalar.proofs.ByteRuns.{ascii_only_tells}
-use Rattle.yaml_scalar.specs.WholeRuns.{stays_where}
 use Rattle.yaml_scalar.proofs.double_quoted.ascii_ending_classes.Goals as goal
 
 pub returns-then-folds : goal.returns-then-folds

@@ -1,6 +1,4 @@
-use Rattle.std.proofs.Common.{◌≡◌, Bool, true, subst}
-use Rattle.yaml_scalar.specs.WholeRuns.{stays, stays_where}
-use Rattle.yaml_scalar.specs.Width.{limit_where}
+use Rattle.yaml_scalar.proofs.Common.{Bool, true, ◌≡◌, subst, stays_where, stays, limit_where}
 use Rattle.yaml_scalar.proofs.InsideSteps.{ascii_stays, ascii_stays_plain}
 use Rattle.yaml_scalar.proofs.double_quoted.is_short.Goals as goal
 

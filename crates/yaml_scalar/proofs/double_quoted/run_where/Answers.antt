@@ -1,4 +1,4 @@
-use Rattle.yaml_scalar.specs.WholeRuns.{stays_where}
+use Rattle.yaml_scalar.proofs.Common.{stays_where}
 use Rattle.yaml_scalar.proofs.double_quoted.run_where.Goals as goal
 
 pub returns : goal.returns

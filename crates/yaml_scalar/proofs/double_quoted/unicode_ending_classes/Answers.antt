@@ -1,4 +1,4 @@
-use Rattle.std.proofs.Common.{refl, true, false}
+use Rattle.yaml_scalar.proofs.Common.{false, true, refl}
 use Rattle.yaml_scalar.proofs.ByteRuns.{unicode_tells}
 use Rattle.yaml_scalar.proofs.double_quoted.unicode_ending_classes.Goals as goal
 

@@ -1,6 +1,4 @@
-use Rattle.std.proofs.Common.{ap, ◌∙◌}
-use Rattle.std.specs.List.{list_any}
-use Rattle.yaml_base.specs.Characters.{is_break}
+use Rattle.yaml_scalar.proofs.Common.{ap, ◌∙◌, list_any, is_break}
 use Rattle.yaml_scalar.proofs.EscapeBytes.{plain-unbroken}
 use Rattle.yaml_scalar.proofs.double_quoted.write_batch.Goals as goal
 

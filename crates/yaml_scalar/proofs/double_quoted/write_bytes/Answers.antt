@@ -1,11 +1,5 @@
-use Rattle.std.proofs.Common.{ap, subst, sym, ◌∙◌, arith, length}
-use Rattle.std.specs.List.{list_any}
-use Rattle.std.specs.Str.{IsAscii}
-use Rattle.yaml_base.specs.Characters.{Text, is_break}
-use Rattle.yaml_base.specs.Cursor.{render_text}
-use Rattle.yaml_base.specs.scalars.DoubleQuoted.{escape_text}
-use Rattle.yaml_pen.specs.Wrote.{Wrote}
-use Rattle.yaml_scalar.proofs.EscapeBytes.{escape-plain, escape-short, plain-ascii, plain-unbroken}
+use Rattle.yaml_scalar.proofs.Common.{length, ap, subst, sym, ◌∙◌, arith, list_any, IsAscii, Text, is_break, render_text, escape_text, Wrote}
+use Rattle.yaml_scalar.proofs.EscapeBytes.{plain-unbroken, plain-ascii, escape-plain, escape-short}
 use Rattle.yaml_scalar.proofs.double_quoted.write_bytes.Goals as goal
 
 pub write_ascii-requires-clause-ascii : goal.write_ascii-requires-clause-ascii

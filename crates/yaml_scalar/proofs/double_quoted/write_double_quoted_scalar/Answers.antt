@@ -1,11 +1,6 @@
-use Rattle.std.proofs.Common.{w32}
-use Rattle.std.proofs.lemmas.Int.{to_z-of_z}
-use Rattle.std.proofs.lemmas.Str.{scalars-chars}
-use Rattle.std.specs.Str.{chars}
-use Rattle.yaml_pen.specs.Page.{natural}
-use Rattle.yaml_scalar.specs.Width.{limit_where}
-use Rattle.yaml_scalar.proofs.LinesReadBack.{two_or_more}
-use Rattle.yaml_scalar.proofs.QuotedSteps.{double_back}
+use Rattle.yaml_scalar.proofs.Common.{w32, to_z-of_z, scalars-chars, natural, limit_where}
+use Rattle.yaml_base.proofs.Common.{chars}
+use Rattle.yaml_scalar.proofs.{LinesReadBack.two_or_more, QuotedSteps.double_back}
 use Rattle.yaml_scalar.proofs.double_quoted.write_double_quoted_scalar.Goals as goal
 
 pub returns-clause-reads : goal.returns-clause-reads

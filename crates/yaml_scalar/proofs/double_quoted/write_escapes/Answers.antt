@@ -1,5 +1,5 @@
-use Rattle.std.proofs.Common.{refl}
-use Rattle.yaml_scalar.proofs.BatchTexts.{failed_batched, batched_plain, wrote_batch}
+use Rattle.yaml_scalar.proofs.Common.{refl}
+use Rattle.yaml_scalar.proofs.BatchTexts.{batched_plain, wrote_batch, failed_batched}
 use Rattle.yaml_scalar.proofs.double_quoted.write_escapes.Goals as goal
 
 pub write_batch-requires-clause-plain : goal.write_batch-requires-clause-plain

@@ -1,9 +1,5 @@
-use Rattle.std.proofs.Common.{w32}
-use Rattle.std.proofs.lemmas.Int.{to_z-of_z}
-use Rattle.std.specs.Str.{chars}
-use Rattle.yaml_base.specs.Cursor.{render_text}
-use Rattle.yaml_base.specs.scalars.DoubleQuoted.{space_kept}
-use Rattle.yaml_pen.proofs.Composing.{wrote_exit, wrote_failed, wrote_then}
+use Rattle.yaml_scalar.proofs.Common.{w32, to_z-of_z, render_text, space_kept, wrote_then, wrote_failed, wrote_exit}
+use Rattle.yaml_base.proofs.Common.{chars}
 use Rattle.yaml_scalar.proofs.double_quoted.write_fold.Goals as goal
 
 pub returns-in_err-write_indent : goal.returns-in_err-write_indent

@@ -1,15 +1,7 @@
-use Rattle.std.proofs.Common.{ap, sym, chars, subst, IsUtf8, List, ℕ}
-use Rattle.std.proofs.lemmas.Str.{IsUtf8-past_char}
-use Rattle.std.specs.Prelude.{Some}
-use Rattle.yaml_base.specs.scalars.DoubleQuoted.{double_inside}
-use Rattle.yaml_pen.proofs.Composing.{wrote_exit}
-use Rattle.yaml_pen.specs.Page.{natural}
-use Rattle.yaml_scalar.specs.Width.{limit_where}
-use Rattle.yaml_scalar.proofs.BatchTexts.{batched_failed, batched_left}
-use Rattle.yaml_scalar.proofs.InsideSteps.{inside_after, inside_alone, stays_unbroken}
-use Rattle.yaml_scalar.proofs.RunsWritten.{character_still, end_still, run_failed, run_more}
-use Rattle.yaml_scalar.proofs.StillToWrite.{still_failed, still_rest, still_same}
-use Rattle.yaml_scalar.proofs.WholeRuns.{run_unbroken}
+use Rattle.yaml_scalar.proofs.Common.{ℕ, chars, IsUtf8, Some, List, ap, subst, sym, IsUtf8-past_char, double_inside, wrote_exit, natural, limit_where}
+use Rattle.yaml_scalar.proofs.{BatchTexts.batched_left, BatchTexts.batched_failed, InsideSteps.stays_unbroken, InsideSteps.inside_after}
+use Rattle.yaml_scalar.proofs.{InsideSteps.inside_alone, StillToWrite.still_rest, StillToWrite.still_failed, StillToWrite.still_same, WholeRuns.run_unbroken}
+use Rattle.yaml_scalar.proofs.RunsWritten.{character_still, run_more, run_failed, end_still}
 use Rattle.yaml_scalar.proofs.double_quoted.write_inside.Goals as goal
 
 pub split_at-requires : goal.split_at-requires

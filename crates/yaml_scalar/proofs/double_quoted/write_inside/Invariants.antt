@@ -1,7 +1,4 @@
-use Rattle.std.proofs.Common.{IsUtf8, chars, length}
-use Rattle.std.specs.Str.Iter.{chars_rest}
-use Rattle.yaml_pen.specs.Page.{natural}
-use Rattle.yaml_scalar.specs.Width.{limit_where}
+use Rattle.yaml_scalar.proofs.Common.{chars, IsUtf8, length, chars_rest, natural, limit_where}
 use Rattle.yaml_scalar.proofs.InsideSteps.{StillInside}
 use Rattle.yaml_scalar.proofs.double_quoted.write_inside.Given as goal
 

@@ -1,5 +1,5 @@
-use Rattle.std.proofs.Common.{refl, chars, []}
-use Rattle.yaml_scalar.proofs.BatchTexts.{failed_batched, batched_none, wrote_batch}
+use Rattle.yaml_scalar.proofs.Common.{chars, [], refl}
+use Rattle.yaml_scalar.proofs.BatchTexts.{batched_none, wrote_batch, failed_batched}
 use Rattle.yaml_scalar.proofs.double_quoted.write_next_escapes.Goals as goal
 
 pub returns-in_err-write_nothing-clause-written : goal.returns-in_err-write_nothing-clause-written

@@ -1,13 +1,6 @@
-use Rattle.std.specs.Prelude.{◌≡◌, None, codes}
-use Rattle.std.proofs.Common.{refl, ap, ◌∙◌}
-use Rattle.std.specs.List.{list_any}
-use Rattle.yaml_base.specs.Characters.{is_break}
-use Rattle.yaml_base.specs.Indicators.{Indicator}
+use Rattle.yaml_scalar.proofs.Common.{None, codes, refl, ◌≡◌, ap, ◌∙◌, list_any, is_break, Indicator, double_inside, render_quote, render_double_quoted}
+use Rattle.yaml_scalar.proofs.Common.{wrote_then, wrote_failed, wrote_as, wrote_exit, natural, limit_where}
 use Rattle.std.specs.Str.{chars}
-use Rattle.yaml_base.specs.scalars.DoubleQuoted.{double_inside, render_double_quoted, render_quote}
-use Rattle.yaml_pen.proofs.Composing.{wrote_as, wrote_exit, wrote_failed, wrote_then}
-use Rattle.yaml_pen.specs.Page.{natural}
-use Rattle.yaml_scalar.specs.Width.{limit_where}
 use Rattle.yaml_scalar.proofs.QuotedSteps.{double-steps}
 use Rattle.yaml_scalar.proofs.double_quoted.write_quoted.Goals as goal
 

@@ -1,9 +1,4 @@
-use Rattle.std.proofs.Common.{refl, chars}
-use Rattle.std.specs.Prelude.{None}
-use Rattle.yaml_base.specs.scalars.DoubleQuoted.{double_inside}
-use Rattle.yaml_pen.proofs.Composing.{wrote_as}
-use Rattle.yaml_pen.specs.Page.{natural}
-use Rattle.yaml_scalar.specs.Width.{limit_where}
+use Rattle.yaml_scalar.proofs.Common.{chars, None, refl, double_inside, wrote_as, natural, limit_where}
 use Rattle.yaml_scalar.proofs.ShortRuns.{short_inside_rendered}
 use Rattle.yaml_scalar.proofs.double_quoted.write_value.Goals as goal
 

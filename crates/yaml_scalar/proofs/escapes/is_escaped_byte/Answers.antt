@@ -1,5 +1,4 @@
-use Rattle.std.proofs.Common.{◌∙◌, ap}
-use Rattle.std.specs.Prelude.{not}
+use Rattle.yaml_scalar.proofs.Common.{not, ap, ◌∙◌}
 use Rattle.yaml_scalar.proofs.EscapedBytes.{escaped_below}
 use Rattle.yaml_scalar.proofs.escapes.is_escaped_byte.Goals as goal
 

@@ -1,15 +1,7 @@
-use Rattle.std.proofs.Common.{true}
-use Rattle.std.proofs.lemmas.Int.{to_z-of_z}
-use Rattle.std.specs.Str.{chars}
-use mir.Val.{SFits}
-use mir.Syntax.{w32}
-use Rattle.yaml_base.specs.scalars.Folded.{render_folded}
-use Rattle.yaml_pen.specs.Page.{natural}
-use Rattle.yaml_pen.proofs.Composing.{wrote_exit, wrote_as, wrote_failed, wrote_then}
-use Rattle.yaml_scalar.specs.Width.{limit_of}
-use Rattle.yaml_scalar.specs.BlockSteps.{lines_from}
-use Rattle.yaml_scalar.specs.declared.block_lines.Place.TheVariants.{LineStart}
-use Rattle.yaml_scalar.proofs.blocks.BlockWrites.{some-folded}
+use Rattle.yaml_scalar.proofs.Common.{true, FitsSigned as SFits, w32, to_z-of_z, render_folded, wrote_then, wrote_failed, wrote_as, wrote_exit, natural}
+use Rattle.yaml_scalar.proofs.Common.{lines_from, limit_of}
+use Rattle.yaml_base.proofs.Common.{chars}
+use Rattle.yaml_scalar.{proofs.blocks.BlockWrites.some-folded, specs.declared.block_lines.Place.TheVariants.LineStart}
 use Rattle.yaml_scalar.proofs.folded.write_folded.Goals as goal
 
 pub returns-in_err-write_header : goal.returns-in_err-write_header

@@ -1,13 +1,6 @@
-use Rattle.std.proofs.Common.{Ok, rules}
-use Rattle.std.proofs.lemmas.Result.{IfOk-from_err}
-use Rattle.std.specs.Str.{chars}
-use Rattle.yaml_base.specs.scalars.Folded.{render_folded}
-use Rattle.yaml_base.specs.reading.ReadBlock.{read_block}
-use Rattle.yaml_pen.specs.Page.{natural}
-use Rattle.yaml_pen.specs.Wrote.{Wrote}
-use Rattle.yaml_scalar.specs.ReadsBack.{ReadsBack}
-use Rattle.yaml_scalar.specs.Width.{limit_of}
-use Rattle.yaml_scalar.proofs.blocks.BlockBack.{folded_back, indents}
+use Rattle.yaml_scalar.proofs.Common.{Ok, rules, IfOk-from_err, read_block, render_folded, natural, Wrote, ReadsBack, limit_of}
+use Rattle.yaml_base.proofs.Common.{chars}
+use Rattle.yaml_scalar.proofs.blocks.BlockBack.{indents, folded_back}
 use Rattle.yaml_scalar.proofs.folded.write_folded_scalar.Goals as goal
 
 pub returns-in_err-write_folded-clause-reads : goal.returns-in_err-write_folded-clause-reads

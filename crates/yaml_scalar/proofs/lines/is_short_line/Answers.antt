@@ -1,6 +1,4 @@
-use Rattle.std.proofs.Common.{arith, false, length}
-use Rattle.yaml_scalar.specs.WholeRuns.{stays_in_line}
-use Rattle.yaml_scalar.specs.Width.{limit_where}
+use Rattle.yaml_scalar.proofs.Common.{length, false, arith, stays_in_line, limit_where}
 use Rattle.yaml_scalar.proofs.StaysInLine.{room_less}
 use Rattle.yaml_scalar.proofs.lines.is_short_line.Goals as goal
 

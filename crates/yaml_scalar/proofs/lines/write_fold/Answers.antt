@@ -1,5 +1,4 @@
-use Rattle.yaml_base.specs.scalars.Plain.{indentation}
-use Rattle.yaml_pen.proofs.Composing.{wrote_exit, wrote_text_then, wrote_text_failed}
+use Rattle.yaml_scalar.proofs.Common.{indentation, wrote_text_then, wrote_text_failed, wrote_exit}
 use Rattle.yaml_scalar.proofs.lines.write_fold.Goals as goal
 
 pub returns-in_err-put_break : goal.returns-in_err-put_break

@@ -1,15 +1,8 @@
-use Rattle.std.proofs.Common.{◌∙◌, sym, subst, chars, IsUtf8, List, ℕ}
-use Rattle.std.specs.Str.Iter.{chars_rest}
-use Rattle.std.proofs.lemmas.Str.{IsUtf8-drop, IsUtf8-past_char}
-use Rattle.yaml_base.specs.scalars.Plain.{Kind, kind_of}
-use Rattle.yaml_pen.proofs.Composing.{wrote_exit}
-use Rattle.yaml_scalar.specs.LineSteps.{seen_kind, render_steps, written_as}
-use Rattle.yaml_scalar.specs.Width.{limit_where}
-use Rattle.yaml_scalar.proofs.LinesWritten.{LinesLeft}
-use Rattle.yaml_scalar.proofs.RunsWritten.{character_still, end_still, standing_failed, standing_more}
-use Rattle.yaml_scalar.proofs.StaysInLine.{line_stands, lines_after, stays_unbroken}
-use Rattle.yaml_scalar.proofs.StillToWrite.{still_failed, still_rest}
-use Rattle.yaml_scalar.proofs.WholeRuns.{run_unbroken}
+use Rattle.yaml_scalar.proofs.Common.{ℕ, chars, IsUtf8, List, subst, sym, ◌∙◌, IsUtf8-drop, IsUtf8-past_char, chars_rest, Kind, kind_of, wrote_exit}
+use Rattle.yaml_scalar.proofs.Common.{seen_kind, written_as, render_steps, limit_where}
+use Rattle.yaml_scalar.proofs.{LinesWritten.LinesLeft, StaysInLine.stays_unbroken, StaysInLine.lines_after, StaysInLine.line_stands, StillToWrite.still_rest}
+use Rattle.yaml_scalar.proofs.{StillToWrite.still_failed, WholeRuns.run_unbroken}
+use Rattle.yaml_scalar.proofs.RunsWritten.{character_still, standing_more, standing_failed, end_still}
 use Rattle.yaml_scalar.proofs.lines.write_from.Goals as goal
 
 pub split_at-requires : goal.split_at-requires

@@ -1,7 +1,4 @@
-use Rattle.std.proofs.Common.{IsUtf8, chars, length}
-use Rattle.std.specs.Str.Iter.{chars_rest}
-use Rattle.yaml_scalar.specs.LineSteps.{seen_kind, written_as}
-use Rattle.yaml_scalar.specs.Width.{limit_where}
+use Rattle.yaml_scalar.proofs.Common.{chars, IsUtf8, length, chars_rest, seen_kind, written_as, limit_where}
 use Rattle.yaml_scalar.proofs.LinesWritten.{LinesLeft}
 use Rattle.yaml_scalar.proofs.lines.write_from.Given as goal
 

@@ -1,10 +1,7 @@
-use Rattle.std.proofs.Common.{◌≡◌, ◌∙◌, ap, sym, ◌++◌, ◌+◌, ◌-◌, ◌∷◌, [], arith, subst, List, ℕ, Ok}
-use Rattle.std.proofs.lemmas.List.{replicate_more, replicate-append-replicate}
-use Rattle.yaml_base.specs.Characters.{space}
-use Rattle.yaml_base.specs.Cursor.{render_text}
-use Rattle.yaml_base.specs.scalars.Plain.{indentation}
-use Rattle.yaml_pen.specs.Wrote.{Wrote}
-use Rattle.yaml_pen.proofs.Composing.{wrote_exit, wrote_cut, wrote_text_then}
+use Rattle.yaml_scalar.proofs.Common.{ℕ, ◌+◌, ◌-◌, Ok, List, [], ◌++◌, ◌∷◌, ◌≡◌, ap, subst, sym, ◌∙◌, arith, space, render_text, indentation, wrote_text_then}
+use Rattle.yaml_scalar.proofs.Common.{wrote_exit, Wrote}
+use Rattle.std.proofs.lemmas.List.{replicate-append-replicate, replicate_more}
+use Rattle.yaml_pen.proofs.Composing.{wrote_cut}
 use Rattle.yaml_scalar.proofs.lines.write_indentation.Goals as goal
 
 pub returns-in_err-put : goal.returns-in_err-put

@@ -1,7 +1,4 @@
-use Rattle.std.proofs.Common.{◌∷◌, []}
-use Rattle.std.specs.Prelude.{if◌then◌else◌}
-use Rattle.yaml_base.specs.scalars.Plain.{indentation}
-use Rattle.yaml_pen.proofs.Composing.{wrote_exit, wrote_text_then, wrote_text_failed}
+use Rattle.yaml_scalar.proofs.Common.{if◌then◌else◌, [], ◌∷◌, indentation, wrote_text_then, wrote_text_failed, wrote_exit}
 use Rattle.yaml_scalar.proofs.lines.write_line_break.Goals as goal
 
 pub returns-in_err-write_extra_break : goal.returns-in_err-write_extra_break

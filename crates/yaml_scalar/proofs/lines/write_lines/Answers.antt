@@ -1,10 +1,5 @@
-use Rattle.std.proofs.Common.{refl, chars}
-use Rattle.yaml_base.specs.scalars.Plain.{spaces}
-use Rattle.yaml_pen.proofs.Composing.{wrote_as}
-use Rattle.yaml_scalar.specs.LineSteps.{render_steps, written_as}
-use Rattle.yaml_scalar.specs.Width.{limit_where}
-use Rattle.yaml_scalar.proofs.LinesWritten.{wrote_runs}
-use Rattle.yaml_scalar.proofs.ShortRuns.{short_line_rendered}
+use Rattle.yaml_scalar.proofs.Common.{chars, refl, spaces, wrote_as, written_as, render_steps, limit_where}
+use Rattle.yaml_scalar.proofs.{LinesWritten.wrote_runs, ShortRuns.short_line_rendered}
 use Rattle.yaml_scalar.proofs.lines.write_lines.Goals as goal
 
 pub write_short_run-requires-clause-few : goal.write_short_run-requires-clause-few

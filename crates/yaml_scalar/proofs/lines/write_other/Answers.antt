@@ -1,7 +1,4 @@
-use Rattle.std.proofs.Common.{ℕ, List, ◌∷◌, [], subst}
-use Rattle.yaml_base.specs.Cursor.{render_text}
-use Rattle.yaml_pen.specs.Wrote.{Wrote}
-use Rattle.yaml_pen.proofs.Composing.{wrote_exit, wrote_text_then, wrote_text_failed}
+use Rattle.yaml_scalar.proofs.Common.{ℕ, List, [], ◌∷◌, subst, render_text, wrote_text_then, wrote_text_failed, wrote_exit, Wrote}
 use Rattle.yaml_scalar.proofs.LinesWritten.{quote_text}
 use Rattle.yaml_scalar.proofs.lines.write_other.Goals as goal
 

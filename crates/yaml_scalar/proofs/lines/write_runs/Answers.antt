@@ -1,14 +1,6 @@
-use Rattle.std.proofs.Common.{subst, chars}
-use Rattle.yaml_base.specs.scalars.Plain.{Kind}
-use Rattle.yaml_pen.proofs.Composing.{wrote_exit}
-use Rattle.yaml_pen.specs.Wrote.{Wrote}
-use Rattle.yaml_scalar.specs.LineSteps.{render_steps, written_as}
-use Rattle.yaml_scalar.specs.Width.{limit_where}
-use Rattle.yaml_scalar.proofs.LinesWritten.{wrote_runs}
-use Rattle.yaml_scalar.proofs.RunsWritten.{standing_failed, standing_more}
-use Rattle.yaml_scalar.proofs.StaysInLine.{line_stands, lines_after, stays_unbroken}
-use Rattle.yaml_scalar.proofs.StillToWrite.{still_all}
-use Rattle.yaml_scalar.proofs.WholeRuns.{run_unbroken}
+use Rattle.yaml_scalar.proofs.Common.{chars, subst, Kind, wrote_exit, Wrote, written_as, render_steps, limit_where}
+use Rattle.yaml_scalar.proofs.{LinesWritten.wrote_runs, RunsWritten.standing_more, RunsWritten.standing_failed, StaysInLine.stays_unbroken}
+use Rattle.yaml_scalar.proofs.{StaysInLine.lines_after, StaysInLine.line_stands, StillToWrite.still_all, WholeRuns.run_unbroken}
 use Rattle.yaml_scalar.proofs.lines.write_runs.Goals as goal
 
 pub split_at-requires : goal.split_at-requires

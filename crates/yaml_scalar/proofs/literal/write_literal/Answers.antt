@@ -1,17 +1,9 @@
-use Rattle.std.proofs.Common.{pos, false, rules}
-use Rattle.std.proofs.lemmas.Int.{to_z-of_z}
-use Rattle.std.specs.Str.{chars}
-use mir.Val.{SFits}
-use mir.Syntax.{w32}
-use Rattle.yaml_base.specs.scalars.Literal.{render_literal}
-use Rattle.yaml_pen.specs.Page.{natural}
-use Rattle.yaml_pen.proofs.Composing.{wrote_exit, wrote_as, wrote_failed, wrote_then}
-use Rattle.yaml_scalar.specs.Width.{limit_of}
-use Rattle.yaml_scalar.specs.BlockSteps.{lines_from}
-use Rattle.yaml_scalar.specs.declared.block_lines.Place.TheVariants.{LineStart}
-use Rattle.yaml_scalar.proofs.blocks.BlockWrites.{some-literal}
-use Rattle.yaml_scalar.proofs.literal.write_literal.Goals as goal
+use Rattle.yaml_scalar.proofs.Common.{pos, false, FitsSigned as SFits, rules, w32, to_z-of_z, render_literal, wrote_then, wrote_failed, wrote_as, wrote_exit}
+use Rattle.yaml_scalar.proofs.Common.{natural, lines_from, limit_of}
+use Rattle.yaml_base.proofs.Common.{chars}
 use Rattle.yaml_base.specs.Settings.{largest_i32}
+use Rattle.yaml_scalar.{proofs.blocks.BlockWrites.some-literal, specs.declared.block_lines.Place.TheVariants.LineStart}
+use Rattle.yaml_scalar.proofs.literal.write_literal.Goals as goal
 
 pub returns-in_err-write_header : goal.returns-in_err-write_header
 returns-in_err-write_header g c =

@@ -1,12 +1,6 @@
-use Rattle.std.proofs.Common.{Ok, rules}
-use Rattle.std.proofs.lemmas.Result.{IfOk-from_err}
-use Rattle.std.specs.Str.{chars}
-use Rattle.yaml_base.specs.scalars.Literal.{render_literal}
-use Rattle.yaml_base.specs.reading.ReadBlock.{read_block}
-use Rattle.yaml_pen.specs.Page.{natural}
-use Rattle.yaml_pen.specs.Wrote.{Wrote}
-use Rattle.yaml_scalar.specs.ReadsBack.{ReadsBack}
-use Rattle.yaml_scalar.proofs.blocks.BlockBack.{literal_back, indents}
+use Rattle.yaml_scalar.proofs.Common.{Ok, rules, IfOk-from_err, read_block, render_literal, natural, Wrote, ReadsBack}
+use Rattle.yaml_base.proofs.Common.{chars}
+use Rattle.yaml_scalar.proofs.blocks.BlockBack.{indents, literal_back}
 use Rattle.yaml_scalar.proofs.literal.write_literal_scalar.Goals as goal
 
 pub returns-in_err-write_literal-clause-reads : goal.returns-in_err-write_literal-clause-reads

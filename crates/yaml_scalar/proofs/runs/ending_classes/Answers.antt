@@ -1,4 +1,4 @@
-use Rattle.std.proofs.Common.{refl, true, false}
+use Rattle.yaml_scalar.proofs.Common.{false, true, refl}
 use Rattle.yaml_scalar.proofs.ByteRuns.{line_tells}
 use Rattle.yaml_scalar.proofs.runs.ending_classes.Goals as goal
 

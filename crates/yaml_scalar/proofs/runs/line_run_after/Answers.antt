@@ -1,4 +1,4 @@
-use Rattle.yaml_scalar.specs.WholeRuns.{stays_in_line}
+use Rattle.yaml_scalar.proofs.Common.{stays_in_line}
 use Rattle.yaml_scalar.proofs.runs.line_run_after.Goals as goal
 
 pub returns : goal.returns

@@ -1,6 +1,5 @@
-use Rattle.std.proofs.Common.{false}
+use Rattle.yaml_scalar.proofs.Common.{false, stays_in_line}
 use Rattle.yaml_scalar.proofs.StaysInLine.{positive, room_less}
-use Rattle.yaml_scalar.specs.WholeRuns.{stays_in_line}
 use Rattle.yaml_scalar.proofs.runs.line_run_within.Goals as goal
 
 pub returns-else-room-eq0 : goal.returns-else-room-eq0

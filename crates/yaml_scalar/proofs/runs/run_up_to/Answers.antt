@@ -1,7 +1,5 @@
-use Rattle.std.proofs.Common.{ap, ◌∙◌}
-use Rattle.std.specs.Str.{chars}
-use Rattle.yaml_scalar.proofs.ByteRuns.{free_run, run_boundary}
-use Rattle.yaml_scalar.specs.WholeRuns.{last_from}
+use Rattle.yaml_base.proofs.Common.{ap, ◌∙◌, chars}
+use Rattle.yaml_scalar.{proofs.ByteRuns.run_boundary, proofs.ByteRuns.free_run, specs.WholeRuns.last_from}
 use Rattle.yaml_scalar.proofs.runs.run_up_to.Goals as goal
 
 pub split_at-requires : goal.split_at-requires

@@ -1,5 +1,4 @@
-use Rattle.std.proofs.Common.{◌≡◌, ◌∙◌, ap, arith, refl, true, length}
-use Rattle.std.proofs.lemmas.List.{length-take-le}
+use Rattle.yaml_scalar.proofs.Common.{length, true, refl, ◌≡◌, length-take-le, ap, ◌∙◌, arith}
 use Rattle.yaml_scalar.proofs.WholeRuns.{run_in_prefix}
 use Rattle.yaml_scalar.proofs.runs.run_within.Goals as goal
 

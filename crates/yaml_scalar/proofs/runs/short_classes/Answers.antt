@@ -1,6 +1,4 @@
-use Rattle.std.proofs.Common.{refl, true, false}
-use Rattle.yaml_scalar.specs.EscapeBytes.{is_plain}
-use Rattle.yaml_scalar.specs.WholeRuns.{stays_in_line}
+use Rattle.yaml_scalar.proofs.Common.{false, true, refl, is_plain, stays_in_line}
 use Rattle.yaml_scalar.proofs.ByteRuns.{ascii_only_tells}
 use Rattle.yaml_scalar.proofs.runs.short_classes.Goals as goal
 

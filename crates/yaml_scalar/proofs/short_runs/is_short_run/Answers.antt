@@ -1,10 +1,5 @@
-use Rattle.std.proofs.Common.{◌∙◌, ap, arith, sym}
-use Rattle.std.proofs.lemmas.Bool.{eqb-true, le-leb}
-use Rattle.std.specs.List.{list_all}
-use Rattle.std.specs.Prelude.{◌&&◌}
-use Rattle.yaml_scalar.specs.ByteClasses.{is_free}
-use Rattle.yaml_scalar.proofs.ByteRuns.{whole_free}
-use Rattle.yaml_scalar.proofs.ShortRuns.{whole_run}
+use Rattle.yaml_scalar.proofs.Common.{◌&&◌, eqb-true, le-leb, ap, sym, ◌∙◌, arith, list_all, is_free}
+use Rattle.yaml_scalar.proofs.{ByteRuns.whole_free, ShortRuns.whole_run}
 use Rattle.yaml_scalar.proofs.short_runs.is_short_run.Goals as goal
 
 pub returns-then-text-le-MOST_BYTES-clause-value : goal.returns-then-text-le-MOST_BYTES-clause-value

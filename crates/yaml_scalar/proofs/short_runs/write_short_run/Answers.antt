@@ -1,10 +1,5 @@
-use Rattle.std.proofs.Common.{◌∙◌, ap, arith, subst, sym, length, List, ℕ}
-use Rattle.std.specs.List.{list_any}
-use Rattle.std.specs.Str.{IsAscii}
-use Rattle.yaml_base.specs.Characters.{is_break}
-use Rattle.yaml_base.specs.Cursor.{render_text}
-use Rattle.yaml_pen.specs.Wrote.{Wrote}
-use Rattle.yaml_scalar.proofs.EscapeBytes.{plain-ascii, plain-unbroken}
+use Rattle.yaml_scalar.proofs.Common.{ℕ, length, List, ap, subst, sym, ◌∙◌, arith, list_any, IsAscii, is_break, render_text, Wrote}
+use Rattle.yaml_scalar.proofs.EscapeBytes.{plain-unbroken, plain-ascii}
 use Rattle.yaml_scalar.proofs.short_runs.write_short_run.Goals as goal
 
 pub write_ascii-requires-clause-ascii : goal.write_ascii-requires-clause-ascii

@@ -1,13 +1,7 @@
-use Rattle.std.proofs.Common.{◌≡◌, refl, ap, ◌∙◌}
+use Rattle.yaml_scalar.proofs.Common.{codes, refl, ◌≡◌, ap, ◌∙◌, list_any, is_break, Indicator, single_quote, wrote_then, wrote_failed, wrote_exit}
+use Rattle.yaml_scalar.proofs.Common.{limit_where}
 use Rattle.std.specs.Str.{chars}
-use Rattle.std.specs.List.{list_any}
-use Rattle.yaml_base.specs.Characters.{is_break}
-use Rattle.yaml_base.specs.Indicators.{Indicator}
-use Rattle.std.specs.Prelude.{codes}
-use Rattle.yaml_base.specs.scalars.SingleQuoted.{single_quote}
-use Rattle.yaml_pen.proofs.Composing.{wrote_exit, wrote_failed, wrote_then}
-use Rattle.yaml_scalar.specs.Width.{limit_where}
-use Rattle.yaml_scalar.proofs.LinesWritten.{after_quote, wrote_quoted, wrote_single}
+use Rattle.yaml_scalar.proofs.LinesWritten.{wrote_quoted, after_quote, wrote_single}
 use Rattle.yaml_scalar.proofs.single_quoted.write_between_quotes.Goals as goal
 
 quote_chars : chars (codes "'") ≡ codes "'"

@@ -1,9 +1,5 @@
-use Rattle.std.proofs.Common.{rules, chars}
-use Rattle.yaml_base.specs.scalars.SingleQuoted.{render_single_quoted}
-use Rattle.yaml_pen.specs.Page.{natural}
-use Rattle.yaml_pen.specs.Wrote.{Wrote}
-use Rattle.yaml_scalar.specs.Width.{limit_where}
-use Rattle.yaml_scalar.proofs.LinesReadBack.{single_back, two_or_more}
+use Rattle.yaml_scalar.proofs.Common.{chars, rules, render_single_quoted, natural, Wrote, limit_where}
+use Rattle.yaml_scalar.proofs.LinesReadBack.{two_or_more, single_back}
 use Rattle.yaml_scalar.proofs.single_quoted.write_single_quoted_scalar.Goals as goal
 
 pub returns-clause-reads : goal.returns-clause-reads

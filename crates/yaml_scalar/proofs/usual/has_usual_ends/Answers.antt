@@ -1,4 +1,4 @@
-use Rattle.std.proofs.Common.{sym}
+use Rattle.yaml_scalar.proofs.Common.{sym}
 use Rattle.yaml_scalar.proofs.UsualTexts.{usual_ends}
 use Rattle.yaml_scalar.proofs.usual.has_usual_ends.Goals as goal
 

@@ -1,9 +1,5 @@
-use Rattle.std.proofs.Common.{◌≡◌, ◌∙◌, ap, sym, true}
-use Rattle.std.specs.List.{list_all}
-use Rattle.std.specs.Prelude.{◌&&◌, chars, length, nat_le}
-use Rattle.yaml_scalar.proofs.UsualTexts.{usual, usual_characters}
-use Rattle.yaml_scalar.specs.ShortRuns.{most_short}
-use Rattle.yaml_scalar.specs.UsualTexts.{has_usual_ends, is_usual_character}
+use Rattle.yaml_scalar.proofs.Common.{chars, nat_le, length, true, ◌&&◌, ◌≡◌, ap, sym, ◌∙◌, list_all, most_short, has_usual_ends, is_usual_character}
+use Rattle.yaml_scalar.proofs.UsualTexts.{usual_characters, usual}
 use Rattle.yaml_scalar.proofs.usual.is_usual.Goals as goal
 
 pub returns-then-has_usual_ends-clause-value : goal.returns-then-has_usual_ends-clause-value

@@ -1,9 +1,5 @@
-use Rattle.std.proofs.Common.{Bool, chars, subst, sym, Ok, Err}
-use Rattle.yaml_base.specs.Cursor.{render_text, space_if}
-use Rattle.yaml_base.specs.scalars.Plain.{plain_body}
-use Rattle.yaml_pen.specs.Wrote.{Wrote}
-use Rattle.yaml_pen.proofs.Composing.{wrote_exit, wrote_failed, wrote_then}
-use Rattle.yaml_scalar.specs.Width.{limit_where}
+use Rattle.yaml_scalar.proofs.Common.{chars, Err, Ok, Bool, subst, sym, render_text, space_if, plain_body, wrote_then, wrote_failed, wrote_exit, Wrote}
+use Rattle.yaml_scalar.proofs.Common.{limit_where}
 use Rattle.yaml_scalar.proofs.UsualTexts.{usual_spaced}
 use Rattle.yaml_scalar.proofs.usual.write_after_space.Goals as goal
 

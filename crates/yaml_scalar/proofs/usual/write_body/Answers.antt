@@ -1,8 +1,4 @@
-use Rattle.std.proofs.Common.{refl, false, chars}
-use Rattle.yaml_base.specs.Cursor.{Cursor}
-use Rattle.yaml_base.specs.scalars.Plain.{plain_body}
-use Rattle.yaml_pen.proofs.Composing.{wrote_changing, wrote_exit, wrote_failed_as}
-use Rattle.yaml_scalar.specs.Width.{limit_where}
+use Rattle.yaml_scalar.proofs.Common.{chars, false, refl, Cursor, plain_body, wrote_changing, wrote_exit, wrote_failed_as, limit_where}
 use Rattle.yaml_scalar.proofs.usual.write_body.Goals as goal
 
 pub returns-in_err-write_usual_line : goal.returns-in_err-write_usual_line

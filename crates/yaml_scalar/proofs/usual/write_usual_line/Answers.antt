@@ -1,12 +1,6 @@
-use Rattle.std.proofs.Common.{arith, chars, length}
-use Rattle.yaml_base.specs.scalars.Plain.{spaces}
-use Rattle.yaml_pen.proofs.Composing.{wrote_as}
-use Rattle.yaml_scalar.specs.LineSteps.{render_steps, written_as}
-use Rattle.yaml_scalar.specs.Width.{limit_where}
-use Rattle.yaml_scalar.proofs.LinesWritten.{wrote_runs, wrote_unquoted}
-use Rattle.yaml_scalar.proofs.ShortRuns.{short_line_rendered}
-use Rattle.yaml_scalar.proofs.StaysInLine.{room_less}
-use Rattle.yaml_scalar.proofs.UsualTexts.{usual_line, usual_some}
+use Rattle.yaml_scalar.proofs.Common.{chars, length, arith, spaces, wrote_as, written_as, render_steps, limit_where}
+use Rattle.yaml_scalar.proofs.{LinesWritten.wrote_runs, LinesWritten.wrote_unquoted, ShortRuns.short_line_rendered, StaysInLine.room_less}
+use Rattle.yaml_scalar.proofs.{UsualTexts.usual_some, UsualTexts.usual_line}
 use Rattle.yaml_scalar.proofs.usual.write_usual_line.Goals as goal
 
 pub write_short_run-requires-clause-few : goal.write_short_run-requires-clause-few

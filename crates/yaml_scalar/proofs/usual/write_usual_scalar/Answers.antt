@@ -1,8 +1,4 @@
-use Rattle.std.proofs.Common.{rules, chars}
-use Rattle.yaml_base.specs.scalars.Plain.{render_plain}
-use Rattle.yaml_pen.specs.Page.{natural}
-use Rattle.yaml_pen.specs.Wrote.{Wrote}
-use Rattle.yaml_scalar.specs.Width.{limit_where}
+use Rattle.yaml_scalar.proofs.Common.{chars, rules, render_plain, natural, Wrote, limit_where}
 use Rattle.yaml_scalar.proofs.usual.write_usual_scalar.Goals as goal
 
 pub returns : goal.returns

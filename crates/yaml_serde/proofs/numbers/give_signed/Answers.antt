@@ -1,8 +1,5 @@
-use mir.Syntax.{w128}
-use Rattle.std.proofs.Common.{sym, ap, ◌∙◌, subst}
+use Rattle.yaml_serde.proofs.Common.{ap, subst, sym, ◌∙◌, signed_decimal, w128, HasNumber}
 use Rattle.std.proofs.lemmas.Int.{to_z-of_z}
-use Rattle.std.specs.Fmt.{signed_decimal}
-use Rattle.yaml_serde.specs.Numbers.{HasNumber}
 use Rattle.yaml_serde.proofs.NumberTexts.{has_signed, signed_fits}
 use Rattle.yaml_serde.proofs.numbers.give_signed.Goals as goal
 

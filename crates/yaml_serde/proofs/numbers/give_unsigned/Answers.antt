@@ -1,5 +1,4 @@
-use Rattle.std.proofs.Common.{sym, subst, arith}
-use Rattle.yaml_serde.specs.Numbers.{HasNumber}
+use Rattle.yaml_serde.proofs.Common.{subst, sym, arith, HasNumber}
 use Rattle.yaml_serde.proofs.NumberTexts.{has_decimal}
 use Rattle.yaml_serde.proofs.numbers.give_unsigned.Goals as goal
 

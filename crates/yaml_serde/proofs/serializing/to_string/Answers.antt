@@ -1,6 +1,4 @@
-use Rattle.std.proofs.Common.{sym, subst}
-use Rattle.yaml_writer.specs.Given.{default_settings}
-use Rattle.yaml_serde.specs.Documents.{IsDocument}
+use Rattle.yaml_serde.proofs.Common.{subst, sym, IsDocument, default_settings}
 use Rattle.yaml_serde.proofs.serializing.to_string.Goals as goal
 
 pub returns : goal.returns

@@ -1,6 +1,4 @@
-use Rattle.std.proofs.Common.{IfOk, subst}
-use Rattle.yaml_base.specs.Settings.{Settings}
-use Rattle.yaml_serde.specs.Documents.{IsDocument}
+use Rattle.yaml_serde.proofs.Common.{IfOk, subst, Settings, IsDocument}
 use Rattle.yaml_serde.proofs.Bytes.{document_ok}
 use Rattle.yaml_serde.proofs.serializing.to_vec.Goals as goal
 

@@ -1,6 +1,4 @@
-use Rattle.std.proofs.Common.{IfOk, subst}
-use Rattle.yaml_base.specs.Settings.{Settings}
-use Rattle.yaml_serde.specs.Documents.{AppendsDocument}
+use Rattle.yaml_serde.proofs.Common.{IfOk, subst, Settings, AppendsDocument}
 use Rattle.yaml_serde.proofs.serializing.to_writer.Goals as goal
 
 pub returns : goal.returns

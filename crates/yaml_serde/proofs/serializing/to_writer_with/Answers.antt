@@ -1,4 +1,4 @@
-use Rattle.yaml_writer.specs.Given.{seen_settings}
+use Rattle.yaml_serde.proofs.Common.{seen_settings}
 use Rattle.yaml_serde.proofs.Giving.{sent_by}
 use Rattle.yaml_serde.proofs.serializing.to_writer_with.Goals as goal
 

@@ -1,4 +1,4 @@
-use Rattle.std.proofs.Common.{false}
+use Rattle.yaml_serde.proofs.Common.{false}
 use Rattle.yaml_serde.proofs.serializing.to_writer_with.Given as goal
 
 abbrev pub ghosts-sent : goal.ghosts-sent

@@ -1,6 +1,4 @@
-use Rattle.std.proofs.Common.{◌≡◌, ◌∙◌, ap, false, length, OnOk, subst, take}
-use Rattle.yaml_writer.specs.Writing.{WriterState, awaits_node}
-use Rattle.yaml_serde.specs.Documents.{GivesEvents}
+use Rattle.yaml_serde.proofs.Common.{OnOk, length, take, false, ◌≡◌, ap, subst, ◌∙◌, GivesEvents, WriterState, awaits_node}
 use Rattle.yaml_serde.proofs.Giving.{gives_none}
 use Rattle.yaml_serde.proofs.serializing.write.Goals as goal
 

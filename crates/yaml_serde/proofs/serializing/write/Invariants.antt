@@ -1,4 +1,4 @@
-use Rattle.std.proofs.Common.{None, true}
+use Rattle.yaml_serde.proofs.Common.{None, true}
 use Rattle.yaml_serde.proofs.serializing.write.Given as goal
 
 abbrev pub ghosts-given : goal.ghosts-given

@@ -1,46 +1,45 @@
 -- It refuses, or answers what the inner allocator answers. Assumes `Logic`.
-use Rattle.std.proofs.Common.{◌≡◌, ℕ, ◌+◌, ◌^◌, ◌<◌, true, false, Bool, List, [], ◌∷◌, Ok, Err, refl, ap, w64, Bor}
-use seplogic.Ra.Ura.{Ura}
-use mir.Syntax.{Ty, Args, Fn, a_type, dnil, dcons}
-use mir.Val.{Val, vbool, vint, vptr}
-use mir.MapTy.{inst_fn}
-use base.Logic.{SProp, ent, ex, sep, guard, id⊢}
-use base.Fml.{Lft, Share, ftrue, fsep, flft}
-use prog.Memory.{Memory, size, align, capped, up}
-use prog.Routine.{Routine}
-use prog.Wp.{WpFn, Tables, Env}
-use types.Logic.{Logic, sem}
-use contract.BorrowLft.{◌⊑◌, ⊑_trans}
+use Rattle.std.{proofs.alloc.Shapes.after, specs.Allocator.block_if_ok}
+use Rattle.std.proofs.Common.{Bool, Bor, Err, List, Ok, [], ap, false, refl, true, w64, ℕ, ◌+◌, ◌<◌, ◌^◌, ◌∷◌, ◌≡◌}
+use Rattle.std.proofs.alloc.Calls.{Al, Answer, Answer-Ok, Answer-err, Answer-typed, Answered, Takes, Takes-gives, Takes-goes, answer_val, answers, at_takes}
+use Rattle.std.proofs.alloc.Calls.{seen, takes_key, token, α}
+use base.Fml.{Lft, Share, flft, fsep, ftrue}
+use base.Logic.{SProp, ent, ex, guard, id⊢, sep}
+use contract.BorrowLft.{⊑_trans, ◌⊑◌}
 use contract.Monad.{Fun, fact}
 use contract.Running.{tables, tables_of}
-use sound.WpLaws.{fm_of, WpFn-mono}
-use types.Run.{stop, fld, addr, lit, no_more, and_then, first, branches, skips, exec, returns, returns_within, enter}
-use types.Part.{agg}
-use Rattle.std.proofs.alloc.Shapes.{after}
+use denote.Builtin.{RefOf, bool, usize}
 use denote.Exit.{yes}
-use denote.RattleType.{RattleType, owns}
 use denote.Memory.{hidden_shr}
-use denote.Ref.{shr_vals}
 use denote.Opens.{unhide}
 use denote.Param.{bounded, param}
-use denote.Plain.{uint_vals, uint_Tells}
+use denote.Plain.{uint_Tells, uint_vals}
+use denote.RattleType.{RattleType, owns}
+use denote.RawPtr.{block_ptr}
+use denote.Ref.{shr_vals}
 use denote.Signature.{Slot, plain, types_at}
 use denote.Steps.{heard, nothing, only}
-use denote.Triple.Clauses.{Ended, Clauses}
+use denote.Triple.Call.{calls_at}
+use denote.Triple.Clauses.{Clauses, Ended}
 use denote.Triple.Spec.{triple_of}
 use denote.Triple.Statement.{Contract, Triple}
-use denote.Triple.Table.{entered, cited}
-use denote.Triple.Walked.{Stays, stay_dropped, walk_of, ends_at, walked, Goes-dropped, walk_Meets}
-use types.Kit.{Item, ‵, raw, ◌⊛◌, ⋆, some, later, given, at_ret, ◌$◌, ◌∵◌, !, qed, by, move, keep, use0, use1, use2, split, join, pick, learn, fsplit, fjoin}
-use types.Kit.{feq_i, feq_l, check, show, suffices, await, updating, now as at_once, done}
-use types.ByLocal.{alloc_all, pass_all, free_all, look_at, get, through, sets, lands_as, env}
-use denote.RawPtr.{block_ptr}
-use denote.Builtin.{bool, usize, RefOf}
-use denote.Triple.Call.{calls_at}
+use denote.Triple.Table.{cited, entered}
+use denote.Triple.Walked.{Goes-dropped, Stays, ends_at, stay_dropped, walk_Meets, walk_of, walked}
+use mir.MapTy.{inst_fn}
+use mir.Syntax.{Args, Fn, Ty, a_type, dcons, dnil}
+use mir.Val.{Val, vbool, vint, vptr}
+use prog.Memory.{Memory, align, capped, size, up}
+use prog.Routine.{Routine}
+use prog.Wp.{Env, Tables, WpFn}
+use seplogic.Ra.Ura.{Ura}
+use sound.WpLaws.{WpFn-mono, fm_of}
+use types.ByLocal.{alloc_all, env, free_all, get, lands_as, look_at, pass_all, sets, through}
+use types.Kit.{ !, Item, at_ret, await, by, check, done, feq_i, feq_l, fjoin, fsplit, given, join, keep, later, learn, move, now as at_once, pick, qed, raw}
+use types.Kit.{show, some, split, suffices, updating, use0, use1, use2, ‵, ⋆, ◌$◌, ◌∵◌, ◌⊛◌}
+use types.Logic.{Logic, sem}
+use types.Part.{agg}
+use types.Run.{addr, and_then, branches, enter, exec, first, fld, lit, no_more, returns, returns_within, skips, stop}
 use Rattle.std.specs.contracts.cell.Cell as CE
-use Rattle.std.proofs.alloc.Calls.{Al, α, seen, token, Answer, answer_val, Answer-typed, Answer-Ok, Answer-err, takes_key, Takes, at_takes, Answered}
-use Rattle.std.proofs.alloc.Calls.{Takes-goes, Takes-gives, answers}
-use Rattle.std.specs.Allocator.{block_if_ok}
 use Rattle.yaml_test_allocator.proofs.is_refused.Symbol as asked_symbol
 use Rattle.yaml_test_allocator.proofs.is_refused.Met as asked_met
 use Rattle.yaml_test_allocator.specs.contracts.is_refused as K

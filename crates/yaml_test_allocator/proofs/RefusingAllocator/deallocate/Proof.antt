@@ -1,39 +1,40 @@
 -- It gives the block back to the inner allocator, and counts nothing. Assumes `Logic`.
-use Rattle.std.proofs.Common.{◌≡◌, ℕ, ◌+◌, ◌^◌, ◌<◌, List, [], ◌∷◌, refl, w64, Bor}
-use seplogic.Ra.Ura.{Ura}
-use mir.Syntax.{Ty, Args, Fn, a_type, dnil, dcons}
-use mir.Val.{Val, vunit, vint, vptr}
-use mir.MapTy.{inst_fn}
+use Rattle.std.proofs.Common.{Bor, List, [], refl, w64, ℕ, ◌+◌, ◌<◌, ◌^◌, ◌∷◌, ◌≡◌}
+use Rattle.std.proofs.alloc.Calls.{Al, Gives, Gives-Gives, Gives-goes, at_gives, gives_key, seen, token, α}
+use base.Fml.{Lft, Share, ffalse, flft, froom, fsep, ftrue}
 use base.Logic.{SProp, ent, id⊢, never_e}
-use base.Fml.{Lft, Share, ffalse, ftrue, flft, froom, fsep}
-use prog.Memory.{Memory, size, align, capped, up}
-use prog.Routine.{Routine}
-use prog.Wp.{WpFn, Tables}
-use types.Logic.{Logic}
-use contract.BorrowLft.{◌⊑◌, ⊑_trans}
+use contract.BorrowLft.{⊑_trans, ◌⊑◌}
 use contract.Monad.{Fun, fact}
 use contract.Running.{tables, tables_of}
-use sound.WpLaws.{fm_of, WpFn-mono}
-use types.Run.{stop, fld, addr, no_more, and_then, of_opd, unit_lit, returns, enter}
+use denote.Builtin.{RawPtr, RefOf, usize}
 use denote.Exit.{yes}
-use denote.RattleType.{owns}
-use denote.Ref.{shr_vals}
 use denote.Opens.{unhide}
 use denote.Param.{bounded, param}
-use denote.Plain.{uint_vals, uint_Tells}
+use denote.Plain.{uint_Tells, uint_vals}
+use denote.RattleType.{owns}
+use denote.RawPtr.{Ptr, block_ptr, null_ptr, ptr_val, rawptr_Tells, rawptr_vals}
+use denote.Ref.{shr_vals}
 use denote.Signature.{Slot, plain, types_at}
 use denote.Steps.{heard, nothing}
-use denote.Triple.Clauses.{Ended, Clauses}
+use denote.Triple.Call.{calls_at}
+use denote.Triple.Clauses.{Clauses, Ended}
 use denote.Triple.Spec.{triple_of}
 use denote.Triple.Statement.{Triple}
 use denote.Triple.Table.{entered}
-use denote.Triple.Walked.{Stays, stay_dropped, walk_of, ends_at, walked, Goes-dropped, walk_Meets}
-use types.Kit.{Item, ‵, raw, ◌⊛◌, later, given, ◌$◌, ◌∵◌, !, qed, by, move, keep, use1, split, split3, join, learn, fsplit, fjoin, feq_i, suffices, await, done}
-use types.ByLocal.{alloc_all, pass_all, free_all, look_at, get, through, sets, lands_as}
-use denote.RawPtr.{Ptr, block_ptr, null_ptr, ptr_val, rawptr_vals, rawptr_Tells}
-use denote.Builtin.{usize, RawPtr, RefOf}
-use denote.Triple.Call.{calls_at}
-use Rattle.std.proofs.alloc.Calls.{Al, α, seen, token, gives_key, Gives, at_gives, Gives-goes, Gives-Gives}
+use denote.Triple.Walked.{Goes-dropped, Stays, ends_at, stay_dropped, walk_Meets, walk_of, walked}
+use mir.MapTy.{inst_fn}
+use mir.Syntax.{Args, Fn, Ty, a_type, dcons, dnil}
+use mir.Val.{Val, vint, vptr, vunit}
+use prog.Memory.{Memory, align, capped, size, up}
+use prog.Routine.{Routine}
+use prog.Wp.{Tables, WpFn}
+use seplogic.Ra.Ura.{Ura}
+use sound.WpLaws.{WpFn-mono, fm_of}
+use types.ByLocal.{alloc_all, free_all, get, lands_as, look_at, pass_all, sets, through}
+use types.Kit.{ !, Item, await, by, done, feq_i, fjoin, fsplit, given, join, keep, later, learn, move, qed, raw, split, split3, suffices, use1, ‵, ◌$◌, ◌∵◌}
+use types.Kit.{◌⊛◌}
+use types.Logic.{Logic}
+use types.Run.{addr, and_then, enter, fld, no_more, of_opd, returns, stop, unit_lit}
 use Rattle.yaml_test_allocator.specs.contracts.Refusing as S
 use Rattle.yaml_test_allocator.specs.contracts.RefusingAllocator.deallocate as F
 use Rattle.yaml_test_allocator.specs.contracts.RefusingAllocator.deallocate.Key as key

@@ -1,4 +1,4 @@
-use Rattle.yaml_tool.proofs.Common.{◌++◌, ap, sym, ◌∙◌, ◌≡◌, chars-nil, chars_past_char, encode_utf8, chars}
+use Rattle.yaml_tool.proofs.Common.{◌++◌, ◌≡◌, ap, sym, ◌∙◌, chars-nil, chars_past_char, encode_utf8, chars}
 use Rattle.std.proofs.lemmas.List.{nil_from_length}
 use Rattle.yaml_tool.proofs.characters.first_character.Goals as goal
 

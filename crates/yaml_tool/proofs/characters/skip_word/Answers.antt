@@ -1,4 +1,4 @@
-use Rattle.yaml_tool.proofs.Common.{ℕ, List, length, subst, arith, Nowhere, NoneBefore, Passes, is_byte2}
+use Rattle.yaml_tool.proofs.Common.{ℕ, length, List, subst, arith, Nowhere, NoneBefore, Passes, is_byte2}
 use Rattle.yaml_tool.proofs.SearchLemmas.{delimiter_found, no_indicator}
 use Rattle.yaml_tool.proofs.characters.skip_word.Goals as goal
 

@@ -1,5 +1,5 @@
 use Rattle.yaml_tool.proofs.Common.{option_map, MatchOption-at_some, chars, seen_text, seen_event, later_fields}
-use Rattle.yaml_tool.{specs.Events.seen_collection_style, proofs.EventLemmas.collection_joined, proofs.EventLemmas.no_collection}
+use Rattle.yaml_tool.{proofs.EventLemmas.collection_joined, proofs.EventLemmas.no_collection, specs.Events.seen_collection_style}
 use Rattle.yaml_tool.proofs.events.collection_start_of.Goals as goal
 
 pub returns-then-not-is_end : goal.returns-then-not-is_end

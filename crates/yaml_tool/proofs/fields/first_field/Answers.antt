@@ -1,7 +1,7 @@
-use Rattle.yaml_tool.proofs.Common.{ℕ, List, [], ◌∷◌, false, true, ap, sym, ◌∙◌, ◌≡◌, arith, chars, outside, separates, pieces_from, field_read}
-use Rattle.yaml_tool.proofs.Common.{field_and, fields_read, prefix_of, seen_field_state, prepend_to_first_piece}
+use Rattle.yaml_tool.proofs.Common.{ℕ, false, true, List, [], ◌∷◌, ◌≡◌, ap, sym, ◌∙◌, arith, chars, outside, separates, pieces_from, field_read, field_and}
+use Rattle.yaml_tool.proofs.Common.{fields_read, prefix_of, seen_field_state, prepend_to_first_piece}
 use Rattle.yaml_tool.proofs.CharacterLemmas.{nothing_passed, empty_prefix, one_passed, prefix_passed, all_passed}
-use Rattle.yaml_tool.proofs.FieldLemmas.{stops_first, goes_first, skip_run, further_on, run_within, whole_line, field_before, field_alone}
+use Rattle.yaml_tool.proofs.FieldLemmas.{whole_line, stops_first, goes_first, further_on, skip_run, run_within, field_before, field_alone}
 use Rattle.yaml_tool.proofs.fields.first_field.Goals as goal
 
 pub loop-character-init : goal.loop-character-init

@@ -1,4 +1,4 @@
-use Rattle.std.proofs.Common.{ap, not, ◌∙◌}
+use Rattle.yaml_base.proofs.Common.{not, ap, ◌∙◌}
 use Rattle.yaml_tool.proofs.FieldLemmas.{none_left, field_left}
 use Rattle.yaml_tool.proofs.fields.is_end.Goals as goal
 

@@ -1,5 +1,5 @@
-use Rattle.yaml_tool.proofs.Common.{None, Some, ◌∷◌, option_map, ap, sym, ◌∙◌, chars, seen_event, line_read, fields_read, later_fields, seen_setting}
-use Rattle.yaml_tool.proofs.LineLemmas.{bytes_parsed, bytes_parsed_nothing, comment_parsed, fields_parsed, event_parsed, setting_parsed}
+use Rattle.yaml_tool.proofs.Common.{option_map, None, Some, ◌∷◌, ap, sym, ◌∙◌, chars, seen_event, line_read, fields_read, later_fields, seen_setting}
+use Rattle.yaml_tool.proofs.LineLemmas.{event_parsed, setting_parsed, bytes_parsed_nothing, bytes_parsed, comment_parsed, fields_parsed}
 use Rattle.yaml_tool.proofs.lines.parse_line.Goals as goal
 
 pub returns-in_default : goal.returns-in_default

@@ -1,5 +1,5 @@
 use Rattle.yaml_tool.proofs.Common.{◌*◌, ◌+◌, ◌≤◌, sym, ◌∙◌, arith, IsUtf8-past_char, digit_value, chars}
-use Rattle.yaml_tool.proofs.NumberLemmas.{digit_first, no_digit_first, too_great}
+use Rattle.yaml_tool.proofs.NumberLemmas.{too_great, digit_first, no_digit_first}
 use Rattle.yaml_tool.proofs.numbers.parse_number.Goals as goal
 
 pub returns-then-number-limit : goal.returns-then-number-limit

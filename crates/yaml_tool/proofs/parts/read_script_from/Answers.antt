@@ -1,6 +1,6 @@
 use Rattle.yaml_tool.proofs.Common.{IfSome, map, ReadsAll, IsFault, seen_numbered, seen_settings}
+use Rattle.yaml_tool.proofs.PartLemmas.{reads_at_end, says_first, says_more, says_all, bad_all, bad_prefix}
 use Rattle.yaml_tool.proofs.ScriptLemmas.{exit_with}
-use Rattle.yaml_tool.proofs.PartLemmas.{says_first, says_more, says_all, bad_all, bad_prefix, reads_at_end}
 use Rattle.yaml_base.specs.scripts.Script as notation
 use Rattle.yaml_tool.proofs.parts.read_script_from.Goals as goal
 

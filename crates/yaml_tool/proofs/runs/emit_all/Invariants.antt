@@ -1,4 +1,4 @@
-use Rattle.yaml_tool.proofs.Common.{None, [], map, ◌++◌, true, ◌≡◌, into_iter_items, Settings, StandsAfter, events_in, LastLine, seen_numbered}
+use Rattle.yaml_tool.proofs.Common.{None, true, [], map, ◌++◌, ◌≡◌, into_iter_items, Settings, StandsAfter, events_in, LastLine, seen_numbered}
 use Rattle.yaml_tool.proofs.runs.emit_all.Given as goal
 
 abbrev pub invariant-loop-numbered : goal.invariant-loop-numbered

@@ -1,4 +1,5 @@
-use Rattle.yaml_tool.proofs.Common.{Err, Result, ap, refl, yaml_error_t}
+use Rattle.yaml_tool.proofs.Common.{Result, Err, refl, ap}
+use Rattle.yaml_base.specs.declared.errors.yaml_error_t.{yaml_error_t}
 use Rattle.yaml_tool.proofs.RunLemmas.{some_told}
 use Rattle.yaml_tool.proofs.runs.flush_last.Goals as goal
 

@@ -1,5 +1,5 @@
 use Rattle.yaml_tool.proofs.Common.{[], map, ap, subst, sym, ◌∙◌, seen_numbered, seen_progress, IsFaultOf, script_after_lines, seen_setting}
-use Rattle.yaml_tool.proofs.ScriptLemmas.{left_alone, fault_last, good_last, fault_alone, exit_with}
+use Rattle.yaml_tool.proofs.ScriptLemmas.{fault_last, good_last, left_alone, fault_alone, exit_with}
 use Rattle.yaml_base.specs.scripts.Script as notation
 use Rattle.yaml_tool.proofs.scripts.finish.Goals as goal
 

@@ -1,5 +1,5 @@
 use Rattle.yaml_tool.proofs.Common.{ℕ, List, ◌++◌, subst, sym, ◌∙◌, arith, seen_progress, IsFaultOf, script_after_lines}
-use Rattle.yaml_tool.proofs.ScriptLemmas.{fault_first, good_first, shorter, exit_with}
+use Rattle.yaml_tool.proofs.ScriptLemmas.{shorter, fault_first, good_first, exit_with}
 use Rattle.yaml_tool.proofs.SearchLemmas.{line_ends, one_line}
 use Rattle.yaml_tool.proofs.scripts.take_lines.Goals as goal
 

@@ -1,4 +1,4 @@
-use Rattle.yaml_tool.proofs.Common.{ℕ, List, ◌++◌, ◌+◌, ◌≤◌, length, ◌≡◌, seen_progress, script_after_lines}
+use Rattle.yaml_tool.proofs.Common.{ℕ, ◌+◌, ◌≤◌, length, List, ◌++◌, ◌≡◌, seen_progress, script_after_lines}
 use Rattle.yaml_tool.proofs.scripts.take_lines.Given as goal
 
 abbrev pub invariant-loop-end : goal.invariant-loop-end

@@ -1,4 +1,4 @@
-use Rattle.yaml_tool.proofs.Common.{map, drop, ◌≡◌, list_any, seen_setting}
+use Rattle.yaml_tool.proofs.Common.{drop, map, ◌≡◌, list_any, seen_setting}
 use Rattle.yaml_tool.specs.Settings.{sets_same}
 use Rattle.yaml_tool.proofs.settings.is_set.Given as goal
 

@@ -1,4 +1,4 @@
-use Rattle.yaml_tool.proofs.Common.{map, drop, ◌≡◌, seen_setting, seen_settings}
+use Rattle.yaml_tool.proofs.Common.{drop, map, ◌≡◌, seen_setting, seen_settings}
 use Rattle.yaml_base.specs.scripts.Script as notation
 use Rattle.yaml_tool.proofs.settings.settings_of.Given as goal
 

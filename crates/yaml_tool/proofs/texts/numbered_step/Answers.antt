@@ -1,4 +1,4 @@
-use Rattle.yaml_tool.proofs.Common.{◌∷◌, ap, sym, ◌∙◌, ◌≡◌, arith, chars}
+use Rattle.yaml_tool.proofs.Common.{◌∷◌, ◌≡◌, ap, sym, ◌∙◌, arith, chars}
 use Rattle.yaml_tool.proofs.TextLemmas.{read_turn, braced, unbraced}
 use Rattle.yaml_tool.proofs.texts.numbered_step.Goals as goal
 

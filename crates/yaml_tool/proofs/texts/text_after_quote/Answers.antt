@@ -1,5 +1,5 @@
-use Rattle.yaml_tool.proofs.Common.{◌++◌, option_map, ap, ◌∙◌, chars, seen_text, at_character, text_from}
-use Rattle.yaml_tool.proofs.TextLemmas.{nothing_before, one_more}
+use Rattle.yaml_tool.proofs.Common.{option_map, ◌++◌, ap, ◌∙◌, chars, seen_text, at_character, text_from}
+use Rattle.yaml_tool.proofs.TextLemmas.{one_more, nothing_before}
 use Rattle.yaml_tool.proofs.texts.text_after_quote.Goals as goal
 
 pub loop-text-init : goal.loop-text-init

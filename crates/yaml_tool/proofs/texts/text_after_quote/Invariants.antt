@@ -1,4 +1,4 @@
-use Rattle.yaml_tool.proofs.Common.{◌++◌, option_map, length, ◌≡◌, IsUtf8, chars, seen_text}
+use Rattle.yaml_tool.proofs.Common.{option_map, length, ◌++◌, ◌≡◌, IsUtf8, chars, seen_text}
 use Rattle.yaml_base.specs.scripts.Script as notation
 use Rattle.yaml_tool.proofs.texts.text_after_quote.Given as goal
 

@@ -1,11 +1,8 @@
-use Rattle.std.proofs.Common.{◌<◌, ◌++◌, subst, append-nil, sym, ap, ◌∙◌, arith, rules}
-use Rattle.std.proofs.lemmas.List.{take_all}
-use Rattle.yaml_base.specs.Grammar.{pairs_events}
-use Rattle.yaml_base.specs.Seen.{seen_events}
-use Rattle.yaml_base.specs.values.TypedValues.{value_pairs, PairsHave64Bits}
-use Rattle.yaml_value.specs.SeenValues.{seen_value, seen_values, seen_pairs}
-use Rattle.yaml_value.proofs.Weights.{weight, weights, pair_weights, item_lighter, pair_lighter}
+use Rattle.yaml_value.proofs.Common.{◌<◌, ◌++◌, rules, take_all, ap, subst, sym, ◌∙◌, arith, pairs_events, seen_events, PairsHave64Bits, value_pairs}
+use Rattle.yaml_value.proofs.Common.{seen_value, seen_values, seen_pairs}
+use Rattle.yaml_base.proofs.Common.{append-nil}
 use Rattle.yaml_value.proofs.EventLemmas.{items_pushed, pairs_pushed, items_bits, pairs_bits}
+use Rattle.yaml_value.proofs.Weights.{weight, weights, pair_weights, item_lighter, pair_lighter}
 use Rattle.yaml_value.proofs.events.+push_value.Goals as goal
 
 pub push_list-loop-item-preserved : goal.push_list-loop-item-preserved

@@ -1,11 +1,5 @@
-use Rattle.std.proofs.Common.{◌≡◌, ◌++◌, take}
-use Rattle.yaml_base.specs.Grammar.{nodes_events}
-use Rattle.yaml_base.specs.Seen.{seen_events}
-use Rattle.yaml_base.specs.values.TypedValues.{value_nodes, Have64Bits}
-use Rattle.yaml_value.specs.SeenValues.{seen_value, seen_values, seen_pairs}
-use Rattle.yaml_value.proofs.Weights.{weight, weights, pair_weights}
-use Rattle.std.specs.Prelude.{suc}
-use Rattle.yaml_value.proofs.EventLemmas.{Pushed}
+use Rattle.yaml_value.proofs.Common.{suc, take, ◌++◌, ◌≡◌, nodes_events, seen_events, Have64Bits, value_nodes, seen_value, seen_values, seen_pairs}
+use Rattle.yaml_value.proofs.{EventLemmas.Pushed, Weights.weight, Weights.weights, Weights.pair_weights}
 use Rattle.yaml_value.proofs.events.+push_value.Given as goal
 
 abbrev pub decreases-push_value : goal.decreases-push_value

@@ -1,7 +1,4 @@
-use Rattle.std.proofs.Common.{codes, refl, sym, ap, ◌∙◌}
-use Rattle.yaml_base.specs.Seen.{seen_events}
-use Rattle.yaml_base.specs.values.TypedValues.{bool_tag, bool_text}
-use Rattle.yaml_base.proofs.Literals.{chars-literal}
+use Rattle.yaml_value.proofs.Common.{codes, refl, ap, sym, ◌∙◌, chars-literal, seen_events, bool_tag, bool_text}
 use Rattle.yaml_value.proofs.EventLemmas.{scalar_pushed}
 use Rattle.yaml_value.proofs.events.push_bool.Goals as goal
 

@@ -1,10 +1,6 @@
-use Rattle.std.proofs.Common.{refl, ◌∙◌, ap, w64}
-use Rattle.std.proofs.lemmas.Int.{to_z-of_z}
-use Rattle.std.specs.Fmt.{signed_decimal}
-use Rattle.yaml_base.specs.Seen.{seen_events}
-use Rattle.yaml_base.specs.values.TypedValues.{int_tag}
-use Rattle.yaml_base.proofs.Literals.{chars-literal}
-use Rattle.yaml_emitter.proofs.Digits.{digits_seen, mag_fits}
+use Rattle.yaml_value.proofs.Common.{refl, ap, ◌∙◌, signed_decimal, chars-literal, seen_events, int_tag}
+use Rattle.std.proofs.{Common.w64, lemmas.Int.to_z-of_z}
+use Rattle.yaml_emitter.proofs.Digits.{mag_fits, digits_seen}
 use Rattle.yaml_value.proofs.EventLemmas.{scalar_pushed}
 use Rattle.yaml_value.proofs.events.push_integer.Goals as goal
 

@@ -1,9 +1,5 @@
-use Rattle.std.proofs.Common.{refl, ap, ◌∙◌}
-use Rattle.std.specs.Str.{chars}
-use Rattle.yaml_base.specs.Event.{mapping_start}
-use Rattle.yaml_base.specs.graphs.Meetings.{mapping_tag}
-use Rattle.yaml_base.specs.values.TypedValues.{tagged_collection}
-use Rattle.yaml_base.proofs.Literals.{chars-literal}
+use Rattle.yaml_value.proofs.Common.{refl, ap, ◌∙◌, chars, chars-literal, mapping_tag, tagged_collection}
+use Rattle.yaml_base.proofs.Common.{mapping_start}
 use Rattle.yaml_value.proofs.EventLemmas.{event_pushed}
 use Rattle.yaml_value.proofs.events.push_map_start.Goals as goal
 

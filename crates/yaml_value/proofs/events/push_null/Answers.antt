@@ -1,7 +1,4 @@
-use Rattle.std.proofs.Common.{codes, refl}
-use Rattle.yaml_base.specs.Seen.{seen_events}
-use Rattle.yaml_base.specs.values.TypedValues.{null_tag}
-use Rattle.yaml_base.proofs.Literals.{chars-literal}
+use Rattle.yaml_value.proofs.Common.{codes, refl, chars-literal, seen_events, null_tag}
 use Rattle.yaml_value.proofs.EventLemmas.{scalar_pushed}
 use Rattle.yaml_value.proofs.events.push_null.Goals as goal
 

@@ -1,8 +1,5 @@
-use Rattle.std.proofs.Common.{refl}
-use Rattle.std.specs.Str.{chars}
-use Rattle.yaml_base.specs.Seen.{seen_events}
-use Rattle.yaml_base.specs.graphs.Meetings.{string_tag}
-use Rattle.yaml_base.proofs.Literals.{chars-literal}
+use Rattle.yaml_value.proofs.Common.{refl, chars, chars-literal, seen_events}
+use Rattle.yaml_base.proofs.Common.{string_tag}
 use Rattle.yaml_value.proofs.EventLemmas.{scalar_pushed}
 use Rattle.yaml_value.proofs.events.push_text.Goals as goal
 

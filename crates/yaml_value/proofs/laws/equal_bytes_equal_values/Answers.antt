@@ -1,4 +1,4 @@
-use Rattle.std.proofs.Common.{Some, ap}
+use Rattle.yaml_value.proofs.Common.{Some, ap}
 use Rattle.yaml_value.proofs.ContentLemmas.{stream_tells_value}
 use Rattle.yaml_value.proofs.laws.equal_bytes_equal_values.Goals as goal
 

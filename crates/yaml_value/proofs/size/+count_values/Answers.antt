@@ -1,5 +1,5 @@
-use Rattle.std.proofs.Common.{◌≡◌, ◌+◌, min, arith, rules}
-use Rattle.yaml_value.proofs.SeenLemmas.{items_counted, pairs_counted, most_counted}
+use Rattle.yaml_value.proofs.Common.{min, ◌+◌, ◌≡◌, rules, arith}
+use Rattle.yaml_value.proofs.SeenLemmas.{most_counted, items_counted, pairs_counted}
 use Rattle.yaml_value.proofs.size.+count_values.Goals as goal
 
 pub count_items-loop-item-preserved : goal.count_items-loop-item-preserved

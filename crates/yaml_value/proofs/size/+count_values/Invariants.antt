@@ -1,8 +1,5 @@
-use Rattle.std.proofs.Common.{◌≡◌, ◌+◌, min, take}
-use Rattle.yaml_base.specs.values.TypedValues.{values_count, value_pairs_count}
-use Rattle.yaml_value.specs.SeenValues.{seen_values, seen_pairs}
+use Rattle.yaml_value.proofs.Common.{min, ◌+◌, take, ◌≡◌, largest_usize, values_count, value_pairs_count, seen_values, seen_pairs}
 use Rattle.yaml_value.proofs.size.+count_values.Given as goal
-use Rattle.yaml_base.specs.Settings.{largest_usize}
 
 abbrev pub invariant-count_items-loop-item : goal.invariant-count_items-loop-item
 invariant-count_items-loop-item g l =

@@ -1,6 +1,4 @@
-use Rattle.std.proofs.Common.{◌≡◌, true, false, ◌&&◌, nat_le, sym, ap, ap₂, ◌∙◌, arith, rules}
-use Rattle.yaml_base.specs.values.TypedValues.{nesting}
-use Rattle.yaml_value.specs.SeenValues.{seen_value}
+use Rattle.yaml_value.proofs.Common.{nat_le, false, true, ◌&&◌, ◌≡◌, rules, ap, ap₂, sym, ◌∙◌, arith, nesting, seen_value}
 use Rattle.yaml_value.proofs.SeenLemmas.{items_fit, pairs_fit, more_pass, one_fails, all_pass}
 use Rattle.yaml_value.proofs.size.+lies_within.Goals as goal
 

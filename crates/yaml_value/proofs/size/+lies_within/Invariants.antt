@@ -1,7 +1,4 @@
-use Rattle.std.proofs.Common.{◌≡◌, true, ◌&&◌, nat_le, take}
-use Rattle.std.specs.List.{list_all}
-use Rattle.yaml_base.specs.values.TypedValues.{nesting}
-use Rattle.yaml_value.specs.SeenValues.{seen_value}
+use Rattle.yaml_value.proofs.Common.{nat_le, take, true, ◌&&◌, ◌≡◌, list_all, nesting, seen_value}
 use Rattle.yaml_value.proofs.size.+lies_within.Given as goal
 
 abbrev pub invariant-items_lie_within-loop-item : goal.invariant-items_lie_within-loop-item

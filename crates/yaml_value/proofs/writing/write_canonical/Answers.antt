@@ -1,5 +1,4 @@
-use Rattle.std.proofs.Common.{◌≡◌, true, false, sym, ◌∙◌, rules}
-use Rattle.yaml_value.specs.SeenValues.{seen_value}
+use Rattle.yaml_value.proofs.Common.{false, true, ◌≡◌, rules, sym, ◌∙◌, seen_value}
 use Rattle.yaml_value.proofs.WritingLemmas.{too_deep_apart, test_fits, test_exceeds, memory_alone}
 use Rattle.yaml_value.proofs.writing.write_canonical.Goals as goal
 

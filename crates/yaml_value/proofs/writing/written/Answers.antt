@@ -1,11 +1,7 @@
-use Rattle.std.proofs.Common.{◌≡◌, ◌∙◌, [], ◌<◌, length, OnOk, IfErr, subst}
-use Rattle.yaml_base.specs.Seen.{seen_events}
-use Rattle.yaml_base.specs.values.TypedValues.{typed_settings, WritesValue}
+use Rattle.yaml_value.proofs.Common.{◌<◌, IfErr, OnOk, length, [], ◌≡◌, subst, ◌∙◌, seen_events, largest_usize, typed_settings, WritesValue, seen_value}
 use Rattle.yaml_base.specs.declared.errors.yaml_error_t.TheVariants.{Memory}
-use Rattle.yaml_value.specs.SeenValues.{seen_value}
 use Rattle.yaml_value.proofs.WritingLemmas.{events_written, copy_written}
 use Rattle.yaml_value.proofs.writing.written.Goals as goal
-use Rattle.yaml_base.specs.Settings.{largest_usize}
 
 pub returns-in-Ok-clause-written : goal.returns-in-Ok-clause-written
 returns-in-Ok-clause-written g c =

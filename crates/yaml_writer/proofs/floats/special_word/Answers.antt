@@ -1,5 +1,4 @@
-use Rattle.std.proofs.Common.{codes, refl, sym, ap, ◌∙◌}
-use Rattle.yaml_base.proofs.Literals.{chars-literal}
+use Rattle.yaml_writer.proofs.Common.{codes, refl, ap, sym, ◌∙◌, chars-literal}
 use Rattle.yaml_writer.specs.Floats.{special_text}
 use Rattle.yaml_writer.proofs.floats.special_word.Goals as goal
 

@@ -1,6 +1,5 @@
-use Rattle.std.proofs.Common.{None, [], ◌∷◌, subst}
-use Rattle.yaml_base.specs.Event.{Event, stream_start}
-use Rattle.yaml_writer.specs.Writing.{StandsTaken}
+use Rattle.yaml_writer.proofs.Common.{None, [], ◌∷◌, subst, Event, StandsTaken}
+use Rattle.yaml_base.proofs.Common.{stream_start}
 use Rattle.yaml_writer.proofs.giving.begin.Goals as goal
 
 pub returns-clause-stands : goal.returns-clause-stands

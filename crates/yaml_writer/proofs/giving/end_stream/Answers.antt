@@ -1,14 +1,9 @@
-use Rattle.std.proofs.Common.{Bool, [], ◌∷◌, ◌++◌, ◌∙◌, ap, Err, IfErr, subst, sym}
+use Rattle.yaml_writer.proofs.Common.{IfErr, Err, Bool, [], ◌++◌, ◌∷◌, ap, subst, sym, ◌∙◌, stream_end, document_end, some_from_result, none_from_result}
+use Rattle.yaml_writer.proofs.Common.{output_left, IsUnfinishedBy, is_implicit, closing_by, FinishesBy}
 use Rattle.std.proofs.lemmas.Result.{err_from_is_err_and}
-use Rattle.yaml_base.specs.Event.{document_end, stream_end}
-use Rattle.yaml_emitter.proofs.standing.StandingMore.{some_from_result}
-use Rattle.yaml_pen.proofs.Writing.{none_from_result}
-use Rattle.yaml_pen.specs.Page.{output_left}
-use Rattle.yaml_writer.proofs.Finishing.{closed, closed_stands, error_kept, failed_unfinished, none_waits, rest_finished, some_waits, waiting_unaccepted}
+use Rattle.yaml_writer.proofs.Finishing.{error_kept, some_waits, none_waits, closed, closed_stands, waiting_unaccepted, failed_unfinished, rest_finished}
 use Rattle.yaml_writer.proofs.Taken.{still_taken}
-use Rattle.yaml_writer.specs.Unfinished.{IsUnfinishedBy}
-use Rattle.yaml_writer.proofs.WaitingStarts.{no_earlier, third_err, third_fails, third_ok, third_unfinished}
-use Rattle.yaml_writer.specs.Writing.{FinishesBy, closing_by, is_implicit}
+use Rattle.yaml_writer.proofs.WaitingStarts.{no_earlier, third_ok, third_fails, third_unfinished, third_err}
 use Rattle.yaml_writer.proofs.giving.end_stream.Goals as goal
 
 pub returns-in_err-yaml_emitter_emit-clause-unfinished : goal.returns-in_err-yaml_emitter_emit-clause-unfinished

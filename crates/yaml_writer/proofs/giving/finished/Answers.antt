@@ -1,5 +1,4 @@
-use Rattle.std.proofs.Common.{sym, subst}
-use Rattle.yaml_writer.specs.Writing.{FinishesBy, is_implicit}
+use Rattle.yaml_writer.proofs.Common.{subst, sym, is_implicit, FinishesBy}
 use Rattle.yaml_writer.proofs.giving.finished.Goals as goal
 
 pub returns-clause-finishes : goal.returns-clause-finishes

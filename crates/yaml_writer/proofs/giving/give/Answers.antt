@@ -1,5 +1,4 @@
-use Rattle.std.proofs.Common.{[], ◌∷◌, ◌++◌}
-use Rattle.yaml_base.specs.Seen.{seen_event}
+use Rattle.yaml_writer.proofs.Common.{[], ◌++◌, ◌∷◌, seen_event}
 use Rattle.yaml_writer.proofs.Taken.{still_taken}
 use Rattle.yaml_writer.proofs.giving.give.Goals as goal
 

@@ -1,7 +1,4 @@
-use Rattle.std.proofs.Common.{◌≡◌, rules, subst}
-use Rattle.yaml_base.specs.Event.{Event}
-use Rattle.yaml_base.specs.Seen.{seen_event}
-use Rattle.yaml_writer.specs.Writing.{AddsEvent, end_event}
+use Rattle.yaml_writer.proofs.Common.{◌≡◌, rules, subst, Event, seen_event, end_event, AddsEvent}
 use Rattle.yaml_writer.proofs.giving.give_end.Goals as goal
 
 pub returns-clause-adds : goal.returns-clause-adds

@@ -1,7 +1,4 @@
-use Rattle.std.proofs.Common.{◌≡◌, Bool, is_none, option_map, rules, subst}
-use Rattle.yaml_base.specs.Event.{mapping_start}
-use Rattle.yaml_base.specs.Seen.{seen_mapping_style, seen_text}
-use Rattle.yaml_writer.specs.Writing.{AddsEvent}
+use Rattle.yaml_writer.proofs.Common.{is_none, option_map, Bool, ◌≡◌, rules, subst, mapping_start, seen_mapping_style, seen_text, AddsEvent}
 use Rattle.yaml_writer.proofs.giving.give_mapping.Goals as goal
 
 pub returns-clause-adds : goal.returns-clause-adds

@@ -1,8 +1,5 @@
-use Rattle.std.proofs.Common.{Bool, [], ◌∷◌, ◌++◌, subst}
-use Rattle.yaml_base.specs.Event.{document_end}
-use Rattle.yaml_base.specs.Seen.{seen_event}
+use Rattle.yaml_writer.proofs.Common.{Bool, [], ◌++◌, ◌∷◌, subst, document_end, seen_event, plain_start, AddsEvents}
 use Rattle.yaml_pen.proofs.Composing.{grows_then}
-use Rattle.yaml_writer.specs.Writing.{AddsEvents, plain_start}
 use Rattle.yaml_writer.proofs.Finishing.{next_stands}
 use Rattle.yaml_writer.proofs.giving.give_next.Goals as goal
 

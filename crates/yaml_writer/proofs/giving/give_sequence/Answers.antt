@@ -1,7 +1,4 @@
-use Rattle.std.proofs.Common.{◌≡◌, Bool, is_none, option_map, rules, subst}
-use Rattle.yaml_base.specs.Event.{sequence_start}
-use Rattle.yaml_base.specs.Seen.{seen_sequence_style, seen_text}
-use Rattle.yaml_writer.specs.Writing.{AddsEvent}
+use Rattle.yaml_writer.proofs.Common.{is_none, option_map, Bool, ◌≡◌, rules, subst, sequence_start, seen_sequence_style, seen_text, AddsEvent}
 use Rattle.yaml_writer.proofs.giving.give_sequence.Goals as goal
 
 pub returns-clause-adds : goal.returns-clause-adds

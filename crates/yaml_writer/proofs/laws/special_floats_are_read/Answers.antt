@@ -1,4 +1,4 @@
-use Rattle.std.proofs.Common.{refl}
+use Rattle.yaml_writer.proofs.Common.{refl}
 use Rattle.yaml_writer.specs.Floats.{SpecialFloatsAreRead}
 use Rattle.yaml_writer.specs.declared.floats.SpecialFloat.TheVariants.{Infinity, NegativeInfinity, NotANumber}
 use Rattle.yaml_writer.proofs.laws.special_floats_are_read.Goals as goal

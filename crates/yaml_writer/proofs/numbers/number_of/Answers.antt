@@ -1,8 +1,5 @@
-use Rattle.std.proofs.Common.{sym, ◌∙◌}
-use Rattle.yaml_base.specs.values.JsonNumbers.{JsonNumber}
-use Rattle.yaml_writer.specs.SeenNumbers.{seen_parts}
-use Rattle.yaml_writer.proofs.PartLemmas.{text_is_number, text_is_none}
-use Rattle.yaml_writer.proofs.SpellingLemmas.{none_by_chars, number_by_chars}
+use Rattle.yaml_writer.proofs.Common.{sym, ◌∙◌, JsonNumber, seen_parts}
+use Rattle.yaml_writer.proofs.{PartLemmas.text_is_number, PartLemmas.text_is_none, SpellingLemmas.number_by_chars, SpellingLemmas.none_by_chars}
 use Rattle.yaml_writer.proofs.numbers.number_of.Goals as goal
 
 pub invariant_of-result : goal.invariant_of-result

@@ -1,5 +1,4 @@
-use Rattle.std.proofs.Common.{lit<, None, sym}
-use Rattle.std.proofs.lemmas.Str.Pattern.{strip_prefix_char}
+use Rattle.yaml_writer.proofs.Common.{None, lit<, sym, strip_prefix_char}
 use Rattle.yaml_writer.proofs.PartLemmas.{no_indicator}
 use Rattle.yaml_writer.proofs.numbers.sign_cut.Goals as goal
 

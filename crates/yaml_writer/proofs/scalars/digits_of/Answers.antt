@@ -1,7 +1,4 @@
-use Rattle.std.proofs.Common.{◌∙◌, ap, w64}
-use Rattle.std.proofs.lemmas.Int.{to_z-of_z}
-use Rattle.std.specs.Fmt.{signed_decimal}
-use Rattle.std.specs.String.{string_bytes}
+use Rattle.yaml_writer.proofs.Common.{ap, ◌∙◌, w64, to_z-of_z, signed_decimal, string_bytes}
 use Rattle.yaml_emitter.proofs.Digits.{digits_seen}
 use Rattle.yaml_writer.proofs.scalars.digits_of.Goals as goal
 

@@ -1,4 +1,4 @@
-use Rattle.std.specs.String.{string_bytes}
+use Rattle.yaml_writer.proofs.Common.{string_bytes}
 use Rattle.yaml_emitter.proofs.Digits.{number_seen}
 use Rattle.yaml_writer.proofs.scalars.digits_of_unsigned.Goals as goal
 

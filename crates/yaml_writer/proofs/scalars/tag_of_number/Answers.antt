@@ -1,7 +1,4 @@
-use Rattle.std.proofs.Common.{refl, sym, ap, ◌∙◌, if◌then◌else◌}
-use Rattle.yaml_base.proofs.Literals.{chars-literal}
-use Rattle.yaml_base.specs.values.TypedValues.{int_tag}
-use Rattle.yaml_writer.specs.Writing.{float_tag}
+use Rattle.yaml_writer.proofs.Common.{if◌then◌else◌, refl, ap, sym, ◌∙◌, chars-literal, int_tag, float_tag}
 use Rattle.yaml_writer.proofs.scalars.tag_of_number.Goals as goal
 
 pub returns-then-is_integer : goal.returns-then-is_integer

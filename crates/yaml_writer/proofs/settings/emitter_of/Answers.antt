@@ -1,8 +1,6 @@
-use Rattle.std.proofs.Common.{◌≡◌, [], ℤ, Some, sym, ap, ap₂, ◌∙◌, subst, to_z, of_z, w32, rules}
-use Rattle.yaml_base.specs.Seen.{seen_break, seen_encoding}
-use Rattle.yaml_base.specs.Settings.{Settings}
-use Rattle.yaml_emitter.specs.State.{State}
-use Rattle.yaml_emitter.specs.StandsAfter.{StandsAfter}
+use Rattle.yaml_writer.proofs.Common.{Some, [], ◌≡◌, rules, ap, ap₂, subst, sym, ◌∙◌, Settings, StandsAfter, State}
+use Rattle.std.proofs.Common.{of_z, to_z, w32, ℤ}
+use Rattle.yaml_base.specs.Seen.{seen_encoding, seen_break}
 use Rattle.yaml_writer.proofs.settings.emitter_of.Goals as goal
 
 abbrev given : State → Settings

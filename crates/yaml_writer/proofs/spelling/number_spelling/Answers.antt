@@ -1,5 +1,4 @@
-use Rattle.std.proofs.Common.{sym, ◌∙◌}
-use Rattle.std.proofs.lemmas.Bool.{false≢true}
+use Rattle.yaml_base.proofs.Common.{sym, ◌∙◌, false≢true}
 use Rattle.yaml_writer.proofs.spelling.number_spelling.Goals as goal
 
 pub returns-in_ok-spelling-in-Some-clause-spelled : goal.returns-in_ok-spelling-in-Some-clause-spelled

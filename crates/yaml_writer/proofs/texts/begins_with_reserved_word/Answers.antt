@@ -1,9 +1,4 @@
-use Rattle.std.proofs.Common.{ap, ◌∙◌, List, ℕ}
-use Rattle.std.specs.Char.{to_ascii_lowercase}
-use Rattle.std.specs.List.{take_while}
-use Rattle.std.specs.Prelude.{map}
-use Rattle.yaml_base.specs.Characters.{is_ascii}
-use Rattle.yaml_writer.specs.Words.{is_reserved_word}
+use Rattle.yaml_writer.proofs.Common.{ℕ, List, map, ap, ◌∙◌, to_ascii_lowercase, take_while, is_ascii, is_reserved_word}
 use Rattle.yaml_writer.proofs.ReservedLemmas.{reserved_by_head}
 use Rattle.yaml_writer.proofs.texts.begins_with_reserved_word.Goals as goal
 

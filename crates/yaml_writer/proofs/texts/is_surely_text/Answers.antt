@@ -1,5 +1,4 @@
-use Rattle.std.proofs.Common.{not, sym, ap, ◌∙◌, List, ℕ}
-use Rattle.yaml_base.specs.values.SurelyText.{is_doubtful}
+use Rattle.yaml_writer.proofs.Common.{ℕ, not, List, ap, sym, ◌∙◌, is_doubtful}
 use Rattle.yaml_writer.proofs.TextBytes.{doubtful_by_bytes}
 use Rattle.yaml_writer.proofs.texts.is_surely_text.Goals as goal
 

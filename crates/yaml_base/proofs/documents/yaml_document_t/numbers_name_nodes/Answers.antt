@@ -1,5 +1,4 @@
-use Rattle.yaml_base.specs.graphs.SeenNodes.{all_numbers, first_outside}
-use Rattle.std.proofs.Common.{length}
+use Rattle.yaml_base.proofs.Common.{length, all_numbers, first_outside}
 use Rattle.yaml_base.proofs.NumbersOutside.{whole_graph, none_of_test}
 use Rattle.yaml_base.proofs.documents.yaml_document_t.numbers_name_nodes.Goals as goal
 

@@ -1,5 +1,4 @@
-use Rattle.std.proofs.Common.{◌∙◌, ap, sym}
-use Rattle.yaml_emitter.specs.State.{State}
+use Rattle.yaml_emitter.proofs.Common.{ap, sym, ◌∙◌, State}
 use Rattle.yaml_emitter.proofs.emitter.yaml_emitter_t.is_opened.Goals as goal
 
 pub returns-clause-output : goal.returns-clause-output

@@ -1,9 +1,5 @@
-use Rattle.std.proofs.Common.{◌∙◌, ap, subst, sym, true}
-use Rattle.yaml_emitter.specs.Inside.{state_of}
-use Rattle.yaml_emitter.specs.State.{State}
-use Rattle.yaml_emitter.specs.StandsAfter.{StandsAfter}
-use Rattle.yaml_emitter.proofs.standing.Promising.{promised}
-use Rattle.yaml_emitter.proofs.standing.StandingFlagged.{stands_flagged}
+use Rattle.yaml_emitter.proofs.Common.{true, ap, subst, sym, ◌∙◌, state_of, StandsAfter, State}
+use Rattle.yaml_emitter.proofs.standing.{Promising.promised, StandingFlagged.stands_flagged}
 use Rattle.yaml_emitter.proofs.emitter.yaml_emitter_t.mark_opened.Goals as goal
 
 pub invariant_of-self : goal.invariant_of-self

@@ -1,5 +1,4 @@
-use Rattle.std.proofs.Common.{◌∙◌, ap}
-use Rattle.yaml_emitter.specs.State.{State}
+use Rattle.yaml_emitter.proofs.Common.{ap, ◌∙◌, State}
 use Rattle.yaml_emitter.proofs.emitter.yaml_emitter_t.output.Goals as goal
 
 pub returns-clause-unset : goal.returns-clause-unset

@@ -1,14 +1,6 @@
-use Rattle.std.proofs.Common.{arith, ap, ◌∙◌}
-use Rattle.std.proofs.lemmas.Grind.{common_steps}
-use Rattle.yaml_base.specs.Layout.{Place}
-use Rattle.yaml_base.specs.Steps.{at_node}
-use Rattle.yaml_emitter.specs.MachineInside.{machine_state}
-use Rattle.yaml_emitter.specs.NodeEvents.{end_event}
-use Rattle.yaml_emitter.specs.Places.{is_mapping, seen_frame}
-use Rattle.yaml_emitter.specs.Stages.{seen_stage}
-use Rattle.yaml_emitter.proofs.events_done.ProcessedBy.{processed_exit}
+use Rattle.yaml_emitter.proofs.Common.{ap, ◌∙◌, arith, common_steps, Place, at_node, machine_state, end_event, is_mapping, seen_frame, seen_stage}
+use Rattle.yaml_emitter.proofs.events_done.{CollectionsDone.may_end_here, CollectionsDone.end_cut, CollectionsDone.end_written, ProcessedBy.processed_exit}
 use Rattle.yaml_emitter.proofs.events_done.NodesDone.{at_node_inside, seen_at_node, ready_inside, kept_at_node, kept_advancing}
-use Rattle.yaml_emitter.proofs.events_done.CollectionsDone.{may_end_here, end_cut, end_written}
 use Rattle.yaml_emitter.proofs.machine.Machine.end_collection.Goals as goal
 
 pub write_collection_end-requires : goal.write_collection_end-requires

@@ -1,9 +1,6 @@
-use Rattle.std.proofs.Common.{refl}
-use Rattle.yaml_base.specs.Event.{stream_end}
-use Rattle.yaml_emitter.specs.MachineInside.{machine_state}
+use Rattle.yaml_emitter.proofs.Common.{refl, stream_end, machine_state}
+use Rattle.yaml_emitter.proofs.events_done.{EventsDone.stream_cut, EventsDone.stream_ended, ProcessedBy.processed_exit}
 use Rattle.yaml_emitter.proofs.events_done.KeptInside.{fits_ready, kept_writing, stage_inside, behind_start}
-use Rattle.yaml_emitter.proofs.events_done.ProcessedBy.{processed_exit}
-use Rattle.yaml_emitter.proofs.events_done.EventsDone.{stream_cut, stream_ended}
 use Rattle.yaml_emitter.proofs.machine.Machine.end_stream.Goals as goal
 
 pub invariant_of-self : goal.invariant_of-self

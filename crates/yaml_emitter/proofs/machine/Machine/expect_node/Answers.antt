@@ -1,10 +1,7 @@
-use Rattle.std.proofs.Common.{ap, sym, ◌∙◌}
-use Rattle.std.specs.Prelude.{chars}
-use Rattle.yaml_base.specs.Event.{Collection, any_layout, alias, scalar, sequence_start, sequence_end, mapping_start, mapping_end}
-use Rattle.yaml_base.specs.Refusal.{name_or_tag_fault}
-use Rattle.yaml_base.specs.Seen.{seen_event, seen_sequence_style, seen_mapping_style}
-use Rattle.yaml_emitter.specs.BorrowedTexts.{seen_collection, seen_scalar}
-use Rattle.yaml_emitter.proofs.events_done.ProcessedBy.{processed_as}
+use Rattle.std.{proofs.Common.ap, proofs.Common.sym, proofs.Common.◌∙◌, specs.Prelude.chars}
+use Rattle.yaml_base.specs.{Refusal.name_or_tag_fault, Seen.seen_sequence_style, Seen.seen_mapping_style, Seen.seen_event}
+use Rattle.yaml_base.specs.Event.{any_layout, Collection, alias, scalar, sequence_start, sequence_end, mapping_start, mapping_end}
+use Rattle.yaml_emitter.{proofs.events_done.ProcessedBy.processed_as, specs.BorrowedTexts.seen_scalar, specs.BorrowedTexts.seen_collection}
 use Rattle.yaml_emitter.proofs.machine.Machine.expect_node.Goals as goal
 
 pub start_collection-requires-clause-names : goal.start_collection-requires-clause-names

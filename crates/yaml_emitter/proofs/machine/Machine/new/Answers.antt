@@ -1,8 +1,5 @@
-use Rattle.std.proofs.Common.{rules, refl, ap, subst, sym}
-use Rattle.yaml_base.specs.Settings.{largest_usize, Effective}
-use Rattle.yaml_base.specs.Steps.{at_stream}
-use Rattle.yaml_pen.specs.Page.{Page, IsUntouched, new_page}
-use Rattle.yaml_emitter.specs.State.{FitsPage}
+use Rattle.yaml_emitter.proofs.Common.{refl, rules, ap, subst, sym, Effective, at_stream, FitsPage, Page, IsUntouched, new_page}
+use Rattle.yaml_base.specs.Settings.{largest_usize}
 use Rattle.yaml_emitter.proofs.machine.Machine.new.Goals as goal
 
 untouched_new : IsUntouched (new_page largest_usize)

@@ -1,22 +1,10 @@
-use Rattle.std.proofs.Common.{arith, ap, ◌∙◌, option_map}
-use Rattle.std.proofs.lemmas.Grind.{common_steps}
-use Rattle.std.specs.Prelude.{length, nat_lt}
-use Rattle.yaml_base.specs.Event.{any_layout}
-use Rattle.yaml_base.specs.Refusal.{most_open}
-use Rattle.yaml_base.specs.Event.{collection_tag}
-use Rattle.yaml_base.specs.Tags.{spelling}
-use Rattle.yaml_emitter.specs.WrittenAtoms.{seen_tag}
-use Rattle.yaml_emitter.proofs.pieces.WritingTags.{spelled_handle}
+use Rattle.yaml_emitter.proofs.Common.{option_map, nat_lt, length, ap, ◌∙◌, arith, common_steps, any_layout, collection_tag, most_open, spelling}
+use Rattle.yaml_emitter.proofs.Common.{seen_collection, machine_state, start_event, is_mapping, seen_place, seen_frame, seen_stage, seen_tag}
 use Rattle.yaml_base.specs.declared.errors.yaml_error_t.TheVariants.{Memory}
-use Rattle.yaml_emitter.specs.BorrowedTexts.{seen_collection}
-use Rattle.yaml_emitter.specs.MachineInside.{machine_state}
-use Rattle.yaml_emitter.specs.NodeEvents.{start_event}
-use Rattle.yaml_emitter.specs.Places.{is_mapping, seen_frame, seen_place}
-use Rattle.yaml_emitter.specs.Stages.{seen_stage}
-use Rattle.yaml_emitter.proofs.events_done.ProcessedBy.{exit_by_memory, processed_exit}
-use Rattle.yaml_emitter.proofs.events_done.NodesDone.{at_node_inside, ready_inside, seen_at_node, kept_at_node, names_inside, collection_anchor}
-use Rattle.yaml_emitter.proofs.events_done.NodesDone.{pushed_at_node}
-use Rattle.yaml_emitter.proofs.events_done.CollectionsDone.{of_any_style, room_here, full_here, start_refused, start_cut, start_unkept, start_written}
+use Rattle.yaml_emitter.proofs.{events_done.ProcessedBy.processed_exit, events_done.ProcessedBy.exit_by_memory, pieces.WritingTags.spelled_handle}
+use Rattle.yaml_emitter.proofs.events_done.CollectionsDone.{room_here, full_here, of_any_style, start_refused, start_cut, start_unkept, start_written}
+use Rattle.yaml_emitter.proofs.events_done.NodesDone.{at_node_inside, seen_at_node, ready_inside, names_inside, pushed_at_node, kept_at_node}
+use Rattle.yaml_emitter.proofs.events_done.NodesDone.{collection_anchor}
 use Rattle.yaml_emitter.proofs.machine.Machine.open_collection.Goals as goal
 
 pub returns-then-is_full : goal.returns-then-is_full

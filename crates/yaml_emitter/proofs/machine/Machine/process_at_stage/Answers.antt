@@ -1,9 +1,5 @@
-use Rattle.std.proofs.Common.{arith}
-use Rattle.std.proofs.lemmas.Grind.{common_steps}
-use Rattle.yaml_base.specs.Seen.{seen_event}
-use Rattle.yaml_emitter.specs.MachineInside.{machine_state}
-use Rattle.yaml_emitter.proofs.events_done.ProcessedBy.{processed_exit}
-use Rattle.yaml_emitter.proofs.events_done.DocumentsDone.{names_refused}
+use Rattle.yaml_emitter.proofs.Common.{arith, common_steps, seen_event, machine_state}
+use Rattle.yaml_emitter.proofs.events_done.{DocumentsDone.names_refused, ProcessedBy.processed_exit}
 use Rattle.yaml_emitter.proofs.machine.Machine.process_at_stage.Goals as goal
 
 pub returns-in_err-check_names : goal.returns-in_err-check_names

@@ -1,10 +1,7 @@
+use Rattle.yaml_emitter.proofs.Common.{alias, machine_state}
 use Rattle.std.specs.Prelude.{chars}
-use Rattle.yaml_base.specs.Event.{alias}
-use Rattle.yaml_emitter.specs.MachineInside.{machine_state}
-use Rattle.yaml_emitter.proofs.events_done.ProcessedBy.{processed_exit}
-use Rattle.yaml_emitter.proofs.pieces.WritingNames.{sound_alias}
-use Rattle.yaml_emitter.proofs.events_done.NodesDone.{at_node_inside, seen_at_node, ready_inside, kept_at_node, kept_advancing, alias_cut}
-use Rattle.yaml_emitter.proofs.events_done.NodesDone.{alias_written}
+use Rattle.yaml_emitter.proofs.{events_done.ProcessedBy.processed_exit, pieces.WritingNames.sound_alias}
+use Rattle.yaml_emitter.proofs.events_done.NodesDone.{at_node_inside, seen_at_node, ready_inside, kept_at_node, kept_advancing, alias_cut, alias_written}
 use Rattle.yaml_emitter.proofs.machine.Machine.put_alias.Goals as goal
 
 pub write_alias-requires-clause-ready : goal.write_alias-requires-clause-ready

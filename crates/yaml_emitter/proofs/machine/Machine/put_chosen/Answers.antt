@@ -1,16 +1,7 @@
-use Rattle.std.proofs.Common.{true, false, ap, ◌∙◌, option_map}
-use Rattle.yaml_base.specs.Event.{scalar_tag}
-use Rattle.yaml_base.specs.Tags.{spelling}
-use Rattle.yaml_emitter.specs.WrittenAtoms.{seen_tag}
-use Rattle.yaml_emitter.proofs.pieces.AtomsWritten.{written_is_some}
-use Rattle.yaml_emitter.proofs.pieces.WritingTags.{spelled_handle}
-use Rattle.yaml_base.specs.Event.{scalar}
-use Rattle.yaml_emitter.specs.BorrowedTexts.{seen_scalar}
-use Rattle.yaml_emitter.specs.MachineInside.{machine_state}
-use Rattle.yaml_emitter.specs.Places.{seen_place}
-use Rattle.yaml_emitter.proofs.events_done.ProcessedBy.{processed_exit}
-use Rattle.yaml_emitter.proofs.events_done.NodesDone.{at_node_inside, ready_inside, seen_at_node, kept_at_node, kept_advancing, lacks_given}
-use Rattle.yaml_emitter.proofs.events_done.NodesDone.{names_inside, scalar_anchor, scalar_refused, scalar_cut, scalar_written}
+use Rattle.yaml_emitter.proofs.Common.{option_map, false, true, ap, ◌∙◌, scalar, scalar_tag, spelling, seen_scalar, machine_state, seen_place, seen_tag}
+use Rattle.yaml_emitter.proofs.{events_done.ProcessedBy.processed_exit, pieces.AtomsWritten.written_is_some, pieces.WritingTags.spelled_handle}
+use Rattle.yaml_emitter.proofs.events_done.NodesDone.{at_node_inside, seen_at_node, ready_inside, names_inside, kept_at_node, kept_advancing, lacks_given}
+use Rattle.yaml_emitter.proofs.events_done.NodesDone.{scalar_refused, scalar_cut, scalar_written, scalar_anchor}
 use Rattle.yaml_emitter.proofs.machine.Machine.put_chosen.Goals as goal
 
 pub returns-then-lacks_flag : goal.returns-then-lacks_flag

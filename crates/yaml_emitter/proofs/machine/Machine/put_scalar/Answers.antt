@@ -1,6 +1,4 @@
-use Rattle.std.proofs.Common.{refl, subst}
-use Rattle.yaml_emitter.specs.State.{MachineState}
-use Rattle.yaml_emitter.specs.UsualScalars.{StandsPlain}
+use Rattle.yaml_emitter.proofs.Common.{refl, subst, MachineState, StandsPlain}
 use Rattle.yaml_emitter.proofs.machine.Machine.put_scalar.Goals as goal
 
 pub put_usual-requires-clause-usual : goal.put_usual-requires-clause-usual

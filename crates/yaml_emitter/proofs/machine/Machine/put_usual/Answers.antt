@@ -1,18 +1,9 @@
-use Rattle.std.proofs.Common.{ap, subst, sym}
-use Rattle.yaml_base.specs.Event.{scalar}
-use Rattle.yaml_base.specs.Layout.{open_ended_after}
-use Rattle.yaml_base.specs.scalars.Style.{Choice}
-use Rattle.yaml_emitter.specs.BorrowedTexts.{seen_scalar}
-use Rattle.yaml_emitter.specs.Given.{seen_effective}
-use Rattle.yaml_emitter.specs.MachineInside.{machine_state}
-use Rattle.yaml_emitter.specs.Places.{seen_place}
-use Rattle.yaml_emitter.specs.State.{MachineState}
-use Rattle.yaml_emitter.specs.UsualScalars.{StandsPlain}
-use Rattle.yaml_emitter.specs.WrittenPieces.{seen_open_ended}
-use Rattle.yaml_emitter.proofs.events_done.ProcessedBy.{processed_exit}
-use Rattle.yaml_emitter.proofs.events_done.NodesDone.{at_node_inside, ready_inside, seen_at_node, kept_at_node, kept_advancing, names_inside}
-use Rattle.yaml_emitter.proofs.events_done.NodesDone.{scalar_cut, scalar_written}
-use Rattle.yaml_emitter.proofs.pieces.UsualChoices.{not_lacking, usual_choice}
+use Rattle.yaml_emitter.proofs.Common.{ap, subst, sym, scalar, Choice, seen_scalar, seen_effective, machine_state, seen_place, MachineState, StandsPlain}
+use Rattle.yaml_emitter.proofs.Common.{seen_open_ended}
+use Rattle.yaml_base.proofs.Common.{open_ended_after}
+use Rattle.yaml_emitter.proofs.{events_done.ProcessedBy.processed_exit, pieces.UsualChoices.usual_choice, pieces.UsualChoices.not_lacking}
+use Rattle.yaml_emitter.proofs.events_done.NodesDone.{at_node_inside, seen_at_node, ready_inside, names_inside, kept_at_node, kept_advancing, scalar_cut}
+use Rattle.yaml_emitter.proofs.events_done.NodesDone.{scalar_written}
 use Rattle.yaml_emitter.proofs.machine.Machine.put_usual.Goals as goal
 
 pub write_usual-requires-clause-ready : goal.write_usual-requires-clause-ready

@@ -1,5 +1,4 @@
-use Rattle.std.proofs.Common.{ap}
-use Rattle.yaml_pen.specs.Page.{Page}
+use Rattle.yaml_emitter.proofs.Common.{ap, Page}
 use Rattle.yaml_emitter.proofs.events_done.KeptInside.{kept_limited}
 use Rattle.yaml_emitter.proofs.machine.Machine.set_limit.Goals as goal
 

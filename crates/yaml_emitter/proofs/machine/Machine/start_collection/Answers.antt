@@ -1,12 +1,7 @@
-use Rattle.std.proofs.Common.{Err, refl, sym, subst, ◌∙◌}
+use Rattle.yaml_emitter.proofs.Common.{Err, refl, subst, sym, ◌∙◌, seen_collection, start_event, is_mapping, Processed, MachineState}
 use Rattle.yaml_base.specs.declared.errors.yaml_error_t.TheVariants.{Memory}
-use Rattle.yaml_emitter.specs.BorrowedTexts.{seen_collection}
-use Rattle.yaml_emitter.specs.NodeEvents.{start_event}
-use Rattle.yaml_emitter.specs.Places.{is_mapping}
-use Rattle.yaml_emitter.specs.Processing.{Processed}
-use Rattle.yaml_emitter.specs.State.{MachineState}
 use Rattle.yaml_emitter.proofs.events_done.KeptInside.{kept_with_room, seen_with_room}
-use Rattle.yaml_emitter.proofs.events_done.ProcessedBy.{exit_by_memory, processed_exit, processed_unwritten}
+use Rattle.yaml_emitter.proofs.events_done.ProcessedBy.{processed_unwritten, processed_exit, exit_by_memory}
 use Rattle.yaml_emitter.proofs.machine.Machine.start_collection.Goals as goal
 
 pub invariant_of-self : goal.invariant_of-self

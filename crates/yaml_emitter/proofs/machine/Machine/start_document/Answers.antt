@@ -1,17 +1,8 @@
-use Rattle.std.proofs.Common.{refl, subst, map, option_map, sym, ap, ◌∙◌}
-use Rattle.std.specs.Prelude.{option_and_then}
-use Rattle.yaml_base.specs.Event.{DocumentStart, document_start}
-use Rattle.yaml_base.specs.Seen.{seen_directive, seen_version}
-use Rattle.yaml_base.specs.Tags.{version_fault, directives_fault}
-use Rattle.yaml_emitter.specs.Atoms.{some_handle_breaks}
-use Rattle.yaml_emitter.specs.MachineInside.{machine_state}
-use Rattle.yaml_emitter.specs.Processing.{Processed}
-use Rattle.yaml_emitter.specs.State.{MachineState}
-use Rattle.yaml_emitter.proofs.events_done.KeptInside.{kept_without, seen_without, fits_ready, kept_writing, kept_beginning, stage_inside}
-use Rattle.yaml_emitter.proofs.events_done.KeptInside.{behind_start}
-use Rattle.yaml_emitter.proofs.events_done.ProcessedBy.{processed_exit}
+use Rattle.yaml_emitter.proofs.Common.{option_map, option_and_then, map, refl, ap, subst, sym, ◌∙◌, DocumentStart, document_start, seen_version}
+use Rattle.yaml_emitter.proofs.Common.{seen_directive, version_fault, directives_fault, some_handle_breaks, machine_state, Processed, MachineState}
+use Rattle.yaml_emitter.proofs.{events_done.ProcessedBy.processed_exit, pieces.WritingNames.sound_handles, pieces.WritingNames.sound_in_force}
 use Rattle.yaml_emitter.proofs.events_done.DocumentsDone.{document_refused, document_start_cut, document_begun, none_behind}
-use Rattle.yaml_emitter.proofs.pieces.WritingNames.{sound_handles, sound_in_force}
+use Rattle.yaml_emitter.proofs.events_done.KeptInside.{fits_ready, kept_writing, kept_beginning, seen_without, kept_without, stage_inside, behind_start}
 use Rattle.yaml_emitter.proofs.machine.Machine.start_document.Goals as goal
 
 pub invariant_of-self : goal.invariant_of-self

@@ -1,11 +1,6 @@
-use Rattle.std.proofs.Common.{Option, false, refl, ap, sym, subst, ◌∙◌}
-use Rattle.yaml_base.specs.Seen.{seen_encoding}
-use Rattle.yaml_base.specs.Settings.{Effective, Encoding, utf8}
-use Rattle.yaml_pen.specs.Page.{Page, IsReady}
-use Rattle.yaml_emitter.specs.MachineInside.{machine_state}
-use Rattle.yaml_emitter.specs.Given.{seen_effective}
-use Rattle.yaml_emitter.proofs.events_done.KeptInside.{stage_inside}
-use Rattle.yaml_emitter.proofs.events_done.EventsDone.{stream_started, given_is_there}
+use Rattle.yaml_emitter.proofs.Common.{Option, false, refl, ap, subst, sym, ◌∙◌, seen_encoding, Encoding, utf8, Effective, seen_effective, machine_state}
+use Rattle.yaml_emitter.proofs.Common.{Page, IsReady}
+use Rattle.yaml_emitter.proofs.events_done.{EventsDone.stream_started, EventsDone.given_is_there, KeptInside.stage_inside}
 use Rattle.yaml_emitter.proofs.machine.Machine.start_stream.Goals as goal
 
 pub invariant_of-self : goal.invariant_of-self

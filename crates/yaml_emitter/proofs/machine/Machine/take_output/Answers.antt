@@ -1,7 +1,4 @@
-use Rattle.std.proofs.Common.{◌∙◌, ap, subst, sym}
-use Rattle.yaml_pen.specs.Page.{Page, all_taken}
-use Rattle.yaml_emitter.specs.MachineInside.{IsMachine, machine_state}
-use Rattle.yaml_emitter.specs.State.{MachineState}
+use Rattle.yaml_emitter.proofs.Common.{ap, subst, sym, ◌∙◌, machine_state, IsMachine, MachineState, Page, all_taken}
 use Rattle.yaml_emitter.proofs.standing.Taking.{kept_taken}
 use Rattle.yaml_emitter.proofs.machine.Machine.take_output.Goals as goal
 

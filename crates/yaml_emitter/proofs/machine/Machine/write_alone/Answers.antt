@@ -1,12 +1,7 @@
-use Rattle.std.proofs.Common.{◌∙◌, ap, subst, sym, false, [], Ok, Err, refl}
-use Rattle.yaml_base.specs.Seen.{seen_event}
-use Rattle.yaml_pen.specs.Page.{result_of_error}
-use Rattle.yaml_pen.specs.Wrote.{Grows}
-use Rattle.yaml_emitter.specs.State.{KeepsGiven, MachineState}
-use Rattle.yaml_emitter.specs.StandsAfter.{MachineStands}
-use Rattle.yaml_emitter.proofs.standing.Emitting.{processed_error, stands_on_end, took_alone, took_failed, took_next}
-use Rattle.yaml_emitter.proofs.standing.Growing.{processed_grows}
-use Rattle.yaml_emitter.proofs.standing.KeepsSet.{processed_keeps_given}
+use Rattle.yaml_emitter.proofs.Common.{Err, Ok, false, [], refl, ap, subst, sym, ◌∙◌, seen_event, MachineStands, MachineState, KeepsGiven, result_of_error}
+use Rattle.yaml_emitter.proofs.Common.{Grows}
+use Rattle.yaml_emitter.proofs.standing.{Growing.processed_grows, KeepsSet.processed_keeps_given}
+use Rattle.yaml_emitter.proofs.standing.Emitting.{processed_error, took_next, took_failed, took_alone, stands_on_end}
 use Rattle.yaml_emitter.proofs.machine.Machine.write_alone.Goals as goal
 
 pub returns-in-Ok-clause-stands : goal.returns-in-Ok-clause-stands

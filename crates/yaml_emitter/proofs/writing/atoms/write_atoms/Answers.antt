@@ -1,8 +1,5 @@
-use Rattle.yaml_pen.proofs.Composing.{wrote_exit, wrote_failed, wrote_then}
-use Rattle.yaml_emitter.specs.Given.{seen_effective}
-use Rattle.yaml_emitter.specs.Places.{seen_place}
-use Rattle.yaml_emitter.specs.WrittenAtoms.{render_atom}
-use Rattle.yaml_emitter.specs.declared.writing.atoms.Atom.{Atom}
+use Rattle.yaml_emitter.proofs.Common.{seen_effective, seen_place, wrote_then, wrote_failed, wrote_exit}
+use Rattle.yaml_emitter.specs.{WrittenAtoms.render_atom, declared.writing.atoms.Atom.Atom}
 use Rattle.yaml_emitter.proofs.writing.atoms.write_atoms.Goals as goal
 
 pub returns-in_err-write_atom : goal.returns-in_err-write_atom

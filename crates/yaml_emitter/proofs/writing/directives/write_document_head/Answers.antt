@@ -1,7 +1,5 @@
-use Rattle.std.proofs.Common.{map, option_map}
-use Rattle.yaml_base.specs.Layout.{render_version, render_tag_directives, render_if, render_document_marker}
-use Rattle.yaml_base.specs.Seen.{seen_version, seen_directive}
-use Rattle.yaml_pen.proofs.Composing.{wrote_exit, wrote_failed, wrote_then}
+use Rattle.yaml_emitter.proofs.Common.{option_map, map, render_if, render_version, render_tag_directives, render_document_marker, seen_version}
+use Rattle.yaml_emitter.proofs.Common.{seen_directive, wrote_then, wrote_failed, wrote_exit}
 use Rattle.yaml_emitter.proofs.writing.directives.write_document_head.Goals as goal
 
 pub returns-in_err-write_closing_marker : goal.returns-in_err-write_closing_marker

@@ -1,7 +1,4 @@
-use Rattle.std.proofs.Common.{map, option_map, ap, ◌∙◌, ◌&&◌, ◌||◌, ◌==◌, not, Bool}
-use Rattle.yaml_base.specs.Seen.{seen_version, seen_directive}
-use Rattle.yaml_emitter.specs.Given.{seen_effective}
-use Rattle.yaml_emitter.specs.WrittenPieces.{seen_open_ended}
+use Rattle.yaml_emitter.proofs.Common.{◌==◌, option_map, Bool, not, ◌&&◌, ◌||◌, map, ap, ◌∙◌, seen_version, seen_directive, seen_effective, seen_open_ended}
 use Rattle.yaml_emitter.proofs.pieces.WritingPieces.{wrote_document_start}
 use Rattle.yaml_emitter.proofs.writing.directives.write_document_start.Goals as goal
 

@@ -1,7 +1,4 @@
-use Rattle.std.proofs.Common.{arith}
-use Rattle.std.proofs.lemmas.Grind.{elements}
-use Rattle.yaml_base.specs.Seen.{seen_directive}
-use Rattle.yaml_pen.proofs.Composing.{wrote_exit}
+use Rattle.yaml_emitter.proofs.Common.{arith, elements, seen_directive, wrote_exit}
 use Rattle.yaml_emitter.proofs.pieces.WritingDirectives.{wrote_next_directive, failed_next_directive, next_handle}
 use Rattle.yaml_emitter.proofs.writing.directives.write_tag_directives.Goals as goal
 

@@ -1,7 +1,4 @@
-use Rattle.std.proofs.Common.{Ok, take, map}
-use Rattle.yaml_base.specs.Layout.{render_tag_directives}
-use Rattle.yaml_base.specs.Seen.{seen_directive}
-use Rattle.yaml_pen.specs.Wrote.{Wrote}
+use Rattle.yaml_emitter.proofs.Common.{Ok, take, map, render_tag_directives, seen_directive, Wrote}
 use Rattle.yaml_emitter.proofs.writing.directives.write_tag_directives.Given as goal
 
 abbrev pub invariant-loop-directive : goal.invariant-loop-directive

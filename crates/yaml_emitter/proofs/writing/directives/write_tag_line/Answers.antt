@@ -1,7 +1,4 @@
-use Rattle.std.specs.Str.{chars}
-use Rattle.yaml_base.specs.Cursor.{new_line}
-use Rattle.yaml_pen.proofs.Composing.{wrote_as, wrote_exit, wrote_failed, wrote_then}
-use Rattle.yaml_emitter.specs.Given.{seen_effective}
+use Rattle.yaml_emitter.proofs.Common.{chars, new_line, seen_effective, wrote_then, wrote_failed, wrote_as, wrote_exit}
 use Rattle.yaml_emitter.specs.WrittenPieces.{render_tag_words}
 use Rattle.yaml_emitter.proofs.writing.directives.write_tag_line.Goals as goal
 

@@ -1,8 +1,4 @@
-use Rattle.std.proofs.Common.{subst}
-use Rattle.yaml_base.specs.Layout.{Place}
-use Rattle.yaml_pen.specs.Wrote.{Wrote}
-use Rattle.yaml_emitter.specs.Given.{seen_effective}
-use Rattle.yaml_emitter.specs.WrittenAtoms.{render_atoms}
+use Rattle.yaml_emitter.proofs.Common.{subst, Place, seen_effective, render_atoms, Wrote}
 use Rattle.yaml_emitter.proofs.writing.documents.write_document_atoms.Goals as goal
 
 pub returns : goal.returns

@@ -1,6 +1,4 @@
-use Rattle.yaml_pen.proofs.Composing.{wrote_as}
-use Rattle.yaml_emitter.specs.Given.{seen_effective}
-use Rattle.yaml_emitter.specs.WrittenPieces.{render_document_end}
+use Rattle.yaml_emitter.proofs.Common.{seen_effective, render_document_end, wrote_as}
 use Rattle.yaml_emitter.proofs.pieces.WritingPieces.{wrote_document_end}
 use Rattle.yaml_emitter.proofs.writing.documents.write_document_end.Goals as goal
 

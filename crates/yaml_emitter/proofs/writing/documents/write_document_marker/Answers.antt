@@ -1,6 +1,4 @@
-use Rattle.yaml_base.specs.Layout.{render_if, render_document_marker}
-use Rattle.yaml_pen.proofs.Composing.{wrote_as}
-use Rattle.yaml_emitter.specs.Given.{seen_effective}
+use Rattle.yaml_emitter.proofs.Common.{render_if, render_document_marker, seen_effective, wrote_as}
 use Rattle.yaml_emitter.proofs.writing.documents.write_document_marker.Goals as goal
 
 pub returns : goal.returns

@@ -1,7 +1,4 @@
-use Rattle.std.proofs.Common.{subst, Bool, ◌==◌}
-use Rattle.yaml_base.specs.Layout.{render_if, render_closing_marker}
-use Rattle.yaml_pen.specs.Wrote.{Wrote}
-use Rattle.yaml_emitter.specs.WrittenPieces.{seen_open_ended}
+use Rattle.yaml_emitter.proofs.Common.{◌==◌, Bool, subst, render_if, render_closing_marker, seen_open_ended, Wrote}
 use Rattle.yaml_emitter.proofs.pieces.WritingPieces.{wrote_lead}
 use Rattle.yaml_emitter.proofs.writing.documents.write_stream_end.Goals as goal
 

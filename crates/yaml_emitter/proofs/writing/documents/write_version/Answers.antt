@@ -1,8 +1,4 @@
-use Rattle.std.proofs.Common.{option_map, sym, ap, ◌∙◌}
-use Rattle.yaml_base.specs.Layout.{render_version}
-use Rattle.yaml_base.specs.Seen.{seen_version}
-use Rattle.yaml_pen.proofs.Composing.{wrote_as}
-use Rattle.yaml_emitter.specs.Given.{seen_effective}
+use Rattle.yaml_emitter.proofs.Common.{option_map, ap, sym, ◌∙◌, render_version, seen_version, seen_effective, wrote_as}
 use Rattle.yaml_emitter.proofs.writing.documents.write_version.Goals as goal
 
 pub returns-in-Some : goal.returns-in-Some

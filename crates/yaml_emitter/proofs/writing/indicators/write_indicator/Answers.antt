@@ -1,9 +1,5 @@
-use Rattle.std.proofs.Common.{ap, ◌∙◌, subst, List, ℕ}
-use Rattle.std.specs.List.{list_any}
-use Rattle.yaml_base.specs.Characters.{is_break}
-use Rattle.yaml_base.specs.Cursor.{indicator}
-use Rattle.yaml_base.specs.Indicators.{Indicator, render_indicator}
-use Rattle.yaml_pen.specs.Wrote.{Wrote}
+use Rattle.yaml_emitter.proofs.Common.{ℕ, List, ap, subst, ◌∙◌, list_any, is_break, indicator, render_indicator, Wrote}
+use Rattle.yaml_base.specs.Indicators.{Indicator}
 use Rattle.yaml_emitter.proofs.pieces.Atoms.{symbol-chars, symbol-no_break}
 use Rattle.yaml_emitter.proofs.writing.indicators.write_indicator.Goals as goal
 

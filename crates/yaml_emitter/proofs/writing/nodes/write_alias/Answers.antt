@@ -1,10 +1,6 @@
-use Rattle.std.specs.Str.{chars}
-use Rattle.yaml_base.specs.Cursor.{Cursor, render_then}
-use Rattle.yaml_base.specs.Layout.{render_place, render_alias}
-use Rattle.yaml_emitter.specs.Given.{seen_effective}
-use Rattle.yaml_emitter.specs.Places.{seen_place}
+use Rattle.yaml_emitter.proofs.Common.{chars, Cursor, render_then, render_alias, render_place, seen_effective, seen_place, wrote_then, wrote_failed, wrote_as}
+use Rattle.yaml_emitter.proofs.Common.{wrote_exit}
 use Rattle.yaml_emitter.proofs.pieces.WritingPieces.{wrote_lead}
-use Rattle.yaml_pen.proofs.Composing.{wrote_as, wrote_exit, wrote_failed, wrote_then}
 use Rattle.yaml_emitter.proofs.writing.nodes.write_alias.Goals as goal
 
 pub returns-in_err-write_place : goal.returns-in_err-write_place

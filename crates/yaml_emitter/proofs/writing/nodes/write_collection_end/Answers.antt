@@ -1,9 +1,4 @@
-use Rattle.std.proofs.Common.{refl}
-use Rattle.yaml_base.specs.Steps.{is_first}
-use Rattle.yaml_emitter.specs.Given.{seen_effective}
-use Rattle.yaml_emitter.specs.NodeEvents.{brackets_of}
-use Rattle.yaml_emitter.specs.Places.{is_mapping, seen_place, seen_role}
-use Rattle.yaml_emitter.specs.WrittenAtoms.{render_atoms}
+use Rattle.yaml_emitter.proofs.Common.{refl, is_first, seen_effective, brackets_of, is_mapping, seen_role, seen_place, render_atoms}
 use Rattle.yaml_emitter.proofs.pieces.AtomsWritten.{end_in_flow, end_in_block}
 use Rattle.yaml_emitter.proofs.writing.nodes.write_collection_end.Goals as goal
 

@@ -1,14 +1,6 @@
-use Rattle.std.proofs.Common.{false}
-use Rattle.yaml_base.specs.Cursor.{Cursor, render_then}
-use Rattle.yaml_base.specs.Layout.{render_place, render_properties}
-use Rattle.yaml_base.specs.Event.{collection_tag}
-use Rattle.yaml_pen.proofs.Composing.{wrote_as}
-use Rattle.yaml_emitter.specs.BorrowedTexts.{seen_name, seen_collection}
-use Rattle.yaml_emitter.specs.Given.{seen_effective}
-use Rattle.yaml_emitter.specs.Places.{seen_place}
-use Rattle.yaml_emitter.specs.WrittenAtoms.{seen_tag}
-use Rattle.yaml_emitter.proofs.pieces.AtomsWritten.{lead-spelled}
-use Rattle.yaml_emitter.proofs.pieces.WritingPieces.{wrote_lead}
+use Rattle.yaml_emitter.proofs.Common.{false, Cursor, render_then, collection_tag, render_properties, render_place, seen_name, seen_collection}
+use Rattle.yaml_emitter.proofs.Common.{seen_effective, seen_place, seen_tag, wrote_as}
+use Rattle.yaml_emitter.proofs.pieces.{AtomsWritten.lead-spelled, WritingPieces.wrote_lead}
 use Rattle.yaml_emitter.proofs.writing.nodes.write_collection_start.Goals as goal
 
 pub returns-clause-written : goal.returns-clause-written

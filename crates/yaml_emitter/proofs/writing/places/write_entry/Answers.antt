@@ -1,6 +1,4 @@
-use Rattle.yaml_base.specs.Layout.{flow_break}
-use Rattle.yaml_pen.proofs.Composing.{wrote_exit, wrote_failed, wrote_then}
-use Rattle.yaml_emitter.specs.Given.{seen_effective}
+use Rattle.yaml_emitter.proofs.Common.{flow_break, seen_effective, wrote_then, wrote_failed, wrote_exit}
 use Rattle.yaml_emitter.proofs.writing.places.write_entry.Goals as goal
 
 pub returns-in_err-write_indicator : goal.returns-in_err-write_indicator

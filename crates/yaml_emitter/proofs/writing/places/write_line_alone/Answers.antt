@@ -1,7 +1,4 @@
-use Rattle.std.proofs.Common.{refl}
-use Rattle.yaml_base.specs.Cursor.{Cursor, new_line, render_nothing, render_then}
-use Rattle.yaml_base.specs.Layout.{line_column}
-use Rattle.yaml_pen.proofs.Composing.{wrote_as}
+use Rattle.yaml_emitter.proofs.Common.{refl, Cursor, render_nothing, render_then, new_line, line_column, wrote_as}
 use Rattle.yaml_emitter.proofs.pieces.AtomsWritten.{rendered_alone}
 use Rattle.yaml_emitter.proofs.writing.places.write_line_alone.Goals as goal
 

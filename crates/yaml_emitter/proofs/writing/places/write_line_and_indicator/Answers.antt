@@ -1,6 +1,4 @@
-use Rattle.yaml_base.specs.Indicators.{render_indicator}
-use Rattle.yaml_pen.proofs.Composing.{wrote_exit, wrote_failed, wrote_then}
-use Rattle.yaml_emitter.specs.WrittenAtoms.{seen_indicator}
+use Rattle.yaml_emitter.proofs.Common.{render_indicator, seen_indicator, wrote_then, wrote_failed, wrote_exit}
 use Rattle.yaml_emitter.proofs.writing.places.write_line_and_indicator.Goals as goal
 
 pub returns-in_err-write_new_line : goal.returns-in_err-write_new_line

@@ -1,5 +1,5 @@
-use Rattle.yaml_base.specs.Indicators.{flow_key, render_indicator}
-use Rattle.yaml_pen.proofs.Composing.{wrote_exit, wrote_failed, wrote_then}
+use Rattle.yaml_emitter.proofs.Common.{render_indicator, wrote_then, wrote_failed, wrote_exit}
+use Rattle.yaml_base.specs.Indicators.{flow_key}
 use Rattle.yaml_emitter.proofs.writing.places.write_long_key.Goals as goal
 
 pub returns-in_err-write_entry : goal.returns-in_err-write_entry

@@ -1,10 +1,6 @@
-use Rattle.std.proofs.Common.{ap, ◌∙◌}
-use Rattle.yaml_base.specs.Layout.{render_flow_place, render_place}
-use Rattle.yaml_pen.proofs.Composing.{wrote_as}
-use Rattle.yaml_emitter.specs.Given.{seen_effective}
-use Rattle.yaml_emitter.specs.Places.{seen_place, seen_role}
+use Rattle.yaml_emitter.proofs.Common.{ap, ◌∙◌, render_flow_place, render_place, seen_effective, seen_role, seen_place, wrote_as}
+use Rattle.yaml_emitter.proofs.pieces.AtomsWritten.{flow_here, flow_at_line, block_here}
 use Rattle.yaml_emitter.specs.declared.place.Role as kinds
-use Rattle.yaml_emitter.proofs.pieces.AtomsWritten.{flow_at_line, flow_here, block_here}
 use Rattle.yaml_emitter.proofs.writing.places.write_place.Goals as goal
 
 pub returns-then-site : goal.returns-then-site

@@ -1,10 +1,4 @@
-use Rattle.std.proofs.Common.{refl}
-use Rattle.yaml_base.specs.Cursor.{Cursor, render_nothing, render_then}
-use Rattle.yaml_base.specs.Indicators.{render_indicator}
-use Rattle.yaml_base.specs.Layout.{flow_break}
-use Rattle.yaml_pen.proofs.Composing.{wrote_as}
-use Rattle.yaml_emitter.specs.Given.{seen_effective}
-use Rattle.yaml_emitter.specs.WrittenAtoms.{seen_indicator}
+use Rattle.yaml_emitter.proofs.Common.{refl, Cursor, render_nothing, render_then, render_indicator, flow_break, seen_effective, seen_indicator, wrote_as}
 use Rattle.yaml_emitter.proofs.pieces.AtomsWritten.{rendered_alone}
 use Rattle.yaml_emitter.proofs.writing.places.write_simple_key.Goals as goal
 

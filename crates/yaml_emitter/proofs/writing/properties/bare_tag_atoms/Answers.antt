@@ -1,8 +1,4 @@
-use Rattle.std.proofs.Common.{Bool, None, List, ℕ, [], ◌∷◌, refl, sym, ap, ◌∙◌}
-use Rattle.std.specs.List.{list_any}
-use Rattle.yaml_base.specs.Characters.{is_break}
-use Rattle.yaml_base.specs.Layout.{render_handle}
-use Rattle.yaml_emitter.specs.WrittenAtoms.{render_spelled_tag}
+use Rattle.yaml_emitter.proofs.Common.{ℕ, None, Bool, List, [], ◌∷◌, refl, ap, sym, ◌∙◌, list_any, is_break, render_handle, render_spelled_tag}
 use Rattle.yaml_emitter.proofs.pieces.Atoms.{symbol-chars}
 use Rattle.yaml_emitter.proofs.writing.properties.bare_tag_atoms.Goals as goal
 

@@ -1,9 +1,5 @@
-use Rattle.yaml_base.specs.Layout.{render_anchor}
-use Rattle.yaml_pen.proofs.Composing.{wrote_as, wrote_exit, wrote_failed, wrote_then}
-use Rattle.yaml_emitter.specs.BorrowedTexts.{seen_name}
-use Rattle.yaml_emitter.specs.Given.{seen_effective}
-use Rattle.yaml_emitter.specs.Places.{seen_place}
-use Rattle.yaml_emitter.specs.WrittenAtoms.{seen_tag, render_spelled_tag}
+use Rattle.yaml_emitter.proofs.Common.{render_anchor, seen_name, seen_effective, seen_place, seen_tag, render_spelled_tag, wrote_then, wrote_failed, wrote_as}
+use Rattle.yaml_emitter.proofs.Common.{wrote_exit}
 use Rattle.yaml_emitter.proofs.writing.properties.write_properties.Goals as goal
 
 pub returns-in_err-write_atoms : goal.returns-in_err-write_atoms

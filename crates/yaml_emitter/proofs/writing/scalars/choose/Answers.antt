@@ -1,10 +1,4 @@
-use Rattle.std.proofs.Common.{ap, sym, ◌∙◌, Bool}
-use Rattle.yaml_base.specs.scalars.Analysis.{allowances, is_empty}
-use Rattle.yaml_base.specs.Event.{double_quoted}
-use Rattle.yaml_base.specs.scalars.Style.{Choice, chosen}
-use Rattle.yaml_base.specs.Layout.{charset_of}
-use Rattle.yaml_emitter.specs.BorrowedTexts.{seen_scalar}
-use Rattle.yaml_emitter.specs.Given.{seen_effective}
+use Rattle.yaml_emitter.proofs.Common.{Bool, ap, sym, ◌∙◌, double_quoted, charset_of, is_empty, allowances, Choice, chosen, seen_scalar, seen_effective}
 use Rattle.yaml_emitter.proofs.pieces.WritingScalars.{chosen_surely, if_ok_from}
 use Rattle.yaml_emitter.proofs.writing.scalars.choose.Goals as goal
 

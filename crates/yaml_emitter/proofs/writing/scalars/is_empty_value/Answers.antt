@@ -1,4 +1,4 @@
-use Rattle.std.proofs.Common.{◌∙◌}
+use Rattle.yaml_emitter.proofs.Common.{◌∙◌}
 use Rattle.yaml_emitter.proofs.pieces.WritingScalars.{empty_value}
 use Rattle.yaml_emitter.proofs.writing.scalars.is_empty_value.Goals as goal
 

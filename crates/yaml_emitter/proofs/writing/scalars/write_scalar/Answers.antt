@@ -1,14 +1,6 @@
-use Rattle.std.proofs.Common.{ap, ◌∙◌}
-use Rattle.yaml_base.specs.Layout.{deeper}
-use Rattle.yaml_base.specs.scalars.Style.{Choice}
-use Rattle.yaml_base.specs.Seen.{seen_scalar_style}
-use Rattle.yaml_pen.proofs.Composing.{wrote_then, wrote_failed}
-use Rattle.yaml_emitter.specs.BorrowedTexts.{seen_scalar}
-use Rattle.yaml_emitter.specs.Given.{seen_effective}
-use Rattle.yaml_emitter.specs.Places.{seen_place}
-use Rattle.yaml_emitter.specs.ScalarTexts.{render_scalar_text, style_fits}
-use Rattle.yaml_emitter.specs.WrittenPieces.{seen_open_ended}
-use Rattle.yaml_emitter.proofs.pieces.WritingScalars.{wrote_exit_from, wrote_scalar, chosen_fits}
+use Rattle.yaml_emitter.proofs.Common.{ap, ◌∙◌, deeper, seen_scalar_style, Choice, seen_scalar, seen_effective, seen_place, render_scalar_text, style_fits}
+use Rattle.yaml_emitter.proofs.Common.{seen_open_ended, wrote_then, wrote_failed}
+use Rattle.yaml_emitter.proofs.pieces.WritingScalars.{wrote_exit_from, chosen_fits, wrote_scalar}
 use Rattle.yaml_emitter.proofs.writing.scalars.write_scalar.Goals as goal
 
 pub returns-in_err-write_lead-clause-written : goal.returns-in_err-write_lead-clause-written

@@ -1,5 +1,4 @@
-use Rattle.std.proofs.Common.{sym, ap, length}
-use Rattle.std.proofs.lemmas.Str.{encodes-chars}
+use Rattle.std.proofs.{Common.ap, Common.length, Common.sym, lemmas.Str.encodes-chars}
 use Rattle.yaml_emitter.proofs.writing.simple_keys.byte_count.Goals as goal
 
 pub returns : goal.returns

@@ -1,11 +1,6 @@
-use Rattle.std.proofs.Common.{◌≡◌, true, false, ap, ◌∙◌, ◌+◌, ℕ}
-use Rattle.yaml_base.specs.Layout.{is_key, is_short, name_count, tag_count}
-use Rattle.yaml_base.specs.Event.{collection_tag}
-use Rattle.yaml_emitter.specs.BorrowedTexts.{seen_collection}
-use Rattle.yaml_emitter.specs.Places.{seen_role}
-use Rattle.yaml_emitter.specs.WrittenAtoms.{spelled_count}
-use Rattle.yaml_emitter.proofs.pieces.AtomsWritten.{tag_count-spelled}
-use Rattle.yaml_emitter.proofs.pieces.WritingTags.{short_collection, simple_where}
+use Rattle.yaml_emitter.proofs.Common.{ℕ, ◌+◌, false, true, ◌≡◌, ap, ◌∙◌, collection_tag, is_key, name_count, tag_count, is_short, seen_collection, seen_role}
+use Rattle.yaml_emitter.proofs.Common.{spelled_count}
+use Rattle.yaml_emitter.proofs.pieces.{AtomsWritten.tag_count-spelled, WritingTags.short_collection, WritingTags.simple_where}
 use Rattle.yaml_emitter.proofs.writing.simple_keys.is_simple_collection_key.Goals as goal
 
 pub returns-then-empty : goal.returns-then-empty

@@ -1,14 +1,6 @@
-use Rattle.std.proofs.Common.{◌≡◌, true, false, ap, ◌∙◌, ◌+◌, ℕ}
-use Rattle.std.proofs.Common.{not, ◌&&◌}
-use Rattle.std.specs.List.{list_any}
-use Rattle.yaml_base.specs.Characters.{is_break}
-use Rattle.yaml_base.specs.Layout.{is_key, is_short, byte_count, name_count}
-use Rattle.yaml_base.specs.Event.{scalar_tag}
-use Rattle.yaml_emitter.specs.BorrowedTexts.{seen_scalar}
-use Rattle.yaml_emitter.specs.Places.{seen_role}
-use Rattle.yaml_emitter.specs.WrittenAtoms.{spelled_count}
-use Rattle.yaml_emitter.proofs.pieces.AtomsWritten.{tag_count-spelled}
-use Rattle.yaml_emitter.proofs.pieces.WritingTags.{simple_where}
+use Rattle.yaml_emitter.proofs.Common.{ℕ, ◌+◌, false, not, true, ◌&&◌, ◌≡◌, ap, ◌∙◌, list_any, is_break, scalar_tag, is_key, byte_count, name_count, is_short}
+use Rattle.yaml_emitter.proofs.Common.{seen_scalar, seen_role, spelled_count}
+use Rattle.yaml_emitter.proofs.pieces.{AtomsWritten.tag_count-spelled, WritingTags.simple_where}
 use Rattle.yaml_emitter.proofs.writing.simple_keys.is_simple_scalar_key.Goals as goal
 
 pub returns-then-not-settings : goal.returns-then-not-settings

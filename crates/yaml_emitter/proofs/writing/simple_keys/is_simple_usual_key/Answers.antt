@@ -1,6 +1,5 @@
-use Rattle.std.proofs.Common.{◌≡◌, true, ap, sym, ◌∙◌, ◌+◌, ℕ, List, chars}
-use Rattle.yaml_base.specs.Layout.{byte_count, is_key, is_short}
-use Rattle.yaml_emitter.specs.Places.{seen_role}
+use Rattle.yaml_emitter.proofs.Common.{ℕ, ◌+◌, true, List, ◌≡◌, ap, sym, ◌∙◌, is_key, byte_count, is_short, seen_role}
+use Rattle.std.proofs.Common.{chars}
 use Rattle.yaml_emitter.proofs.pieces.UsualChoices.{usual_key}
 use Rattle.yaml_emitter.proofs.writing.simple_keys.is_simple_usual_key.Goals as goal
 

@@ -1,4 +1,4 @@
-use Rattle.std.specs.Str.{chars}
+use Rattle.yaml_emitter.proofs.Common.{chars}
 use Rattle.yaml_emitter.proofs.pieces.WritingTags.{refused_spelled}
 use Rattle.yaml_emitter.proofs.writing.spelling.spell_text.Goals as goal
 

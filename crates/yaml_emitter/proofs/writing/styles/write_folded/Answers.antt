@@ -1,7 +1,4 @@
-use Rattle.std.proofs.Common.{◌≡◌, pos, rules, arith, false, refl, ◌∙◌, w32, to_z}
-use Rattle.std.specs.Str.{chars}
-use Rattle.std.proofs.lemmas.Int.{to_z-of_z, ints}
-use mir.Val.{SFits}
+use Rattle.yaml_emitter.proofs.Common.{pos, false, refl, ◌≡◌, FitsSigned as SFits, rules, ◌∙◌, w32, to_z, arith, ints, to_z-of_z, chars}
 use Rattle.yaml_emitter.proofs.pieces.WritingScalars.{wrote_exit_from, wrote_folded}
 use Rattle.yaml_emitter.proofs.writing.styles.write_folded.Goals as goal
 

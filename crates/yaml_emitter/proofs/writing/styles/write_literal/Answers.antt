@@ -1,5 +1,4 @@
-use Rattle.std.proofs.Common.{arith}
-use Rattle.std.proofs.lemmas.Grind.{common_steps}
+use Rattle.yaml_emitter.proofs.Common.{arith, common_steps}
 use Rattle.yaml_emitter.proofs.writing.styles.write_literal.Goals as goal
 
 pub returns-in_err-open_ended-clause-written : goal.returns-in_err-open_ended-clause-written

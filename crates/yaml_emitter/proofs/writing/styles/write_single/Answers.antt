@@ -1,7 +1,4 @@
-use Rattle.std.proofs.Common.{rules, ◌∙◌, w32}
-use Rattle.std.specs.Str.{chars}
-use Rattle.std.proofs.lemmas.Int.{to_z-of_z}
-use mir.Val.{SFits}
+use Rattle.yaml_emitter.proofs.Common.{FitsSigned as SFits, rules, ◌∙◌, w32, to_z-of_z, chars}
 use Rattle.yaml_emitter.proofs.pieces.WritingScalars.{wrote_exit_from, wrote_single}
 use Rattle.yaml_emitter.proofs.writing.styles.write_single.Goals as goal
 

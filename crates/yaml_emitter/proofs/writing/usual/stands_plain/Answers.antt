@@ -1,4 +1,4 @@
-use Rattle.std.proofs.Common.{sym}
+use Rattle.yaml_emitter.proofs.Common.{sym}
 use Rattle.yaml_emitter.proofs.pieces.UsualChoices.{stands}
 use Rattle.yaml_emitter.proofs.writing.usual.stands_plain.Goals as goal
 

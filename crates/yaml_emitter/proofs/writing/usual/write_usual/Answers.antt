@@ -1,10 +1,5 @@
+use Rattle.yaml_emitter.proofs.Common.{plain, deeper, seen_effective, seen_place, render_scalar_text, wrote_then, wrote_failed, wrote_exit}
 use Rattle.std.proofs.Common.{chars}
-use Rattle.yaml_base.specs.Event.{plain}
-use Rattle.yaml_base.specs.Layout.{deeper}
-use Rattle.yaml_pen.proofs.Composing.{wrote_exit, wrote_then, wrote_failed}
-use Rattle.yaml_emitter.specs.Given.{seen_effective}
-use Rattle.yaml_emitter.specs.Places.{seen_place}
-use Rattle.yaml_emitter.specs.ScalarTexts.{render_scalar_text}
 use Rattle.yaml_emitter.proofs.pieces.UsualChoices.{wrote_usual}
 use Rattle.yaml_emitter.proofs.writing.usual.write_usual.Goals as goal
 

@@ -1,6 +1,5 @@
-use Rattle.std.proofs.Common.{◌≡◌, ◌-◌, false, true, not, length, arith, refl, sym, rules, slice_index_or}
-use Rattle.std.specs.Vec.{vec_len}
-use Rattle.yaml_json.proofs.HeldNameLemmas.{added_again, added_new, have_more}
+use Rattle.std.{proofs.Common.arith, specs.Prelude.length, specs.Prelude.true, specs.Prelude.◌≡◌, specs.Vec.vec_len}
+use Rattle.yaml_json.proofs.HeldNameLemmas.{have_more, added_new, added_again}
 use Rattle.yaml_json.proofs.names.Names.add.Goals as goal
 
 pub returns-in-Ok-clause-adds : goal.returns-in-Ok-clause-adds

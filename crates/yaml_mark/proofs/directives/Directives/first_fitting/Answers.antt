@@ -1,8 +1,5 @@
-use Rattle.std.proofs.Common.{◌∙◌, ap, map}
-use Rattle.std.specs.Prelude.{position}
-use Rattle.yaml_base.specs.Seen.{seen_directive}
+use Rattle.yaml_mark.proofs.Common.{position, map, ap, ◌∙◌, seen_directive, fits}
 use Rattle.yaml_mark.proofs.TagLemmas.{first_by_bytes}
-use Rattle.yaml_mark.specs.Spelled.{fits}
 use Rattle.yaml_mark.proofs.directives.Directives.first_fitting.Goals as goal
 
 pub returns : goal.returns

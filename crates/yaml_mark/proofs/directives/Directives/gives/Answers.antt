@@ -1,7 +1,4 @@
-use Rattle.std.proofs.Common.{◌∙◌, ap, map}
-use Rattle.std.specs.Str.{chars}
-use Rattle.yaml_base.specs.Seen.{seen_directive}
-use Rattle.yaml_base.specs.Tags.{gives_handle}
+use Rattle.yaml_mark.proofs.Common.{map, ap, ◌∙◌, chars, seen_directive, gives_handle}
 use Rattle.yaml_mark.proofs.DirectiveLemmas.{gives_by_bytes}
 use Rattle.yaml_mark.proofs.directives.Directives.gives.Goals as goal
 

@@ -1,5 +1,4 @@
-use Rattle.std.proofs.Common.{◌∙◌, ap, length}
-use Rattle.std.specs.Prelude.{slice_get}
+use Rattle.yaml_mark.proofs.Common.{slice_get, length, ap, ◌∙◌}
 use Rattle.yaml_mark.proofs.TagLemmas.{prefix_at}
 use Rattle.yaml_mark.proofs.directives.Directives.prefix_length.Goals as goal
 

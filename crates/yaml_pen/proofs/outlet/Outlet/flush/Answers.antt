@@ -1,8 +1,5 @@
-use Rattle.std.proofs.Common.{subst, arith}
-use Rattle.std.proofs.lemmas.Grind.{elements}
-use Rattle.yaml_base.specs.Prefix.{IsPrefix}
-use Rattle.yaml_pen.specs.Outlet.{Bytes, whole_output}
-use Rattle.yaml_pen.proofs.Outlets.{last_flushes_grows}
+use Rattle.yaml_pen.proofs.Common.{subst, arith, elements, IsPrefix, Bytes}
+use Rattle.yaml_pen.{proofs.Outlets.last_flushes_grows, specs.Outlet.whole_output}
 use Rattle.yaml_pen.proofs.outlet.Outlet.flush.Goals as goal
 
 pub returns-in-Err-clause-output : goal.returns-in-Err-clause-output

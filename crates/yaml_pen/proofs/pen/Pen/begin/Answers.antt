@@ -1,6 +1,5 @@
-use Rattle.std.proofs.Common.{sym, ◌∙◌, subst}
-use Rattle.yaml_pen.specs.Page.{IsUntouched}
-use Rattle.yaml_pen.proofs.Starting.{IsPen-begun, page-begun}
+use Rattle.yaml_pen.proofs.Common.{subst, sym, ◌∙◌}
+use Rattle.yaml_pen.{proofs.Starting.IsPen-begun, proofs.Starting.page-begun, specs.Page.IsUntouched}
 use Rattle.yaml_pen.proofs.pen.Pen.begin.Goals as goal
 
 pub invariant_of-self : goal.invariant_of-self

@@ -1,6 +1,5 @@
-use Rattle.std.proofs.Common.{refl, true}
-use Rattle.yaml_base.specs.Cursor.{Cursor, new_line}
-use Rattle.yaml_pen.proofs.Composing.{wrote_exit, wrote_failed_as, wrote_changing}
+use Rattle.yaml_base.proofs.Common.{true, refl, Cursor, new_line}
+use Rattle.yaml_pen.proofs.Composing.{wrote_changing, wrote_exit, wrote_failed_as}
 use Rattle.yaml_pen.proofs.pen.Pen.begin_line.Goals as goal
 
 pub returns-in_err-go_to_line-clause-written : goal.returns-in_err-go_to_line-clause-written

@@ -1,6 +1,5 @@
-use Rattle.yaml_pen.specs.Lines.{line_begun, spaces_to}
-use Rattle.yaml_pen.proofs.Composing.{wrote_as, wrote_exit, wrote_failed, wrote_then}
-use Rattle.yaml_pen.proofs.NewLines.{break-then-spaces}
+use Rattle.yaml_pen.{proofs.NewLines.break-then-spaces, specs.Lines.spaces_to, specs.Lines.line_begun}
+use Rattle.yaml_pen.proofs.Composing.{wrote_then, wrote_failed, wrote_as, wrote_exit}
 use Rattle.yaml_pen.proofs.pen.Pen.break_and_indent.Goals as goal
 
 pub returns-in_err-break_line-clause-written : goal.returns-in_err-break_line-clause-written

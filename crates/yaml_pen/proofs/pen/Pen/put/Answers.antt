@@ -1,4 +1,4 @@
-use Rattle.std.proofs.Common.{zero, suc, arith}
+use Rattle.yaml_pen.proofs.Common.{suc, zero, arith}
 use Rattle.yaml_pen.proofs.pen.Pen.put.Goals as goal
 
 pub write_ascii-requires-clause-ascii : goal.write_ascii-requires-clause-ascii

@@ -1,9 +1,6 @@
-use Rattle.std.proofs.Common.{sym, ◌∙◌, ap, subst, [], ◌∷◌, min}
-use Rattle.yaml_base.specs.Characters.{line_feed}
-use Rattle.yaml_pen.specs.Page.{Page, IsReady}
-use Rattle.yaml_base.specs.Cursor.{render_text}
-use Rattle.yaml_pen.proofs.Writing.{AddsEvent-appended, IsPen-added, Wrote-added, known_encoding, scalar-break, break-column, Names, Names-break, break_of}
-use Rattle.yaml_pen.proofs.Writing.{line_break_of}
+use Rattle.yaml_pen.proofs.Common.{min, [], ◌∷◌, ap, subst, sym, ◌∙◌, line_feed, render_text, Page, IsReady}
+use Rattle.yaml_pen.proofs.Writing.{Names, AddsEvent-appended, IsPen-added, Wrote-added, known_encoding, line_break_of, break_of, scalar-break, break-column}
+use Rattle.yaml_pen.proofs.Writing.{Names-break}
 use Rattle.yaml_pen.proofs.pen.Pen.put_break.Goals as goal
 
 pub invariant_of-self-2 : goal.invariant_of-self-2

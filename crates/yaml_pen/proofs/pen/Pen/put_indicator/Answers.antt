@@ -1,9 +1,7 @@
-use Rattle.std.proofs.Common.{refl, ◌++◌, ◌&&◌}
-use Rattle.std.specs.Str.{chars}
-use Rattle.yaml_base.specs.Cursor.{Cursor, render_text, space_if}
-use Rattle.yaml_base.specs.Indicators.{render_indicator}
+use Rattle.yaml_base.proofs.Common.{◌&&◌, ◌++◌, refl, chars, Cursor, space_if}
+use Rattle.yaml_base.specs.{Cursor.render_text, Indicators.render_indicator}
+use Rattle.yaml_pen.proofs.Composing.{wrote_then, wrote_as, wrote_changing, render_text-append, wrote_exit, wrote_cut, wrote_failed_as}
 use Rattle.yaml_pen.specs.Indicators.{seen_indicator}
-use Rattle.yaml_pen.proofs.Composing.{wrote_exit, wrote_cut, wrote_failed_as, wrote_as, wrote_then, wrote_changing, render_text-append}
 use Rattle.yaml_pen.proofs.pen.Pen.put_indicator.Goals as goal
 
 pub returns-in_err-separate_if-clause-written : goal.returns-in_err-separate_if-clause-written

@@ -1,9 +1,6 @@
-use Rattle.std.proofs.Common.{refl, sym, ◌∙◌, ap, subst, length}
-use Rattle.yaml_base.specs.Cursor.{render_text}
-use Rattle.yaml_base.specs.Settings.{utf8}
-use Rattle.yaml_pen.specs.Page.{Page, IsReady, has_bom}
-use Rattle.yaml_pen.proofs.Writing.{AddsEvent-appended, IsPen-added, Names-run, Wrote-added, piece-column, no_bom}
+use Rattle.yaml_pen.proofs.Common.{length, refl, ap, subst, sym, ◌∙◌, render_text, utf8, Page, has_bom, IsReady}
 use Rattle.yaml_pen.proofs.AsciiRuns.{ascii-bytes, ascii-scalars}
+use Rattle.yaml_pen.proofs.Writing.{AddsEvent-appended, IsPen-added, Wrote-added, no_bom, Names-run, piece-column}
 use Rattle.yaml_pen.proofs.pen.Pen.write_ascii_bytes.Goals as goal
 
 pub invariant_of-self-2 : goal.invariant_of-self-2

@@ -1,10 +1,4 @@
-use Rattle.std.proofs.Common.{ap, subst, ◌∙◌, ℕ, List}
-use Rattle.std.specs.List.{list_any}
-use Rattle.std.specs.Str.{chars}
-use Rattle.std.proofs.lemmas.Str.{IsUtf8-from_ascii, chars-IsAscii}
-use Rattle.yaml_base.specs.Characters.{Text, is_break}
-use Rattle.yaml_base.specs.Cursor.{render_text}
-use Rattle.yaml_pen.specs.Wrote.{Wrote}
+use Rattle.yaml_pen.proofs.Common.{ℕ, List, ap, subst, ◌∙◌, IsUtf8-from_ascii, chars-IsAscii, list_any, chars, Text, is_break, render_text, Wrote}
 use Rattle.yaml_pen.proofs.pen.Pen.write_ascii_characters.Goals as goal
 
 pub write_characters-requires-clause-no_break : goal.write_characters-requires-clause-no_break

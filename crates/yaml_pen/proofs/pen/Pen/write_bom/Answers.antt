@@ -1,6 +1,4 @@
-use Rattle.std.proofs.Common.{◌∙◌, ap, List, ℕ}
-use Rattle.yaml_pen.specs.Page.{Page}
-use Rattle.yaml_pen.specs.Outlet.{Bytes}
+use Rattle.yaml_pen.proofs.Common.{ℕ, List, ap, ◌∙◌, Bytes, Page}
 use Rattle.yaml_pen.proofs.Starting.{IsPen-bom_written, page-bom_written, some_encoding}
 use Rattle.yaml_pen.proofs.pen.Pen.write_bom.Goals as goal
 

@@ -1,6 +1,4 @@
-use Rattle.std.proofs.Common.{sym, ◌∙◌, subst, [], ◌∷◌}
-use Rattle.yaml_pen.specs.Page.{IsReady}
-use Rattle.yaml_base.specs.Cursor.{render_text}
+use Rattle.yaml_pen.proofs.Common.{[], ◌∷◌, subst, sym, ◌∙◌, render_text, IsReady}
 use Rattle.yaml_pen.proofs.Writing.{AddsEvent-appended, IsPen-added, Wrote-added, known_encoding, character_bytes-text, scalar-text, Names-character}
 use Rattle.yaml_pen.proofs.pen.Pen.write_character.Goals as goal
 

@@ -1,10 +1,5 @@
-use Rattle.std.proofs.Common.{◌∙◌, ap, sym, [], ◌∷◌}
-use Rattle.std.specs.Str.{chars}
-use Rattle.std.specs.Str.Iter.{chars_rest}
-use Rattle.std.specs.List.{list_any}
-use Rattle.std.proofs.lemmas.Str.{chars_past_char, IsUtf8-past_char, chars-nil}
-use Rattle.std.proofs.lemmas.List.{nil_from_length}
-use Rattle.yaml_base.specs.Characters.{is_break}
+use Rattle.yaml_pen.proofs.Common.{[], ◌∷◌, ap, sym, ◌∙◌, nil_from_length, chars-nil, list_any, chars, chars_rest, is_break}
+use Rattle.std.proofs.lemmas.Str.{IsUtf8-past_char, chars_past_char}
 use Rattle.yaml_pen.proofs.Composing.{wrote_exit}
 use Rattle.yaml_pen.proofs.WrittenPrefixes.{no_line_feed, unbroken_parts, prefix_more, prefix_failed, prefix_whole}
 use Rattle.yaml_pen.proofs.pen.Pen.write_characters.Goals as goal

@@ -1,8 +1,5 @@
-use Rattle.std.specs.Str.{chars, IsUtf8}
-use Rattle.std.specs.Str.Iter.{chars_rest}
-use Rattle.std.specs.List.{list_any}
-use Rattle.std.proofs.Common.{◌≡◌, false, length}
-use Rattle.yaml_base.specs.Characters.{is_break}
+use Rattle.yaml_pen.proofs.Common.{length, false, ◌≡◌, list_any, chars, chars_rest, is_break}
+use Rattle.std.specs.Str.{IsUtf8}
 use Rattle.yaml_pen.proofs.WrittenPrefixes.{WrotePrefix}
 use Rattle.yaml_pen.proofs.pen.Pen.write_characters.Given as goal
 

@@ -1,10 +1,5 @@
-use Rattle.std.proofs.Common.{◌∙◌, ap, subst, replicate, List, ℕ}
-use Rattle.std.proofs.lemmas.List.{take-replicate}
+use Rattle.yaml_pen.proofs.Common.{ℕ, replicate, List, ap, subst, ◌∙◌, take-replicate, list_any, space, is_break, render_text, Wrote}
 use Rattle.std.proofs.lemmas.Str.{IsAscii-take}
-use Rattle.std.specs.List.{list_any}
-use Rattle.yaml_base.specs.Characters.{is_break, space}
-use Rattle.yaml_base.specs.Cursor.{render_text}
-use Rattle.yaml_pen.specs.Wrote.{Wrote}
 use Rattle.yaml_pen.proofs.Spaces.{spaces_ascii, spaces_unbroken}
 use Rattle.yaml_pen.proofs.pen.Pen.write_few_spaces.Goals as goal
 

@@ -1,10 +1,4 @@
-use Rattle.std.proofs.Common.{ap, subst, ◌∙◌}
-use Rattle.std.proofs.lemmas.Bool.{or_parts}
-use Rattle.std.specs.List.{list_any}
-use Rattle.std.specs.Str.{chars}
-use Rattle.yaml_base.specs.Characters.{Text, is_break}
-use Rattle.yaml_base.specs.Cursor.{render_text}
-use Rattle.yaml_pen.specs.Wrote.{Wrote}
+use Rattle.yaml_pen.proofs.Common.{ap, subst, ◌∙◌, or_parts, list_any, chars, Text, is_break, render_text, Wrote}
 use Rattle.yaml_pen.proofs.AsciiRuns.{one_byte_ascii, one_byte_chars}
 use Rattle.yaml_pen.proofs.pen.Pen.write_indicator_text.Goals as goal
 

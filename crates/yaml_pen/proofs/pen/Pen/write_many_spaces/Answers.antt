@@ -1,9 +1,6 @@
-use Rattle.std.proofs.Common.{◌≡◌, ◌∙◌, ap, sym, ◌++◌, ◌+◌, ◌-◌, ◌∷◌, [], replicate, arith, subst, List, ℕ, Ok}
-use Rattle.std.proofs.lemmas.List.{replicate_more, replicate-append-replicate}
-use Rattle.yaml_base.specs.Characters.{space}
-use Rattle.yaml_base.specs.Cursor.{render_text}
-use Rattle.yaml_pen.specs.Wrote.{Wrote}
-use Rattle.yaml_pen.proofs.Composing.{wrote_exit, wrote_cut, wrote_text_then}
+use Rattle.yaml_pen.proofs.Common.{ℕ, ◌+◌, ◌-◌, Ok, replicate, List, [], ◌++◌, ◌∷◌, ◌≡◌, ap, subst, sym, ◌∙◌, arith, space, render_text, Wrote}
+use Rattle.std.proofs.lemmas.List.{replicate-append-replicate, replicate_more}
+use Rattle.yaml_pen.proofs.Composing.{wrote_text_then, wrote_exit, wrote_cut}
 use Rattle.yaml_pen.proofs.pen.Pen.write_many_spaces.Goals as goal
 
 pub returns-in_err-write_character-clause-written : goal.returns-in_err-write_character-clause-written

@@ -1,7 +1,4 @@
-use Rattle.std.proofs.Common.{Ok, replicate}
-use Rattle.yaml_base.specs.Characters.{space}
-use Rattle.yaml_base.specs.Cursor.{render_text}
-use Rattle.yaml_pen.specs.Wrote.{Wrote}
+use Rattle.yaml_pen.proofs.Common.{Ok, replicate, space, render_text, Wrote}
 use Rattle.yaml_pen.proofs.pen.Pen.write_many_spaces.Given as goal
 
 abbrev pub invariant-loop-written : goal.invariant-loop-written

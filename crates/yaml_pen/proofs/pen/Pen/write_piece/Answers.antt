@@ -1,10 +1,5 @@
-use Rattle.std.proofs.Common.{sym, ◌∙◌, ap, subst}
-use Rattle.std.specs.Str.{chars}
-use Rattle.std.proofs.lemmas.Str.{scalars-chars}
-use Rattle.yaml_base.specs.Cursor.{render_text}
-use Rattle.yaml_base.specs.Settings.{utf8}
-use Rattle.yaml_pen.specs.Page.{Page, IsReady, has_bom}
-use Rattle.yaml_pen.proofs.Writing.{AddsEvent-appended, IsPen-added, Names-run, Wrote-added, piece-column, no_bom, utf8-bytes}
+use Rattle.yaml_pen.proofs.Common.{ap, subst, sym, ◌∙◌, scalars-chars, chars, render_text, utf8, Page, has_bom, IsReady}
+use Rattle.yaml_pen.proofs.Writing.{AddsEvent-appended, IsPen-added, Wrote-added, no_bom, utf8-bytes, Names-run, piece-column}
 use Rattle.yaml_pen.proofs.pen.Pen.write_piece.Goals as goal
 
 pub invariant_of-self-2 : goal.invariant_of-self-2

@@ -1,11 +1,6 @@
-use Rattle.std.proofs.Common.{◌∙◌, ap, sym, arith}
-use Rattle.std.specs.List.{list_any}
-use Rattle.std.specs.Str.{chars}
+use Rattle.yaml_pen.proofs.Common.{ap, sym, ◌∙◌, arith, list_any, chars, is_break, has_bom}
 use Rattle.std.proofs.lemmas.Str.{IsUtf8-drop}
-use Rattle.yaml_base.specs.Characters.{is_break}
-use Rattle.yaml_pen.specs.Page.{buffer_size, has_bom}
-use Rattle.yaml_pen.proofs.Composing.{wrote_exit}
-use Rattle.yaml_pen.proofs.Cuts.{chars-cut, cut-forward}
+use Rattle.yaml_pen.{proofs.Composing.wrote_exit, proofs.Cuts.chars-cut, proofs.Cuts.cut-forward, specs.Page.buffer_size}
 use Rattle.yaml_pen.proofs.WrittenPrefixes.{unbroken_parts, prefix_more, prefix_failed, prefix_last}
 use Rattle.yaml_pen.proofs.pen.Pen.write_pieces.Goals as goal
 

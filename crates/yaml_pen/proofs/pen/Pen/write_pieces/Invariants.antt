@@ -1,9 +1,6 @@
-use Rattle.std.specs.List.{list_any}
-use Rattle.std.specs.Str.{chars, IsUtf8}
-use Rattle.std.proofs.Common.{◌≡◌, false, length}
-use Rattle.yaml_base.specs.Characters.{is_break}
+use Rattle.yaml_pen.proofs.Common.{length, false, ◌≡◌, list_any, chars, is_break, has_bom}
+use Rattle.std.specs.Str.{IsUtf8}
 use Rattle.yaml_pen.proofs.WrittenPrefixes.{WrotePrefix}
-use Rattle.yaml_pen.specs.Page.{has_bom}
 use Rattle.yaml_pen.proofs.pen.Pen.write_pieces.Given as goal
 
 abbrev pub invariant-loop-rest : goal.invariant-loop-rest

@@ -1,9 +1,5 @@
-use Rattle.std.proofs.Common.{◌∙◌, ap, sym, ◌≡◌, [], length}
-use Rattle.std.proofs.lemmas.Bool.{eqb-true}
-use Rattle.std.proofs.lemmas.List.{nil_from_length}
-use Rattle.std.proofs.lemmas.Str.{chars-nil}
-use Rattle.std.specs.Str.{chars}
-use Rattle.yaml_base.specs.Cursor.{render_text}
+use Rattle.yaml_pen.proofs.Common.{length, [], ◌≡◌, ap, sym, ◌∙◌, nil_from_length, chars-nil, chars, render_text}
+use Rattle.yaml_base.proofs.Common.{eqb-true}
 use Rattle.yaml_pen.proofs.Composing.{wrote_as}
 use Rattle.yaml_pen.proofs.pen.Pen.write_run.Goals as goal
 

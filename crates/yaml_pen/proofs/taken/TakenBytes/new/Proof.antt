@@ -1,29 +1,12 @@
 -- The body makes a value of no bytes, for which the proof names the empty list.
-use Rattle.std.proofs.Common.{[], ◌∷◌, refl}
-use seplogic.Ra.Ura.{Ura}
-use mir.Val.{vstruct, vnil}
-use base.Logic.{SProp, ent, emp, via, fst∗}
-use prog.Memory.{Memory}
-use prog.Routine.{Routine}
-use prog.Wp.{Calls, Loops, WpFn, Tables}
-use contract.Monad.{Fun}
-use contract.Running.{tables, tables_of}
-use sound.WpLaws.{WpFn-mono}
-use types.ByLocal.{alloc_all, pass_all, free_all, look_at, sets}
-use types.Kit.{‵, raw, ◌$◌, ◌∵◌, !, qed, move, suffices, done}
-use types.Logic.{Logic}
-use types.Part.{agg}
-use types.Run.{no_more, returns, enter}
-use denote.RattleType.{owns}
-use denote.Shadow.{pure_i}
-use denote.Triple.Entry.{on_entry, alive}
-use denote.Triple.Spec.{Meets, triple_of}
-use denote.Triple.Table.{entered}
-use denote.Triple.Walked.{says, Stays, walk_of, Walks, ends_at, walked, walk_Meets}
-use Rattle.yaml_pen.specs.declared.taken.TakenBytes.{TakenBytes}
+use Rattle.yaml_pen.proofs.Common.{[], ◌∷◌, refl, SProp, emp, ent, fst∗, via, Fun, tables, owns, pure_i, alive, on_entry, Meets, triple_of, entered, Stays}
+use Rattle.yaml_pen.proofs.Common.{Walks, ends_at, says, walk_Meets, walk_of, walked, vnil, vstruct, Memory, Routine, Calls, Loops, Tables, WpFn, Ura}
+use Rattle.yaml_pen.proofs.Common.{WpFn-mono, alloc_all, free_all, look_at, pass_all, sets, !, done, move, qed, raw, suffices, ‵, ◌$◌, ◌∵◌, Logic, agg, enter}
+use Rattle.yaml_pen.proofs.Common.{no_more, returns}
+use contract.Running.{tables_of}
+use Rattle.yaml_pen.specs.{contracts.taken.TakenBytes.new.Key.name as its_name, declared.taken.TakenBytes.TakenBytes}
 use Rattle.yaml_pen.specs.contracts.taken.TakenBytes as bytes_type
 use Rattle.yaml_pen.specs.contracts.taken.TakenBytes.new as it
-use Rattle.yaml_pen.specs.contracts.taken.TakenBytes.new.Key.{name as its_name}
 use Rattle.yaml_pen.proofs.taken.TakenBytes.new.Code as code
 use Rattle.yaml_pen.proofs.taken.TakenBytes.new.Statement as stated
 

@@ -1,37 +1,24 @@
 -- The body reads nothing and makes a value of no bytes, for which the proof names the longer list.
-use Rattle.std.proofs.Common.{[], ◌∷◌, ◌++◌, ◌<◌, ◌^◌, refl, length}
-use seplogic.Ra.Ura.{Ura}
-use mir.Syntax.{named}
-use mir.Val.{Val, vptr, vstruct, vnil}
-use base.Logic.{SProp, ent, emp, via, fst∗}
+use Rattle.yaml_pen.proofs.Common.{◌<◌, length, [], ◌++◌, ◌∷◌, refl, SProp, emp, ent, fst∗, via, Fun, tables, owns, pure_i, alive, on_entry, Meets, triple_of}
+use Rattle.yaml_pen.proofs.Common.{entered, Stays, Walks, ends_at, says, walk_Meets, walk_of, walked, vnil, vstruct, Memory, Routine, Calls, Loops, Tables}
+use Rattle.yaml_pen.proofs.Common.{WpFn, Ura, WpFn-mono, alloc_all, free_all, look_at, pass_all, sets, !, done, move, qed, raw, suffices, ‵, ◌$◌, ◌∵◌, Logic}
+use Rattle.yaml_pen.proofs.Common.{agg, enter, no_more, returns}
+use Rattle.std.proofs.Common.{◌^◌}
 use base.Fml.{Fml}
-use prog.Memory.{Memory}
-use prog.Routine.{Routine}
-use prog.Wp.{Calls, Loops, WpFn, Tables}
 use contract.Lifetimes.{Lfts, Shares}
-use contract.Monad.{Fun}
-use contract.Running.{tables, tables_of}
-use sound.WpLaws.{WpFn-mono}
-use types.ByLocal.{alloc_all, pass_all, free_all, look_at, sets}
-use types.Kit.{‵, raw, ◌$◌, ◌∵◌, !, qed, move, suffices, done}
-use types.Logic.{Logic}
-use types.Part.{agg}
-use types.Run.{no_more, returns, enter}
+use contract.Running.{tables_of}
 use denote.Builtin.{u8}
 use denote.Exit.{yes}
-use denote.RattleType.{owns}
-use denote.Ref.{shr_vals, shr_Tells}
-use denote.Shadow.{pure_i}
+use denote.Ref.{shr_Tells, shr_vals}
 use denote.Signature.{plain, types_at}
-use denote.Slice.{slice_val, shr_slice_vals, shr_slice_Tells}
-use denote.Triple.Entry.{on_entry, alive, Args}
-use denote.Triple.Spec.{Meets, triple_of}
-use denote.Triple.Table.{entered}
-use denote.Triple.Walked.{says, stay_none_ref, stay_none_slice, Stays, walk_of, Walks, ends_at, walked, Goes-none_ref, Goes-none_slice, walk_Meets}
-use Rattle.yaml_pen.specs.declared.taken.TakenBytes.{TakenBytes}
+use denote.Slice.{shr_slice_Tells, shr_slice_vals, slice_val}
+use denote.Triple.Entry.{Args}
+use denote.Triple.Walked.{Goes-none_ref, Goes-none_slice, stay_none_ref, stay_none_slice}
+use mir.Syntax.{named}
+use mir.Val.{Val, vptr}
+use Rattle.yaml_pen.specs.{contracts.taken.TakenBytes.with.Key.name as its_name, declared.taken.TakenBytes.TakenBytes}
 use Rattle.yaml_pen.specs.contracts.taken.TakenBytes as bytes_type
 use Rattle.yaml_pen.specs.contracts.taken.TakenBytes.with as it
-use Rattle.yaml_pen.specs.contracts.taken.TakenBytes.with.Key.{name as its_name}
 use Rattle.yaml_pen.proofs.taken.TakenBytes.with.Code as code
 use Rattle.yaml_pen.proofs.taken.TakenBytes.with.Statement as stated
 

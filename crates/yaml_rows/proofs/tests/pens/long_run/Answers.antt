@@ -1,10 +1,6 @@
-use Rattle.std.proofs.Common.{◌∙◌, ◌||◌, ap, false}
-use Rattle.std.proofs.lemmas.List.Folds.{list_any-append}
-use Rattle.std.proofs.lemmas.Str.{IsUtf8-string_bytes, chars-append, chars-nil}
-use Rattle.std.specs.List.{list_any}
-use Rattle.std.specs.Str.{chars}
-use Rattle.std.specs.String.{string_bytes}
-use Rattle.yaml_base.specs.Characters.{is_break}
+use Rattle.yaml_base.proofs.Common.{false, ◌||◌, ap, ◌∙◌, list_any-append, list_any, is_break}
+use Rattle.std.proofs.lemmas.Str.{chars-nil, IsUtf8-string_bytes, chars-append}
+use Rattle.std.specs.{Str.chars, String.string_bytes}
 use Rattle.yaml_rows.proofs.tests.pens.long_run.Goals as goal
 
 pub cycles-init : goal.cycles-init

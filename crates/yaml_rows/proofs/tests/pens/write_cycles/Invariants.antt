@@ -1,4 +1,4 @@
-use Rattle.yaml_pen.specs.Page.{IsReady}
+use Rattle.yaml_pen.proofs.Common.{IsReady}
 use Rattle.yaml_rows.proofs.tests.pens.write_cycles.Given as goal
 
 abbrev pub invariant-cycles : goal.invariant-cycles

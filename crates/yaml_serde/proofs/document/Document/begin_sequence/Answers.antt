@@ -1,7 +1,5 @@
-use Rattle.yaml_writer.specs.Writing.{with_collection}
-use Rattle.yaml_writer.specs.declared.kinds.CollectionKind.TheVariants.{Sequence}
-use Rattle.yaml_serde.specs.Documents.{sequence_call}
-use Rattle.yaml_serde.proofs.Giving.{stands_begun}
+use Rattle.yaml_serde.{proofs.Giving.stands_begun, specs.Documents.sequence_call}
+use Rattle.yaml_writer.specs.{Writing.with_collection, declared.kinds.CollectionKind.TheVariants.Sequence}
 use Rattle.yaml_serde.proofs.document.Document.begin_sequence.Goals as goal
 
 pub invariant_of-self : goal.invariant_of-self

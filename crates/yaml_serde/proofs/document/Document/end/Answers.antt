@@ -1,4 +1,4 @@
-use Rattle.std.proofs.Common.{◌<◌, arith, length}
+use Rattle.yaml_serde.proofs.Common.{◌<◌, length, arith}
 use Rattle.yaml_serde.proofs.Giving.{stands_ended}
 use Rattle.yaml_serde.proofs.document.Document.end.Goals as goal
 

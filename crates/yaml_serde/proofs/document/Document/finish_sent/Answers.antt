@@ -1,5 +1,4 @@
-use Rattle.std.proofs.Common.{sym, subst}
-use Rattle.yaml_writer.specs.Writing.{Finishes}
+use Rattle.yaml_serde.proofs.Common.{subst, sym, Finishes}
 use Rattle.yaml_serde.proofs.Giving.{sink_document}
 use Rattle.yaml_serde.proofs.document.Document.finish_sent.Goals as goal
 

@@ -1,6 +1,5 @@
 use Rattle.std.proofs.Common.{of_z, to_z, w64}
-use Rattle.yaml_serde.specs.Documents.{int_call}
-use Rattle.yaml_serde.proofs.Giving.{stands_given}
+use Rattle.yaml_serde.{proofs.Giving.stands_given, specs.Documents.int_call}
 use Rattle.yaml_serde.proofs.document.Document.int.Goals as goal
 
 pub invariant_of-self : goal.invariant_of-self

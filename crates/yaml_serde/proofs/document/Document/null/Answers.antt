@@ -1,5 +1,4 @@
-use Rattle.yaml_serde.specs.Documents.{null_call}
-use Rattle.yaml_serde.proofs.Giving.{stands_given}
+use Rattle.yaml_serde.{proofs.Giving.stands_given, specs.Documents.null_call}
 use Rattle.yaml_serde.proofs.document.Document.null.Goals as goal
 
 pub invariant_of-self : goal.invariant_of-self

@@ -1,5 +1,4 @@
-use Rattle.yaml_serde.specs.Documents.{special_call}
-use Rattle.yaml_serde.proofs.Giving.{stands_given}
+use Rattle.yaml_serde.{proofs.Giving.stands_given, specs.Documents.special_call}
 use Rattle.yaml_serde.proofs.document.Document.special_float.Goals as goal
 
 pub invariant_of-self : goal.invariant_of-self

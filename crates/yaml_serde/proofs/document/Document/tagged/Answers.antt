@@ -1,4 +1,4 @@
-use Rattle.std.specs.Str.{chars}
+use Rattle.yaml_serde.proofs.Common.{chars}
 use Rattle.yaml_serde.proofs.Giving.{stands_tagged}
 use Rattle.yaml_serde.proofs.document.Document.tagged.Goals as goal
 

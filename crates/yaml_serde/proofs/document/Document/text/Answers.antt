@@ -1,6 +1,5 @@
-use Rattle.std.specs.Str.{chars}
-use Rattle.yaml_serde.specs.Documents.{text_call}
-use Rattle.yaml_serde.proofs.Giving.{stands_given}
+use Rattle.yaml_serde.proofs.Common.{chars}
+use Rattle.yaml_serde.{proofs.Giving.stands_given, specs.Documents.text_call}
 use Rattle.yaml_serde.proofs.document.Document.text.Goals as goal
 
 pub invariant_of-self : goal.invariant_of-self

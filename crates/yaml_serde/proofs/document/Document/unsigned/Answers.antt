@@ -1,5 +1,4 @@
-use Rattle.std.proofs.Common.{pos}
-use Rattle.yaml_serde.specs.Documents.{int_call}
+use Rattle.yaml_serde.proofs.Common.{pos, int_call}
 use Rattle.yaml_serde.proofs.Giving.{stands_given}
 use Rattle.yaml_serde.proofs.document.Document.unsigned.Goals as goal
 

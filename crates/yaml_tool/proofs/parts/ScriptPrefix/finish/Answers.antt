@@ -1,5 +1,4 @@
-use Rattle.yaml_tool.proofs.Common.{map, append-nil, subst, sym, ◌∙◌, ◌≡◌, IfErr, seen_numbered, seen_progress, IsFaultOf, script_after_lines}
-use Rattle.yaml_tool.proofs.Common.{seen_settings}
+use Rattle.yaml_tool.proofs.Common.{map, ◌≡◌, append-nil, subst, sym, ◌∙◌, IfErr, seen_numbered, seen_progress, IsFaultOf, script_after_lines, seen_settings}
 use Rattle.std.specs.Result.{IfOk}
 use Rattle.yaml_base.specs.scripts.Script as notation
 use Rattle.yaml_tool.proofs.parts.ScriptPrefix.finish.Goals as goal

@@ -1,6 +1,4 @@
-use Rattle.std.proofs.Common.{subst}
-use Rattle.yaml_base.specs.values.JsonNumbers.{JsonNumber}
-use Rattle.yaml_writer.specs.NumberParts.{IsNumber}
+use Rattle.yaml_writer.proofs.Common.{subst, JsonNumber, IsNumber}
 use Rattle.yaml_writer.proofs.numbers.Number.as_str.Goals as goal
 
 pub returns : goal.returns

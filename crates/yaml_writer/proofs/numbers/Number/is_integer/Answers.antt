@@ -1,5 +1,4 @@
-use Rattle.std.proofs.Common.{ap, ◌∙◌}
-use Rattle.yaml_base.specs.values.JsonNumbers.{is_json_integer}
+use Rattle.yaml_writer.proofs.Common.{ap, ◌∙◌, is_json_integer}
 use Rattle.yaml_writer.proofs.numbers.Number.is_integer.Goals as goal
 
 pub returns : goal.returns

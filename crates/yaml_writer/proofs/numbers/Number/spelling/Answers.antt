@@ -1,7 +1,6 @@
-use Rattle.std.proofs.Common.{◌≡◌, string_bytes, true≢false, sym, ap, ◌∙◌}
-use Rattle.yaml_base.specs.values.JsonNumbers.{JsonNumber, json_text, yaml_number}
-use Rattle.yaml_writer.specs.SeenNumbers.{seen_parts}
-use Rattle.yaml_writer.proofs.SpellingLemmas.{number_by_chars, same_spelling, spelling_chars}
+use Rattle.yaml_writer.proofs.Common.{◌≡◌, true≢false, ap, sym, ◌∙◌, JsonNumber, json_text, yaml_number, seen_parts}
+use Rattle.std.proofs.Common.{string_bytes}
+use Rattle.yaml_writer.proofs.SpellingLemmas.{number_by_chars, spelling_chars, same_spelling}
 use Rattle.yaml_writer.proofs.UnchangedSpellings.{stands_as_spelled}
 use Rattle.yaml_writer.proofs.numbers.Number.spelling.Goals as goal
 

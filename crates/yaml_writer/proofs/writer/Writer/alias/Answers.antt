@@ -1,8 +1,4 @@
-use Rattle.std.proofs.Common.{[], ◌∷◌, chars, inr, subst}
-use Rattle.yaml_base.specs.Characters.{Text}
-use Rattle.yaml_base.specs.Event.{alias}
-use Rattle.yaml_writer.specs.Inside.{state_of}
-use Rattle.yaml_writer.specs.Writing.{AddsEvents}
+use Rattle.yaml_writer.proofs.Common.{chars, [], ◌∷◌, inr, subst, Text, alias, state_of, AddsEvents}
 use Rattle.yaml_writer.proofs.Taken.{passed}
 use Rattle.yaml_writer.proofs.writer.Writer.alias.Goals as goal
 

@@ -1,6 +1,4 @@
-use Rattle.std.proofs.Common.{inr, rules, subst}
-use Rattle.yaml_pen.specs.Wrote.{Grows}
-use Rattle.yaml_writer.specs.Writing.{AddsEvent, WriterState, end_event}
+use Rattle.yaml_writer.proofs.Common.{rules, inr, subst, Grows, WriterState, end_event, AddsEvent}
 use Rattle.yaml_writer.proofs.writer.Writer.end.Goals as goal
 
 pub returns-in-Some-clause-ended : goal.returns-in-Some-clause-ended

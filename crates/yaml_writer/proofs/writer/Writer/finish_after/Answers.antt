@@ -1,5 +1,5 @@
-use Rattle.std.proofs.Common.{IfOk, subst}
-use Rattle.yaml_writer.specs.Writing.{FinishesBy, WriterState, is_implicit}
+use Rattle.yaml_writer.proofs.Common.{subst, WriterState, is_implicit, FinishesBy}
+use Rattle.std.proofs.Common.{IfOk}
 use Rattle.yaml_writer.proofs.writer.Writer.finish_after.Goals as goal
 
 pub returns-clause-finishes : goal.returns-clause-finishes

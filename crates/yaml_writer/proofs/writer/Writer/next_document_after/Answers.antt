@@ -1,7 +1,4 @@
-use Rattle.std.proofs.Common.{[], ◌∷◌}
-use Rattle.yaml_base.specs.Event.{document_end}
-use Rattle.yaml_writer.specs.Inside.{state_of}
-use Rattle.yaml_writer.specs.Writing.{is_implicit, plain_start}
+use Rattle.yaml_writer.proofs.Common.{[], ◌∷◌, document_end, state_of, plain_start, is_implicit}
 use Rattle.yaml_writer.proofs.Taken.{passed}
 use Rattle.yaml_writer.proofs.writer.Writer.next_document_after.Goals as goal
 

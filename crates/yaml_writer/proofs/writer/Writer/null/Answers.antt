@@ -1,8 +1,5 @@
-use Rattle.std.proofs.Common.{refl, ap₂}
-use Rattle.std.specs.Prelude.{codes}
-use Rattle.yaml_base.proofs.Literals.{chars-literal}
+use Rattle.yaml_writer.proofs.Common.{codes, refl, ap₂, chars-literal, word_event}
 use Rattle.yaml_base.specs.values.TypedValues.{null_tag}
-use Rattle.yaml_writer.specs.Writing.{word_event}
 use Rattle.yaml_writer.proofs.Taken.{given_as}
 use Rattle.yaml_writer.proofs.writer.Writer.null.Goals as goal
 

@@ -1,6 +1,4 @@
-use Rattle.std.proofs.Common.{◌≡◌, ap, ap₂, ◌∙◌, chars}
-use Rattle.yaml_base.specs.values.JsonNumbers.{yaml_number}
-use Rattle.yaml_writer.specs.Writing.{word_event}
+use Rattle.yaml_writer.proofs.Common.{chars, ◌≡◌, ap, ap₂, ◌∙◌, yaml_number, word_event}
 use Rattle.yaml_writer.proofs.Taken.{given_as}
 use Rattle.yaml_writer.proofs.writer.Writer.number.Goals as goal
 

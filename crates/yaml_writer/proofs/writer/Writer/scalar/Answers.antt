@@ -1,10 +1,5 @@
-use Rattle.std.proofs.Common.{◌≡◌, ap, is_none, option_map, rules}
-use Rattle.std.specs.Option.{option_or}
-use Rattle.yaml_base.specs.Event.{Event, scalar}
-use Rattle.yaml_base.specs.Seen.{seen_scalar_style, seen_text}
-use Rattle.yaml_writer.specs.Inside.{state_of}
-use Rattle.yaml_writer.specs.Writing.{scalar_event}
-use Rattle.yaml_writer.proofs.Taken.{gave_either}
+use Rattle.yaml_writer.proofs.Common.{is_none, option_map, ◌≡◌, rules, ap, option_or, Event, scalar, seen_scalar_style, seen_text, state_of}
+use Rattle.yaml_writer.{proofs.Taken.gave_either, specs.Writing.scalar_event}
 use Rattle.yaml_writer.proofs.writer.Writer.scalar.Goals as goal
 
 pub returns : goal.returns

@@ -1,5 +1,4 @@
-use Rattle.std.proofs.Common.{List, ℕ, subst}
-use Rattle.yaml_writer.specs.Writing.{TakesBytes}
+use Rattle.yaml_writer.proofs.Common.{ℕ, List, subst, TakesBytes}
 use Rattle.yaml_writer.proofs.writer.Writer.send.Goals as goal
 
 pub returns-clause-takes : goal.returns-clause-takes

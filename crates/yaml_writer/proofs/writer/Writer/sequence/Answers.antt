@@ -1,9 +1,5 @@
-use Rattle.std.proofs.Common.{◌≡◌, ap, is_none, option_map, rules}
-use Rattle.yaml_base.specs.Event.{Event, sequence_start}
-use Rattle.yaml_base.specs.Seen.{seen_sequence_style, seen_text}
-use Rattle.yaml_writer.specs.Inside.{state_of}
-use Rattle.yaml_writer.specs.Writing.{sequence_event}
-use Rattle.yaml_writer.proofs.Taken.{gave_either}
+use Rattle.yaml_writer.proofs.Common.{is_none, option_map, ◌≡◌, rules, ap, Event, sequence_start, seen_sequence_style, seen_text, state_of}
+use Rattle.yaml_writer.{proofs.Taken.gave_either, specs.Writing.sequence_event}
 use Rattle.yaml_writer.proofs.writer.Writer.sequence.Goals as goal
 
 pub returns : goal.returns

@@ -1,6 +1,4 @@
-use Rattle.std.proofs.Common.{refl, ap₂}
-use Rattle.yaml_base.proofs.Literals.{chars-literal}
-use Rattle.yaml_writer.specs.Writing.{float_tag, word_event}
+use Rattle.yaml_writer.proofs.Common.{refl, ap₂, chars-literal, word_event, float_tag}
 use Rattle.yaml_writer.proofs.Taken.{given_as}
 use Rattle.yaml_writer.proofs.writer.Writer.special_float.Goals as goal
 

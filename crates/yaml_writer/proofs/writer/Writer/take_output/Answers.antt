@@ -1,5 +1,4 @@
-use Rattle.std.proofs.Common.{subst}
-use Rattle.yaml_writer.specs.Writing.{TakesBytes, WriterState}
+use Rattle.yaml_writer.proofs.Common.{subst, WriterState, TakesBytes}
 use Rattle.yaml_writer.proofs.Taken.{left_taken}
 use Rattle.yaml_writer.proofs.writer.Writer.take_output.Goals as goal
 

@@ -1,8 +1,5 @@
-use Rattle.std.proofs.Common.{◌≡◌, refl, ap, ap₂, ◌∙◌, chars, pos}
-use Rattle.std.specs.Fmt.{signed_decimal}
-use Rattle.yaml_base.proofs.Literals.{chars-literal}
-use Rattle.yaml_base.specs.values.TypedValues.{int_tag}
-use Rattle.yaml_writer.specs.Writing.{word_event}
+use Rattle.yaml_writer.proofs.Common.{chars, refl, ◌≡◌, ap, ap₂, ◌∙◌, signed_decimal, chars-literal, int_tag, word_event}
+use Rattle.yaml_base.proofs.Common.{pos}
 use Rattle.yaml_writer.proofs.Taken.{given_as}
 use Rattle.yaml_writer.proofs.writer.Writer.unsigned.Goals as goal
 

@@ -1,4 +1,4 @@
-use Rattle.std.proofs.Common.{◌≡◌, true}
+use Rattle.yaml_base.proofs.Common.{true, ◌≡◌}
 use Rattle.yaml_value_rows.proofs.tests.calling.events.emit_all.Given as goal
 
 abbrev pub invariant-loop-event : goal.invariant-loop-event

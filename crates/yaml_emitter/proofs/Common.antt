@@ -1,0 +1,78 @@
+-- The names that most proofs here cite, passed on from one place. Declares nothing.
+pub use Rattle.yaml_base.proofs.Common.{suc, zero, ℕ, ◌%◌, ◌+◌, ◌-◌, ◌/◌, ◌<◌, ◌≤◌, if◌then◌else◌, ◌==◌, fold, count_by, is_some, unwrap_or, option_map}
+pub use Rattle.yaml_base.proofs.Common.{option_and_then, Option, None, Some, codes, nat_le, nat_lt, negsuc, pos, ℤ, drop, length, replicate, slice_index_or}
+pub use Rattle.yaml_base.proofs.Common.{take, Bool, cond, false, not, true, ◌&&◌, ◌||◌, List, [], map, ◌++◌, ◌∷◌, ◌⊎◌, refl, ◌≡◌, eqb-true, le-ltb, ne_eqb}
+pub use Rattle.yaml_base.proofs.Common.{length-append, true≢false, append-nil, append_assoc, inl, inr, ap, subst, sym, ◌∙◌, arith, and_parts, and_from}
+pub use Rattle.yaml_base.proofs.Common.{or_parts, false≢true, nat_tests, flat_map-append, length-map, map-append, list_all-append, chars-IsAscii, list_all}
+pub use Rattle.yaml_base.proofs.Common.{list_any, option_or, all_scalars, chars, Text, line_feed, carriage_return, next_line, space, is_alpha, is_space}
+pub use Rattle.yaml_base.proofs.Common.{is_break, is_printable, Cursor, Rendered, render_nothing, render_then, new_line, space_if, indicator, is_past_width}
+pub use Rattle.yaml_base.proofs.Common.{encode, cut, ScalarStyle, any_style, plain, single_quoted, double_quoted, literal, folded, any_layout, Version}
+pub use Rattle.yaml_base.proofs.Common.{TagDirective, DocumentStart, Scalar, Collection, Event, stream_start, stream_end, document_start, document_end, alias}
+pub use Rattle.yaml_base.proofs.Common.{scalar, sequence_start, sequence_end, mapping_start, mapping_end, scalar_tag, collection_tag, Node, alias_node}
+pub use Rattle.yaml_base.proofs.Common.{scalar_node, Nodes, sequence_node, Pairs, mapping_node, no_nodes, nodes_and, no_pairs, pairs_and, Document, Documents}
+pub use Rattle.yaml_base.proofs.Common.{no_documents, documents_and, Stream, node_events, documents_events, stream_events, at_item, at_key, at_value, Partial}
+pub use Rattle.yaml_base.proofs.Common.{before_stream, within_document, after_stream, push, pushed, partial_of, render_if, render_closing_marker}
+pub use Rattle.yaml_base.proofs.Common.{render_version, render_tag_directives, has_directives, is_explicit, render_document_marker, render_document_start}
+pub use Rattle.yaml_base.proofs.Common.{document_start_piece, document_end_piece, root_place, first_standing, stream_end_piece, layout, Piece, piece_text}
+pub use Rattle.yaml_base.proofs.Common.{text_of, Standing, RenderedPieces, render_anchor, render_properties, render_alias, render_separation, render_body}
+pub use Rattle.yaml_base.proofs.Common.{charset_of, choice_of, body_at, start_piece, is_written_in_flow, Brackets, square, curly, render_end, entry_place}
+pub use Rattle.yaml_base.proofs.Common.{render_node, Role, as_root, as_item, as_key, as_value, Place, is_key, line_column, deeper, byte_count, name_count}
+pub use Rattle.yaml_base.proofs.Common.{tag_count, is_short, is_simple_scalar, has_no_nodes, has_no_pairs, flow_break, opening_or_comma, render_flow_place}
+pub use Rattle.yaml_base.proofs.Common.{render_place, break_text, with_breaks_written, is_rendered_text, has_scalar_values, directive_scalars}
+pub use Rattle.yaml_base.proofs.Common.{has_scalar_texts, encoding_asked, settings_for, text_written, bytes_written, output_of, percent_escaped}
+pub use Rattle.yaml_base.proofs.Common.{suffix_escaped, prefix_escaped, completion, list_layout, first_ends_collection, awaited, is_balanced}
+pub use Rattle.yaml_base.proofs.Common.{nonempty_prefixes, is_ready, written, some_if, name_or_tag_fault, content_fault, most_open, begins_collection}
+pub use Rattle.yaml_base.proofs.Common.{ends_collection, refusal_at, refusal, is_sound, open_count, IsAccepted, Encoding, utf8, utf16_little, utf16_big}
+pub use Rattle.yaml_base.proofs.Common.{LineBreak, carriage_return_break, line_feed_break, both_break, Settings, Effective, effective, Frame, Stage}
+pub use Rattle.yaml_base.proofs.Common.{at_stream, at_document, at_node, at_document_end, at_nothing, next_place, stage_after, step, ends_next, Steps, steps}
+pub use Rattle.yaml_base.proofs.Common.{reads_alike, name_fault, anchor_fault, alias_fault, tag_fault, version_fault, exclamation_mark, handle_fault}
+pub use Rattle.yaml_base.proofs.Common.{prefix_fault, directive_fault, gives_handle, next_directive_fault, directives_fault_after, directives_fault}
+pub use Rattle.yaml_base.proofs.Common.{directives_in_force, Spelling, verbatim, spelling, spelled, canonical_content, DocumentContent, Charset, Allowances}
+pub use Rattle.yaml_base.proofs.Common.{is_empty, is_special, allowances, needs_escape, Choice, lacks_tag_and_flags, is_plain, requested_style, quoted_style}
+pub use Rattle.yaml_base.proofs.Common.{fitting_style, fits_plain, chosen, agrees, stream_trees}
+pub use Rattle.std.proofs.Common.{add-one, drop-cons, drop-drop, length-take-le, of_z, rules, take-append-drop, take_all, take_at, to_z, w32, zero-add}
+pub use Rattle.std.proofs.lemmas.{Grind.common_steps, Grind.elements, Int.ints, Int.to_z-of_z, List.drop-map, List.Elements.All-nil, List.Elements.All-cons}
+pub use Rattle.std.proofs.lemmas.{List.Sums.fold-append, Result.err_from_is_err_and}
+pub use Rattle.std.specs.List.{All}
+pub use Rattle.std.specs.Prelude.{Err, FitsSigned, Ok, Result, vec_len, vec_capacity, filter, IsErrAnd, IsSome, IsErr, OnOk}
+pub use Rattle.yaml_base.{proofs.Accepted.stands_from_begins, proofs.Accepted.refused_exactly, proofs.BreakLaws.rendered-append}
+pub use Rattle.yaml_base.{proofs.Completions.pushed-append, proofs.Completions.prefix_is_partial, proofs.NoFaults.neither, proofs.Prefixes.prefix_same}
+pub use Rattle.yaml_base.{proofs.Prefixes.prefix_then, proofs.Progress.written-append, proofs.QueueLaws.written_within, proofs.QueueLaws.open_at_written}
+pub use Rattle.yaml_base.{proofs.Trees.stream_pushed, proofs.Trees.tree_of-stream_events, proofs.stream_documents.StreamEachDocument.all_of_both}
+pub use Rattle.yaml_base.{specs.Encoding.text_bytes, specs.Indicators.render_indicator, specs.Indicators.spaced, specs.Indicators.yaml_directive}
+pub use Rattle.yaml_base.{specs.Meaning.BodyMeans, specs.Meaning.option_scalars, specs.Output.flushes, specs.Output.last_flushes, specs.Pieces.pieces}
+pub use Rattle.yaml_base.{specs.Pieces.last_begins_collection, specs.Prefix.IsPrefix, specs.Ready.held_back, specs.Refusal.properties_fault}
+pub use Rattle.yaml_base.{specs.Refusal.BeginsAccepted, specs.Tags.last_from, specs.Tags.without_last, specs.Tags.default_directives}
+pub use Rattle.yaml_base.{specs.WrittenTexts.HoldsRaw, specs.reading.Content.documents_content, specs.scalars.Analysis.begins_with}
+pub use Rattle.yaml_base.{specs.scalars.Analysis.allows_plain, specs.scalars.DoubleQuoted.quote, specs.scalars.DoubleQuoted.backslash}
+pub use Rattle.yaml_base.{specs.scalars.DoubleQuoted.double_quoted_body}
+pub use Rattle.yaml_base.proofs.PieceLaws.{steps-append, steps_same, list_layout_steps, prefix_layout}
+pub use Rattle.yaml_base.proofs.TagForms.{IsHandle, handle_form, AreFound, spelling_is, in_force_found}
+pub use Rattle.yaml_base.specs.Layout.{render_tag_directive, is_simple_alias, render_handle, render_spelling, render_tag, stream_start_piece}
+pub use Rattle.yaml_base.specs.Layout.{render_block_place, scalar_lead, scalar_piece, alias_piece, end_piece}
+pub use Rattle.yaml_base.specs.Seen.{seen_encoding, seen_scalar_style, seen_version, seen_directive, seen_event, seen_events}
+pub use Rattle.yaml_base.specs.Steps.{is_first, node_step, stage_refusal, progress}
+pub use Rattle.yaml_base.specs.reading.CanonicalReader.{node_awaited, Head, Reading, within, token_read, documents_read}
+pub use Rattle.yaml_base.specs.reading.CanonicalTokens.{Token, version_line, tag_line, document_begins, document_ends, anchor_token, alias_token, tag_token}
+pub use Rattle.yaml_base.specs.reading.CanonicalTokens.{scalar_token, opens_sequence, closes_sequence, opens_mapping, closes_mapping, key_token, value_token}
+pub use Rattle.yaml_base.specs.reading.CanonicalTokens.{comma, free, goes_to, step_between_tokens, tokens_from}
+pub use Rattle.yaml_emitter.specs.{Atoms.name_breaks, Atoms.some_handle_breaks, BorrowedTexts.seen_name, BorrowedTexts.seen_scalar}
+pub use Rattle.yaml_emitter.specs.{BorrowedTexts.seen_collection, Given.seen_effective, Given.nothing_given, Inside.state_of, Inside.IsEmitter}
+pub use Rattle.yaml_emitter.specs.{MachineInside.machine_state, MachineInside.IsMachine, NodeEvents.start_event, NodeEvents.end_event, NodeEvents.brackets_of}
+pub use Rattle.yaml_emitter.specs.{Queue.is_head_ready, ScalarTexts.render_scalar_text, ScalarTexts.style_fits, Stages.seen_stage, StaysFlushed.StaysFlushed}
+pub use Rattle.yaml_emitter.specs.{StaysFlushed.whole_documents, StaysFlushed.KeepsDocuments, Uncut.IsUncut, UsualScalars.StandsPlain, WrittenPieces.piece_at}
+pub use Rattle.yaml_emitter.specs.{WrittenPieces.seen_open_ended, WrittenPieces.render_document_end}
+pub use Rattle.yaml_emitter.specs.Places.{is_mapping, seen_role, seen_place, seen_frame}
+pub use Rattle.yaml_emitter.specs.Processing.{closes_at_once, event_stepped, render_event, refusal_now, Keeps, WritesPage, WritesEvent, CutPage, unwritten}
+pub use Rattle.yaml_emitter.specs.Processing.{partly_written, CutShort, Processed}
+pub use Rattle.yaml_emitter.specs.Promises.{RefusedAt, BeginsOutput, OutputBegins, IsRefusal, ends_stream, EndsExactly, Promised}
+pub use Rattle.yaml_emitter.specs.StandsAfter.{IsPage, HoldsPiecesWith, HoldsPieces, HasProgress, StandsWithoutError, FailedAt, closes_last, StandsRefused}
+pub use Rattle.yaml_emitter.specs.StandsAfter.{HoldsCut, holds_before, holds_part, StandsCut, StandsUnflushed, StandsStopped, at_event, between_events}
+pub use Rattle.yaml_emitter.specs.StandsAfter.{StandsFailed, MachineStands, StateStands, StandsAfter, Reached, failed_by, ReachedOn, ProcessedFirst}
+pub use Rattle.yaml_emitter.specs.State.{State, MachineState, machine_of, new_machine, standing_of, FitsPage, with_all_taken, is_at_stream, KeepsGiven}
+pub use Rattle.yaml_emitter.specs.State.{KeepsSet}
+pub use Rattle.yaml_emitter.specs.WrittenAtoms.{seen_indicator, render_atoms, seen_tag, render_spelled_tag, spelled_count}
+pub use Rattle.yaml_pen.{proofs.Adding.encode-append, proofs.Writing.none_from_result, specs.Wrote.Grows, specs.Wrote.Wrote, specs.Wrote.Flushed}
+pub use Rattle.yaml_pen.proofs.Composing.{wrote_all, wrote_then, wrote_failed, wrote_as, wrote_exit}
+pub use Rattle.yaml_pen.specs.Page.{Page, encoded, all_taken, IsUntouched, IsReady, result_of_error, IsFlushedOutput, new_page}
+pub use Rattle.yaml_scalar.proofs.{LineTexts.any_both, LineTexts.any_one, Sparing.is_graph, Sparing.Spares, Sparing.lacks_line}

@@ -1,0 +1,38 @@
+-- The names that most proofs here cite, passed on from one place. Declares nothing.
+pub use Rattle.yaml_base.proofs.Common.{suc, zero, ℕ, ◌+◌, ◌-◌, ◌<◌, ◌≤◌, if◌then◌else◌, ◌==◌, is_some, is_none, unwrap_or, option_and_then, bytes_eq, Option}
+pub use Rattle.yaml_base.proofs.Common.{None, Some, codes, drop, length, slice_index_or, take, Bool, cond, false, not, true, ◌&&◌, ◌||◌, List, [], map, ◌++◌}
+pub use Rattle.yaml_base.proofs.Common.{◌∷◌, ◌⊎◌, refl, ◌≡◌, eqb-true, length-append, append-nil, append_assoc, inl, inr, ap, subst, sym, ◌∙◌, arith}
+pub use Rattle.yaml_base.proofs.Common.{and_parts, and_from, not_from_false, false≢true, flat_map-append, map-append, list_all-append, bytes_eq-Decides}
+pub use Rattle.yaml_base.proofs.Common.{list_all, list_any, chars, Text, ScalarStyle, plain, Scalar, Event, scalar, sequence_start, sequence_end}
+pub use Rattle.yaml_base.proofs.Common.{mapping_start, mapping_end, scalar_tag, collection_tag, scalar_node, Nodes, Pairs, no_nodes, nodes_and, no_pairs}
+pub use Rattle.yaml_base.proofs.Common.{pairs_and, Document, Documents, no_documents, documents_and, Stream, after_stream, partial_of, has_scalar_texts}
+pub use Rattle.yaml_base.proofs.Common.{most_open, begins_collection, is_sound, open_count, IsAccepted, Settings, Effective, directives_in_force, is_empty}
+pub use Rattle.yaml_base.proofs.Common.{is_plain, Tree, JsonNumber, is_json_number, minus, yaml_number, are_digits, resolved_by_core, resolved_by_11}
+pub use Rattle.std.proofs.{Math.Nat.le-max_left, Math.Nat.le-max_right, lemmas.Bool.both_ways, lemmas.Bool.cases_lt, lemmas.List.append_cancel_right}
+pub use Rattle.std.proofs.Common.{Bor, ap₂, length-drop, length-take-le, take-append-drop, take_all}
+pub use Rattle.std.specs.Io.KnownBytes.{Appends}
+pub use Rattle.std.specs.Prelude.{Err, Ok, Result, IfSome, IfErr, OnOk, flat_map}
+pub use Rattle.json.{proofs.Nesting.value-depth, specs.Lex.tokens, specs.Reads.token_of, specs.Token.Token}
+pub use Rattle.json.proofs.Grammar.{left, value_is, members_no_key, left_some}
+pub use Rattle.json.specs.Json.{Json, null, boolean, number, string, Items, array, Members, object, no_items, item, no_members, member, parse_map}
+pub use Rattle.json.specs.Json.{after_end_array, read_key, value, skip_value}
+pub use Rattle.json.specs.Tree.{json_tokens, items_tokens, members_tokens, depth, HasNumbers}
+pub use Rattle.yaml_base.{proofs.Trees.stream_pushed, proofs.stream_nodes.StreamAgrees.node_tree, specs.Prefix.IsPrefix}
+pub use Rattle.yaml_base.{specs.values.JsonNumbers.fraction_or_default, specs.values.JsonNumbers.is_json_integer}
+pub use Rattle.yaml_base.specs.values.TypedValues.{null_tag, bool_tag, int_tag, bool_text}
+pub use Rattle.yaml_emitter.{proofs.standing.StandingMore.some_from_result, specs.Promises.RefusedAt, specs.StandsAfter.StateStands, specs.State.State}
+pub use Rattle.yaml_json.specs.{Begins.BeginsValue, Begins.NoneGoesOn, Cuts.HasScanned, Cuts.CutsAt, HeldNames.HaveNames, HeldNames.HoldsNames}
+pub use Rattle.yaml_json.specs.{HeldNames.AddsName, Means.Schema, Texts.after_byte, Texts.texts_in, Texts.CutsFirstText, TokenEvents.token_events}
+pub use Rattle.yaml_json.specs.{TokenEvents.tokens_events}
+pub use Rattle.yaml_json.specs.Failing.{failure_of, failure, FailedWith, FailedAt, FailedInText, between, events_with_separators, FailedInTexts}
+pub use Rattle.yaml_json.specs.JsonEvents.{word_content, null_content, bool_content, number_content, text_content, collection_in, json_events, items_events}
+pub use Rattle.yaml_json.specs.JsonEvents.{members_events}
+pub use Rattle.yaml_json.specs.Names.{IsNewName, inner_names, names_after, NamesOnce, all_names_after}
+pub use Rattle.yaml_json.specs.Refused.{RefusesText, BreaksOff, OpensTooDeep, NamesTwice, ExplainsError, HaveNamesOnce}
+pub use Rattle.yaml_json.specs.Sent.{Advances, ExplainsPart, StopsWithin, IsScanned}
+pub use Rattle.yaml_json.specs.Walk.{unwind, Stands, IsScalar, opener, closer, KeepsNames, FitsNames, Keeps, HasUniqueNames, BeganValue, BeginFailed}
+pub use Rattle.yaml_json.specs.Walk.{RefusesToken, BeganFirstValue, FirstFailed, RefusesFirst, WhyStopped, Refuses, WalkProgress}
+pub use Rattle.yaml_json.specs.Wrote.{IsBare, Wrote, WroteEvent, start_event, StartsCollection, Ends, WroteText, AreJson, parts_events, ReadsTexts}
+pub use Rattle.yaml_writer.{proofs.PartLemmas.number_found, specs.NumberParts.number_in, specs.NumberParts.IsNumber}
+pub use Rattle.yaml_writer.specs.Writing.{WriterState, opening, closing, float_tag, number_tag, number_event, text_style, text_event, mapping_event}
+pub use Rattle.yaml_writer.specs.Writing.{sequence_event, end_event, with_collection, StandsTaken, AddsEvents, PassedEvents, GaveEvent, EndsInnermost}

@@ -1,0 +1,35 @@
+-- The names that most proofs here cite, passed on from one place. Declares nothing.
+pub use Rattle.yaml_base.proofs.Common.{suc, zero, ℕ, ◌+◌, ◌-◌, ◌<◌, ◌≤◌, if◌then◌else◌, ◌==◌, unwrap_or, Option, None, Some, length, replicate}
+pub use Rattle.yaml_base.proofs.Common.{slice_index_or, take, Bool, false, true, List, [], ◌++◌, ◌∷◌, refl, ◌≡◌, length-append, append-nil, append_assoc, inl}
+pub use Rattle.yaml_base.proofs.Common.{inr, ap, subst, sym, ◌∙◌, arith, and_from, or_parts, false≢true, nat_tests, chars-IsAscii, len_utf8, list_any}
+pub use Rattle.yaml_base.proofs.Common.{all_scalars, chars, encode_utf8_all, Text, line_feed, space, is_break, Cursor, Rendered, render_nothing, render_then}
+pub use Rattle.yaml_base.proofs.Common.{column_after, encode, break_text, with_breaks_written, Encoding, utf8, utf16_little, utf16_big, LineBreak}
+pub use Rattle.yaml_base.proofs.Common.{line_feed_break}
+pub use Rattle.std.{proofs.Common.add-one, proofs.lemmas.Bool.cases_lt, proofs.lemmas.Grind.elements, proofs.lemmas.List.nil_from_length}
+pub use Rattle.std.{proofs.lemmas.List.take-replicate, specs.Fmt.is_char_start, specs.Str.IsAscii, specs.Str.Iter.chars_rest}
+pub use Rattle.std.proofs.lemmas.Str.{chars-nil, IsUtf8-from_ascii, encodes-chars, scalars-chars}
+pub use Rattle.std.specs.Prelude.{Err, Ok, Result, min, IsUtf8, IsSome}
+pub use base.Logic.{SProp, emp, ent, fst∗, via}
+pub use contract.Monad.{Fun}
+pub use contract.Running.{tables}
+pub use denote.RattleType.{owns}
+pub use denote.Shadow.{pure_i}
+pub use denote.Triple.Entry.{alive, on_entry}
+pub use denote.Triple.Spec.{Meets, triple_of}
+pub use denote.Triple.Table.{entered}
+pub use denote.Triple.Walked.{Stays, Walks, ends_at, says, walk_Meets, walk_of, walked}
+pub use mir.Val.{vnil, vstruct}
+pub use prog.Memory.{Memory}
+pub use prog.Routine.{Routine}
+pub use prog.Wp.{Calls, Loops, Tables, WpFn}
+pub use seplogic.Ra.Ura.{Ura}
+pub use sound.WpLaws.{WpFn-mono}
+pub use types.ByLocal.{alloc_all, free_all, look_at, pass_all, sets}
+pub use types.Kit.{ !, done, move, qed, raw, suffices, ‵, ◌$◌, ◌∵◌}
+pub use types.Logic.{Logic}
+pub use types.Part.{agg}
+pub use types.Run.{enter, no_more, returns}
+pub use Rattle.yaml_base.{proofs.Prefixes.prefix_same, specs.Cursor.render_text, specs.Decode.decode, specs.Encoding.character_bytes}
+pub use Rattle.yaml_base.{specs.Encoding.text_bytes, specs.Prefix.IsPrefix, specs.Seen.seen_encoding, specs.Seen.seen_break}
+pub use Rattle.yaml_pen.specs.{Lines.spaces_to, Lines.line_begun, Outlet.Bytes, Outlet.IsSound, Pen.page_of, Pen.IsPen, Wrote.named_text, Wrote.Wrote}
+pub use Rattle.yaml_pen.specs.Page.{Page, has_bom, IsReady, result_of_error, IsFlushedOutput}

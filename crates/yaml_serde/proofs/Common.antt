@@ -1,0 +1,13 @@
+-- The names that most proofs here cite, passed on from one place. Declares nothing.
+pub use Rattle.yaml_base.proofs.Common.{ℕ, ◌<◌, ◌≤◌, Option, None, Some, pos, length, take, Bool, false, true, List, [], ◌++◌, ◌∷◌, refl, ◌≡◌, append-nil}
+pub use Rattle.yaml_base.proofs.Common.{append_assoc, ap, subst, sym, ◌∙◌, arith, chars, Text, Event, Settings}
+pub use Rattle.yaml_emitter.proofs.Common.{State}
+pub use Rattle.std.specs.{Fmt.signed_decimal, Io.KnownBytes.Appends, List.All}
+pub use Rattle.std.specs.Prelude.{Err, Ok, Result, Vec, IfOk, OnOk}
+pub use mathlib.Core.Logic.{∥∥₁_map}
+pub use mir.Syntax.{w128}
+pub use Rattle.yaml_pen.{proofs.Composing.grows_itself, specs.Wrote.Grows}
+pub use Rattle.yaml_serde.specs.{Numbers.HasNumber, Outlets.is_kept, Outlets.Handed, Outlets.HandsOn}
+pub use Rattle.yaml_serde.specs.Documents.{IsWriterEvent, int_call, IsDocument, AppendsDocument, GivesEvents}
+pub use Rattle.yaml_writer.specs.Given.{seen_settings, default_settings}
+pub use Rattle.yaml_writer.specs.Writing.{WriterState, opening, closing, with_collection, awaits_node, StandsTaken, TakesBytes, IsStream, Finishes}
