@@ -156,7 +156,7 @@ fn send_all<'a, R: Runtime + AllocGlobal, W: Write>(
     }
 }
 
-/// The same through a buffer, which is flushed at the end, whatever went wrong.
+/// Sends on all that is to be converted through a buffer, which is flushed at the end, whatever went wrong.
 fn send_buffered<'a, R: Runtime + AllocGlobal, W: Write + Drop>(
     rt: &R,
     conversion: &Conversion<'a>,

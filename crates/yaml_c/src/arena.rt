@@ -42,7 +42,7 @@ fn borrowed_text<'a>(arena: &'a [u8], span: &Span) -> Option<&'a str>
     text_of(bytes_at(arena, span)?)
 }
 
-/// The same text, copied.
+/// A copy of the text of a span, where the span lies within the arena and is UTF-8.
 pub(crate) fn owned_text<A: Allocator>(
     alloc: A,
     arena: &[u8],

@@ -247,7 +247,7 @@ fn write_texts<A: Allocator + Copy, W: Write>(
     Ok(rest.len())
 }
 
-/// The same, and drops the bytes of these texts.
+/// Gives a writer the texts that are complete in what came, sends on what is written of each, and drops their bytes.
 fn write_complete<A: Allocator + Copy, W: Write>(
     writer: &mut Writer<A>,
     sink: &mut W,

@@ -47,7 +47,7 @@ fn check_text<T: Serialize>(rt: &impl Abort, alloc: Global, value: &T, expected:
     check_sent(rt, alloc, value, expected);
 }
 
-/// The same of a value that takes memory.
+/// Checks the text of a value that takes memory.
 fn check_made<T: Serialize + Drop>(
     rt: &impl Abort,
     alloc: Global,

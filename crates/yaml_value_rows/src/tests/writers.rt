@@ -98,7 +98,7 @@ fn check_written(
     check_given(rt, writer, calls, wanted);
 }
 
-/// The same in portable mode, where the stream has an end.
+/// Checks what calls write in portable mode, where the stream has an end.
 fn check_portable(rt: &impl Abort, alloc: Global, calls: &[Call], wanted: &str) {
     check_written(
         rt,

@@ -98,7 +98,7 @@ fn pair_nodes(rt: &impl Abort, alloc: Global, key: &str, value: i32) -> Nodes {
     nodes
 }
 
-/// The same, and another text.
+/// A mapping of `name` to the node of this number, and another text.
 fn named_nodes(rt: &impl Abort, alloc: Global, value: i32) -> Nodes {
     let mut nodes = pair_nodes(rt, alloc, "name", value);
     add(rt, &mut nodes, text_node(alloc, "beta"));

@@ -107,7 +107,7 @@ fn item(rt: &impl Abort, alloc: Global) -> Events {
     events
 }
 
-/// The same, its end, and that of the document.
+/// An item, the end of its sequence, and that of the document.
 fn rest(rt: &impl Abort, alloc: Global) -> Events {
     let mut events = item(rt, alloc);
     add(rt, &mut events, YAML_SEQUENCE_END_EVENT);
