@@ -147,7 +147,7 @@ fn bytes_appear_at_a_documents_end(rt: HostRuntime) {
     give_in_parts(&rt, rt.alloc(), &mut emitter);
 }
 
-/// Hands out all text so far. Returns how many events still wait for those that follow.
+/// Flushes all text so far. Returns how many events still wait for those that follow.
 fn flush_text(emitter: &mut yaml_emitter_t<Global>) -> Result<usize, yaml_error_t>
     requires { emitter.old.has_output ≡ true }
     ensures { emitter.new.has_output ≡ true }
