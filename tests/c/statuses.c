@@ -232,12 +232,16 @@ static void expect_json(const char *name, const char *text, struct yaml_c_json_s
            (unsigned long)result.column, (int)result.length, (const char *)out);
 }
 
+/* Seven words that fill columns 11 to 79 behind `--- aaaaaa `. */
+#define EIGHTY "bbbbbbbbb ccccccccc ddddddddd eeeeeeeee fffffffff ggggggggg hhhhhhhhh"
+
 static void json_settings(void) {
     static const char text[] = "{\"a\": [1, {\"b\": 2}]}", words[] = "\"aaaa bbbb cccc dddd eeee ffff\"";
     struct yaml_c_json_settings given;
     memset(&given, 0, sizeof given);
     expect_json("the defaults", text, given, YAML_DONE, 0, 0, "---\na:\n  - 1\n  - b: 2\n");
-    expect_json("a width of 80", words, given, YAML_DONE, 0, 0, "--- aaaa bbbb cccc dddd eeee ffff\n");
+    expect_json("a space in column 80", "\"aaaaaa " EIGHTY " iiii\"", given, YAML_DONE, 0, 0, "--- aaaaaa " EIGHTY " iiii\n");
+    expect_json("a space in column 81", "\"aaaaaaa " EIGHTY " iiii\"", given, YAML_DONE, 0, 0, "--- aaaaaaa " EIGHTY "\n  iiii\n");
     given.indent = 4;
     expect_json("an indent of 4", text, given, YAML_DONE, 0, 0, "---\na:\n    - 1\n    -   b: 2\n");
     given.no_indented_sequences = 1;
