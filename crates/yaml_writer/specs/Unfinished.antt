@@ -56,8 +56,8 @@ pub record PassesLimit (given : Settings) (all : List Event) : Type 0 where
       given.limit < length (bytes_written s (take (length prefix) (list_layout s (prefix ++ more))))
   pub whole : IsAccepted given.canonical all → IsUncut given all → ⊥
 
--- the stream of an emitter couldn't be finished with this error, by an end that is written or isn't: its first error stays; the limit gave out only where the bytes
--- pass it; an error of events comes only where they are no stream
+-- the stream of an emitter couldn't be finished with this error, by an end that is written or isn't: its first error stays; the
+-- limit gave out only where the bytes pass it; an error of events comes only where they are no stream
 pub record IsUnfinishedBy (implicit : Bool) (emitter : State) (error : yaml_error_t) : Type 0 where
   pub first : (earlier : yaml_error_t) → emitter.error ≡ Some earlier → error ≡ earlier
   pub full : error ≡ WriteError → (given : Settings) (all : List Event) → StandsAfter given all emitter → PassesLimit given (all ++ closing_by implicit)

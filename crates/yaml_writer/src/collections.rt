@@ -17,7 +17,8 @@ impl<A: Allocator + Copy> Writer<A> {
     /// Those of the emitter, and `Memory`.
     pub fn begin_mapping(&mut self, style: yaml_mapping_style_t) -> Result<(), yaml_error_t>
         ensures given { OnOk result (GaveEvent (with_collection self.old Mapping) (mapping_event self.old (seen_mapping_style style)) None self.new) }
-        ensures failed { IfErr result (λ error. GaveEvent (with_collection self.old Mapping) (mapping_event self.old (seen_mapping_style style)) (Some error) self.new
+        ensures failed { IfErr result (λ error.
+            GaveEvent (with_collection self.old Mapping) (mapping_event self.old (seen_mapping_style style)) (Some error) self.new
             ⊎ ((error ≡ yaml_error_t.Memory) × (self.new ≡ self.old))) }
     {
         self.enter(CollectionKind::Mapping)?;
@@ -30,7 +31,8 @@ impl<A: Allocator + Copy> Writer<A> {
     /// Those of the emitter, and `Memory`.
     pub fn begin_sequence(&mut self, style: yaml_sequence_style_t) -> Result<(), yaml_error_t>
         ensures given { OnOk result (GaveEvent (with_collection self.old Sequence) (sequence_event self.old (seen_sequence_style style)) None self.new) }
-        ensures failed { IfErr result (λ error. GaveEvent (with_collection self.old Sequence) (sequence_event self.old (seen_sequence_style style)) (Some error) self.new
+        ensures failed { IfErr result (λ error.
+            GaveEvent (with_collection self.old Sequence) (sequence_event self.old (seen_sequence_style style)) (Some error) self.new
             ⊎ ((error ≡ yaml_error_t.Memory) × (self.new ≡ self.old))) }
     {
         self.enter(CollectionKind::Sequence)?;

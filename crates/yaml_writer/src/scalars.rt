@@ -180,9 +180,9 @@ impl<A: Allocator + Copy> Writer<A> {
         self.text_styled(YAML_ANY_SCALAR_STYLE, value)
     }
 
-    /// Writes a text in a style, which no reader takes for another value. Where it can't stand so, the emitter's choice decides:
-    /// a plain one stands in quotes, also where a reader could take it for another value; one in a block style, as a key or in a
-    /// flow collection, in double quotes, and so does what can't stand in single ones. ANY is the style of `text`.
+    /// Writes a text in a style, which no reader takes for another value. A plain text that a reader could take for another
+    /// value, or that can't be plain, stands in quotes. A literal or folded one stands in double quotes as a key and in flow.
+    /// What single quotes can't hold stands in double quotes. ANY is the style of `text`.
     ///
     /// # Errors
     /// Those of the emitter, and `Memory`.

@@ -104,7 +104,8 @@ impl<A: Allocator + Copy> Writer<A> {
     }
 
     /// Hands the bytes that `take_output` would return on to a sink; they are then taken, too. So a stream of any length is
-    /// written in bounded memory: send after each document, or, as its bytes are flushed 16,384 at a time, after each call.
+    /// written in the memory of 16,384 bytes, of the longest text and of what is open: send after each document, or, as its
+    /// bytes are flushed 16,384 at a time, after each call.
     ///
     /// All else of the writer stays.
     ///
