@@ -89,6 +89,13 @@ impl<A: Allocator + Copy> Writer<A> {
         self.anchor.is_some() || self.tag.is_some()
     }
 
+    /// The first error of the emitter, which each event after it returns, too.
+    pub fn error(&self) -> Option<yaml_error_t>
+        ensures { result ≡ self.now.emitter.error }
+    {
+        self.emitter.error()
+    }
+
     /// The bytes of the stream that were flushed so far and not taken before, so that a stream of any length can be sent
     /// onwards while it is written: what these calls return, one after another, and then `finish`, is together the stream.
     /// A document's bytes are flushed at its end at the latest, by `next_document` or `finish`.
