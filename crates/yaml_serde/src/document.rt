@@ -1,6 +1,6 @@
 //! A document that is being written.
 ghost use Rattle.std.specs.Io.KnownBytes.{Appends};
-ghost use Rattle.std.specs.Prelude.{◌≡◌, ℕ, [], false, true, Bool, IfOk, List, None, Option, length, take};
+ghost use Rattle.std.specs.Prelude.{◌≡◌, ℕ, [], false, true, Bool, IfOk, List, None, OnOk, Option, length, take};
 ghost use Rattle.yaml_base.specs.Settings as base;
 ghost use Rattle.yaml_writer.specs.Writing.{StandsTaken, WriterState, awaits_node, opening};
 ghost use Rattle.yaml_serde.specs.Documents.{AppendsDocument, GivesEvents, IsDocument};
@@ -154,17 +154,23 @@ impl<G: Given, W: Write + Drop> Document<G, W> {
         }
     }
 
-    /// The writer, and whether all that the document opened is ended, and no anchor and no tag awaits its node.
-    pub(crate) fn into_writer(self) -> (Writer<Global>, bool)
+    /// The writer, and its error, if it has one; `ExpectedNode` where something that the document opened isn't ended, or an
+    /// anchor or a tag awaits its node.
+    pub(crate) fn into_writer(self) -> (Writer<Global>, Result<(), Error>)
         requires { G.keeps ≡ true }
         ensures gives { GivesEvents G.start.emitter result.0.emitter }
         ensures canonical { result.0.canonical ≡ G.start.canonical }
         ensures above { take (length G.start.levels) result.0.levels ≡ G.start.levels }
-        ensures whole { result.1 ≡ true → (result.0.levels ≡ G.start.levels) × (awaits_node result.0 ≡ false) }
+        ensures whole { OnOk result.1 ((result.0.levels ≡ G.start.levels) × (awaits_node result.0 ≡ false)) }
+        ensures sound { OnOk result.1 (result.0.emitter.error ≡ None) }
     {
         let Document { writer, base, .. } = self;
-        let is_whole = writer.depth() == base && !writer.awaits_node();
-        (writer, is_whole)
+        let whole = match writer.error() {
+            Some(error) => Err(Error::from(error)),
+            None if writer.depth() == base && !writer.awaits_node() => Ok(()),
+            None => Err(Error::Emitter(yaml_error_t::ExpectedNode)),
+        };
+        (writer, whole)
     }
 }
 

@@ -1,5 +1,5 @@
 //! A value as YAML.
-ghost use Rattle.std.specs.Prelude.{◌≡◌, [], IfOk, IsUtf8, OnOk, false, length, string_bytes, take, true};
+ghost use Rattle.std.specs.Prelude.{◌≡◌, [], IfOk, IsUtf8, None, OnOk, false, length, string_bytes, take, true};
 ghost use Rattle.yaml_base.specs.Settings as base;
 ghost use Rattle.yaml_writer.specs.Given.{default_settings, seen_settings};
 ghost use Rattle.yaml_writer.specs.Writing.{StandsTaken, awaits_node, opening};
@@ -14,7 +14,7 @@ use std::alloc::Global;
 use std::io::Write;
 use std::marker::Brand;
 use std::mem;
-use yaml_writer::{Settings, Writer, yaml_error_t};
+use yaml_writer::{Settings, Writer};
 
 /// The sink of a document whose bytes stay with the writer.
 type NoSink = Vec<u8>;
@@ -112,6 +112,7 @@ pub fn write<T: Serialize>(
     ensures canonical { writer.new.canonical ≡ writer.old.canonical }
     ensures above { take (length writer.old.levels) writer.new.levels ≡ writer.old.levels }
     ensures whole { OnOk result ((writer.new.levels ≡ writer.old.levels) × (awaits_node writer.new ≡ false)) }
+    ensures sound { OnOk result (writer.new.emitter.error ≡ None) }
 {
     let spare = Writer::new(alloc, Settings::default())?;
     let lent = mem::replace(writer, spare);
@@ -167,23 +168,15 @@ fn given<T: Serialize, G: Given>(
     ensures canonical { result.0.canonical ≡ G.start.canonical }
     ensures above { take (length G.start.levels) result.0.levels ≡ G.start.levels }
     ensures whole { OnOk result.1 ((result.0.levels ≡ G.start.levels) × (awaits_node result.0 ≡ false)) }
+    ensures sound { OnOk result.1 (result.0.emitter.error ≡ None) }
 {
     let document: Document<G, NoSink> = Document::new(writer, Outlet::Kept);
     let mut serializer = ValueSerializer::new(alloc, document);
     let answer = value.serialize(&mut serializer);
-    let (writer, is_whole) = serializer.into_document().into_writer();
-    (writer, whole_answer(answer, is_whole))
-}
-
-/// An error, also where a value isn't whole.
-fn whole_answer(answer: Result<(), Error>, is_whole: bool) -> Result<(), Error>
-    ensures { OnOk result (is_whole ≡ true) }
-{
-    answer?;
-    if is_whole {
-        Ok(())
-    } else {
-        Err(Error::Emitter(yaml_error_t::ExpectedNode))
+    let (writer, whole) = serializer.into_document().into_writer();
+    match answer {
+        Ok(()) => (writer, whole),
+        Err(error) => (writer, Err(error)),
     }
 }
 
