@@ -2,7 +2,8 @@
 use Rattle.std.specs.Io.KnownBytes.{Appends}
 use Rattle.std.specs.Prelude.{◌≡◌, ⊤, ℕ, Bool, true, false, Option, None, List, [], ◌++◌, length, take}
 use Rattle.yaml_pen.specs.Wrote.{Grows}
-use Rattle.yaml_emitter.specs.State.{State, new_state}
+use Rattle.yaml_pen.specs.Page.{output_left}
+use Rattle.yaml_emitter.specs.State.{State, new_state, with_all_taken}
 use Rattle.yaml_writer.specs.Writing.{WriterState, TakesBytes}
 use Rattle.yaml_serde.specs.Documents.{GaveEvents}
 use Rattle.yaml_serde.specs.declared.outlet.Outlet.{Outlet}
@@ -28,6 +29,20 @@ pub record HandsOn {W : Type 0} (contents : W → Option (List ℕ)) (old : Outl
   pub rest : after ≡ record before { emitter = after.emitter }
   pub grows : Grows before.emitter.page after.emitter.page
   pub kept : is_kept new ≡ is_kept old
+
+-- all that was flushed was handed on to a sink, and is taken; nothing, where the bytes stay with the writer
+abbrev pub HandsAll : {W : Type 0} → (W → Option (List ℕ)) → Outlet W → WriterState → Outlet W → WriterState → Type 0
+HandsAll contents Kept before Kept after = after ≡ before
+HandsAll contents (Sink sink) before (Sink now) after =
+    Appends (contents sink) (contents now) (output_left before.emitter.page)
+    × (after ≡ record before { emitter = with_all_taken before.emitter })
+HandsAll contents old before new after = ⊥
+
+-- whether the sink failed
+abbrev pub has_failed : {W : Type 0} → Outlet W → Bool
+has_failed Kept = false
+has_failed (Sink sink) = false
+has_failed (Failed error) = true
 
 -- what was written of a document: the writer was given the events of some calls, of its output these bytes were taken, and they were
 -- handed on; what was written before stays

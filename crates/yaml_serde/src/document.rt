@@ -1,11 +1,11 @@
 //! A document that is being written.
 ghost use Rattle.std.specs.Io.KnownBytes.{Appends};
-ghost use Rattle.std.specs.Prelude.{◌≡◌, ℕ, [], false, true, Bool, IfOk, List, None, OnOk, Option, length, take};
+ghost use Rattle.std.specs.Prelude.{◌≡◌, ℕ, [], false, true, Bool, IfOk, List, None, Ok, OnErr, OnOk, Option, length, take};
 ghost use Rattle.yaml_base.specs.Settings as base;
 ghost use Rattle.yaml_writer.specs.Writing.{StandsTaken, WriterState, awaits_node, opening};
 ghost use Rattle.yaml_serde.specs.Documents.{AppendsDocument, GivesEvents, IsDocument};
 ghost use Rattle.yaml_serde.specs.Numbers.{HasNumber};
-ghost use Rattle.yaml_serde.specs.Outlets.{Handed, Stands, is_kept, some_writer};
+ghost use Rattle.yaml_serde.specs.Outlets.{Handed, HandsAll, Stands, has_failed, is_kept, some_writer};
 
 use crate::error::Error;
 use crate::numbers::number_in;
@@ -64,7 +64,11 @@ impl<G: Given, W: Write + Drop> Document<G, W> {
     }
 
     /// Hands on what is flushed, once an event was given.
-    fn settle(&mut self, given: Result<(), yaml_error_t>) -> Result<(), Error> {
+    fn settle(&mut self, given: Result<(), yaml_error_t>) -> Result<(), Error>
+        ensures given { OnOk result (given ≡ Ok tt) }
+        ensures all { OnOk result (HandsAll W.contents self.old.outlet self.old.writer self.new.outlet self.new.writer) }
+        ensures failed { given ≡ Ok tt → OnErr result (has_failed self.new.outlet ≡ true) }
+    {
         given?;
         hand_on(&mut self.writer, &mut self.outlet)
     }

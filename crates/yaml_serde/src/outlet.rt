@@ -1,5 +1,6 @@
 //! Where the bytes of a document go.
-ghost use Rattle.yaml_serde.specs.Outlets.{HandsOn};
+ghost use Rattle.std.specs.Prelude.{◌≡◌, OnErr, OnOk, true};
+ghost use Rattle.yaml_serde.specs.Outlets.{HandsAll, HandsOn, has_failed};
 
 use crate::error::Error;
 use std::alloc::Global;
@@ -18,12 +19,14 @@ pub(crate) enum Outlet<W> {
     Failed(io::Error),
 }
 
-/// Hands on what is flushed.
+/// Hands on what is flushed. An error is that of the sink, which the outlet then holds.
 pub(crate) fn hand_on<W: Write + Drop>(
     writer: &mut Writer<Global>,
     outlet: &mut Outlet<W>,
 ) -> Result<(), Error>
-    ensures { HandsOn W.contents outlet.old writer.old outlet.new writer.new }
+    ensures hands { HandsOn W.contents outlet.old writer.old outlet.new writer.new }
+    ensures all { OnOk result (HandsAll W.contents outlet.old writer.old outlet.new writer.new) }
+    ensures failed { OnErr result (has_failed outlet.new ≡ true) }
 {
     let answer = match outlet {
         Outlet::Kept => return Ok(()),

@@ -23,6 +23,3 @@ returns-clause-whole g c =
     let now = c.given-lent.result.0 in
     subst (λ (was : WriterState). OnOk c.given-lent.result.1 ((now.levels ≡ was.levels) × (awaits_node now ≡ false))) c.replace-lent.ensures.value
     c.given-lent.ensures.whole
-
-pub returns-clause-sound : goal.returns-clause-sound
-returns-clause-sound g c = c.given-lent.ensures.sound

@@ -7,5 +7,5 @@ invariant_of-self g c =
     record {
       stands =
           stands_handed g.W.Write.contents g.G.Given.held g.G.Given.keeps g.G.Given.start self.outlet c.hand_on.new.outlet self.base self.writer
-          c.hand_on.new.writer c.hand_on.ensures self.stands;
+          c.hand_on.new.writer c.hand_on.ensures.hands self.stands;
     }
