@@ -6,8 +6,8 @@ use yaml_writer::yaml_error_t;
 /// Why a value isn't written.
 #[derive(Debug, Drop)]
 pub enum Error {
-    /// The emitter's error: `TooDeep`, `WriteError`, or that of a `Serialize` by hand that writes no value, several, or a
-    /// variant's name without its data.
+    /// The emitter's error: `TooDeep`, `WriteError`, that of a `Serialize` by hand that writes no value, several, or a
+    /// variant's name without its data, or an error that the writer had before.
     Emitter(yaml_error_t),
     /// What the value's own `serialize` says.
     Custom(String),

@@ -44,7 +44,7 @@ pub fn to_vec_with<T: Serialize>(
 }
 
 /// A value as a stream of one document, by the writer's default settings: in portable mode, so it begins with `---`; in UTF-8,
-/// with LF, an indent of 2 and a width of 80, and characters past ASCII as themselves.
+/// with LF, an indent of 2, indented sequences, a width of 80, and characters past ASCII as themselves.
 ///
 /// # Errors
 /// Those of `to_vec_with`.
@@ -66,9 +66,9 @@ pub fn to_string<T: Serialize>(alloc: Global, value: &T) -> Result<String, Error
     Ok(text_of(bytes))
 }
 
-/// Writes a value to a sink as a stream of one document, in bounded memory: its bytes are handed on as they are written, at most
-/// 16,384 later, or a scalar later where that is longer. The sink is given back; pass it as `&mut sink` to keep it after an error.
-/// It isn't flushed.
+/// Writes a value to a sink as a stream of one document, in the memory of 16,384 bytes, of the longest text and of what is open:
+/// its bytes are handed on as they are written, at most 16,384 later, or a scalar later where that is longer. The sink is given
+/// back; pass it as `&mut sink` to keep it after an error. It isn't flushed.
 ///
 /// # Errors
 /// Those of `to_vec_with`, and `Sink` where the sink fails. What was handed on before an error stands in the sink.
@@ -98,11 +98,12 @@ pub fn to_writer<T: Serialize, W: Write + Drop>(
     to_writer_with(alloc, Settings::default(), sink, value)
 }
 
-/// Gives a value to a writer as its next node, with the anchor and the tag that await it.
+/// Gives a value to a writer as its next node, with the anchor and the tag that await it. It doesn't notice that a `Serialize` by
+/// hand wrote no node where neither awaits one, nor that it wrote several within a collection.
 ///
 /// # Errors
-/// Those of `to_vec_with`, and `Emitter` with an error that the writer had before. What was given before an error stays given, and what
-/// the value opened may stay open; what was open before stays so.
+/// Those of `to_vec_with`, and else the emitter's error, also one that the writer had before or that the value's own `serialize`
+/// ignored. What was given before an error stays given, and what the value opened may stay open; what was open before stays so.
 pub fn write<T: Serialize>(
     alloc: Global,
     writer: &mut Writer<Global>,
