@@ -1,7 +1,8 @@
-//! Typed values, a writer of values, numbers of JSON, values of any type that is serialized, proved callers, and the
-//! examples of the documents.
+//! Typed values, a writer of values, numbers of JSON, values of any type that is serialized, how they are handed on, proved
+//! callers, and the examples of the documents.
 mod callers;
 mod calling;
+mod handed;
 mod numbers;
 mod serialized;
 mod values;

@@ -4,10 +4,8 @@ use crate::tests::{Narrow, equal, same};
 use serde::{Case, Described, Serialize, Serializer};
 use std::alloc::{AllocError, Global};
 use std::collections::BTreeMap;
-use std::io;
 use std::process::Abort;
-use yaml_serde::{Error, to_string, to_vec, to_writer, write, yaml_error_t};
-use yaml_writer::{Settings, Writer, YAML_BLOCK_SEQUENCE_STYLE};
+use yaml_serde::{Error, to_string, to_vec, to_writer, yaml_error_t};
 
 /// The YAML of a value. (Tests need none of the clauses of the call.)
 fn yaml_of<T: Serialize>(alloc: Global, value: &T) -> Result<String, Error> {
@@ -31,7 +29,11 @@ fn check_bytes<T: Serialize>(rt: &impl Abort, alloc: Global, value: &T, expected
 }
 
 /// A sink that was handed a value.
-fn sink_of<T: Serialize>(alloc: Global, room: usize, value: &T) -> Result<Narrow, Error> {
+pub(super) fn sink_of<T: Serialize>(
+    alloc: Global,
+    room: usize,
+    value: &T,
+) -> Result<Narrow, Error> {
     to_writer(alloc, Narrow::new(alloc, room), value)
 }
 
@@ -77,7 +79,7 @@ fn emitter_error<T: Serialize>(alloc: Global, value: &T) -> Option<yaml_error_t>
 }
 
 #[derive(Drop, Serialize)]
-struct Server<'a> {
+pub(super) struct Server<'a> {
     name: &'a str,
     ports: Vec<u16>,
     limit: Option<u32>,
@@ -85,7 +87,7 @@ struct Server<'a> {
     weights: (i8, &'a str),
 }
 
-fn alpha(alloc: Global) -> Result<Server<'static>, AllocError> {
+pub(super) fn alpha(alloc: Global) -> Result<Server<'static>, AllocError> {
     Ok(Server {
         name: "alpha",
         ports: vec![in alloc; 80, 443]?,
@@ -150,7 +152,7 @@ struct Nothing;
 struct Meters(f64);
 
 #[derive(Drop, Serialize)]
-struct Point(i8, isize);
+pub(super) struct Point(pub(super) i8, pub(super) isize);
 
 #[test]
 fn structs_without_names_are_null_their_value_or_a_sequence(rt: HostRuntime) {
@@ -316,7 +318,7 @@ fn a_variant_without_its_data_is_refused(rt: HostRuntime) {
 
 /// So many values, and then a complaint or none.
 #[derive(Drop)]
-struct Values(u8, Option<&'static str>);
+pub(super) struct Values(pub(super) u8, pub(super) Option<&'static str>);
 
 impl Described for Values {}
 
@@ -344,98 +346,4 @@ fn what_is_no_value_is_refused(rt: HostRuntime) {
     let two = emitter_error(rt.alloc(), &Values(2, None));
     equal(&rt, &two, &Some(yaml_error_t::ExpectedDocumentEnd));
     check_complaint(&rt, rt.alloc(), &Values(1, Some("not today")), "not today");
-}
-
-/// The kind of a sink's error; nothing where it fails otherwise, or the value is written.
-fn sink_failure<T: Serialize>(alloc: Global, room: usize, value: &T) -> Option<io::ErrorKind> {
-    match sink_of(alloc, room, value) {
-        Err(Error::Sink(error)) => Some(error.kind()),
-        _ => None,
-    }
-}
-
-/// So many numbers of five digits.
-fn numbers(alloc: Global, count: u32) -> Result<Vec<u32>, AllocError> {
-    let mut numbers = Vec::new(alloc);
-    for number in 0..count {
-        numbers.push(10_000 + number % 90_000)?;
-    }
-    Ok(numbers)
-}
-
-/// The bytes that a sink has when it fails, of a value that it is handed.
-fn sent_before(rt: &impl Abort, alloc: Global, room: usize, value: &Vec<u32>) -> usize {
-    let mut sink = Narrow::new(alloc, room);
-    equal(rt, &to_writer(alloc, &mut sink, value).is_ok(), &false);
-    sink.taken.len()
-}
-
-#[test]
-fn a_sink_that_fails_ends_the_document(rt: HostRuntime) {
-    let alloc = rt.alloc();
-    let full = Some(io::ErrorKind::StorageFull);
-    equal(&rt, &sink_failure(alloc, 3, &5u8), &full);
-    equal(&rt, &sink_failure(alloc, 6, &5u8), &None);
-    let numbers = numbers(alloc, 10_000).expect(&rt, "no memory");
-    equal(&rt, &sent_before(&rt, alloc, 20_000, &numbers), &20_000);
-}
-
-/// A value is given to a writer. (Tests need none of the clauses of the call.)
-fn is_given<T: Serialize>(alloc: Global, writer: &mut Writer<Global>, value: &T) -> bool {
-    write(alloc, writer, value).is_ok()
-}
-
-fn writer(rt: &impl Abort, alloc: Global) -> Writer<Global> {
-    Writer::new(alloc, Settings::default()).expect(rt, "no memory")
-}
-
-fn check_finished(rt: &impl Abort, writer: Writer<Global>, expected: &str) {
-    let bytes = writer.finish().expect(rt, "a stream");
-    same(rt, bytes.as_slice(), expected.as_bytes());
-}
-
-/// A sequence begins, whose first item has a tag.
-fn begin_tagged(writer: &mut Writer<Global>) -> Result<(), yaml_error_t> {
-    writer.begin_sequence(YAML_BLOCK_SEQUENCE_STYLE)?;
-    writer.tagged("!server")
-}
-
-#[test]
-fn a_value_is_a_node_of_a_writer(rt: HostRuntime) {
-    let alloc = rt.alloc();
-    let mut writer = writer(&rt, alloc);
-    equal(&rt, &begin_tagged(&mut writer), &Ok(()));
-    let server = alpha(alloc).expect(&rt, "no memory");
-    equal(&rt, &is_given(alloc, &mut writer, &server), &true);
-    equal(&rt, &is_given(alloc, &mut writer, &"no"), &true);
-    equal(&rt, &writer.end(), &Ok(()));
-    equal(&rt, &writer.next_document(), &Ok(()));
-    equal(&rt, &is_given(alloc, &mut writer, &Point(1, -2)), &true);
-    let expected =
-        "---\n- !server\n  name: alpha\n  ports:\n    - 80\n    - 443\n  limit: null\n  backup: false\n  weights:\n    - -1\n    - 'yes'\n- 'no'\n---\n- 1\n- -2\n";
-    check_finished(&rt, writer, expected);
-}
-
-/// A value that ends what it didn't begin.
-#[derive(Drop)]
-struct Ender;
-
-impl Described for Ender {}
-
-impl Serialize for Ender {
-    fn serialize<S: Serializer>(&self, out: &mut S) -> Result<(), S::Error> {
-        out.end_seq()
-    }
-}
-
-#[test]
-fn a_value_ends_only_what_it_began(rt: HostRuntime) {
-    let alloc = rt.alloc();
-    let mut writer = writer(&rt, alloc);
-    equal(&rt, &begin_tagged(&mut writer), &Ok(()));
-    equal(&rt, &is_given(alloc, &mut writer, &Ender), &false);
-    equal(&rt, &is_given(alloc, &mut writer, &Values(0, None)), &false);
-    equal(&rt, &is_given(alloc, &mut writer, &1u8), &true);
-    equal(&rt, &writer.end(), &Ok(()));
-    check_finished(&rt, writer, "---\n- !server 1\n");
 }
