@@ -47,7 +47,7 @@ fn closes(byte: u8) -> bool
     (byte == b'}') | (byte == b']')
 }
 
-fn is_plus_or_minus(byte: u8) -> bool
+fn is_operator(byte: u8) -> bool
     ensures { result ≡ is_operator byte }
 {
     (byte == b'{')
@@ -84,7 +84,7 @@ fn begun(byte: u8) -> Scan
             mode: Mode::Within,
             levels: 1,
         }
-    } else if is_plus_or_minus(byte) {
+    } else if is_operator(byte) {
         Scan {
             mode: Mode::Behind,
             levels: 0,
@@ -178,7 +178,7 @@ fn step(scan: Scan, byte: u8) -> Option<Scan>
                     mode: Mode::Behind,
                     levels: 0,
                 })
-            } else if is_plus_or_minus(byte) {
+            } else if is_operator(byte) {
                 None
             } else {
                 Some(scan)
