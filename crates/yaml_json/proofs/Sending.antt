@@ -1,27 +1,36 @@
 -- JSON texts that come part by part, in turn.
-use Rattle.yaml_json.proofs.Common.{ℕ, ◌+◌, ◌-◌, ◌≤◌, flat_map, IfSome, IfErr, OnOk, Option, None, Some, Result, Err, Ok, drop, length, take, Bool, true}
-use Rattle.yaml_json.proofs.Common.{List, [], map, ◌++◌, ◌∷◌, refl, ◌≡◌, length-drop, take-append-drop, append-nil, append_assoc, inl, inr, ap, subst, sym}
-use Rattle.yaml_json.proofs.Common.{◌∙◌, arith, flat_map-append, map-append, Appends, Json, tokens, Event, HasScanned, CutsAt, between}
-use Rattle.yaml_json.proofs.Common.{events_with_separators, json_events, NamesOnce, HaveNamesOnce, Advances, ExplainsPart, StopsWithin, texts_in, IsBare}
-use Rattle.yaml_json.proofs.Common.{Wrote, WroteText, AreJson, parts_events, WriterState, StandsTaken, PassedEvents}
-use Rattle.yaml_emitter.proofs.Common.{with_all_taken}
-use Rattle.yaml_writer.proofs.Common.{TakesBytes}
-use Rattle.std.{proofs.lemmas.List.drop-drop, specs.Io.KnownBytes.Keeps, specs.Io.KnownBytes.Consumes, specs.Io.KnownBytes.IsAtEnd}
+use Rattle.std.proofs.Common.{◌≡◌, ◌≤◌, ◌-◌, ◌+◌, inl, inr, refl, sym, ap, ◌∙◌, subst, append_assoc, append-nil, arith}
+use Rattle.std.proofs.lemmas.List.{drop-drop, length-drop, map-append, take-append-drop}
+use Rattle.std.proofs.lemmas.List.Concat.{flat_map-append}
+use Rattle.std.specs.Prelude.{ℕ, Bool, true, Option, None, Some, OnOk, Result, Ok, Err, List, [], ◌∷◌, ◌++◌, IfSome, drop, flat_map, length, map, take}
+use Rattle.std.specs.Io.KnownBytes.{Appends, Consumes, IsAtEnd, Keeps}
+use Rattle.json.specs.Json.{Json}
+use Rattle.json.specs.Lex.{tokens}
+use Rattle.yaml_base.specs.Event.{Event}
 use Rattle.yaml_base.specs.declared.errors.yaml_error_t.{yaml_error_t}
-use Rattle.yaml_json.{proofs.Cutting.whole_text, proofs.YamlOf.sent_reads, specs.declared.cuts.Cut.Cut, specs.declared.error.StreamError.StreamError}
-use Rattle.yaml_json.proofs.TextsInTurn.{ends_with, one_more, joined_more, text_names, more_names}
-use Rattle.yaml_json.specs.Sent.{WroteTaking, SentTexts, ReadsSent, Sending, BeginsNext, SentDocuments, RefusesSent, IsByNoText, IsSent, LeavesLast}
+use Rattle.yaml_emitter.specs.State.{with_all_taken}
+use Rattle.yaml_writer.specs.Writing.{PassedEvents, StandsTaken, TakesBytes, WriterState}
+use Rattle.yaml_json.specs.Cuts.{CutsAt, HasScanned}
+use Rattle.yaml_json.specs.declared.cuts.Cut.{Cut}
+use Rattle.yaml_json.specs.Failing.{between, events_with_separators}
+use Rattle.yaml_json.specs.JsonEvents.{json_events}
+use Rattle.yaml_json.specs.Names.{NamesOnce}
+use Rattle.yaml_json.specs.Refused.{HaveNamesOnce}
+use Rattle.yaml_json.specs.Sent.{Advances, BeginsNext, ExplainsPart, IsByNoText, IsSent, LeavesLast}
+use Rattle.yaml_json.specs.Sent.{ReadsSent, RefusesFirst, RefusesSent, Sending, SentDocuments, SentTexts, StopsWithin, WroteTaking}
+use Rattle.yaml_json.specs.Texts.{texts_in}
+use Rattle.yaml_json.specs.Wrote.{AreJson, IsBare, Wrote, WroteText, parts_events}
+use Rattle.yaml_json.specs.declared.error.StreamError.{StreamError}
 use Rattle.yaml_json.specs.declared.error.StreamError.TheVariants as faults
+use Rattle.yaml_json.proofs.Cutting.{whole_text}
+use Rattle.yaml_json.proofs.YamlOf.{sent_reads}
+use Rattle.yaml_json.proofs.TextsInTurn.{ends_with, joined_more, more_names, one_more, text_names}
 
 -- ---- what follows where a call succeeds, or fails
 
 pub on_both : {A E P Q R : Type 0} (answer : Result A E) → (P → Q → R) → OnOk answer P → OnOk answer Q → OnOk answer R
 on_both (Ok value) follows held also = follows held also
 on_both (Err error) follows held also = tt
-
-pub always_err : {A E : Type 0} {P : E → Type 0} (answer : Result A E) → ((error : E) → P error) → IfErr answer P
-always_err (Ok value) held = tt
-always_err (Err error) held = held error
 
 -- ---- known bytes that grow
 
@@ -122,7 +131,7 @@ sending_begins depth in_flow unique text was held bare =
       handed = [];
       sends = appends_nothing held;
       wrote = took_nothing was bare;
-      whole = inl refl;
+      whole = inl (refl, refl);
     }
 
 -- what is ahead is this
@@ -229,20 +238,27 @@ module _ (depth : ℕ) (in_flow unique : Bool) (text : List ℕ) (was : WriterSt
 module _ (depth : ℕ) (in_flow unique : Bool) (text : List ℕ) (was : WriterState) (start : Option (List ℕ)) (rest : List ℕ) (now : WriterState)
     (held : Option (List ℕ)) (sending : Sending depth in_flow unique text was start rest now held) where
   -- what was sent is whole
-  pub documents_sent : SentDocuments depth in_flow unique text was start held
-  documents_sent =
+  pub documents_sent : (error : StreamError) → RefusesFirst depth unique (texts_in rest) error
+      → SentDocuments depth in_flow unique text was start error held
+  documents_sent error refused =
       record {
         parts = sending.parts;
         later = texts_in rest;
         cut = sending.cut;
         each = sending.each;
         names = sending.names;
+        refused = refused;
         handed = sending.handed;
         sends = sending.sends;
         then = now.emitter;
         wrote = sending.wrote.adds;
         whole = sending.whole;
       }
+
+  pub documents_before : (first : List ℕ) (later : List (List ℕ)) → texts_in rest ≡ first ∷ later → (error : StreamError)
+      → ExplainsPart depth unique first error → SentDocuments depth in_flow unique text was start error held
+  documents_before first later cut error why =
+      documents_sent error (subst (λ (texts : List (List ℕ)). RefusesFirst depth unique texts error) (sym cut) (inr why))
 
   -- the next text is refused
   pub part_refused : (first : List ℕ) (later : List (List ℕ)) → texts_in rest ≡ first ∷ later → (error : StreamError)
@@ -268,6 +284,10 @@ refused_by_none depth unique text (faults.NotText line column) isn't = tt
 refused_by_none depth unique text faults.Marked isn't = tt
 refused_by_none depth unique text (faults.ReadFailed error) isn't = tt
 refused_by_none depth unique text (faults.WriteFailed error) isn't = tt
+
+first_by_none : (depth : ℕ) (unique : Bool) (texts : List (List ℕ)) (error : StreamError) → IsByNoText error → RefusesFirst depth unique texts error
+first_by_none depth unique [] error isn't = isn't
+first_by_none depth unique (first ∷ later) error isn't = inl isn't
 
 -- ---- what is left of some bytes
 
@@ -319,8 +339,9 @@ module _ (depth : ℕ) (in_flow unique : Bool) (ahead : List ℕ) (before : Writ
         → StopsWithin depth in_flow unique ahead before held error later
     stops_by_none error later isn't same text was start more sending = (
       refused_by_none depth unique text error isn't,
-      λ sent. subst (SentDocuments depth in_flow unique text was start) (sym (same sent))
-          (documents_sent depth in_flow unique text was start (rest ++ more) now holds (advances text was start more sending)),
+      λ sent. subst (SentDocuments depth in_flow unique text was start error) (sym (same sent))
+          (documents_sent depth in_flow unique text was start (rest ++ more) now holds (advances text was start more sending) error
+          (first_by_none depth unique (texts_in (rest ++ more)) error isn't)),
     )
 
     module _ (end : ℕ) (cuts : CutsAt rest end) where
@@ -331,7 +352,8 @@ module _ (depth : ℕ) (in_flow unique : Bool) (ahead : List ℕ) (before : Writ
           let stood = advances text was start more sending in (
             part_refused depth in_flow unique text was start (rest ++ more) now holds stood (take end rest) (texts_in (drop end rest ++ more))
                 (cuts.cut more) error why,
-            λ sent. documents_sent depth in_flow unique text was start (rest ++ more) now holds stood,
+            λ sent. documents_before depth in_flow unique text was start (rest ++ more) now holds stood (take end rest)
+                (texts_in (drop end rest ++ more)) (cuts.cut more) error why,
           )
 
       -- or it is given, and the next document begun
@@ -440,17 +462,18 @@ module _ (depth : ℕ) (in_flow unique : Bool) (was : WriterState) (start : Opti
   pub complete_sent : (first : Option (List ℕ)) (held : List ℕ) (ahead : Option (List ℕ)) (before : WriterState)
       (holds later : Option (List ℕ)) (error : StreamError) → StopsWithin depth in_flow unique held before holds error later
       → IfSome first (λ text. Comes depth in_flow unique text was start held ahead before holds) → IsSent error
-      → IfSome first (λ text. SentDocuments depth in_flow unique text was start later)
+      → IfSome first (λ text. SentDocuments depth in_flow unique text was start error later)
   complete_sent None held ahead before holds later error stops comes sent = tt
   complete_sent (Some text) held ahead before holds later error stops comes sent = (stops text was start comes.left comes.sending).1 sent
 
   -- something else failed
   pub comes_sent : (first : Option (List ℕ)) (held : List ℕ) (ahead : Option (List ℕ)) (now : WriterState) (holds : Option (List ℕ))
-      → IfSome first (λ text. Comes depth in_flow unique text was start held ahead now holds)
-      → IfSome first (λ text. SentDocuments depth in_flow unique text was start holds)
-  comes_sent None held ahead now holds comes = tt
-  comes_sent (Some text) held ahead now holds comes =
-      documents_sent depth in_flow unique text was start (held ++ comes.left) now holds comes.sending
+      (error : StreamError) → IsByNoText error → IfSome first (λ text. Comes depth in_flow unique text was start held ahead now holds)
+      → IfSome first (λ text. SentDocuments depth in_flow unique text was start error holds)
+  comes_sent None held ahead now holds error isn't comes = tt
+  comes_sent (Some text) held ahead now holds error isn't comes =
+      documents_sent depth in_flow unique text was start (held ++ comes.left) now holds comes.sending error
+      (first_by_none depth unique (texts_in (held ++ comes.left)) error isn't)
 
   pub none_refused : (first : Option (List ℕ)) (error : StreamError) → IsByNoText error → IfSome first (λ text. RefusesSent depth unique text error)
   none_refused None error isn't = tt
@@ -497,3 +520,10 @@ module _ (depth : ℕ) (in_flow unique : Bool) (was : WriterState) (start : Opti
   last_refused None error why comes = tt
   last_refused (Some text) error why comes =
       part_refused depth in_flow unique text was start held now holds (last_left text comes) held [] one_left error why
+
+  pub last_documents : (first : Option (List ℕ)) (error : StreamError) → ExplainsPart depth unique held error
+      → IfSome first (λ text. Comes depth in_flow unique text was start held ahead now holds)
+      → IfSome first (λ text. SentDocuments depth in_flow unique text was start error holds)
+  last_documents None error why comes = tt
+  last_documents (Some text) error why comes =
+      documents_before depth in_flow unique text was start held now holds (last_left text comes) held [] one_left error why

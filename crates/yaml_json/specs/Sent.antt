@@ -1,5 +1,6 @@
 -- JSON texts that come part by part: what was given of them, and what was sent on.
-use Rattle.std.specs.Prelude.{◌≡◌, ◌⊎◌, ℕ, ◌-◌, ◌≤◌, Bool, true, Option, None, Some, Result, Ok, Err, List, [], ◌∷◌, ◌++◌, IfSome, drop, flat_map, length, map}
+use Rattle.std.specs.Prelude.{◌≡◌, ◌⊎◌, ℕ, ◌-◌, ◌≤◌, Bool, true, Option, None, Some, Result, Ok, Err, List, [], ◌∷◌, ◌++◌}
+use Rattle.std.specs.Prelude.{IfSome, IsUtf8, drop, flat_map, length, map}
 use Rattle.std.specs.Io.KnownBytes.{Appends, Consumes}
 use Rattle.json.specs.Json.{Json, value}
 use Rattle.json.specs.Lex.{tokens}
@@ -64,7 +65,7 @@ pub record Sending (depth : ℕ) (in_flow unique : Bool) (text : List ℕ) (was 
   pub handed : List ℕ
   pub sends : Appends before after handed
   pub wrote : WroteTaking was (events_with_separators was.canonical in_flow parts) handed now
-  pub whole : (parts ≡ []) ⊎ (now.emitter.page.taken ≡ length now.emitter.page.output)
+  pub whole : ((parts ≡ []) × (handed ≡ [])) ⊎ (now.emitter.page.taken ≡ length now.emitter.page.output)
 
 -- wherever the sending was, with these bytes ahead, these are left
 abbrev pub Advances : (depth : ℕ) → (in_flow unique : Bool) → List ℕ → WriterState → Option (List ℕ) → List ℕ → WriterState → Option (List ℕ) → Type 0
@@ -79,20 +80,6 @@ pub record BeginsNext (before : WriterState) (held : Option (List ℕ)) (after :
   pub wrote : WroteTaking before between bytes after
   pub whole : after.emitter.page.taken ≡ length after.emitter.page.output
 
--- the sink was given whole documents: those of the first texts, as a writer has written them that was given no more than these
--- and the start of the next, and whose output is taken; where the first is refused, nothing
-pub record SentDocuments (depth : ℕ) (in_flow unique : Bool) (text : List ℕ) (was : WriterState) (before after : Option (List ℕ)) : Type 0 where
-  pub parts : List (List ℕ × Json)
-  pub later : List (List ℕ)
-  pub cut : map (λ part. part.0) parts ++ later ≡ texts_in text
-  pub each : AreJson depth parts
-  pub names : HaveNamesOnce unique (map (λ part. part.0) parts)
-  pub handed : List ℕ
-  pub sends : Appends before after handed
-  pub then : State
-  pub wrote : AddsTaking was.emitter (events_with_separators was.canonical in_flow parts) handed then
-  pub whole : (parts ≡ []) ⊎ (then.page.taken ≡ length then.page.output)
-
 -- ---- errors
 
 -- one of the texts is refused, for this reason
@@ -100,9 +87,11 @@ abbrev pub RefusesSent : (depth : ℕ) → (unique : Bool) → (text : List ℕ)
 RefusesSent depth unique text (faults.Refused error) = IsOfText error → RefusedAmong depth unique text error
 RefusesSent depth unique text _ = Unit {0}
 
--- the writer or the sink failed
+-- the error isn't that of a text that is no JSON, nests too deep, has a name twice, isn't UTF-8 or begins with a byte order mark
 abbrev pub IsByNoText : StreamError → Type 0
 IsByNoText (faults.Refused error) = IsOfText error → ⊥
+IsByNoText (faults.NotText line column) = ⊥
+IsByNoText faults.Marked = ⊥
 IsByNoText _ = Unit {0}
 
 -- the sink took all that it was given
@@ -113,14 +102,36 @@ IsSent _ = Unit {0}
 -- a part of a text is refused, for this reason
 abbrev pub ExplainsPart : (depth : ℕ) → (unique : Bool) → (text : List ℕ) → StreamError → Type 0
 ExplainsPart depth unique text (faults.Refused error) = ExplainsError depth unique text error
+ExplainsPart depth unique text (faults.NotText line column) = IsUtf8 text → ⊥
 ExplainsPart depth unique text _ = Unit {0}
+
+-- where the error is that of a text, the first of these texts is refused, for this reason
+abbrev pub RefusesFirst : (depth : ℕ) → (unique : Bool) → List (List ℕ) → StreamError → Type 0
+RefusesFirst depth unique [] error = IsByNoText error
+RefusesFirst depth unique (first ∷ later) error = IsByNoText error ⊎ ExplainsPart depth unique first error
+
+-- the sink was given whole documents: those of the first texts, as a writer has written them that was given no more than these
+-- and the start of the next, and whose output is taken; nothing, where these are none. Where a text is refused, it is the next
+pub record SentDocuments (depth : ℕ) (in_flow unique : Bool) (text : List ℕ) (was : WriterState) (before : Option (List ℕ)) (error : StreamError)
+    (after : Option (List ℕ)) : Type 0 where
+  pub parts : List (List ℕ × Json)
+  pub later : List (List ℕ)
+  pub cut : map (λ part. part.0) parts ++ later ≡ texts_in text
+  pub each : AreJson depth parts
+  pub names : HaveNamesOnce unique (map (λ part. part.0) parts)
+  pub refused : RefusesFirst depth unique later error
+  pub handed : List ℕ
+  pub sends : Appends before after handed
+  pub then : State
+  pub wrote : AddsTaking was.emitter (events_with_separators was.canonical in_flow parts) handed then
+  pub whole : ((parts ≡ []) × (handed ≡ [])) ⊎ (then.page.taken ≡ length then.page.output)
 
 -- wherever the sending was, with these bytes ahead, one of the texts is refused for this reason, or something failed; the sink
 -- was given whole documents
 abbrev pub StopsWithin : (depth : ℕ) → (in_flow unique : Bool) → List ℕ → WriterState → Option (List ℕ) → StreamError → Option (List ℕ) → Type 0
 StopsWithin depth in_flow unique ahead before held error holds =
     (text : List ℕ) (was : WriterState) (start : Option (List ℕ)) (more : List ℕ) → Sending depth in_flow unique text was start (ahead ++ more) before held
-    → RefusesSent depth unique text error × (IsSent error → SentDocuments depth in_flow unique text was start holds)
+    → RefusesSent depth unique text error × (IsSent error → SentDocuments depth in_flow unique text was start error holds)
 
 -- ---- what came
 

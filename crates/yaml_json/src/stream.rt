@@ -322,7 +322,7 @@ pub fn send_json_texts<A: Allocator + Copy, R: Read, W: Write>(
     ensures names { OnOk result (IfSome (R.remaining reader.old) (λ text. HaveNamesOnce settings.unique_names (texts_in text))) }
     ensures refused { IfErr result (λ error. IfSome (R.remaining reader.old) (λ text. RefusesSent settings.depth settings.unique_names text error)) }
     ensures sent { IfErr result (λ error. IsSent error → IfSome (R.remaining reader.old) (λ text.
-        SentDocuments settings.depth settings.flow settings.unique_names text writer.old (W.contents sink.old) (W.contents sink.new))) }
+        SentDocuments settings.depth settings.flow settings.unique_names text writer.old (W.contents sink.old) error (W.contents sink.new))) }
 {
     let mut incoming = Incoming::new(alloc);
     // No reader promises to end, so the reads are counted.

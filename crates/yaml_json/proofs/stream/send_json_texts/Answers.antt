@@ -1,7 +1,11 @@
-use Rattle.yaml_json.proofs.Common.{subst, sym, IsScanned}
-use Rattle.yaml_json.{proofs.WroteLemmas.on_err, specs.declared.stream.Incoming.Incoming}
-use Rattle.yaml_json.proofs.Sending.{on_both, always_err, comes_first, more_came, complete_given, comes_kept, complete_refused, complete_sent, comes_sent}
-use Rattle.yaml_json.proofs.Sending.{none_refused, last_sent, last_read, last_named, last_refused}
+use Rattle.std.proofs.Common.{◌≡◌, ℕ, List, refl, sym, ap, subst}
+use Rattle.std.specs.Prelude.{Option, IfSome}
+use Rattle.yaml_json.specs.Sent.{IsScanned}
+use Rattle.yaml_json.specs.declared.error.StreamError.TheVariants as faults
+use Rattle.yaml_json.specs.declared.stream.Incoming.{Incoming}
+use Rattle.yaml_json.proofs.Sending.{Comes, comes_first, comes_kept, comes_sent, complete_given, complete_refused, complete_sent, last_named, last_read}
+use Rattle.yaml_json.proofs.Sending.{last_documents, last_refused, last_sent, more_came, none_refused, on_both}
+use Rattle.yaml_json.proofs.WroteLemmas.{on_err}
 use Rattle.yaml_json.proofs.stream.send_json_texts.Goals as goal
 
 pub parts-init : goal.parts-init
@@ -122,9 +126,17 @@ returns-in-Ok-false-clause-sent g c =
     let s = a.settings in
     let start = g.W.Write.contents a.sink.now in
     let first = g.R.Read.remaining a.reader.now in
-    always_err c.write_last.result
-    (λ error sent. comes_sent s.depth s.flow s.unique_names a.writer.now start first l.incoming.held.items (g.R.Read.remaining l.reader) l.writer
-    (g.W.Write.contents l.sink) l.invariant.2)
+    let come = c.in-Ok-false.ensures.come in
+    let later = g.R.Read.remaining c.read_more.new.reader in
+    let held = c.read_more.new.incoming.held.items in
+    let end = c.in-Ok-false.ensures.end c.in-Ok-false.field-0-test in
+    let scanned = subst (λ (i : Incoming g.row.A.Denot). IsScanned i) (sym end.1) l.invariant.1 in
+    let comes = more_came s.depth s.flow s.unique_names a.writer.now start first l.incoming.held.items held come.0 (g.R.Read.remaining l.reader) later
+    l.writer (g.W.Write.contents l.sink) come.1 come.2 l.invariant.2 in
+    on_err c.write_last.result
+    (λ error why sent. last_documents s.depth s.flow s.unique_names a.writer.now start held later l.writer (g.W.Write.contents l.sink) end.0
+    c.read_more.new.incoming.reading.cut scanned.0 scanned.1 first error why comes)
+    c.write_last.ensures.refused
 
 pub returns-in-Err-clause-sent : goal.returns-in-Err-clause-sent
 returns-in-Err-clause-sent g c sent =
@@ -134,7 +146,7 @@ returns-in-Err-clause-sent g c sent =
     let start = g.W.Write.contents a.sink.now in
     let first = g.R.Read.remaining a.reader.now in
     comes_sent s.depth s.flow s.unique_names a.writer.now start first l.incoming.held.items (g.R.Read.remaining l.reader) l.writer
-    (g.W.Write.contents l.sink) l.invariant.2
+    (g.W.Write.contents l.sink) c.in-Err.error c.in-Err.ensures.refused l.invariant.2
 
 pub returns-in-Err-write_complete-clause-refused : goal.returns-in-Err-write_complete-clause-refused
 returns-in-Err-write_complete-clause-refused g c =
@@ -165,3 +177,11 @@ returns-in-Err-write_complete-clause-sent g c =
     l.writer (g.W.Write.contents l.sink) come.1 come.2 l.invariant.2 in
     complete_sent s.depth s.flow s.unique_names a.writer.now start first held later l.writer (g.W.Write.contents l.sink)
     (g.W.Write.contents c.write_complete.new.sink) c.in-Err-write_complete.error c.in-Err-write_complete.ensures.stops comes
+
+pub returns-clause-sent : goal.returns-clause-sent
+returns-clause-sent g c sent =
+    let a = c.args in
+    let l = c.parts in
+    let s = a.settings in
+    comes_sent s.depth s.flow s.unique_names a.writer.now (g.W.Write.contents a.sink.now) (g.R.Read.remaining a.reader.now) l.incoming.held.items
+    (g.R.Read.remaining l.reader) l.writer (g.W.Write.contents l.sink) (faults.ReadFailed c.from.result) tt l.invariant.2
