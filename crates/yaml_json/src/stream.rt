@@ -294,10 +294,12 @@ fn write_last<A: Allocator + Copy>(
 }
 
 /// Reads JSON texts that follow one another to the reader's end, and gives their events to a writer, as `write_json_texts` does:
-/// a document each, the first as the document that the writer is in. As a text is complete, the next document is begun, and the
-/// sink is given what is written until then. The last text's document is left to the writer.
+/// a document each, the first as the document that the writer is in. A text is known to be complete once the next one begins:
+/// then the next document is begun, and the sink is given what is written until then. The last text's document is left to the
+/// writer.
 ///
-/// No more is held than a part of 65,536 bytes and a text that isn't complete. The sink is flushed before each read.
+/// No more is held than a part of 65,536 bytes, a text that isn't complete, and the YAML of its document. The sink is flushed
+/// after each part.
 ///
 /// The writer must have no anchor and no tag for the next node.
 ///
