@@ -31,13 +31,22 @@ pub struct Beside {
 }
 
 impl Beside {
-    /// Makes a file beside the one of this name.
+    /// Makes a file beside the one of this name, with its permissions, which are set before anything is written.
     pub fn create<R: Runtime + AllocGlobal>(rt: &R, name: &str) -> io::Result<(R::File, Beside)> {
         let target = target_of(rt, name)?;
         for number in 0..MOST_NAMES {
             let name = format!(in rt.alloc(); "{target}.{number}.tmp")?;
             match File::create_new(rt, name.as_str()) {
-                Ok(file) => return Ok((file, Beside { name, target })),
+                Ok(file) => {
+                    let beside = Beside { name, target };
+                    return match beside.take_permissions(rt) {
+                        Ok(()) => Ok((file, beside)),
+                        Err(error) => {
+                            beside.remove(rt);
+                            Err(error)
+                        }
+                    };
+                }
                 Err(error) => {
                     if error.kind() != ErrorKind::AlreadyExists {
                         return Err(error);
@@ -48,11 +57,16 @@ impl Beside {
         Err(io::Error::from(ErrorKind::AlreadyExists))
     }
 
-    /// Gives the file the name of the one that it replaces, whose permissions it keeps; where that fails, removes it.
-    pub fn replace<R: Runtime + AllocGlobal>(self, rt: &R) -> io::Result<()> {
-        if let Ok(found) = fs::metadata(rt, self.target.as_str()) {
-            let _kept = fs::set_permissions(rt, self.name.as_str(), found.permissions());
+    /// Gives the file the permissions of the one that it is to replace, where there is one.
+    fn take_permissions<R: Runtime + AllocGlobal>(&self, rt: &R) -> io::Result<()> {
+        match fs::metadata(rt, self.target.as_str()) {
+            Ok(found) => fs::set_permissions(rt, self.name.as_str(), found.permissions()),
+            Err(_) => Ok(()),
         }
+    }
+
+    /// Gives the file the name of the one that it replaces; where that fails, removes it.
+    pub fn replace<R: Runtime + AllocGlobal>(self, rt: &R) -> io::Result<()> {
         match fs::rename(rt, self.name.as_str(), self.target.as_str()) {
             Ok(()) => Ok(()),
             Err(error) => {
