@@ -11,7 +11,8 @@ const AFTER_HELP: &str =
 const FILES_HELP: &str = "Files of JSON texts; - is standard input";
 
 const FILES_LONG: &str =
-    "Files of JSON texts, which are written one after another. The name - means standard input, which is also read where there is no name.{n}Example: json2yaml first.json - last.json";
+    "Files of JSON texts, which are written one after another. The name - means standard input, which is also read where there is \
+    no name.{n}Example: json2yaml first.json - last.json";
 
 const OUTPUT_HELP: &str = "The file to write in place of standard output";
 
@@ -43,15 +44,17 @@ const CANONICAL_HELP: &str = "The canonical form: brackets, double quotes and al
 const CANONICAL_LONG: &str =
     "Writes the canonical form: brackets, double quotes and all tags.{n}Example: json2yaml --canonical in.json";
 
-const PORTABLE_HELP: &str = "Leaves out the --- before the first document where it may";
+const PORTABLE_HELP: &str = "Portable mode off: no --- where none is needed";
 
 const PORTABLE_LONG: &str =
-    "Writes as libyaml does, also what some readers read otherwise: no --- before the first document where none is needed.{n}Example: json2yaml --no-portable in.json";
+    "Leaves portable mode: no --- before the first document where none is needed, and U+2028 and U+2029 as themselves.\
+    {n}Example: json2yaml --no-portable in.json";
 
 const SEQUENCES_HELP: &str = "Leaves a list's items in the column of the name that it belongs to";
 
 const SEQUENCES_LONG: &str =
-    "Leaves the items of a list in the column of the name that the list belongs to, as libyaml does, and doesn't indent them.{n}Example: json2yaml --no-indented-sequences in.json";
+    "Leaves the items of a list in the column of the name that the list belongs to, as libyaml does, and doesn't indent them.\
+    {n}Example: json2yaml --no-indented-sequences in.json";
 
 const NAMES_HELP: &str = "Lets a name come several times in one object";
 
