@@ -12,7 +12,7 @@ use crate::program::{refuse_arguments, serve};
 use std::io;
 use std::process::ExitCode;
 
-/// Ends with the run's status, also where what went wrong can't be told.
+/// Ends with the run's status, also where what went wrong can't be reported.
 fn main(rt: HostRuntime) -> ExitCode {
     let stdin = rt.stdin();
     let stderr = rt.stderr();

@@ -107,8 +107,7 @@ fn begin_next<W: Write>(writer: &mut Writer<Global>, sink: &mut W) -> Result<(),
     ensures { IsBare writer.new }
 {
     writer.next_document().map_err(emitter_fault)?;
-    let bytes = writer.take_output();
-    sink.write_all(bytes.as_slice()).map_err(Fault::WriteFailed)
+    writer.send(sink).map_err(write_fault_of)
 }
 
 /// Sends on the YAML of the JSON texts of some files. Returns the file at which it failed, and why.
@@ -151,7 +150,7 @@ fn send_all<'a, R: Runtime + AllocGlobal, W: Write>(
     match writer.finish() {
         Ok(bytes) => sink
             .write_all(bytes.as_slice())
-            .map_err(|error| (None, Fault::WriteFailed(error))),
+            .map_err(|error| (None, write_fault_of(error))),
         Err(error) => Err((None, emitter_fault(error))),
     }
 }
@@ -169,7 +168,7 @@ fn send_buffered<'a, R: Runtime + AllocGlobal, W: Write + Drop>(
     let sent = send_all(rt, conversion, &mut buffer);
     let flushed = buffer.flush();
     sent?;
-    flushed.map_err(|error| (None, Fault::WriteFailed(error)))
+    flushed.map_err(|error| (None, write_fault_of(error)))
 }
 
 /// Writes to a file what is to be converted, which appears whole or not at all.
@@ -242,7 +241,7 @@ fn give_up<W: Write>(fault: &Fault, name: Option<&str>, faults: &mut W) -> u8
     ensures { result ≡ statuses.status_of fault.now }
 {
     if !matches!(fault, Fault::WriteFailed(error) if error.kind() == ErrorKind::BrokenPipe) {
-        let _told = write_fault(fault, name, faults);
+        let _reported = write_fault(fault, name, faults);
     }
     status_of(fault)
 }
@@ -266,7 +265,7 @@ fn convert<R: Runtime + AllocGlobal, W: Write>(
 fn hint<I: IsTerminal, W: Write>(conversion: &Conversion<'_>, stdin: &I, faults: &mut W) {
     let reads = conversion.files.is_empty() || conversion.files.contains(&STREAM);
     if reads && stdin.is_terminal() {
-        let _told = writeln!(
+        let _reported = writeln!(
             faults,
             "json2yaml: reading JSON from the terminal, up to Ctrl-D; json2yaml --help tells more"
         );
@@ -280,7 +279,7 @@ pub fn refuse_arguments<W: Write>(error: &io::Error, faults: &mut W) -> u8
     if error.kind() == ErrorKind::OutOfMemory {
         return give_up(&Fault::NoMemory, None, faults);
     }
-    let _told = writeln!(faults, "json2yaml: an argument isn't UTF-8");
+    let _reported = writeln!(faults, "json2yaml: an argument isn't UTF-8");
     2
 }
 
@@ -292,10 +291,10 @@ fn answer<R: Runtime, W: Write>(rt: &R, error: &UsageError, faults: &mut W) -> u
         UsageKind::OutOfMemory => give_up(&Fault::NoMemory, None, faults),
         UsageKind::DisplayHelp | UsageKind::DisplayVersion => match print!(rt; "{error}") {
             Ok(()) => 0,
-            Err(error) => give_up(&Fault::WriteFailed(error), None, faults),
+            Err(error) => give_up(&write_fault_of(error), None, faults),
         },
         _ => {
-            let _told = write!(faults, "{error}");
+            let _reported = write!(faults, "{error}");
             2
         }
     }
