@@ -1,9 +1,9 @@
 -- The names that most proofs here cite, passed on from one place. Declares nothing.
-pub use Rattle.yaml_base.proofs.Common.{suc, zero, ℕ, ◌+◌, ◌-◌, ◌<◌, ◌≤◌, if◌then◌else◌, ◌==◌, is_some, is_none, unwrap_or, option_and_then, bytes_eq, Option}
-pub use Rattle.yaml_base.proofs.Common.{None, Some, codes, drop, length, slice_index_or, take, Bool, cond, false, not, true, ◌&&◌, ◌||◌, List, [], map, ◌++◌}
-pub use Rattle.yaml_base.proofs.Common.{◌∷◌, ◌⊎◌, refl, ◌≡◌, eqb-true, length-append, append-nil, append_assoc, inl, inr, ap, subst, sym, ◌∙◌, arith}
-pub use Rattle.yaml_base.proofs.Common.{and_parts, and_from, not_from_false, false≢true, flat_map-append, map-append, list_all-append, bytes_eq-Decides}
-pub use Rattle.yaml_base.proofs.Common.{list_all, list_any, chars, Text, ScalarStyle, plain, Scalar, Event, scalar, sequence_start, sequence_end}
+pub use Rattle.yaml_base.proofs.Common.{flat_map-append, map-append, list_all-append, bytes_eq-Decides, chars, ap, append-nil, append_assoc, arith, eqb-true}
+pub use Rattle.yaml_base.proofs.Common.{inl, inr, length-append, subst, sym, ◌∙◌, false≢true, and_from, not_from_false, and_parts, list_all, list_any, Bool}
+pub use Rattle.yaml_base.proofs.Common.{List, None, Option, Some, [], codes, cond, drop, false, length, map, not, refl, slice_index_or, suc, take, true, zero}
+pub use Rattle.yaml_base.proofs.Common.{ℕ, ◌&&◌, ◌++◌, ◌+◌, ◌-◌, ◌<◌, ◌||◌, ◌∷◌, ◌≡◌, ◌≤◌, ◌⊎◌, if◌then◌else◌, is_some, is_none, unwrap_or, ◌==◌}
+pub use Rattle.yaml_base.proofs.Common.{option_and_then, bytes_eq, Text, ScalarStyle, plain, Scalar, Event, scalar, sequence_start, sequence_end}
 pub use Rattle.yaml_base.proofs.Common.{mapping_start, mapping_end, scalar_tag, collection_tag, scalar_node, Nodes, Pairs, no_nodes, nodes_and, no_pairs}
 pub use Rattle.yaml_base.proofs.Common.{pairs_and, Document, Documents, no_documents, documents_and, Stream, after_stream, partial_of, has_scalar_texts}
 pub use Rattle.yaml_base.proofs.Common.{most_open, begins_collection, is_sound, open_count, IsAccepted, Settings, Effective, directives_in_force, is_empty}

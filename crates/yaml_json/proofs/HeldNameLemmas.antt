@@ -1,6 +1,6 @@
 -- The sets that hold the names of the objects that are open.
-use Rattle.yaml_base.proofs.Common.{ℕ, ◌-◌, bytes_eq, length, slice_index_or as get_or, Bool, cond, false, not, true, ◌||◌, List, [], ◌++◌, ◌∷◌, refl, ◌≡◌}
-use Rattle.yaml_base.proofs.Common.{length-append, inl, inr, ap, subst, sym, ◌∙◌, arith, or_cases, or_parts, same_from_decides, bytes_eq-Decides, list_any}
+use Rattle.yaml_base.proofs.Common.{bytes_eq-Decides, ap, arith, inl, inr, length-append, subst, sym, ◌∙◌, or_parts, or_cases, same_from_decides, list_any}
+use Rattle.yaml_base.proofs.Common.{Bool, List, [], cond, false, length, not, refl, slice_index_or as get_or, true, ℕ, ◌++◌, ◌-◌, ◌||◌, ◌∷◌, ◌≡◌, bytes_eq}
 use Rattle.std.{proofs.Common.ap₂, proofs.Common.set, proofs.Math.Seq.get_or-append_seam, proofs.Math.Seq.set-append_seam, proofs.lemmas.Bool.both_ways}
 use Rattle.std.{proofs.lemmas.Bool.Decides.Decides-like, proofs.lemmas.Map.Text.is_eq-slice_cmp, specs.BTreeSet.BTreeSet, specs.BTreeSet.Updates}
 use Rattle.std.{specs.BTreeSet.contains_by, specs.Borrow.Bor, specs.Cmp.Lexicographic.slice_cmp, specs.Ordering.nat_cmp, specs.declared.cmp.Ordering.Ordering}

@@ -2,7 +2,7 @@
 use Rattle.yaml_json.proofs.Common.{ℕ, None, Some, Bool, true, List, [], map, ◌++◌, ◌∷◌, ◌≡◌, take_all, append-nil, append_assoc, ap, sym, ◌∙◌, list_all}
 use Rattle.yaml_json.proofs.Common.{Json, HasNumbers, node_tree, Event, Documents, no_documents, documents_and, has_scalar_texts, IsAccepted, Settings}
 use Rattle.yaml_json.proofs.Common.{Effective, directives_in_force, Tree, resolved_by_core, resolved_by_11, Schema}
-use Rattle.yaml_base.proofs.Common.{root_place, settings_for, bytes_written, list_layout, DocumentTree, stream_trees}
+use Rattle.yaml_base.proofs.Common.{stream_trees, root_place, settings_for, bytes_written, list_layout, DocumentTree}
 use Rattle.yaml_base.proofs.{stream_documents.StreamWholeReads.document_trees, stream_nodes.StreamAgrees.document_tree}
 use Rattle.yaml_emitter.proofs.layouts.StreamsReadBack.{stream_found}
 use Rattle.yaml_json.proofs.Meanings.{ReadsScalars, reads_by_11, reads_by_core, node_means}

@@ -6,10 +6,10 @@ use Rattle.yaml_json.proofs.Common.{ScalarStyle, plain, Scalar, scalar_tag, coll
 use Rattle.yaml_json.proofs.Common.{pairs_and, Effective, is_empty, is_plain, Tree, JsonNumber, is_json_number, fraction_or_default, is_json_integer}
 use Rattle.yaml_json.proofs.Common.{yaml_number, resolved_by_core, resolved_by_11, null_tag, bool_tag, int_tag, bool_text, word_content, null_content}
 use Rattle.yaml_json.proofs.Common.{bool_content, number_content, text_content, collection_in, Schema, number_in, float_tag, number_tag, text_style}
-use Rattle.yaml_base.proofs.Common.{digits_value, any_style, single_quoted, double_quoted, literal, folded, TagDirective, charset_of, choice_of}
-use Rattle.yaml_base.proofs.Common.{is_written_in_flow, entry_place, as_item, as_key, as_value, Place, has_no_nodes, has_no_pairs, is_simple, is_simple_at}
-use Rattle.yaml_base.proofs.Common.{Allowances, allowances, Choice, chosen, Stood, stood_plain, stood_quoted, Tagging, with_tag, without_tag, sequence_tree}
-use Rattle.yaml_base.proofs.Common.{mapping_tree, json_value, number_meant, means_number, Resolved, meant_integer, meant_decimal, meant_text, signed}
+use Rattle.yaml_base.proofs.Common.{digits_value, any_style, single_quoted, double_quoted, literal, folded, TagDirective, as_item, as_key, as_value, Place}
+use Rattle.yaml_base.proofs.Common.{has_no_nodes, has_no_pairs, is_simple, is_simple_at, charset_of, choice_of, is_written_in_flow, entry_place, Allowances}
+use Rattle.yaml_base.proofs.Common.{allowances, Choice, chosen, Stood, stood_plain, stood_quoted, Tagging, with_tag, without_tag, sequence_tree, mapping_tree}
+use Rattle.yaml_base.proofs.Common.{json_value, number_meant, means_number, Resolved, meant_integer, meant_decimal, meant_text, signed}
 use Rattle.json.specs.Tree.{ItemsHaveNumbers, MembersHaveNumbers}
 use Rattle.yaml_base.{proofs.JsonSpelling.spelling_keeps_value, proofs.NumbersRead.spelling_read, specs.Settings.escapes_separators}
 use Rattle.yaml_base.{specs.values.JsonNumbers.value_with, specs.values.Resolved.meant_null, specs.values.Resolved.meant_boolean}

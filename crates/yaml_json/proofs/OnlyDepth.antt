@@ -3,7 +3,7 @@ use Rattle.yaml_json.proofs.Common.{ℕ, ◌<◌, is_none, unwrap_or, option_and
 use Rattle.yaml_json.proofs.Common.{◌∷◌, refl, ◌≡◌, append_assoc, inl, inr, ap, subst, sym, ◌∙◌, cases_lt, and_parts, list_all-append, list_all, Json}
 use Rattle.yaml_json.proofs.Common.{depth as nesting, stream_pushed, Event, Stream, after_stream, partial_of, IsPrefix, most_open, begins_collection}
 use Rattle.yaml_json.proofs.Common.{is_sound, IsAccepted, Settings, RefusedAt, State}
-use Rattle.yaml_base.proofs.Common.{nat_lt, option_or, Partial, before_stream, push, pushed, some_if, name_or_tag_fault, content_fault, expected, place_fault}
+use Rattle.yaml_base.proofs.Common.{option_or, nat_lt, Partial, before_stream, push, pushed, some_if, name_or_tag_fault, content_fault, expected, place_fault}
 use Rattle.yaml_base.proofs.Common.{open_levels, depth_fault, refusal_at, refusal}
 use Rattle.yaml_base.{proofs.Completions.pushed-append, proofs.Completions.prefix_is_partial, proofs.NoFaults.neither, proofs.NoFaults.is_none_none}
 use Rattle.yaml_base.{specs.declared.errors.yaml_error_t.yaml_error_t, specs.declared.errors.yaml_error_t.TheVariants.TooDeep}

@@ -6,7 +6,7 @@ use Rattle.yaml_json.proofs.Common.{scalar_tag, collection_tag, scalar_node, Nod
 use Rattle.yaml_json.proofs.Common.{no_documents, documents_and, Stream, directives_in_force, is_empty, is_plain, JsonNumber, is_json_number, minus}
 use Rattle.yaml_json.proofs.Common.{fraction_or_default, is_json_integer, yaml_number, are_digits, null_tag, bool_tag, int_tag, bool_text, word_content}
 use Rattle.yaml_json.proofs.Common.{number_content, text_content, collection_in, number_in, float_tag, number_tag}
-use Rattle.yaml_base.proofs.Common.{option_map, and_right, or_from, tree_of, is_explicit, is_written_as_nothing, loses_document, document_has_flow_indicator}
+use Rattle.yaml_base.proofs.Common.{and_right, or_from, option_map, tree_of, is_explicit, is_written_as_nothing, loses_document, document_has_flow_indicator}
 use Rattle.yaml_base.proofs.Common.{are_portable, reads_alike, requested_style, documents_in_order, exponent_spelled}
 use Rattle.yaml_base.proofs.Trees.{tree_of-stream_events}
 use Rattle.yaml_base.specs.StreamLaw.{tag_has_flow_indicator, node_has_flow_indicator, nodes_have_flow_indicator, pairs_have_flow_indicator}

@@ -1,30 +1,18 @@
 -- JSON texts that come part by part, in turn.
-use Rattle.std.proofs.Common.{◌≡◌, ◌≤◌, ◌-◌, ◌+◌, inl, inr, refl, sym, ap, ◌∙◌, subst, append_assoc, append-nil, arith}
-use Rattle.std.proofs.lemmas.List.{drop-drop, length-drop, map-append, take-append-drop}
-use Rattle.std.proofs.lemmas.List.Concat.{flat_map-append}
-use Rattle.std.specs.Prelude.{ℕ, Bool, true, Option, None, Some, OnOk, Result, Ok, Err, List, [], ◌∷◌, ◌++◌, IfSome, drop, flat_map, length, map, take}
-use Rattle.std.specs.Io.KnownBytes.{Appends, Consumes, IsAtEnd, Keeps}
-use Rattle.json.specs.Json.{Json}
-use Rattle.json.specs.Lex.{tokens}
-use Rattle.yaml_base.specs.Event.{Event}
+use Rattle.yaml_json.proofs.Common.{ℕ, ◌+◌, ◌-◌, ◌≤◌, flat_map, IfSome, OnOk, Option, None, Some, Result, Err, Ok, drop, length, take, Bool, true, List, []}
+use Rattle.yaml_json.proofs.Common.{map, ◌++◌, ◌∷◌, refl, ◌≡◌, length-drop, take-append-drop, append-nil, append_assoc, inl, inr, ap, subst, sym, ◌∙◌, arith}
+use Rattle.yaml_json.proofs.Common.{flat_map-append, map-append, Appends, Json, tokens, Event, HasScanned, CutsAt, between, events_with_separators}
+use Rattle.yaml_json.proofs.Common.{json_events, NamesOnce, HaveNamesOnce, Advances, ExplainsPart, StopsWithin, texts_in, IsBare, Wrote, WroteText, AreJson}
+use Rattle.yaml_json.proofs.Common.{parts_events, WriterState, StandsTaken, PassedEvents}
+use Rattle.yaml_emitter.proofs.Common.{with_all_taken}
+use Rattle.yaml_writer.proofs.Common.{TakesBytes}
+use Rattle.std.{proofs.lemmas.List.drop-drop, specs.Io.KnownBytes.Keeps, specs.Io.KnownBytes.Consumes, specs.Io.KnownBytes.IsAtEnd}
 use Rattle.yaml_base.specs.declared.errors.yaml_error_t.{yaml_error_t}
-use Rattle.yaml_emitter.specs.State.{with_all_taken}
-use Rattle.yaml_writer.specs.Writing.{PassedEvents, StandsTaken, TakesBytes, WriterState}
-use Rattle.yaml_json.specs.Cuts.{CutsAt, HasScanned}
-use Rattle.yaml_json.specs.declared.cuts.Cut.{Cut}
-use Rattle.yaml_json.specs.Failing.{between, events_with_separators}
-use Rattle.yaml_json.specs.JsonEvents.{json_events}
-use Rattle.yaml_json.specs.Names.{NamesOnce}
-use Rattle.yaml_json.specs.Refused.{HaveNamesOnce}
-use Rattle.yaml_json.specs.Sent.{Advances, BeginsNext, ExplainsPart, IsByNoText, IsSent, LeavesLast}
-use Rattle.yaml_json.specs.Sent.{ReadsSent, RefusesFirst, RefusesSent, Sending, SentDocuments, SentTexts, StopsWithin, WroteTaking}
-use Rattle.yaml_json.specs.Texts.{texts_in}
-use Rattle.yaml_json.specs.Wrote.{AreJson, IsBare, Wrote, WroteText, parts_events}
-use Rattle.yaml_json.specs.declared.error.StreamError.{StreamError}
+use Rattle.yaml_json.{proofs.Cutting.whole_text, proofs.YamlOf.sent_reads, specs.declared.cuts.Cut.Cut, specs.declared.error.StreamError.StreamError}
+use Rattle.yaml_json.proofs.TextsInTurn.{ends_with, one_more, joined_more, text_names, more_names}
+use Rattle.yaml_json.specs.Sent.{WroteTaking, SentTexts, ReadsSent, Sending, BeginsNext, RefusesSent, IsByNoText, IsSent, RefusesFirst, SentDocuments}
+use Rattle.yaml_json.specs.Sent.{LeavesLast}
 use Rattle.yaml_json.specs.declared.error.StreamError.TheVariants as faults
-use Rattle.yaml_json.proofs.Cutting.{whole_text}
-use Rattle.yaml_json.proofs.YamlOf.{sent_reads}
-use Rattle.yaml_json.proofs.TextsInTurn.{ends_with, joined_more, more_names, one_more, text_names}
 
 -- ---- what follows where a call succeeds, or fails
 

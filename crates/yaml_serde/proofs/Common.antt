@@ -1,6 +1,6 @@
 -- The names that most proofs here cite, passed on from one place. Declares nothing.
-pub use Rattle.yaml_base.proofs.Common.{ℕ, ◌<◌, ◌≤◌, Option, None, Some, pos, length, take, Bool, false, true, List, [], ◌++◌, ◌∷◌, refl, ◌≡◌, append-nil}
-pub use Rattle.yaml_base.proofs.Common.{append_assoc, ap, subst, sym, ◌∙◌, arith, chars, Text, Event, Settings}
+pub use Rattle.yaml_base.proofs.Common.{chars, ap, append-nil, append_assoc, arith, subst, sym, ◌∙◌, Bool, List, None, Option, Some, [], false, length, pos}
+pub use Rattle.yaml_base.proofs.Common.{refl, take, true, ℕ, ◌++◌, ◌<◌, ◌∷◌, ◌≡◌, ◌≤◌, Text, Event, Settings}
 pub use Rattle.yaml_emitter.proofs.Common.{State}
 pub use Rattle.std.specs.{Fmt.signed_decimal, Io.KnownBytes.Appends, List.All}
 pub use Rattle.std.specs.Prelude.{Err, Ok, Result, Vec, IfOk, OnOk}

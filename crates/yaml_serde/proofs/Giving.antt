@@ -3,7 +3,7 @@ use Rattle.yaml_serde.proofs.Common.{ℕ, ◌<◌, ◌≤◌, IfOk, OnOk, Option
 use Rattle.yaml_serde.proofs.Common.{refl, ◌≡◌, append-nil, append_assoc, ap, subst, sym, ◌∙◌, arith, Appends, All, ∥∥₁_map, Text, Event, Settings, State}
 use Rattle.yaml_serde.proofs.Common.{grows_itself, Grows, IsWriterEvent, IsDocument, AppendsDocument, GivesEvents, is_kept, Handed, HandsOn, WriterState}
 use Rattle.yaml_serde.proofs.Common.{opening, closing, with_collection, awaits_node, StandsTaken, TakesBytes, IsStream, Finishes}
-use Rattle.yaml_base.proofs.Common.{◌⊎◌, length-append, inl, inr}
+use Rattle.yaml_base.proofs.Common.{inl, inr, length-append, ◌⊎◌}
 use Rattle.yaml_writer.proofs.Common.{end_event, AddsEvent, GaveEvent}
 use Rattle.std.{proofs.Math.Seq.take-length, proofs.lemmas.List.length-take, proofs.lemmas.List.take-append-le, proofs.lemmas.List.Elements.All-nil}
 use Rattle.std.{proofs.lemmas.List.Elements.All-cons, proofs.lemmas.List.Elements.All-append, specs.Prelude.IfErr}

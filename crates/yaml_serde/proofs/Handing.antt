@@ -1,17 +1,10 @@
 -- What is handed on of a document's bytes.
-use Rattle.std.proofs.Common.{◌≡◌, refl, sym, ap, ◌∙◌, subst, append_assoc, append-nil}
-use Rattle.std.specs.Io.KnownBytes.{Appends}
-use Rattle.std.specs.Prelude.{ℕ, true, Option, None, Some, List, [], ◌++◌}
-use Rattle.yaml_base.proofs.Prefixes.{prefix_itself}
-use Rattle.yaml_pen.proofs.Composing.{grows_itself}
-use Rattle.yaml_pen.specs.Page.{output_left}
-use Rattle.yaml_pen.specs.Wrote.{Grows}
-use Rattle.yaml_emitter.specs.State.{State, with_all_taken}
-use Rattle.yaml_writer.specs.Writing.{WriterState, StandsTaken, TakesBytes}
-use Rattle.yaml_serde.specs.Outlets.{Handed, HandsOn, is_kept}
-use Rattle.yaml_serde.specs.declared.outlet.Outlet.{Outlet}
-use Rattle.yaml_serde.specs.declared.outlet.Outlet.TheVariants.{Kept, Sink, Failed}
+use Rattle.yaml_serde.proofs.Common.{ℕ, Option, None, Some, true, List, [], ◌++◌, refl, ◌≡◌, append-nil, append_assoc, ap, subst, sym, ◌∙◌, Appends, State}
+use Rattle.yaml_serde.proofs.Common.{grows_itself, Grows, is_kept, Handed, HandsOn, WriterState, StandsTaken, TakesBytes}
+use Rattle.yaml_emitter.proofs.Common.{with_all_taken}
 use Rattle.std.specs.declared.io.Error.{Error}
+use Rattle.yaml_base.proofs.Prefixes.{prefix_itself}
+use Rattle.yaml_pen.specs.Page.{output_left}
 use Rattle.yaml_serde.specs.declared.outlet.{Outlet.Outlet, Outlet.TheVariants.Failed, Outlet.TheVariants.Kept, Outlet.TheVariants.Sink}
 
 -- known bytes grow twice

@@ -1,11 +1,8 @@
-use Rattle.std.proofs.Common.{◌≡◌, ℕ, List, refl, sym, ap, subst}
-use Rattle.std.specs.Prelude.{Option, IfSome}
-use Rattle.yaml_json.specs.Sent.{IsScanned}
+use Rattle.yaml_json.proofs.Common.{subst, sym, IsScanned}
+use Rattle.yaml_json.{proofs.WroteLemmas.on_err, specs.declared.stream.Incoming.Incoming}
+use Rattle.yaml_json.proofs.Sending.{on_both, comes_first, more_came, complete_given, comes_kept, complete_refused, complete_sent, comes_sent, none_refused}
+use Rattle.yaml_json.proofs.Sending.{last_sent, last_read, last_named, last_refused, last_documents}
 use Rattle.yaml_json.specs.declared.error.StreamError.TheVariants as faults
-use Rattle.yaml_json.specs.declared.stream.Incoming.{Incoming}
-use Rattle.yaml_json.proofs.Sending.{Comes, comes_first, comes_kept, comes_sent, complete_given, complete_refused, complete_sent, last_named, last_read}
-use Rattle.yaml_json.proofs.Sending.{last_documents, last_refused, last_sent, more_came, none_refused, on_both}
-use Rattle.yaml_json.proofs.WroteLemmas.{on_err}
 use Rattle.yaml_json.proofs.stream.send_json_texts.Goals as goal
 
 pub parts-init : goal.parts-init

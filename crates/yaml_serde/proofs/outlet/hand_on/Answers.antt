@@ -1,4 +1,4 @@
-use Rattle.yaml_serde.proofs.Handing.{fails, fails_again, hands_all}
+use Rattle.yaml_serde.proofs.Handing.{fails_again, fails, hands_all}
 use Rattle.yaml_serde.proofs.outlet.hand_on.Goals as goal
 
 pub returns-in-Failed-clause-hands : goal.returns-in-Failed-clause-hands
