@@ -1,5 +1,8 @@
 //! Writes a JSON text as YAML through the static library `yaml_c`, from Rust without the toolchain.
+mod yaml_c;
+
 use std::io::Write;
+use yaml_c::Report;
 
 /// How JSON is written: `struct yaml_c_json_settings`.
 #[repr(C)]
@@ -12,17 +15,6 @@ struct Settings {
     indent: i32,
     width: i32,
     depth: usize,
-}
-
-/// What a call came to: `struct yaml_c_result`.
-#[repr(C)]
-#[derive(Default)]
-struct Report {
-    length: usize,
-    event: u64,
-    line: u64,
-    column: u64,
-    error: u32,
 }
 
 extern "C" {

@@ -1,16 +1,8 @@
 //! Writes the YAML of a script of events through the static library `yaml_c`, from Rust without the toolchain.
-use std::io::Write;
+mod yaml_c;
 
-/// What a call came to: `struct yaml_c_result`.
-#[repr(C)]
-#[derive(Default)]
-struct Report {
-    length: usize,
-    event: u64,
-    line: u64,
-    column: u64,
-    error: u32,
-}
+use std::io::Write;
+use yaml_c::Report;
 
 extern "C" {
     fn yaml_run(
