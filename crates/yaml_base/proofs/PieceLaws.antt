@@ -1,15 +1,14 @@
 -- One piece for each event; and the pieces of a beginning are those of each list that goes on from it.
-use Rattle.yaml_base.proofs.Common.{suc, unwrap_or, option_map, option_and_then, Option, None, Some, length, take, Bool, false, true, ◌&&◌, List, [], ◌++◌}
-use Rattle.yaml_base.proofs.Common.{◌∷◌, refl, ◌≡◌, ap, sym, ◌∙◌, Event, stream_start, stream_end, document_start, document_end, alias, scalar}
-use Rattle.yaml_base.proofs.Common.{sequence_start, sequence_end, mapping_start, mapping_end, no_nodes, no_pairs, Stream, stream_events, at_item, at_key}
-use Rattle.yaml_base.proofs.Common.{Partial, before_stream, within_document, after_stream, push, pushed, partial_of, finished, first_standing, layout}
-use Rattle.yaml_base.proofs.Common.{Standing, missing, missing_after, completion, list_layout, first_ends_collection, closes_at_once, begins_collection}
-use Rattle.yaml_base.proofs.Common.{ends_collection, Effective, Stage, at_stream, at_document, at_node, at_document_end, step, ends_next, Steps, then_steps}
-use Rattle.yaml_base.proofs.Common.{steps}
+use Rattle.yaml_base.proofs.Common.{suc, unwrap_or, option_map, option_and_then, Option, None, Some, length, take, Bool, false, true, ◌&&◌, List, [], ◌++◌, ◌∷◌}
+use Rattle.yaml_base.proofs.Common.{refl, ◌≡◌, ap, sym, ◌∙◌, Event, stream_start, stream_end, document_start, document_end, alias, scalar, sequence_start}
+use Rattle.yaml_base.proofs.Common.{sequence_end, mapping_start, mapping_end, no_nodes, no_pairs, Stream, stream_events, at_item, at_key, Partial}
+use Rattle.yaml_base.proofs.Common.{before_stream, within_document, after_stream, push, pushed, partial_of, finished, first_standing, layout, Standing, missing}
+use Rattle.yaml_base.proofs.Common.{missing_after, completion, list_layout, first_ends_collection, closes_at_once, begins_collection, ends_collection}
+use Rattle.yaml_base.proofs.Common.{Effective, Stage, at_stream, at_document, at_node, at_document_end, step, ends_next, Steps, then_steps, steps}
 use Rattle.std.proofs.lemmas.List.{length-take-le, take_at}
-use Rattle.yaml_base.{proofs.Completions.stream_completed, proofs.Completions.completion_pushed, proofs.Completions.prefix_is_partial}
 use Rattle.yaml_base.{proofs.Pushes.partial_of_events, proofs.StepLaws.stream_steps, proofs.Trees.stream_pushed, specs.Layout.OnePieceEach}
 use Rattle.yaml_base.{specs.Pieces.last_begins_collection, specs.Pieces.PiecesStand, specs.Steps.joined_steps}
+use Rattle.yaml_base.proofs.Completions.{stream_completed, completion_pushed, prefix_is_partial}
 
 -- Each event gives one piece.
 pub steps_count : (events : List Event) (s : Effective) (follows : Bool) (stage : Stage) (standing : Standing)

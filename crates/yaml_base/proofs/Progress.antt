@@ -4,21 +4,6 @@ use Rattle.yaml_base.proofs.Common.{sym, ◌∙◌, arith, Event, Partial, parti
 use Rattle.yaml_base.{proofs.PieceLaws.begun_pieces, proofs.QueueLaws.written_within, proofs.ReadyLaws.ready_stays, specs.Pieces.pieces}
 use Rattle.yaml_base.{specs.Ready.held_back, specs.Steps.progress}
 
--- The prefix of a longer list.
-take_add : (k m : ℕ) (events more : List Event) → k ≤ length events → take (k + m) (events ++ more) ≡ take k events ++ take m (drop k events ++ more)
-take_add zero m events more h = ap (λ n. take n (events ++ more)) (let e : 0 + m ≡ m = omega arith in e)
-take_add (suc k) m [] more h = absurd (omega arith)
-take_add (suc k) m (x ∷ events) more h =
-    ap (λ n. take n (x ∷ (events ++ more))) (let e : suc k + m ≡ suc (k + m) = omega arith in e)
-    ∙ ap (λ prefix. x ∷ prefix) (take_add k m events more (omega arith))
-
-drop_add : (k m : ℕ) (events more : List Event) → k ≤ length events → drop (k + m) (events ++ more) ≡ drop m (drop k events ++ more)
-drop_add zero m events more h = ap (λ n. drop n (events ++ more)) (let e : 0 + m ≡ m = omega arith in e)
-drop_add (suc k) m [] more h = absurd (omega arith)
-drop_add (suc k) m (x ∷ events) more h =
-    ap (λ n. drop n (x ∷ (events ++ more))) (let e : suc k + m ≡ suc (k + m) = omega arith in e)
-    ∙ drop_add k m events more (omega arith)
-
 -- What was ready stays ready, and the rest is told by what was held back and what came.
 more_written : (event : Event) (rest more : List Event) (b : Bool) → is_ready event rest ≡ b
     → written (rest ++ more) ≡ written rest + written (drop (written rest) rest ++ more)

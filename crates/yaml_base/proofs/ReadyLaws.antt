@@ -1,7 +1,6 @@
 -- Ready events stay ready as a list grows.
 use Rattle.yaml_base.proofs.Common.{suc, ℕ, ◌≤◌, if◌then◌else◌, ◌==◌, nat_lt, length, Bool, false, true, ◌||◌, List, [], map, ◌++◌, ◌∷◌, refl, ◌≡◌}
-use Rattle.yaml_base.proofs.Common.{length-append, ap, sym, ◌∙◌, arith, nat_tests, list_any, Event, awaited, is_balanced, nonempty_prefixes, is_ready}
-use Rattle.yaml_base.proofs.Common.{written}
+use Rattle.yaml_base.proofs.Common.{length-append, ap, sym, ◌∙◌, arith, nat_tests, list_any, Event, awaited, is_balanced, nonempty_prefixes, is_ready, written}
 use Rattle.yaml_base.specs.Ready.{ReadyStays}
 
 pub any_map : (p : List Event → Bool) (f : List Event → List Event) (xs : List (List Event)) → list_any p (map f xs) ≡ list_any (λ x. p (f x)) xs

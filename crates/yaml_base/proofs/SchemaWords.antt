@@ -1,5 +1,5 @@
 -- Words of a schema, looked up in its table.
-use Rattle.yaml_base.proofs.Common.{if◌then◌else◌, is_some, None, Some, Bool, false, true, ◌||◌, List, [], ◌++◌, ◌∷◌, refl, ◌≡◌, true≢false, ap, sym, ◌∙◌}
+use Rattle.yaml_base.proofs.Common.{if◌then◌else◌, None, Some, Bool, false, true, List, [], ◌∷◌, refl, ◌≡◌, true≢false, ap, sym, ◌∙◌}
 use Rattle.yaml_base.proofs.Common.{and_parts, bytes_eq-Decides, list_all, Text, is_word, named}
 
 -- a text that differs from all words of a table in some test is none of them
@@ -14,15 +14,3 @@ named_unlike {A} test (entry ∷ table) text all other = by (is_word text entry.
     by : (x : Bool) → is_word text entry.0 ≡ x → named table text ≡ None → (if x then Some entry.1 else named table text) ≡ None
     by true e ih = absurd (true≢false (sym both.0 ∙ ap test (sym ((bytes_eq-Decides text entry.0).0 e)) ∙ other))
     by false e ih = ih
-
--- a word of two tables is one of either
-pub named_either : {A : Type 0} (prefix rest : List (Text × A)) (text : Text)
-    → is_some (named (prefix ++ rest) text) ≡ (is_some (named prefix text) || is_some (named rest text))
-named_either [] rest text = refl
-named_either {A} (entry ∷ prefix) rest text = by (is_word text entry.0) (named_either prefix rest text)
-  where
-    by : (x : Bool) → is_some (named (prefix ++ rest) text) ≡ (is_some (named prefix text) || is_some (named rest text))
-        → is_some (if x then Some entry.1 else named (prefix ++ rest) text)
-        ≡ (is_some (if x then Some entry.1 else named prefix text) || is_some (named rest text))
-    by true ih = refl
-    by false ih = ih

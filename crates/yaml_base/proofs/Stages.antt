@@ -2,12 +2,11 @@
 use Rattle.yaml_base.proofs.Common.{suc, ℕ, is_none, option_and_then, Option, None, Some, nat_lt, length, Bool, false, not, true, ◌&&◌, List, [], ◌∷◌, refl}
 use Rattle.yaml_base.proofs.Common.{◌≡◌, ap, subst, sym, ◌∙◌, option_or, TagDirective, DocumentStart, Event, stream_start, stream_end, document_start}
 use Rattle.yaml_base.proofs.Common.{document_end, alias, scalar, sequence_start, sequence_end, mapping_start, mapping_end, Node, alias_node, scalar_node}
-use Rattle.yaml_base.proofs.Common.{no_nodes, nodes_and, no_pairs, pairs_and, Documents, no_documents, documents_and, Level, at_item, at_key, at_value}
-use Rattle.yaml_base.proofs.Common.{Partial, before_stream, between_documents, within_document, after_root, after_stream, with_node, closed, push_within}
-use Rattle.yaml_base.proofs.Common.{push, pushed, partial_of, first_standing, Standing, Role, as_item, as_key, as_value, is_key, some_if, name_or_tag_fault}
-use Rattle.yaml_base.proofs.Common.{content_fault, expected, most_open, begins_collection, ends_collection, open_levels, refusal_at, refusal, Encoding}
-use Rattle.yaml_base.proofs.Common.{Effective, Frame, Stage, at_stream, at_document, at_node, at_document_end, at_nothing, stage_after, step, ends_next}
-use Rattle.yaml_base.proofs.Common.{steps}
+use Rattle.yaml_base.proofs.Common.{no_nodes, nodes_and, no_pairs, pairs_and, Documents, no_documents, documents_and, Level, at_item, at_key, at_value, Partial}
+use Rattle.yaml_base.proofs.Common.{before_stream, between_documents, within_document, after_root, after_stream, with_node, closed, push_within, push, pushed}
+use Rattle.yaml_base.proofs.Common.{partial_of, first_standing, Standing, Role, as_item, as_key, as_value, is_key, some_if, name_or_tag_fault, content_fault}
+use Rattle.yaml_base.proofs.Common.{expected, most_open, begins_collection, ends_collection, open_levels, refusal_at, refusal, Encoding, Effective, Frame}
+use Rattle.yaml_base.proofs.Common.{Stage, at_stream, at_document, at_node, at_document_end, at_nothing, stage_after, step, ends_next, steps}
 use Rattle.yaml_base.specs.Steps.{role_after, is_item, node_allowed, stage_allows, stage_expected, open_frames, stage_refusal}
 use Rattle.yaml_base.specs.declared.errors.yaml_error_t.TheVariants.{TooDeep}
 

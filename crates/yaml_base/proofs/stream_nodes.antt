@@ -24,4 +24,3 @@ pub mod StreamOwnBlocks
 pub mod StreamScalarsFit
 pub mod StreamEmptyFits
 pub mod StreamScalarLeaves
-pub mod StreamNodesStand

@@ -1,17 +1,16 @@
 -- What stands between double quotes reads as the value, and its later lines are indented.
-use Rattle.yaml_scalar.proofs.Common.{suc, zero, ℕ, ◌+◌, ◌≤◌, if◌then◌else◌, ◌==◌, Option, None, Some, replicate, Bool, false, not, true, ◌&&◌, ◌||◌, List}
-use Rattle.yaml_scalar.proofs.Common.{[], ◌++◌, ◌∷◌, ◌⊎◌, refl, ◌≡◌, eqb-true, lt-ltb, true≢false, append-nil, append_assoc, inl, inr, ap, subst, sym, ◌∙◌}
-use Rattle.yaml_scalar.proofs.Common.{arith, scalar, and_parts, and_right, or_left, or_right, nat_tests, all_scalars, breaks-round, rendered-append}
-use Rattle.yaml_scalar.proofs.Common.{indented-written, Text, line_feed, carriage_return, next_line, line_separator, paragraph_separator, space, is_space}
-use Rattle.yaml_scalar.proofs.Common.{is_blank, is_break, is_printable, Cursor, Rendered, render_then, column_after, render_text, breaks_line, is_past_width}
-use Rattle.yaml_scalar.proofs.Common.{with_breaks_written, with_line_breaks_read, is_read_break, is_rendered_text, is_indented_text, LineBreak, between}
-use Rattle.yaml_scalar.proofs.Common.{with_unit, quoted_from, read_double, FoldUnit, literal_blank, literal_break, itself, FoldState, fold_state_text}
-use Rattle.yaml_scalar.proofs.Common.{prepend_unit, fold_state_of, folding_read, quote, backslash, escape_text, needs_escape, character_text, is_other}
-use Rattle.yaml_scalar.proofs.Common.{may_fold, space_kept, double_fold, double_inside, render_quote, double_quoted_body}
+use Rattle.yaml_scalar.proofs.Common.{suc, zero, ℕ, ◌+◌, ◌≤◌, if◌then◌else◌, ◌==◌, Option, None, Some, replicate, Bool, false, not, true, ◌&&◌, ◌||◌, List, []}
+use Rattle.yaml_scalar.proofs.Common.{◌++◌, ◌∷◌, ◌⊎◌, refl, ◌≡◌, eqb-true, lt-ltb, true≢false, append-nil, append_assoc, inl, inr, ap, subst, sym, ◌∙◌, arith}
+use Rattle.yaml_scalar.proofs.Common.{scalar, and_parts, and_right, or_left, or_right, nat_tests, all_scalars, breaks-round, rendered-append, indented-written}
+use Rattle.yaml_scalar.proofs.Common.{Text, line_feed, carriage_return, next_line, line_separator, paragraph_separator, space, is_space, is_blank, is_break}
+use Rattle.yaml_scalar.proofs.Common.{is_printable, Cursor, Rendered, render_then, column_after, render_text, breaks_line, is_past_width, with_breaks_written}
+use Rattle.yaml_scalar.proofs.Common.{with_line_breaks_read, is_read_break, is_rendered_text, is_indented_text, LineBreak, between, with_unit, quoted_from}
+use Rattle.yaml_scalar.proofs.Common.{read_double, FoldUnit, literal_blank, literal_break, itself, FoldState, fold_state_text, prepend_unit, fold_state_of}
+use Rattle.yaml_scalar.proofs.Common.{folding_read, quote, backslash, escape_text, needs_escape, character_text, is_other, may_fold, space_kept, double_fold}
+use Rattle.yaml_scalar.proofs.Common.{double_inside, render_quote, double_quoted_body}
 use Rattle.yaml_base.specs.reading.ReadDouble.{QuotedReading, double_quoted_prefix, value_alone}
-use Rattle.yaml_scalar.proofs.EscapesRead.{escape-reads}
-use Rattle.yaml_scalar.proofs.Unbroken.{is_unbroken, unbroken-replicate, unbroken-column, unbroken-rendered, unbroken-indented, unescaped, character-unbroken}
-use Rattle.yaml_scalar.proofs.Unbroken.{character-long}
+use Rattle.yaml_scalar.proofs.{EscapesRead.escape-reads, Unbroken.is_unbroken, Unbroken.unbroken-replicate, Unbroken.unbroken-column}
+use Rattle.yaml_scalar.proofs.{Unbroken.unbroken-rendered, Unbroken.unbroken-indented, Unbroken.unescaped, Unbroken.character-unbroken, Unbroken.character-long}
 
 -- a printable character other than a space is no blank
 no-blank : (c : ℕ) → is_printable c ≡ true → is_space c ≡ false → is_blank c ≡ false

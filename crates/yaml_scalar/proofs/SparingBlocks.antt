@@ -1,11 +1,10 @@
 -- Block scalars hold no character that meets a test which spares printable ASCII and LF, where their values hold none; so a
 -- value that a style allows is written without a special character.
-use Rattle.yaml_scalar.proofs.Common.{ℕ, ◌+◌, ◌≤◌, if◌then◌else◌, ◌==◌, Option, replicate, Bool, false, not, true, ◌&&◌, List, [], ◌++◌, ◌∷◌, refl, ◌≡◌}
-use Rattle.yaml_scalar.proofs.Common.{le-leb, ap, ◌∙◌, arith, and_from, or_parts, not-true, list_any, Text, line_feed, space, is_space, is_break, Cursor}
-use Rattle.yaml_scalar.proofs.Common.{Charset, somewhere, begins_with, is_special, bars_single_quoted, bars_block, allows_plain, allows_single_quoted}
-use Rattle.yaml_scalar.proofs.Common.{allows_block, Ending, without_break, one_break, more_breaks, ending, begins_blank, ending_hint, block_body, folds}
-use Rattle.yaml_scalar.proofs.Common.{cut_from, cut_line, next_line_unindented, folded_parts, folded_body, Part, line, line_break, begun, parts, indented}
-use Rattle.yaml_scalar.proofs.Common.{literal_body}
+use Rattle.yaml_scalar.proofs.Common.{ℕ, ◌+◌, ◌≤◌, if◌then◌else◌, ◌==◌, Option, replicate, Bool, false, not, true, ◌&&◌, List, [], ◌++◌, ◌∷◌, refl, ◌≡◌, le-leb}
+use Rattle.yaml_scalar.proofs.Common.{ap, ◌∙◌, arith, and_from, or_parts, not-true, list_any, Text, line_feed, space, is_space, is_break, Cursor, Charset}
+use Rattle.yaml_scalar.proofs.Common.{somewhere, begins_with, is_special, bars_single_quoted, bars_block, allows_plain, allows_single_quoted, allows_block}
+use Rattle.yaml_scalar.proofs.Common.{Ending, without_break, one_break, more_breaks, ending, begins_blank, ending_hint, block_body, folds, cut_from, cut_line}
+use Rattle.yaml_scalar.proofs.Common.{next_line_unindented, folded_parts, folded_body, Part, line, line_break, begun, parts, indented, literal_body}
 use Rattle.yaml_scalar.proofs.{LineTexts.any_both, LineTexts.any_one, PlainReads.plain_is_single, PlainReads.plain_bars, Sparing.is_graph, Sparing.Spares}
 use Rattle.yaml_scalar.proofs.{Sparing.lacks_spaces, blocks.BlockReads.block-text, blocks.BlockReads.digit_text, blocks.BlockReads.block_indicator_of}
 

@@ -1,8 +1,7 @@
 -- What each reader makes of texts that no right writer writes: no value, or another one than was to be written.
-use Rattle.yaml_base.proofs.Common.{is_none, Option, None, Some, codes, Bool, false, true, List, [], map, ◌++◌, ◌∷◌, refl, ◌≡◌, list_all, Text}
-use Rattle.yaml_base.proofs.Common.{line_separator, TagDirective, canonical_content, tagged, untagged, Content, scalar_content, sequence_content}
-use Rattle.yaml_base.proofs.Common.{mapping_content, no_contents, contents_and, no_content_pairs, content_pairs_and, DocumentContent, read_block, read_double}
-use Rattle.yaml_base.proofs.Common.{read_plain, read_single}
+use Rattle.yaml_base.proofs.Common.{is_none, Option, None, Some, codes, Bool, false, true, List, [], map, ◌++◌, ◌∷◌, refl, ◌≡◌, list_all, Text, line_separator}
+use Rattle.yaml_base.proofs.Common.{TagDirective, canonical_content, tagged, untagged, Content, scalar_content, sequence_content, mapping_content, no_contents}
+use Rattle.yaml_base.proofs.Common.{contents_and, no_content_pairs, content_pairs_and, DocumentContent, read_block, read_double, read_plain, read_single}
 use Rattle.std.specs.{Char.encode_utf8, Str.chars, Str.is_utf8}
 use Rattle.yaml_base.specs.reading.Content.{ScalarTag}
 

@@ -12,12 +12,6 @@ pub documents_both : (P : Document → Type 0) (some others : List Document) →
 documents_both P [] others h k = k
 documents_both P (document ∷ rest) others h k = (h.0, documents_both P rest others h.1 k)
 
--- where P holds Q does
-pub documents_more : (P Q : Document → Type 0) → ((document : Document) → P document → Q document) → (documents : List Document)
-    → AllDocuments P documents → AllDocuments Q documents
-documents_more P Q then [] h = tt
-documents_more P Q then (document ∷ rest) h = (then document h.0, documents_more P Q then rest h.1)
-
 -- a test on both of two lists
 pub all_of_both : (test : Event → Bool) (some others : List Event) → list_all test (some ++ others) ≡ true
     → (list_all test some ≡ true) × (list_all test others ≡ true)

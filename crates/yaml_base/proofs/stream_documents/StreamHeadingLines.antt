@@ -6,12 +6,11 @@ use Rattle.yaml_base.proofs.Common.{version_1_2, render_version, render_tag_dire
 use Rattle.yaml_base.proofs.Common.{version_fault, handle_fault, prefix_fault, directive_fault, gives_handle, next_directive_fault, directives_fault_after}
 use Rattle.yaml_base.proofs.Common.{directives_fault, heading_of, begins_with_percent, Line, lines_of, text_of_lines}
 use Rattle.yaml_base.{proofs.NoFaults.neither, proofs.PercentLaws.prefix_stands, proofs.TagForms.handle_form, proofs.TagWords.handle_ends_no_word}
-use Rattle.yaml_base.{proofs.stream_documents.StreamRootsStand.heading_text, proofs.stream_documents.StreamRootsStand.HeadingStands}
-use Rattle.yaml_base.{proofs.stream_documents.StreamSoFar.Percents, proofs.stream_lines.StreamClosed.character_line}
-use Rattle.yaml_base.{proofs.stream_lines.StreamClosed.lines_broken, proofs.stream_lines.StreamClosed.closed_behind}
-use Rattle.yaml_base.{proofs.stream_lines.StreamLineLaws.is_closed, proofs.stream_lines.StreamLineLaws.OneLine}
-use Rattle.yaml_base.{proofs.stream_lines.StreamLineLaws.one_line_both, proofs.stream_nodes.StreamProperties.holds_white, specs.Indicators.render_indicator}
+use Rattle.yaml_base.{proofs.stream_documents.StreamSoFar.Percents, proofs.stream_nodes.StreamProperties.holds_white, specs.Indicators.render_indicator}
 use Rattle.yaml_base.{specs.Indicators.yaml_directive, specs.Layout.then_line_end, specs.declared.errors.yaml_error_t.TheVariants.DuplicateDirective}
+use Rattle.yaml_base.proofs.stream_documents.StreamRootsStand.{heading_text, HeadingStands}
+use Rattle.yaml_base.proofs.stream_lines.StreamClosed.{character_line, lines_broken, closed_behind}
+use Rattle.yaml_base.proofs.stream_lines.StreamLineLaws.{is_closed, OneLine, one_line_both}
 use Rattle.yaml_base.proofs.stream_documents.StreamHeadings.{prefix_no_white, directive_text, tag_lines, version_lines, heading_lines, heading_reads}
 
 -- Lines with their breaks

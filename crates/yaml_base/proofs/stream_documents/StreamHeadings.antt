@@ -1,19 +1,18 @@
 -- A document's directives, as they are written, are lines that are read as these directives.
 use Rattle.yaml_base.proofs.Common.{ℕ, if◌then◌else◌, ◌==◌, fold, option_and_then, Option, None, Some, codes, negsuc, pos, ℤ, Bool, false, not, true, ◌&&◌}
-use Rattle.yaml_base.proofs.Common.{◌||◌, List, [], ◌++◌, ◌∷◌, ◌⊎◌, refl, ◌≡◌, int_eq, eqb-true, append-nil, append_assoc, inl, inr, ap, subst, sym, ◌∙◌}
-use Rattle.yaml_base.proofs.Common.{arith, and_parts, and_from, or_from, not-true, false≢true, nat_tests, list_all-append, slice_split-cons_yes}
-use Rattle.yaml_base.proofs.Common.{slice_split-cons_no, list_all, onto_first, slice_split, all_scalars, Text, line_feed, space, is_alpha, is_space, is_blank}
-use Rattle.yaml_base.proofs.Common.{is_break, Version, TagDirective, DocumentStart, version_1_1, version_1_2, directive_scalars, percent_sign}
-use Rattle.yaml_base.proofs.Common.{is_tag_character, character_written, percent_escaped, prefix_escaped, version_fault, exclamation_mark, handle_fault}
-use Rattle.yaml_base.proofs.Common.{prefix_fault, directive_fault, gives_handle, next_directive_fault, directives_fault_after, directives_fault}
-use Rattle.yaml_base.proofs.Common.{is_uri_character, percent_read, Heading, no_heading, heading_of, Line}
+use Rattle.yaml_base.proofs.Common.{◌||◌, List, [], ◌++◌, ◌∷◌, ◌⊎◌, refl, ◌≡◌, int_eq, eqb-true, append-nil, append_assoc, inl, inr, ap, subst, sym, ◌∙◌, arith}
+use Rattle.yaml_base.proofs.Common.{and_parts, and_from, or_from, not-true, false≢true, nat_tests, list_all-append, slice_split-cons_yes, slice_split-cons_no}
+use Rattle.yaml_base.proofs.Common.{list_all, onto_first, slice_split, all_scalars, Text, line_feed, space, is_alpha, is_space, is_blank, is_break, Version}
+use Rattle.yaml_base.proofs.Common.{TagDirective, DocumentStart, version_1_1, version_1_2, directive_scalars, percent_sign, is_tag_character, character_written}
+use Rattle.yaml_base.proofs.Common.{percent_escaped, prefix_escaped, version_fault, exclamation_mark, handle_fault, prefix_fault, directive_fault, gives_handle}
+use Rattle.yaml_base.proofs.Common.{next_directive_fault, directives_fault_after, directives_fault, is_uri_character, percent_read, Heading, no_heading}
+use Rattle.yaml_base.proofs.Common.{heading_of, Line}
 use Rattle.std.proofs.lemmas.List.Sums.{fold-append}
 use Rattle.yaml_base.{proofs.NoFaults.neither, proofs.NoFaults.not_given, proofs.TagForms.IsHandle, proofs.TagForms.handle_form}
-use Rattle.yaml_base.{proofs.TagWords.handle_ends_no_word, proofs.stream_nodes.StreamProperties.holds_white}
-use Rattle.yaml_base.{proofs.stream_nodes.StreamProperties.has_no_space, proofs.stream_nodes.StreamProperties.no_white_no_space}
-use Rattle.yaml_base.{proofs.stream_nodes.StreamTags.uri_character, proofs.stream_nodes.StreamTags.uri_text, specs.Layout.version_word}
-use Rattle.yaml_base.{specs.Tags.equals_integer, specs.declared.errors.yaml_error_t.yaml_error_t}
-use Rattle.yaml_base.{specs.declared.errors.yaml_error_t.TheVariants.DuplicateDirective, specs.declared.errors.yaml_error_t.TheVariants.IncompatibleVersion}
+use Rattle.yaml_base.{proofs.TagWords.handle_ends_no_word, proofs.stream_nodes.StreamTags.uri_character, proofs.stream_nodes.StreamTags.uri_text}
+use Rattle.yaml_base.{specs.Layout.version_word, specs.Tags.equals_integer, specs.declared.errors.yaml_error_t.yaml_error_t}
+use Rattle.yaml_base.proofs.stream_nodes.StreamProperties.{holds_white, has_no_space, no_white_no_space}
+use Rattle.yaml_base.specs.declared.errors.yaml_error_t.TheVariants.{DuplicateDirective, IncompatibleVersion}
 use Rattle.yaml_base.proofs.PercentLaws.{decoded_prefix, character_stands, escaped_stands, stands_in_prefix, prefix_stands, prefix_begins}
 use Rattle.yaml_base.specs.reading.ReadTags.{closes_handle, is_handle_text, prefix_parsed, is_handle_given}
 use Rattle.yaml_base.specs.streams.StreamDocuments.{version_parsed, with_version, with_directive, directive_by_words, directive_line}

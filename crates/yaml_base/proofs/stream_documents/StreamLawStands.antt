@@ -5,16 +5,15 @@ use Rattle.yaml_base.proofs.Common.{false≢true, list_all, list_any, option_or,
 use Rattle.yaml_base.proofs.Common.{document_end, scalar, sequence_start, sequence_end, mapping_start, mapping_end, scalar_tag, Node, alias_node, scalar_node}
 use Rattle.yaml_base.proofs.Common.{Nodes, sequence_node, Pairs, mapping_node, no_nodes, nodes_and, no_pairs, pairs_and, Document, Documents, no_documents}
 use Rattle.yaml_base.proofs.Common.{documents_and, Stream, node_events, nodes_events, pairs_events, documents_events, stream_events, tree_of, has_directives}
-use Rattle.yaml_base.proofs.Common.{is_explicit, layout, Piece, text_of, with_breaks_written, bytes_written, list_layout, some_if, name_or_tag_fault}
-use Rattle.yaml_base.proofs.Common.{is_sound, IsAccepted, Encoding, Settings, Effective, effective_indent, effective, is_written_as_nothing, loses_document}
-use Rattle.yaml_base.proofs.Common.{document_has_flow_indicator, are_portable, reads_alike, characters_read, lacks_tag_and_flags, DocumentTree}
-use Rattle.yaml_base.proofs.Common.{document_agrees, documents_in_order, agrees, documents_of, stream_trees}
-use Rattle.yaml_base.{proofs.Trees.tree_of-stream_events, proofs.stream_documents.StreamEachDocument.AllDocuments}
-use Rattle.yaml_base.{proofs.stream_documents.StreamEachDocument.all_of_both, proofs.stream_documents.StreamEachDocument.each_document}
-use Rattle.yaml_base.{proofs.stream_documents.StreamRootsStand.DocumentsStand, proofs.stream_documents.StreamWholeReads.FirstWritten}
-use Rattle.yaml_base.{proofs.stream_documents.StreamWholeReads.document_trees, proofs.stream_documents.StreamWholeReads.stream_reads}
+use Rattle.yaml_base.proofs.Common.{is_explicit, layout, Piece, text_of, with_breaks_written, bytes_written, list_layout, some_if, name_or_tag_fault, is_sound}
+use Rattle.yaml_base.proofs.Common.{IsAccepted, Encoding, Settings, Effective, effective_indent, effective, is_written_as_nothing, loses_document}
+use Rattle.yaml_base.proofs.Common.{document_has_flow_indicator, are_portable, reads_alike, characters_read, lacks_tag_and_flags, DocumentTree, document_agrees}
+use Rattle.yaml_base.proofs.Common.{documents_in_order, agrees, documents_of, stream_trees}
+use Rattle.yaml_base.{proofs.Trees.tree_of-stream_events, proofs.stream_documents.StreamRootsStand.DocumentsStand}
 use Rattle.yaml_base.{proofs.stream_lines.StreamBytes.trees_of_bytes, specs.declared.errors.yaml_error_t.yaml_error_t}
 use Rattle.yaml_base.{specs.declared.errors.yaml_error_t.TheVariants.NoTagNorImplicit, specs.streams.StreamContent.documents_agree}
+use Rattle.yaml_base.proofs.stream_documents.StreamEachDocument.{AllDocuments, all_of_both, each_document}
+use Rattle.yaml_base.proofs.stream_documents.StreamWholeReads.{FirstWritten, document_trees, stream_reads}
 use Rattle.yaml_base.proofs.stream_nodes.StreamAgrees.{document_tree, node_is_tagged, nodes_are_tagged, pairs_are_tagged, document_tree_agrees}
 
 -- Tags

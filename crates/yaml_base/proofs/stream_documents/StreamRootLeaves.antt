@@ -1,16 +1,15 @@
 -- A document's root that is a leaf stands, where its names, its bodies and the keys in it do.
 use Rattle.yaml_base.proofs.Common.{◌≤◌, is_some, Option, None, Bool, false, not, true, ◌&&◌, ◌||◌, List, [], refl, ◌≡◌, true≢false, ap, sym, ◌∙◌, arith}
 use Rattle.yaml_base.proofs.Common.{and_parts, and_from, false≢true, list_all, Text, is_printable, Cursor, TagDirective, Scalar, scalar_tag, collection_tag}
-use Rattle.yaml_base.proofs.Common.{Node, alias_node, scalar_node, sequence_node, mapping_node, Document, root_place, render_properties, charset_of}
-use Rattle.yaml_base.proofs.Common.{choice_of, as_root, deeper, Effective, is_written_as_nothing, directives_in_force, has_deep_lines, is_tidy_style}
-use Rattle.yaml_base.proofs.Common.{Allowances, is_empty, allowances, Choice, is_plain, requested_style, fits_plain}
+use Rattle.yaml_base.proofs.Common.{Node, alias_node, scalar_node, sequence_node, mapping_node, Document, root_place, render_properties, charset_of, choice_of}
+use Rattle.yaml_base.proofs.Common.{as_root, deeper, Effective, is_written_as_nothing, directives_in_force, has_deep_lines, is_tidy_style, Allowances, is_empty}
+use Rattle.yaml_base.proofs.Common.{allowances, Choice, is_plain, requested_style, fits_plain}
 use Rattle.yaml_base.proofs.{stream_documents.StreamLeafMarks.leaf_unmarked, stream_flow.StreamFlowFits.flows_fit, stream_flow.StreamFlowKinds.KeysFit}
 use Rattle.yaml_base.proofs.{stream_flow.StreamFlowReads.sequence_reads, stream_flow.StreamFlowReads.mapping_reads, stream_flow.StreamFlowScalars.rules_of}
 use Rattle.yaml_base.proofs.{stream_flow.StreamFlowTakes.and_false, stream_nodes.StreamAgrees.node_tree, stream_nodes.StreamLeads.tag_is_written}
-use Rattle.yaml_base.proofs.{stream_nodes.StreamLeaves.ScalarsFit, stream_nodes.StreamLeaves.SimpleKeysFit, stream_nodes.StreamLeaves.leaves_stand}
 use Rattle.yaml_base.proofs.{stream_nodes.StreamNodesFit.Stands, stream_nodes.StreamScalarsFit.body_cursor, stream_nodes.StreamTexts.node_own}
-use Rattle.yaml_base.proofs.stream_documents.StreamRootBegins.{properties_begin, alias_begins, flow_begins, body_head, empty_begins, styled_begins}
-use Rattle.yaml_base.proofs.stream_documents.StreamRootBegins.{plain_asked}
+use Rattle.yaml_base.proofs.stream_nodes.StreamLeaves.{ScalarsFit, SimpleKeysFit, leaves_stand}
+use Rattle.yaml_base.proofs.stream_documents.StreamRootBegins.{properties_begin, alias_begins, flow_begins, body_head, empty_begins, styled_begins, plain_asked}
 use Rattle.yaml_base.proofs.stream_documents.StreamRootsStand.{root_cursor, Begins, LeafStands, is_leaf, PropertiesStand, RootStands}
 use Rattle.yaml_base.proofs.stream_nodes.StreamStands.{tag_written, NamesStand, BodyStands, body_from, BodiesHold}
 

@@ -1,19 +1,19 @@
 -- The text of a collection in flow, after its properties, is read as the collection's tree.
-use Rattle.yaml_base.proofs.Common.{ℕ, option_map, Option, None, Some, codes, Bool, false, true, ◌&&◌, List, [], ◌++◌, ◌∷◌, refl, ◌≡◌, append-nil}
-use Rattle.yaml_base.proofs.Common.{append_assoc, ap, sym, ◌∙◌, and_parts, false≢true, list_all, Text, Cursor, Rendered, new_line, space_if, indicator}
-use Rattle.yaml_base.proofs.Common.{TagDirective, Collection, collection_tag, Nodes, sequence_node, Pairs, mapping_node, no_nodes, nodes_and, no_pairs}
-use Rattle.yaml_base.proofs.Common.{pairs_and, render_properties, is_written_in_flow, Brackets, square, curly, render_end, Place, is_undented, line_column}
-use Rattle.yaml_base.proofs.Common.{deeper, entries_column, has_no_nodes, has_no_pairs, Effective, is_read_white, ParsedTag, Tree, sequence_tree}
-use Rattle.yaml_base.proofs.Common.{mapping_tree, no_trees, no_tree_pairs, no_key, OpenFlow, in_sequence, in_mapping, Awaited, collection_awaited}
-use Rattle.yaml_base.proofs.Common.{entry_awaited, comma_awaited, FlowReading, done, within, word_step, level_opened, opened, flow_step, tree_at_end}
-use Rattle.yaml_base.proofs.Common.{flow_read, prepend_to_trimmed, trimmed, kind_of_text, text_by_kind, begins_text, kind_of_node, Rules, Properties}
-use Rattle.yaml_base.proofs.Common.{word_after, symbol, free, FlowStep, is_flow_indicator, begins_bracket, class_of, begun, bracket_step, is_pair}
-use Rattle.yaml_base.proofs.Common.{flow_tokens}
-use Rattle.yaml_base.proofs.{stream_flow.StreamFlowNodes.items_flow, stream_flow.StreamFlowNodes.pairs_flow, stream_flow.StreamFlowScalars.rules_of}
-use Rattle.yaml_base.proofs.{stream_flow.StreamFlowWords.opens_inside, stream_flow.StreamFlowWords.Given, stream_flow.StreamFlowWords.tag_of_collection}
-use Rattle.yaml_base.proofs.{stream_flow.StreamPropertyWords.lead, stream_lines.StreamLineLaws.OneLine, stream_nodes.StreamAgrees.node_tree}
-use Rattle.yaml_base.proofs.{stream_nodes.StreamAgrees.nodes_tree, stream_nodes.StreamAgrees.pairs_tree, stream_nodes.StreamLeads.EndedCollection}
-use Rattle.yaml_base.proofs.{stream_nodes.StreamLeads.lead_rendered, stream_nodes.StreamProperties.begins_content}
+use Rattle.yaml_base.proofs.Common.{ℕ, option_map, Option, None, Some, codes, Bool, false, true, ◌&&◌, List, [], ◌++◌, ◌∷◌, refl, ◌≡◌, append-nil, append_assoc}
+use Rattle.yaml_base.proofs.Common.{ap, sym, ◌∙◌, and_parts, false≢true, list_all, Text, Cursor, Rendered, new_line, space_if, indicator, TagDirective}
+use Rattle.yaml_base.proofs.Common.{Collection, collection_tag, Nodes, sequence_node, Pairs, mapping_node, no_nodes, nodes_and, no_pairs, pairs_and}
+use Rattle.yaml_base.proofs.Common.{render_properties, is_written_in_flow, Brackets, square, curly, render_end, Place, is_undented, line_column, deeper}
+use Rattle.yaml_base.proofs.Common.{entries_column, has_no_nodes, has_no_pairs, Effective, is_read_white, ParsedTag, Tree, sequence_tree, mapping_tree}
+use Rattle.yaml_base.proofs.Common.{no_trees, no_tree_pairs, no_key, OpenFlow, in_sequence, in_mapping, Awaited, collection_awaited, entry_awaited}
+use Rattle.yaml_base.proofs.Common.{comma_awaited, FlowReading, done, within, word_step, level_opened, opened, flow_step, tree_at_end, flow_read}
+use Rattle.yaml_base.proofs.Common.{prepend_to_trimmed, trimmed, kind_of_text, text_by_kind, begins_text, kind_of_node, Rules, Properties, word_after, symbol}
+use Rattle.yaml_base.proofs.Common.{free, FlowStep, is_flow_indicator, begins_bracket, class_of, begun, bracket_step, is_pair, flow_tokens}
+use Rattle.yaml_base.{proofs.stream_flow.StreamFlowScalars.rules_of, proofs.stream_flow.StreamPropertyWords.lead, proofs.stream_lines.StreamLineLaws.OneLine}
+use Rattle.yaml_base.{proofs.stream_nodes.StreamProperties.begins_content, specs.streams.StreamNodes.flow_text}
+use Rattle.yaml_base.proofs.stream_flow.StreamFlowNodes.{items_flow, pairs_flow}
+use Rattle.yaml_base.proofs.stream_flow.StreamFlowWords.{opens_inside, Given, tag_of_collection}
+use Rattle.yaml_base.proofs.stream_nodes.StreamAgrees.{node_tree, nodes_tree, pairs_tree}
+use Rattle.yaml_base.proofs.stream_nodes.StreamLeads.{EndedCollection, lead_rendered}
 use Rattle.yaml_base.proofs.stream_flow.StreamFlowKinds.{KeysFit, empty_whole, collection_whole, ItemsTake, PairsTake}
 use Rattle.yaml_base.proofs.stream_flow.StreamFlowLines.{keeps_open, keeps_prefix, collection_kind, empty_kind}
 use Rattle.yaml_base.proofs.stream_flow.StreamFlowTakes.{FlowEntries, no_pair, opens_more, and_false}
@@ -22,7 +22,6 @@ use Rattle.yaml_base.proofs.stream_flow.StreamSays.{comma_class, square_class, c
 use Rattle.yaml_base.proofs.stream_flow.StreamTakes.{steps, TakesBytes, takes_both, flow_reads}
 use Rattle.yaml_base.proofs.stream_nodes.StreamStands.{tag_written, tag_meant, NamesStand, BodyStands, BodiesHold, ItemsHold, PairsHold}
 use Rattle.yaml_base.proofs.stream_nodes.StreamTexts.{collection_own, node_own, items_own, pairs_own}
-use Rattle.yaml_base.specs.streams.StreamNodes.{flow_text}
 
 -- the text of a collection in flow: a space where one is needed, its properties, and from a bracket to a bracket what is
 -- read as its tree

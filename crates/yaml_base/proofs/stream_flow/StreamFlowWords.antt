@@ -1,18 +1,17 @@
 -- A node's own word in flow, with its anchor and tag: it is one word among the tokens, and reads as the node's tree.
-use Rattle.yaml_base.proofs.Common.{ℕ, if◌then◌else◌, ◌==◌, option_map, Option, None, Some, codes, Bool, false, not, true, ◌&&◌, ◌||◌, [], ◌++◌, ◌∷◌, refl}
-use Rattle.yaml_base.proofs.Common.{◌≡◌, true≢false, ap, ◌∙◌, arith, and_parts, or_parts, false≢true, nat_tests, list_all, Text, is_among, space, is_alpha}
-use Rattle.yaml_base.proofs.Common.{is_blank, is_printable, ScalarStyle, any_style, plain, single_quoted, double_quoted, literal, folded, is_read_break}
-use Rattle.yaml_base.proofs.Common.{read_double, is_read_white, begins_white, begins_with_hash, holds_no_plain, read_plain, read_single, ParsedTag}
-use Rattle.yaml_base.proofs.Common.{has_deep_lines, has_no_space_before_break, has_clean_edges, is_tidy, is_plain, Tree, alias_tree, scalar_tree}
-use Rattle.yaml_base.proofs.Common.{sequence_tree, mapping_tree, no_trees, no_tree_pairs, ends_indicator, spaces, Rules, name_read, collection_tag_parsed}
-use Rattle.yaml_base.proofs.Common.{tagging_parsed, standing_of, scalar_parsed, scalar_of_style, a_scalar, kind_of_word, word_by_kind, word_after, word_read}
-use Rattle.yaml_base.proofs.Common.{word, FlowStep, begins_plain, class_of, begun, flow_tokens}
+use Rattle.yaml_base.proofs.Common.{ℕ, if◌then◌else◌, ◌==◌, option_map, Option, None, Some, codes, Bool, false, not, true, ◌&&◌, ◌||◌, [], ◌++◌, ◌∷◌, refl, ◌≡◌}
+use Rattle.yaml_base.proofs.Common.{true≢false, ap, ◌∙◌, arith, and_parts, or_parts, false≢true, nat_tests, list_all, Text, is_among, space, is_alpha, is_blank}
+use Rattle.yaml_base.proofs.Common.{is_printable, ScalarStyle, any_style, plain, single_quoted, double_quoted, literal, folded, is_read_break, read_double}
+use Rattle.yaml_base.proofs.Common.{is_read_white, begins_white, begins_with_hash, holds_no_plain, read_plain, read_single, ParsedTag, has_deep_lines}
+use Rattle.yaml_base.proofs.Common.{has_no_space_before_break, has_clean_edges, is_tidy, is_plain, Tree, alias_tree, scalar_tree, sequence_tree, mapping_tree}
+use Rattle.yaml_base.proofs.Common.{no_trees, no_tree_pairs, ends_indicator, spaces, Rules, name_read, collection_tag_parsed, tagging_parsed, standing_of}
+use Rattle.yaml_base.proofs.Common.{scalar_parsed, scalar_of_style, a_scalar, kind_of_word, word_by_kind, word_after, word_read, word, FlowStep, begins_plain}
+use Rattle.yaml_base.proofs.Common.{class_of, begun, flow_tokens}
 use Rattle.yaml_base.proofs.{stream_flow.StreamSays.Says, stream_flow.StreamSays.bracket_class, stream_keys.StreamAliasKeys.alias_word}
 use Rattle.yaml_base.proofs.{stream_lines.StreamCuts.none_not_some, stream_lines.StreamTidyLaws.tidy_at_root, stream_nodes.StreamAgrees.tagging_in}
 use Rattle.yaml_base.proofs.{stream_nodes.StreamLeads.lead_spaces, stream_nodes.StreamLeads.lead_then, stream_nodes.StreamStands.tag_meant}
 use Rattle.yaml_base.proofs.stream_flow.StreamPlainWords.{stays_plain, is_white_class, all_stay, ends_shown, plain_text_word}
-use Rattle.yaml_base.proofs.stream_flow.StreamPropertyWords.{lead, lead_passes, Leads, says_double_after, says_single_after, says_plain_after}
-use Rattle.yaml_base.proofs.stream_flow.StreamPropertyWords.{says_empty_after}
+use Rattle.yaml_base.proofs.stream_flow.StreamPropertyWords.{lead, lead_passes, Leads, says_double_after, says_single_after, says_plain_after, says_empty_after}
 use Rattle.yaml_base.proofs.stream_keys.StreamPlainKeys.{not_among, Begins, begins, plain_kind, plain_style, reads_plain, tidy_begins}
 use Rattle.yaml_base.proofs.stream_nodes.StreamProperties.{IsTagged, IsNamed, has_properties, begins_content, name_letters, word_with_properties}
 

@@ -1,6 +1,6 @@
 -- What a text in flow is to its reader: these tokens, before anything that ends a word.
 use Rattle.yaml_base.proofs.Common.{ℕ, if◌then◌else◌, ◌==◌, Bool, false, true, List, [], ◌++◌, ◌∷◌, refl, ◌≡◌, eqb-true, ap, sym, ◌∙◌, false≢true, Text}
-use Rattle.yaml_base.proofs.Common.{FlowToken, opens, symbol, blank, line_end, free, FlowStep, is_white_blank, is_white_break, is_flow_indicator}
+use Rattle.yaml_base.proofs.Common.{FlowToken, opens, symbol, blank, free, FlowStep, is_white_blank, is_flow_indicator}
 use Rattle.yaml_base.proofs.Common.{begins_double, begins_single, begins_bracket, class_of, begun, bracket_step, is_pair, flow_tokens}
 use Rattle.yaml_base.proofs.stream_flow.{StreamPlainWords.ends_by, StreamPlainWords.ends_word, StreamWords.begins_unquoted}
 
@@ -11,10 +11,6 @@ pub record Says (breaks12 : Bool) (text : Text) (tokens : List FlowToken) : Type
 -- a text ends a word before it, if what follows does
 abbrev pub EndsWord : Bool → Text → Type 0
 EndsWord breaks12 text = (rest : Text) → ends_word breaks12 rest ≡ true → ends_word breaks12 (text ++ rest) ≡ true
-
--- no text
-pub says_nothing : (breaks12 : Bool) → Says breaks12 [] []
-says_nothing breaks12 = record { says = λ rest h. refl }
 
 -- a text that ends a word whatever follows
 pub ends_anyhow : (breaks12 : Bool) (c : ℕ) (text : Text) → ((more : Bool) → ends_by (class_of breaks12 c) more ≡ true) → EndsWord breaks12 (c ∷ text)
@@ -29,12 +25,6 @@ says_indicator breaks12 c e = record {
 -- a blank
 pub says_blank : (breaks12 : Bool) (c : ℕ) → class_of breaks12 c ≡ is_white_blank → Says breaks12 (c ∷ []) (blank ∷ [])
 says_blank breaks12 c e = record {
-  says = λ rest h. ap (λ class. (let here : FlowStep = begun class [] c in here.tokens ++ flow_tokens breaks12 here.place rest)) e;
-}
-
--- a break
-pub says_break : (breaks12 : Bool) (c : ℕ) → class_of breaks12 c ≡ is_white_break → Says breaks12 (c ∷ []) (line_end ∷ [])
-says_break breaks12 c e = record {
   says = λ rest h. ap (λ class. (let here : FlowStep = begun class [] c in here.tokens ++ flow_tokens breaks12 here.place rest)) e;
 }
 

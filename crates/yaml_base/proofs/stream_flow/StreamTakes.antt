@@ -1,7 +1,7 @@
 -- What a text in flow is to the reader of flow collections: it takes the reader from one reading to another.
 use Rattle.yaml_base.proofs.Common.{ℕ, if◌then◌else◌, fold, Option, Some, false, true, List, [], ◌++◌, ◌∷◌, refl, ◌≡◌, append_assoc, ap, ◌∙◌, Text, Tree}
-use Rattle.yaml_base.proofs.Common.{Trees, sequence_tree, TreePairs, mapping_tree, is_key_text, no_key, key_due, key_held, OpenFlow, in_sequence, in_mapping}
-use Rattle.yaml_base.proofs.Common.{after_white, Awaited, collection_awaited, entry_awaited, node_awaited, comma_awaited, colon_awaited, FlowReading, failed}
+use Rattle.yaml_base.proofs.Common.{Trees, sequence_tree, TreePairs, mapping_tree, is_key_text, no_key, key_held, OpenFlow, in_sequence, in_mapping}
+use Rattle.yaml_base.proofs.Common.{Awaited, collection_awaited, entry_awaited, comma_awaited, colon_awaited, FlowReading, failed}
 use Rattle.yaml_base.proofs.Common.{done, within, with_tree, word_step, flow_step, tree_at_end, flow_read, Rules, Properties, word_read, FlowToken, word}
 use Rattle.yaml_base.proofs.Common.{symbol, free, FlowStep, is_flow_indicator, class_of, begun, flow_tokens}
 use Rattle.yaml_base.{proofs.stream_flow.StreamPlainWords.ends_by, proofs.stream_flow.StreamPlainWords.ends_word, specs.streams.StreamFlow.colon_after}
@@ -34,10 +34,6 @@ takes_to rules from to text tokens says e = record {
   takes = λ rest h. (takes_tokens rules from text tokens says).takes rest h ∙ ap (λ r. steps rules r (flow_tokens rules.breaks12 free rest)) e;
 }
 
--- no text
-pub takes_nothing : (rules : Rules) (from : FlowReading) → TakesBytes rules from [] from
-takes_nothing rules from = record { takes = λ rest h. refl }
-
 -- a text, and then one that ends a word
 pub takes_both : (rules : Rules) (from through to : FlowReading) (a b : Text) → TakesBytes rules from a through → TakesBytes rules through b to
     → EndsWord rules.breaks12 b → TakesBytes rules from (a ++ b) to
@@ -48,16 +44,6 @@ takes_both rules from through to a b one two ends = record {
 }
 
 -- Words
-
--- one after a `?` is a key
-pub takes_key : (rules : Rules) (anchor tag : Option Text) (pairs : TreePairs) (levels : List OpenFlow) (text : Text) (tree : Tree)
-    → Says rules.breaks12 text (word text ∷ []) → word_read rules true text ≡ Some tree
-    → TakesBytes rules (within (in_mapping anchor tag pairs key_due ∷ levels) (node_awaited true)) text
-    (within (in_mapping anchor tag pairs (key_held tree) ∷ levels) (colon_awaited (after_white false)))
-takes_key rules anchor tag pairs levels text tree says read =
-    takes_to rules (within (in_mapping anchor tag pairs key_due ∷ levels) (node_awaited true))
-    (within (in_mapping anchor tag pairs (key_held tree) ∷ levels) (colon_awaited (after_white false)))
-    text (word text ∷ []) says (ap (word_step rules.breaks12 (in_mapping anchor tag pairs key_due ∷ levels) text) read)
 
 -- a short one on a line, where a key may stand, is a simple key
 pub takes_simple_key : (rules : Rules) (anchor tag : Option Text) (pairs : TreePairs) (levels : List OpenFlow) (text : Text) (tree : Tree)

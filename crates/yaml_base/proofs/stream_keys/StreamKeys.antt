@@ -1,10 +1,9 @@
 -- A simple key in quotes is found where its text ends, before the `:` that follows it.
 use Rattle.yaml_base.proofs.Common.{ℕ, if◌then◌else◌, ◌==◌, option_map, option_and_then, Option, None, Some, nat_le, length, Bool, false, true, ◌&&◌, []}
-use Rattle.yaml_base.proofs.Common.{◌++◌, ◌∷◌, refl, ◌≡◌, eqb-true, append_assoc, ap, sym, ◌∙◌, and_parts, option_or, Text, space, single_quoted}
+use Rattle.yaml_base.proofs.Common.{◌++◌, ◌∷◌, refl, ◌≡◌, append_assoc, ap, sym, ◌∙◌, option_or, Text, space, single_quoted}
 use Rattle.yaml_base.proofs.Common.{double_quoted, read_double, read_single, is_tidy, Stood, stood_quoted, Tagging, Tree, scalar_tree, is_alias, longest_key}
 use Rattle.yaml_base.proofs.Common.{ends_indicator, SimpleKey, without_last_space, word_but_alias, word_of_alias, key_of_text, key_ends, key_from, Rules}
 use Rattle.yaml_base.proofs.Common.{Properties, no_properties, tagging_parsed, scalar_parsed, scalar_of_style, word_read}
-use Rattle.yaml_base.proofs.stream_lines.StreamCuts.{double_quoted_whole, single_quoted_whole}
 
 -- no `:` inside a text ends a key, where so much stands before it and a `:` after it
 abbrev pub NoKey : Rules → Text → Text → Text → Type 0
@@ -54,18 +53,6 @@ scalar_no_alias properties standing (Some text) = by (tagging_parsed properties.
     by None = refl
     by (Some tagging) = refl
 
--- a scalar stays one where aliases are left out
-pub scalar_but_alias : (properties : Properties) (standing : Stood) (value : Option Text)
-    → option_and_then (λ tree. if is_alias tree then None else Some tree) (scalar_parsed properties standing value) ≡ scalar_parsed properties standing value
-scalar_but_alias properties standing None = refl
-scalar_but_alias properties standing (Some text) = by (tagging_parsed properties.tag standing)
-  where
-    by : (tagging : Option Tagging)
-        → option_and_then (λ tree. if is_alias tree then None else Some tree) (option_map (λ tagging. scalar_tree properties.anchor tagging text) tagging)
-        ≡ option_map (λ tagging. scalar_tree properties.anchor tagging text) tagging
-    by None = refl
-    by (Some tagging) = refl
-
 -- a word that begins with a double quote is a scalar in such quotes
 word_of_double : (rules : Rules) (flow : Bool) (t : Text)
     → word_read rules flow (0x22 ∷ t) ≡ scalar_of_style double_quoted rules flow None no_properties (0x22 ∷ t)
@@ -112,69 +99,3 @@ key_by_word rules text word e none =
     alone : (word : Option Tree) → option_or word None ≡ word
     alone None = refl
     alone (Some tree) = refl
-
--- what is said of a quoted value
-abbrev quoted_parsed : Option Text → Option Tree
-quoted_parsed value = scalar_parsed no_properties stood_quoted value
-
--- one of two that are nothing
-neither : (x : Bool) → ◌≡◌ {A = Option Tree} (if x then None else None) None
-neither true = refl
-neither false = refl
-
-abbrev if_tidy_double : Rules → Text → Option Text → Option Text
-if_tidy_double rules text value = if is_tidy double_quoted rules.breaks12 None text then value else None
-
-double_key_text : (rules : Rules) (t : Text) (value : Option Text) → read_double rules.breaks12 (0x22 ∷ t) ≡ value
-    → key_of_text rules (0x22 ∷ t) ≡ (if nat_le (length (0x22 ∷ t)) longest_key then quoted_parsed (if_tidy_double rules (0x22 ∷ t) value) else None)
-double_key_text rules t value e =
-    key_by_word rules (0x22 ∷ t) (quoted_parsed (if_tidy_double rules (0x22 ∷ t) value))
-    (ap (option_and_then (λ tree. if is_alias tree then None else Some tree)) (word_of_double rules false t)
-    ∙ scalar_but_alias no_properties stood_quoted (if_tidy_double rules (0x22 ∷ t) (read_double rules.breaks12 (0x22 ∷ t)))
-    ∙ ap (λ v. quoted_parsed (if_tidy_double rules (0x22 ∷ t) v)) e)
-    (no_alias_before rules 0x22 t refl (double_no_alias rules))
-
-abbrev if_tidy_single : Rules → Text → Option Text → Option Text
-if_tidy_single rules text value = if is_tidy single_quoted rules.breaks12 None text then value else None
-
-single_key_text : (rules : Rules) (t : Text) (value : Option Text) → read_single rules.breaks12 (0x27 ∷ t) ≡ value
-    → key_of_text rules (0x27 ∷ t) ≡ (if nat_le (length (0x27 ∷ t)) longest_key then quoted_parsed (if_tidy_single rules (0x27 ∷ t) value) else None)
-single_key_text rules t value e =
-    key_by_word rules (0x27 ∷ t) (quoted_parsed (if_tidy_single rules (0x27 ∷ t) value))
-    (ap (option_and_then (λ tree. if is_alias tree then None else Some tree)) (word_of_single rules false t)
-    ∙ scalar_but_alias no_properties stood_quoted (if_tidy_single rules (0x27 ∷ t) (read_single rules.breaks12 (0x27 ∷ t)))
-    ∙ ap (λ v. quoted_parsed (if_tidy_single rules (0x27 ∷ t) v)) e)
-    (no_alias_before rules 0x27 t refl (single_no_alias rules))
-
--- nothing is said of no value
-nothing_if : (x : Bool) → ◌≡◌ {A = Option Tree} (quoted_parsed (if x then None else None)) None
-nothing_if true = refl
-nothing_if false = refl
-
-double_no_text : (rules : Rules) (t : Text) → read_double rules.breaks12 (0x22 ∷ t) ≡ None → key_of_text rules (0x22 ∷ t) ≡ None
-double_no_text rules t none =
-    double_key_text rules t None none
-    ∙ ap (λ x. if nat_le (length (0x22 ∷ t)) longest_key then x else None) (nothing_if (is_tidy double_quoted rules.breaks12 None (0x22 ∷ t)))
-    ∙ neither (nat_le (length (0x22 ∷ t)) longest_key)
-
-single_no_text : (rules : Rules) (t : Text) → read_single rules.breaks12 (0x27 ∷ t) ≡ None → key_of_text rules (0x27 ∷ t) ≡ None
-single_no_text rules t none =
-    single_key_text rules t None none
-    ∙ ap (λ x. if nat_le (length (0x27 ∷ t)) longest_key then x else None) (nothing_if (is_tidy single_quoted rules.breaks12 None (0x27 ∷ t)))
-    ∙ neither (nat_le (length (0x27 ∷ t)) longest_key)
-
-double_no_key : (rules : Rules) (b t after v : Text) → read_double rules.breaks12 ((0x22 ∷ b) ++ t) ≡ Some v → NoKey rules (0x22 ∷ b) t after
-double_no_key rules b [] after v read = tt
-double_no_key rules b (c ∷ t) after v read = (
-  λ h. double_no_text rules b (double_quoted_whole rules.breaks12 (0x22 ∷ b) c t v read),
-  double_no_key rules (b ++ (c ∷ [])) t after v (ap (read_double rules.breaks12) (append_assoc (0x22 ∷ b) (c ∷ []) t) ∙ read),
-)
-
-single_no_key : (rules : Rules) (b t after v : Text) → read_single rules.breaks12 ((0x27 ∷ b) ++ t) ≡ Some v → NoKey rules (0x27 ∷ b) t after
-single_no_key rules b [] after v read = tt
-single_no_key rules b (c ∷ t) after v read = (
-  λ h. single_no_text rules b
-      (single_quoted_whole rules.breaks12 (0x27 ∷ b) c t v
-      (ap (λ n. n == 39) (eqb-true c 0x3A (and_parts (c == 0x3A) (ends_indicator (t ++ (0x3A ∷ after))) h).0)) read),
-  single_no_key rules (b ++ (c ∷ [])) t after v (ap (read_single rules.breaks12) (append_assoc (0x27 ∷ b) (c ∷ []) t) ∙ read),
-)

@@ -1,7 +1,7 @@
 -- Which lines lie inside a column, and lines that are the entries of a collection whatever entries follow them.
 use Rattle.yaml_base.proofs.Common.{suc, zero, ℕ, ◌<◌, ◌==◌, Some, Bool, false, not, true, ◌&&◌, ◌||◌, List, [], ◌++◌, ◌∷◌, refl, ◌≡◌, append-nil}
 use Rattle.yaml_base.proofs.Common.{append_assoc, ap, sym, ◌∙◌, arith, and_parts, and_from, false≢true, list_all, Text, space, Line, is_spaces}
-use Rattle.yaml_base.proofs.Common.{ends_indicator, begins_with_indicator, belongs_to_entry, all_deeper, indented_step, indented, spaces}
+use Rattle.yaml_base.proofs.Common.{begins_with_indicator, belongs_to_entry, all_deeper, indented_step, indented, spaces}
 use Rattle.yaml_base.specs.streams.StreamLines.{prepend_line, entries_at, past_column}
 
 -- a line deeper than a column is inside it
@@ -9,17 +9,6 @@ pub inside_deeper : (s : Bool) (d e : ℕ) (t : Text) → d < e → belongs_to_e
 inside_deeper s d zero t h = absurd (omega arith)
 inside_deeper s zero (suc e) t h = refl
 inside_deeper s (suc d) (suc e) t h = inside_deeper s d e t (omega arith)
-
--- a `-` at the column of a mapping is inside it
-pub inside_dash : (e : ℕ) (t : Text) → ends_indicator t ≡ true → belongs_to_entry false e (spaces e ++ (0x2D ∷ t)) ≡ true
-inside_dash zero t h = h
-inside_dash (suc e) t h = inside_dash e t h
-
--- a blank line is inside any column
-pub inside_blank : (s : Bool) (d k : ℕ) → belongs_to_entry s d (spaces k) ≡ true
-inside_blank s d zero = refl
-inside_blank s zero (suc k) = refl
-inside_blank s (suc d) (suc k) = inside_blank s d k
 
 -- what begins an entry: no space, and in a mapping no `-`
 abbrev pub begins_entry : (in_sequence : Bool) → Text → Bool

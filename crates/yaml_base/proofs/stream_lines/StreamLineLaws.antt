@@ -12,11 +12,6 @@ is_closed breaks12 (c ∷ d ∷ rest) = is_closed breaks12 (d ∷ rest)
 abbrev pub OneLine : Bool → Text → Type 0
 OneLine breaks12 text = list_any (is_read_break breaks12) text ≡ false
 
--- a text before some lines, on the first of them
-abbrev pub prefixed : Text → List Line → List Line
-prefixed text [] = []
-prefixed text (line ∷ rest) = record { text = text ++ line.text; ending = line.ending } ∷ rest
-
 text_before : (b : Bool) (c : ℕ) (lines : List Line) → text_of_lines (prepend_character b c lines) ≡ c ∷ text_of_lines lines
 text_before true c lines = refl
 text_before false c [] = refl
@@ -46,27 +41,6 @@ lines_after_break breaks12 (c ∷ []) rest h = break_alone (is_read_break breaks
 lines_after_break breaks12 (c ∷ d ∷ text) rest h =
     ap (prepend_character (is_read_break breaks12 c) c) (lines_after_break breaks12 (d ∷ text) rest h)
     ∙ before_both (is_read_break breaks12 c) (is_read_break breaks12 d) c d (lines_of breaks12 text) (lines_of breaks12 rest)
-
-nothing_prefixed : (b : Bool) (c : ℕ) (lines : List Line) → prepend_character b c lines ≡ prefixed [] (prepend_character b c lines)
-nothing_prefixed true c lines = refl
-nothing_prefixed false c [] = refl
-nothing_prefixed false c (line ∷ rest) = refl
-
-prefixed_more : (b : Bool) (d c : ℕ) (text : Text) (lines : List Line)
-    → prepend_character false d (prefixed text (prepend_character b c lines)) ≡ prefixed (d ∷ text) (prepend_character b c lines)
-prefixed_more true d c text lines = refl
-prefixed_more false d c text [] = refl
-prefixed_more false d c text (line ∷ rest) = refl
-
--- a text without a break stands on the first line of what follows
-pub lines_after_one_line : (breaks12 : Bool) (text : Text) (c : ℕ) (rest : Text) → OneLine breaks12 text
-    → lines_of breaks12 (text ++ (c ∷ rest)) ≡ prefixed text (lines_of breaks12 (c ∷ rest))
-lines_after_one_line breaks12 [] c rest h = nothing_prefixed (is_read_break breaks12 c) c (lines_of breaks12 rest)
-lines_after_one_line breaks12 (d ∷ text) c rest h =
-    let parts : (is_read_break breaks12 d ≡ false) × OneLine breaks12 text = or_parts (is_read_break breaks12 d) (list_any (is_read_break breaks12) text) h in
-    ap (prepend_character (is_read_break breaks12 d) d) (lines_after_one_line breaks12 text c rest parts.1)
-    ∙ ap (λ x. prepend_character x d (prefixed text (lines_of breaks12 (c ∷ rest)))) parts.0
-    ∙ prefixed_more (is_read_break breaks12 c) d c text (lines_of breaks12 rest)
 
 -- two texts without a break
 pub one_line_both : (breaks12 : Bool) (a b : Text) → OneLine breaks12 a → OneLine breaks12 b → OneLine breaks12 (a ++ b)

@@ -4,12 +4,11 @@ use Rattle.yaml_base.proofs.Common.{suc, ℕ, ◌+◌, ◌≤◌, if◌then◌el
 use Rattle.yaml_base.proofs.Common.{append_assoc, ap, subst, sym, ◌∙◌, arith, and_from, list_all, Text, Cursor, Rendered, new_line, TagDirective, Node, Nodes}
 use Rattle.yaml_base.proofs.Common.{no_nodes, nodes_and, entry_place, as_item, Place, has_no_nodes, Effective, no_trees, Line, lines_of, belongs_to_entry}
 use Rattle.yaml_base.proofs.Common.{spaces, blanked, node_read, Rules}
-use Rattle.yaml_base.proofs.stream_lines.StreamClosed.{closing, closed, Settled, new_line_closes, indicator_cursor, closed_both, rank, dash_inside}
-use Rattle.yaml_base.proofs.stream_lines.StreamClosed.{inside_both}
+use Rattle.yaml_base.proofs.{stream_lines.StreamTidyLaws.lines_after_first, stream_nodes.StreamTexts.node_own, stream_nodes.StreamTexts.items_own}
+use Rattle.yaml_base.proofs.stream_lines.StreamClosed.{closing, closed, Settled, new_line_closes, indicator_cursor, closed_both, rank, dash_inside, inside_both}
 use Rattle.yaml_base.proofs.stream_lines.StreamInside.{outside, past_spaces, AllInside, Splits, splits_none, splits_both, splits_one}
 use Rattle.yaml_base.proofs.stream_lines.StreamLineLaws.{is_closed, OneLine, lines_after_break}
-use Rattle.yaml_base.proofs.stream_lines.StreamTidyLaws.{lines_after_first}
-use Rattle.yaml_base.proofs.stream_nodes.{StreamAgrees.node_tree, StreamAgrees.nodes_tree, StreamTexts.node_own, StreamTexts.items_own}
+use Rattle.yaml_base.proofs.stream_nodes.StreamAgrees.{node_tree, nodes_tree}
 use Rattle.yaml_base.proofs.stream_nodes.StreamFits.{size, items_size, Fits, tree_anywhere, indicated_lines, blanked_lines, indicated_ends}
 use Rattle.yaml_base.specs.streams.StreamNodes.{item_by_indicator, item_read, with_item}
 

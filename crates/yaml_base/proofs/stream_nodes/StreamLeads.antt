@@ -2,10 +2,9 @@
 use Rattle.yaml_base.proofs.Common.{ℕ, if◌then◌else◌, Option, None, Some, codes, Bool, false, not, true, ◌&&◌, List, [], ◌++◌, ◌∷◌, refl, ◌≡◌, append-nil}
 use Rattle.yaml_base.proofs.Common.{append_assoc, ap, sym, ◌∙◌, Text, space, Cursor, Rendered, space_if, TagDirective, render_anchor, render_properties}
 use Rattle.yaml_base.proofs.Common.{percent_escaped, suffix_escaped, Spelling, shorthand, verbatim, spelling, spelled, spaces}
-use Rattle.yaml_base.proofs.stream_flow.StreamPropertyWords.{lead}
+use Rattle.yaml_base.{proofs.stream_flow.StreamPropertyWords.lead, specs.Layout.render_spelling}
 use Rattle.yaml_base.proofs.stream_nodes.StreamProperties.{IsTagged, properties_text, has_properties}
 use Rattle.yaml_base.proofs.stream_nodes.StreamStands.{tag_written, tag_meant, TagStands}
-use Rattle.yaml_base.specs.Layout.{render_spelling}
 
 -- after some text white space has ended
 pub record EndedCollection (cursor : Cursor) : Type 0 where

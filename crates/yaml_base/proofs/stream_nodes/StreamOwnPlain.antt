@@ -1,13 +1,12 @@
 -- A plain scalar as its own text on the lines of a block.
-use Rattle.yaml_base.proofs.Common.{suc, ℕ, if◌then◌else◌, ◌==◌, Option, None, Some, codes, Bool, false, not, true, ◌&&◌, ◌||◌, List, [], ◌++◌, ◌∷◌, refl}
-use Rattle.yaml_base.proofs.Common.{◌≡◌, eqb-true, true≢false, ap, sym, ◌∙◌, and_parts, or_parts, false≢true, list_all, option_or, Text, is_among, tab}
-use Rattle.yaml_base.proofs.Common.{is_blank, is_printable, plain, is_read_break, is_read_white, begins_white, begins_with_three, begins_no_plain}
-use Rattle.yaml_base.proofs.Common.{begins_with_hash, holds_no_plain, read_plain, has_deep_lines, has_no_space_before_break, ends_white, has_clean_edges}
-use Rattle.yaml_base.proofs.Common.{is_tidy, stood_plain, Line, prepend_to_first_line, prepend_character, lines_of, ends_indicator, begins_with_indicator}
-use Rattle.yaml_base.proofs.Common.{key_ends, key_from, word_text, kind_of_text, text_by_kind, Rules, scalar_parsed, scalar_of_style, word_by_kind}
-use Rattle.yaml_base.proofs.Common.{word_after}
-use Rattle.yaml_base.proofs.{stream_flow.StreamPropertyWords.lead, stream_lines.StreamTidyLaws.tidy_at_root, stream_lines.StreamTidyLaws.first_text}
-use Rattle.yaml_base.proofs.{stream_nodes.StreamOwnTexts.OwnText}
+use Rattle.yaml_base.proofs.Common.{suc, ℕ, if◌then◌else◌, ◌==◌, Option, None, Some, codes, Bool, false, not, true, ◌&&◌, ◌||◌, List, [], ◌++◌, ◌∷◌, refl, ◌≡◌}
+use Rattle.yaml_base.proofs.Common.{eqb-true, true≢false, ap, sym, ◌∙◌, and_parts, or_parts, false≢true, list_all, option_or, Text, is_among, tab, is_blank}
+use Rattle.yaml_base.proofs.Common.{is_printable, plain, is_read_break, is_read_white, begins_white, begins_with_three, begins_no_plain, begins_with_hash}
+use Rattle.yaml_base.proofs.Common.{holds_no_plain, read_plain, has_deep_lines, has_no_space_before_break, ends_white, has_clean_edges, is_tidy, stood_plain}
+use Rattle.yaml_base.proofs.Common.{Line, prepend_to_first_line, prepend_character, lines_of, ends_indicator, begins_with_indicator, key_ends, key_from}
+use Rattle.yaml_base.proofs.Common.{word_text, kind_of_text, text_by_kind, Rules, scalar_parsed, scalar_of_style, word_by_kind, word_after}
+use Rattle.yaml_base.proofs.{stream_flow.StreamPropertyWords.lead, stream_nodes.StreamOwnTexts.OwnText}
+use Rattle.yaml_base.proofs.stream_lines.StreamTidyLaws.{tidy_at_root, first_text}
 use Rattle.yaml_base.proofs.stream_keys.StreamPlainKeys.{Begins, begins, plain_kind, plain_style, reads_plain, tidy_begins}
 use Rattle.yaml_base.proofs.stream_nodes.StreamOwnWords.{feed, deep_more, lines_deeper, tidy_deep, shown_trimmed}
 

@@ -1,18 +1,16 @@
 -- The pairs of a mapping in a block, where each of them fits: their lines split into one entry for a pair with a simple key
 -- and two for another, lie inside the columns around, and read as their trees.
-use Rattle.yaml_base.proofs.Common.{ℕ, ◌+◌, ◌<◌, ◌≤◌, ◌==◌, Some, codes, length, Bool, false, not, true, ◌&&◌, List, [], ◌++◌, ◌∷◌, refl, ◌≡◌, append_assoc}
-use Rattle.yaml_base.proofs.Common.{ap, subst, sym, ◌∙◌, arith, and_from, list_all, Text, space, Cursor, Rendered, indicator, TagDirective, Node, Pairs}
-use Rattle.yaml_base.proofs.Common.{no_pairs, pairs_and, entry_place, Role, as_key, as_value, Place, is_in_mapping, has_no_pairs, is_simple, Effective, Tree}
-use Rattle.yaml_base.proofs.Common.{marker_of, Line, lines_of, ends_indicator, begins_with_indicator, belongs_to_entry, spaces, key_of_line, simple_entry}
-use Rattle.yaml_base.proofs.Common.{Rules}
-use Rattle.yaml_base.proofs.{stream_lines.StreamLineLaws.is_closed, stream_lines.StreamLineLaws.OneLine, stream_lines.StreamLineLaws.lines_after_break}
-use Rattle.yaml_base.proofs.{stream_lines.StreamSections.is_unmarked, stream_lines.StreamTidyLaws.lines_after_first, stream_nodes.StreamAgrees.node_tree}
-use Rattle.yaml_base.proofs.{stream_nodes.StreamTexts.node_own}
+use Rattle.yaml_base.proofs.Common.{ℕ, ◌+◌, ◌<◌, ◌≤◌, ◌==◌, Some, codes, length, Bool, false, not, true, ◌&&◌, List, [], ◌++◌, ◌∷◌, refl, ◌≡◌, append_assoc, ap}
+use Rattle.yaml_base.proofs.Common.{subst, sym, ◌∙◌, arith, and_from, list_all, Text, space, Cursor, Rendered, indicator, TagDirective, Node, Pairs, no_pairs}
+use Rattle.yaml_base.proofs.Common.{pairs_and, entry_place, Role, as_key, as_value, Place, is_in_mapping, has_no_pairs, is_simple, Effective, Tree, marker_of}
+use Rattle.yaml_base.proofs.Common.{Line, lines_of, ends_indicator, begins_with_indicator, belongs_to_entry, spaces, key_of_line, simple_entry, Rules}
+use Rattle.yaml_base.{proofs.stream_lines.StreamSections.is_unmarked, proofs.stream_lines.StreamTidyLaws.lines_after_first}
+use Rattle.yaml_base.{proofs.stream_nodes.StreamAgrees.node_tree, proofs.stream_nodes.StreamTexts.node_own, specs.streams.StreamNodes.kind_of_entry}
+use Rattle.yaml_base.proofs.stream_lines.StreamLineLaws.{is_closed, OneLine, lines_after_break}
 use Rattle.yaml_base.proofs.stream_lines.StreamClosed.{closed, indicator_cursor, margin_cursor, spaces_line, lines_behind, closed_behind, closed_both, rank}
 use Rattle.yaml_base.proofs.stream_lines.StreamClosed.{inside_both}
 use Rattle.yaml_base.proofs.stream_lines.StreamInside.{inside_deeper, begins_entry, outside, AllInside, Splits, splits_none, splits_both, splits_one}
 use Rattle.yaml_base.proofs.stream_nodes.StreamFits.{size, Opens, Fits, indicated_lines, indicated_ends}
-use Rattle.yaml_base.specs.streams.StreamNodes.{kind_of_entry}
 
 -- what the text of a simple key is to the reader, before `:` and what an indicator opens: a line begins with it, no indicator of an
 -- entry does, it is no marker, and it is cut off as the key

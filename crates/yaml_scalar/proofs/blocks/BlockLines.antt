@@ -7,8 +7,7 @@ use Rattle.yaml_scalar.proofs.Common.{Cursor, with_breaks_written, with_line_bre
 use Rattle.yaml_scalar.proofs.Common.{read_block, Charset, allows_block, Ending, without_break, one_break, more_breaks, ending, begins_blank, ending_hint}
 use Rattle.yaml_scalar.proofs.Common.{block_body, Encloses, folded_parts, folded_body, Part, line, line_break, parts, indented, literal_body}
 use Rattle.yaml_base.proofs.Common.{ne_eqb}
-use Rattle.yaml_scalar.proofs.blocks.BlockFolds.{folded-clean}
-use Rattle.yaml_scalar.proofs.blocks.BlockParts.{Ordinary, IsLine, Clean, parts-clean}
+use Rattle.yaml_scalar.proofs.blocks.{BlockFolds.folded-clean, BlockParts.Ordinary, BlockParts.IsLine, BlockParts.Clean, BlockParts.parts-clean}
 use Rattle.yaml_scalar.proofs.blocks.BlockReads.{allowed-ordinary, block-text, digit_text, block_indicator_of, literal-reads, folded-read}
 
 -- an ordinary character may stand in a rendered text

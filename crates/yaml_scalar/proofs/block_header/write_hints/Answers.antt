@@ -1,5 +1,4 @@
-use Rattle.yaml_scalar.proofs.Common.{Err, Ok, rules, ending, indentation_hint, ending_hint, render_hint, wrote_then, wrote_failed, wrote_exit, natural}
-use Rattle.yaml_scalar.proofs.Common.{Wrote}
+use Rattle.yaml_scalar.proofs.Common.{Err, Ok, rules, ending, indentation_hint, ending_hint, render_hint, wrote_then, wrote_failed, wrote_exit, natural, Wrote}
 use Rattle.yaml_base.proofs.Common.{chars}
 use Rattle.yaml_scalar.proofs.block_header.write_hints.Goals as goal
 

@@ -1,5 +1,4 @@
-use Rattle.yaml_scalar.proofs.Common.{chars, Err, Ok, Bool, subst, render_text, space_if, plain_body, wrote_then, wrote_failed, wrote_exit, Wrote}
-use Rattle.yaml_scalar.proofs.Common.{limit_where}
+use Rattle.yaml_scalar.proofs.Common.{chars, Err, Ok, Bool, subst, render_text, space_if, plain_body, wrote_then, wrote_failed, wrote_exit, Wrote, limit_where}
 use Rattle.yaml_scalar.proofs.plain.write_after_space.Goals as goal
 
 pub returns-in_err-separate_if : goal.returns-in_err-separate_if

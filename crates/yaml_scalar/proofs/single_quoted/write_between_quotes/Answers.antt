@@ -1,5 +1,4 @@
-use Rattle.yaml_scalar.proofs.Common.{codes, refl, ◌≡◌, ap, ◌∙◌, list_any, is_break, Indicator, single_quote, wrote_then, wrote_failed, wrote_exit}
-use Rattle.yaml_scalar.proofs.Common.{limit_where}
+use Rattle.yaml_scalar.proofs.Common.{codes, refl, ◌≡◌, ap, ◌∙◌, list_any, is_break, Indicator, single_quote, wrote_then, wrote_failed, wrote_exit, limit_where}
 use Rattle.std.specs.Str.{chars}
 use Rattle.yaml_scalar.proofs.LinesWritten.{wrote_quoted, after_quote, wrote_single}
 use Rattle.yaml_scalar.proofs.single_quoted.write_between_quotes.Goals as goal
