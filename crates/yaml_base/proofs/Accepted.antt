@@ -56,11 +56,7 @@ record Easy (canonical : Bool) (events : List Event) : Type 0 where
   none : count_by begins_collection events ≡ 0
 
 easy_both : (canonical : Bool) (a b : List Event) → Easy canonical a → Easy canonical b → Easy canonical (a ++ b)
-easy_both canonical a b h k =
-    record {
-      sound = list_all-append (is_sound canonical) a b ∙ and_both (list_all (is_sound canonical) a) (list_all (is_sound canonical) b) h.sound k.sound;
-      none = omega (arith, sum_by-append (λ x. cond (begins_collection x) 1 0) a b, h.none, k.none);
-    }
+easy_both canonical a b h k = grind (arith, list_all-append, and_both, sum_by-append)
 
 outer_easy : (canonical : Bool) (outer : List Level) → Easy canonical (flat_map outer_missing outer)
 outer_easy canonical [] = record { sound = refl; none = refl }
@@ -131,12 +127,7 @@ shallow_cut : (events more : List Event) (prefix rest : List Event) → IsShallo
     → Cut prefix rest events more
     → open_count prefix ≤ most_open
 shallow_cut events more prefix rest shallow few (within x is) = shallow prefix x is
-shallow_cut events more prefix rest shallow few (past x is others) =
-    let counted : starts x + starts rest ≡ starts more = sym (starts-append x rest) ∙ ap starts others in
-    let bound : (m : ℕ) → open_count events + starts more ≤ m → open_count (events ++ x) ≤ m =
-    (λ m h. omega (arith, starts-append events x, stops-append events x, counted)) in
-    let all : open_count (events ++ x) ≤ most_open = bound most_open few in
-    rw is all
+shallow_cut events more prefix rest shallow few (past x is others) = grind (arith, starts-append, stops-append)
 
 shallow_more : (events more : List Event) → IsShallow events → open_count events + starts more ≤ most_open → IsShallow (events ++ more)
 shallow_more events more shallow few prefix rest is =

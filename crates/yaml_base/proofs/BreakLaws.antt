@@ -1,17 +1,14 @@
 -- Reading line breaks undoes the writing of them; and lines stay indented as their breaks are written.
-use Rattle.yaml_base.proofs.Common.{ℕ, if◌then◌else◌, ◌==◌, Bool, false, not, true, ◌&&◌, ◌||◌, [], ◌++◌, ◌∷◌, refl, ◌≡◌, eqb-true, inl, inr, or_cases}
-use Rattle.yaml_base.proofs.Common.{and_parts, and_from, or_parts, or_left, or_right, not-true, Text, line_feed, carriage_return, next_line, space, is_break}
-use Rattle.yaml_base.proofs.Common.{break_text, with_breaks_written, with_line_breaks_read, is_rendered_text, is_indented_text, LineBreak}
-use Rattle.yaml_base.proofs.Common.{carriage_return_break, line_feed_break, both_break}
+use Rattle.yaml_base.proofs.Common.{arith, ℕ, if◌then◌else◌, ◌==◌, Bool, false, not, true, ◌&&◌, ◌||◌, [], ◌++◌, ◌∷◌, refl, ◌≡◌, eqb-true, or_cases, and_parts}
+use Rattle.yaml_base.proofs.Common.{and_from, or_parts, or_left, or_right, not-true, Text, line_feed, carriage_return, next_line, space, is_break, break_text}
+use Rattle.yaml_base.proofs.Common.{with_breaks_written, with_line_breaks_read, is_rendered_text, is_indented_text, LineBreak, carriage_return_break}
+use Rattle.yaml_base.proofs.Common.{line_feed_break, both_break}
 use Rattle.yaml_base.specs.LineBreaks.{line_breaks_read_after, begins_indented}
 
 -- a rendered text's prefix and rest are rendered
 pub rendered-cons : (c : ℕ) (rest : Text) → is_rendered_text (c ∷ rest) ≡ true
     → ((c == carriage_return) ≡ false) × ((c == next_line) ≡ false) × (is_rendered_text rest ≡ true)
-rendered-cons c rest h =
-    let p : (not (c == carriage_return || c == next_line) ≡ true) × (is_rendered_text rest ≡ true) = and_parts _ _ h in
-    let q : ((c == carriage_return) ≡ false) × ((c == next_line) ≡ false) = or_parts _ _ (not-true _ p.0) in
-    (q.0, q.1, p.1)
+rendered-cons c rest h = grind (arith, and_parts, or_parts, not-true)
 
 -- one character of a text whose line breaks are LF
 lf-step : (c : ℕ) (rest : Text) (b : Bool) → (c == line_feed) ≡ b → (c == carriage_return) ≡ false → (c == next_line) ≡ false
@@ -77,21 +74,13 @@ break-begins c (d ∷ rest) h = or_left _ _ h
 -- a line that begins with two spaces keeps them
 spaces-begin : (setting : LineBreak) (a d : ℕ) (rest : Text) → (a == space && d == space) ≡ true
     → begins_indented (a ∷ with_breaks_written setting (d ∷ rest)) ≡ true
-spaces-begin setting a d rest h =
-    let p : ((a == space) ≡ true) × ((d == space) ≡ true) = and_parts _ _ h in
-    let e : a ≡ space = eqb-true a _ p.0 in
-    let f : d ≡ space = eqb-true d _ p.1 in
-    rw (e, f)
+spaces-begin setting a d rest h = grind (arith, and_parts, eqb-true)
 
 -- a line's first character is kept
 kept-begins : (setting : LineBreak) (a : ℕ) (rest : Text) → begins_indented (a ∷ rest) ≡ true
     → begins_indented (a ∷ with_breaks_written setting rest) ≡ true
 kept-begins setting a [] h = h
-kept-begins setting a (d ∷ rest) h =
-    elim (or_cases _ _ h) [
-      | inl is ↦ break-begins a (with_breaks_written setting (d ∷ rest)) is
-      | inr are ↦ spaces-begin setting a d rest are
-    ]
+kept-begins setting a (d ∷ rest) h = grind (arith, or_cases, break-begins, spaces-begin)
 
 -- a line begins as before, or with a break
 first-begins : (setting : LineBreak) (a : ℕ) (rest : Text) (x : Bool) → begins_indented (a ∷ rest) ≡ true
@@ -117,16 +106,8 @@ character-written : (setting : LineBreak) (c : ℕ) (rest : Text) (x : Bool) →
     → (not (is_break c) || begins_indented rest) ≡ true
     → is_indented_text (with_breaks_written setting rest) ≡ true
     → is_indented_text ((if x then break_text setting else c ∷ []) ++ with_breaks_written setting rest) ≡ true
-character-written setting c rest true is h ih =
-    let e : c ≡ line_feed = eqb-true c _ is in
-    let k : begins_indented rest ≡ true = rw e at h in
-    break-written setting (with_breaks_written setting rest) (begins-written setting rest k) ih
-character-written setting c rest false is h ih =
-    let w = with_breaks_written setting rest in
-    elim (or_cases (not (is_break c)) (begins_indented rest) h) [
-      | inl other ↦ and_from (not (is_break c) || begins_indented w) _ (or_left (not (is_break c)) _ other) ih
-      | inr k ↦ and_from (not (is_break c) || begins_indented w) _ (or_right (not (is_break c)) _ (begins-written setting rest k)) ih
-    ]
+character-written setting c rest true is h ih = grind (arith, eqb-true, break-written, begins-written)
+character-written setting c rest false is h ih = grind (arith, or_cases, and_from, or_left, or_right, begins-written)
 
 -- an indented text stays so, however its line breaks are written
 pub indented-written : (setting : LineBreak) (text : Text) → is_indented_text text ≡ true

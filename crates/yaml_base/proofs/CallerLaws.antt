@@ -1,20 +1,19 @@
 -- Laws of the definitions that serve callers.
-use Rattle.yaml_base.proofs.Common.{ℕ, if◌then◌else◌, ◌==◌, is_some, unwrap_or, option_map, Option, None, Some, codes, Bool, false, not, true, ◌&&◌, ◌||◌}
-use Rattle.yaml_base.proofs.Common.{List, [], ◌++◌, ◌∷◌, refl, ◌≡◌, ap, sym, ◌∙◌, or_parts, Text, is_among, Cursor, Rendered, render_then, encode, cut}
-use Rattle.yaml_base.proofs.Common.{ScalarStyle, any_style, plain, single_quoted, double_quoted, literal, folded, TagDirective, Scalar, Collection, Event}
-use Rattle.yaml_base.proofs.Common.{stream_start, stream_end, document_start, document_end, alias, scalar, sequence_start, sequence_end, mapping_start}
-use Rattle.yaml_base.proofs.Common.{mapping_end, scalar_tag, collection_tag, Stream, stream_events, tree_of, first_standing, layout, Piece, Standing}
-use Rattle.yaml_base.proofs.Common.{RenderedPiece, piece_without_body, render_properties, render_alias, render_separation, render_body, open_ended_after}
-use Rattle.yaml_base.proofs.Common.{choice_of, body_at, is_written_in_flow, Brackets, square, curly, render_end, Role, as_root, as_item, as_key, as_value}
-use Rattle.yaml_base.proofs.Common.{Place, is_key, is_undented, deeper, is_simple_scalar, is_simple_collection, render_flow_place, render_place, settings_for}
-use Rattle.yaml_base.proofs.Common.{text_written, bytes_written, list_layout, Encoding, Effective, effective, Frame, Stage, at_stream, at_document, at_node}
-use Rattle.yaml_base.proofs.Common.{at_document_end, next_place, stage_after, Stepped, leaf_step, frame_opened, start_step, step, ends_next, Steps}
-use Rattle.yaml_base.proofs.Common.{then_steps, steps, is_read_white, begins_white, begins_no_plain, begins_with_hash, holds_no_plain, read_plain, is_empty}
-use Rattle.yaml_base.proofs.Common.{allowances, Choice, chosen}
+use Rattle.yaml_base.proofs.Common.{arith, ℕ, if◌then◌else◌, is_some, unwrap_or, option_map, Option, None, Some, Bool, false, not, true, ◌&&◌, ◌||◌, List, []}
+use Rattle.yaml_base.proofs.Common.{◌++◌, ◌∷◌, refl, ◌≡◌, ap, sym, ◌∙◌, or_parts, Text, Cursor, Rendered, render_then, encode, cut, ScalarStyle, any_style}
+use Rattle.yaml_base.proofs.Common.{plain, single_quoted, double_quoted, literal, folded, TagDirective, Scalar, Collection, Event, stream_start, stream_end}
+use Rattle.yaml_base.proofs.Common.{document_start, document_end, alias, scalar, sequence_start, sequence_end, mapping_start, mapping_end, scalar_tag}
+use Rattle.yaml_base.proofs.Common.{collection_tag, Stream, stream_events, tree_of, first_standing, layout, Piece, Standing, RenderedPiece, piece_without_body}
+use Rattle.yaml_base.proofs.Common.{render_properties, render_alias, render_separation, render_body, open_ended_after, choice_of, body_at, is_written_in_flow}
+use Rattle.yaml_base.proofs.Common.{Brackets, square, curly, render_end, Role, as_root, as_item, as_key, as_value, Place, is_key, is_undented, deeper}
+use Rattle.yaml_base.proofs.Common.{is_simple_scalar, is_simple_collection, render_flow_place, render_place, settings_for, text_written, bytes_written}
+use Rattle.yaml_base.proofs.Common.{list_layout, Encoding, Effective, effective, Frame, Stage, at_stream, at_document, at_node, at_document_end, next_place}
+use Rattle.yaml_base.proofs.Common.{stage_after, Stepped, leaf_step, frame_opened, start_step, step, ends_next, Steps, then_steps, steps, begins_no_plain}
+use Rattle.yaml_base.proofs.Common.{holds_no_plain, read_plain, is_empty, allowances, Choice, chosen}
 use Rattle.std.proofs.lemmas.List.{take-take}
 use Rattle.yaml_base.{proofs.Decoding.decode-encode, proofs.StepLaws.stream_steps, proofs.Trees.tree_of-stream_events, specs.Decode.decode}
-use Rattle.yaml_base.{specs.Layout.is_simple_alias, specs.Layout.render_block_place, specs.Layout.scalar_piece, specs.Settings.escapes_separators}
-use Rattle.yaml_base.{specs.Steps.is_first, specs.Steps.end_step, specs.Steps.node_step}
+use Rattle.yaml_base.{specs.Settings.escapes_separators, specs.Steps.is_first, specs.Steps.end_step, specs.Steps.node_step}
+use Rattle.yaml_base.specs.Layout.{is_simple_alias, render_block_place, scalar_piece}
 use Rattle.yaml_base.specs.Laws.{TreeIsFound, IsPlainInside, PlainHoldsNoIndicator, LimitCuts, EncodingsAgree, BreaksAgree}
 
 pub tree_found : TreeIsFound
@@ -27,14 +26,7 @@ then_false false b is h = cc
 
 inside_here : (breaks12 flow : Bool) (before : Text) (c : ℕ) (rest : Text) → holds_no_plain breaks12 flow (before ++ c ∷ rest) ≡ false
     → IsPlainInside breaks12 flow c rest
-inside_here breaks12 flow [] c rest h =
-    let parts = or_parts _ _ (or_parts _ _ h).0 in
-    let first = or_parts _ _ parts.0 in
-    record {
-      no_key = λ is. then_false (c == 58) (begins_white breaks12 rest) (ap (λ n. n == 58) is) first.0;
-      no_comment = λ is. then_false (is_read_white breaks12 c) (begins_with_hash rest) is first.1;
-      no_flow_indicator = λ is. then_false flow (is_among (codes ",?:[]{}") c) is parts.1;
-    }
+inside_here breaks12 flow [] c rest h = grind (arith, or_parts, then_false)
 inside_here breaks12 flow (x ∷ before) c rest h = inside_here breaks12 flow before c rest (or_parts _ _ h).1
 
 read_if : (a b : Bool) (read value : Text) → (if a || b then None else Some read) ≡ Some value → b ≡ false

@@ -1,9 +1,9 @@
 -- The completion of a list that begins a stream is a stream.
-use Rattle.yaml_base.proofs.Common.{option_and_then, Option, None, Some, true, List, [], ◌++◌, ◌∷◌, refl, ◌≡◌, ap, sym, ◌∙◌, any_style, DocumentStart, Event}
+use Rattle.yaml_base.proofs.Common.{arith, option_and_then, Option, None, Some, true, List, [], ◌++◌, ◌∷◌, refl, ◌≡◌, any_style, DocumentStart, Event}
 use Rattle.yaml_base.proofs.Common.{stream_end, document_end, Node, scalar_node, sequence_node, mapping_node, no_nodes, nodes_and, no_pairs, pairs_and}
-use Rattle.yaml_base.proofs.Common.{Documents, no_documents, documents_and, Stream, Level, at_item, at_key, at_value, Partial, before_stream}
-use Rattle.yaml_base.proofs.Common.{between_documents, within_document, after_root, after_stream, with_node, push, pushed, partial_of, outer_missing}
-use Rattle.yaml_base.proofs.Common.{levels_missing, missing, missing_after, completion, Encoding}
+use Rattle.yaml_base.proofs.Common.{Documents, no_documents, documents_and, Stream, Level, at_item, at_key, at_value, Partial, before_stream, between_documents}
+use Rattle.yaml_base.proofs.Common.{within_document, after_root, after_stream, with_node, push, pushed, partial_of, outer_missing, levels_missing, missing}
+use Rattle.yaml_base.proofs.Common.{completion, Encoding}
 use Rattle.std.specs.Prelude.{flat_map}
 
 append_next : (a b : List Event) (next : Option Partial) → ((q : Partial) → pushed q (a ++ b) ≡ option_and_then (λ r. pushed r b) (pushed q a))
@@ -75,15 +75,8 @@ missing_pushed (after_stream t) = refl
 
 pub completion_pushed : (events : List Event) (p : Partial) → partial_of events ≡ Some p
     → partial_of (completion events) ≡ Some (after_stream (stream_completed p))
-completion_pushed events p begins =
-    pushed-append events (missing_after (partial_of events)) before_stream
-    ∙ ap (λ (o : Option Partial). option_and_then (λ q. pushed q (missing_after o)) o) begins
-    ∙ missing_pushed p
+completion_pushed events p begins = grind (arith, pushed-append, missing_pushed)
 
 -- Where a list begins one that is a whole stream's, it begins a stream.
 pub prefix_is_partial : (a b : List Event) (q : Partial) → partial_of (a ++ b) ≡ Some q → (p : Partial) × (partial_of a ≡ Some p)
-prefix_is_partial a b q whole = of (partial_of a) (sym (pushed-append a b before_stream) ∙ whole)
-  where
-    of : (o : Option Partial) → option_and_then (λ r. pushed r b) o ≡ Some q → (p : Partial) × (o ≡ Some p)
-    of None is = cc
-    of (Some p) is = (p, refl)
+prefix_is_partial a b q whole = grind (arith, pushed-append)

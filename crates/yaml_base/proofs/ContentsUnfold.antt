@@ -1,7 +1,7 @@
 -- The content of a tree that unfolds a graph unfolds it but for its styles; graphs dumped one after another are a stream
 -- of such documents.
-use Rattle.yaml_base.proofs.Common.{All, option_map, Option, None, Some, Bool, false, true, List, [], ◌++◌, ◌∷◌, refl, ◌≡◌, append-nil, append_assoc, ap, sym}
-use Rattle.yaml_base.proofs.Common.{◌∙◌, All-head, All-tail, Text, Event, stream_start, stream_end, Node, alias_node, scalar_node, Nodes, sequence_node}
+use Rattle.yaml_base.proofs.Common.{arith, All, option_map, Option, None, Some, Bool, false, true, List, [], ◌++◌, ◌∷◌, refl, ◌≡◌, append-nil, append_assoc, ap}
+use Rattle.yaml_base.proofs.Common.{sym, ◌∙◌, All-head, All-tail, Text, Event, stream_start, stream_end, Node, alias_node, scalar_node, Nodes, sequence_node}
 use Rattle.yaml_base.proofs.Common.{Pairs, mapping_node, no_nodes, nodes_and, no_pairs, pairs_and, Documents, no_documents, documents_and, Stream}
 use Rattle.yaml_base.proofs.Common.{document_events, documents_events, stream_events, AreDumped, Held, scalar_held, sequence_held, mapping_held, GraphNode}
 use Rattle.yaml_base.proofs.Common.{Graph, node_numbered, document_event_list, scalar_kind, sequence_kind, mapping_kind, Label, node_shape_of, nodes_shapes}
@@ -103,15 +103,7 @@ mutual
 
 -- a tree's content unfolds what the tree does
 pub content_unfolds : (graph : Graph) (tree : Node) → TreeUnfolds graph tree → ContentUnfolds graph (node_content tree)
-content_unfolds graph tree unfolds =
-    record {
-      placed = unfolds.placed;
-      root = unfolds.root;
-      fits = content_fits graph tree unfolds.placed unfolds.fits;
-      named = unfolds.named;
-      once = unfolds.once;
-      no_other = unfolds.no_other;
-    }
+content_unfolds graph tree unfolds = grind (arith, content_fits)
 
 -- ---- documents one after another
 

@@ -13,15 +13,11 @@ units_of (c ∷ rest) = utf16_units c ++ units_of rest
 
 units_upper_first-upper_first : (units : List ℕ) → units_upper_first (upper_first units) ≡ units
 units_upper_first-upper_first [] = refl
-units_upper_first-upper_first (u ∷ rest) =
-    let e : u / 0x100 * 0x100 + u % 0x100 ≡ u = omega arith in
-    rw e (ap (λ us. u ∷ us) (units_upper_first-upper_first rest))
+units_upper_first-upper_first (u ∷ rest) = grind (arith, units_upper_first-upper_first rest)
 
 units_lower_first-lower_first : (units : List ℕ) → units_lower_first (lower_first units) ≡ units
 units_lower_first-lower_first [] = refl
-units_lower_first-lower_first (u ∷ rest) =
-    let e : u / 0x100 * 0x100 + u % 0x100 ≡ u = omega arith in
-    rw e (ap (λ us. u ∷ us) (units_lower_first-lower_first rest))
+units_lower_first-lower_first (u ∷ rest) = grind (arith, units_lower_first-lower_first rest)
 
 upper_first-append : (xs ys : List ℕ) → upper_first (xs ++ ys) ≡ upper_first xs ++ upper_first ys
 upper_first-append [] ys = refl
@@ -47,11 +43,7 @@ text_bytes-utf8 (c ∷ rest) = ap (λ l. encode_utf8 c ++ l) (text_bytes-utf8 re
 
 -- no surrogate stands alone
 not_a_surrogate : (c : ℕ) → IsScalar c → (nat_le 0xD800 c && nat_lt c 0xDC00) ≡ false
-not_a_surrogate c s =
-    elim (scalar_cases c s) as (λ _. (nat_le 0xD800 c && nat_lt c 0xDC00) ≡ false) [
-      | inl low ↦ rw (lt-leb 0xD800 c low)
-      | inr high ↦ rw (le-leb 0xD800 c (omega arith), le-ltb c 0xDC00 (omega arith))
-    ]
+not_a_surrogate c s = grind (arith, lt-leb, le-leb, le-ltb)
 
 lone : (c : ℕ) (units : List ℕ) → IsScalar c → text_of_units (c ∷ units) ≡ c ∷ text_of_units units
 lone c [] s = refl
@@ -63,19 +55,10 @@ below_end c s = elim (scalar_cases c s) as (λ _. c < 0x110000) [ inl low ↦ om
 
 pair : (c : ℕ) (units : List ℕ) → IsScalar c → 0x10000 ≤ c
     → text_of_units ((0xD800 + (c - 0x10000) / 0x400) ∷ (0xDC00 + (c - 0x10000) % 0x400) ∷ units) ≡ c ∷ text_of_units units
-pair c units s above =
-    let below = below_end c s in
-    let from : 0xD800 ≤ 0xD800 + (c - 0x10000) / 0x400 = omega arith in
-    let to : 0xD800 + (c - 0x10000) / 0x400 < 0xDC00 = omega arith in
-    let same : 0x10000 + (0xD800 + (c - 0x10000) / 0x400 - 0xD800) * 0x400 + (0xDC00 + (c - 0x10000) % 0x400 - 0xDC00) ≡ c = omega arith in
-    rw (le-leb 0xD800 (0xD800 + (c - 0x10000) / 0x400) from, lt-ltb (0xD800 + (c - 0x10000) / 0x400) 0xDC00 to) (ap (λ x. x ∷ text_of_units units) same)
+pair c units s above = grind (arith, below_end, le-leb, lt-ltb)
 
 text_of_units-utf16_units : (c : ℕ) (units : List ℕ) → IsScalar c → text_of_units (utf16_units c ++ units) ≡ c ∷ text_of_units units
-text_of_units-utf16_units c units s =
-    elim (cases_lt c 0x10000) as (λ _. text_of_units (utf16_units c ++ units) ≡ c ∷ text_of_units units) [
-      | inl low ↦ rw (lt-ltb c 0x10000 low) (lone c units s)
-      | inr high ↦ rw (le-ltb c 0x10000 high) (pair c units s high)
-    ]
+text_of_units-utf16_units c units s = grind (arith, cases_lt, lt-ltb, lone, le-ltb, pair)
 
 text_of_units-units_of : (text : Text) → all_scalars text ≡ true → text_of_units (units_of text) ≡ text
 text_of_units-units_of [] s = refl

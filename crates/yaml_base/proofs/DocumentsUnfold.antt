@@ -31,12 +31,7 @@ places_counted named test number nodes aliases (enters other ∷ walk) =
     ∙ omega (arith, rest, now)
     ∙ sym (count_cons (is_entry_of number) (enters other) walk)
 places_counted named test number nodes aliases (meets_again other ∷ walk) =
-    let rest = places_counted named test number nodes aliases walk in
-    let now : ◌≡◌ {A = ℕ} (cond (test (alias_occurrence (unwrap_or (named other) []) other)) 1 0) 0 = ap {B = ℕ} (λ (b : Bool). cond b 1 0)
-    (aliases (unwrap_or (named other) []) other) in
-    count_cons test (alias_occurrence (unwrap_or (named other) []) other) (filter_map (place_of named) walk)
-    ∙ omega (arith, rest, now)
-    ∙ sym (count_cons (is_entry_of number) (meets_again other) walk)
+    grind (arith, count_cons, places_counted named test number nodes aliases walk)
 places_counted named test number nodes aliases (leaves other ∷ walk) =
     places_counted named test number nodes aliases walk ∙ sym (count_cons (is_entry_of number) (leaves other) walk ∙ omega arith)
 

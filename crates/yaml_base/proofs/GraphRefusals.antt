@@ -12,7 +12,7 @@ use Rattle.std.specs.Prelude.{flat_map}
 use Rattle.yaml_base.{proofs.Accepted.pushed_next, proofs.Completions.prefix_is_partial, proofs.SharedNodes.has, proofs.SharedNodes.shared_named}
 use Rattle.yaml_base.{proofs.Trees.stream_pushed, proofs.Twins.IsIn, proofs.Twins.in_either, specs.declared.errors.yaml_error_t.yaml_error_t}
 use Rattle.yaml_base.{specs.graphs.Meetings.steps, specs.graphs.Meetings.decimal_digits}
-use Rattle.yaml_base.specs.declared.errors.yaml_error_t.TheVariants.{AliasAlphabet, AliasEmpty, AnchorAlphabet, AnchorEmpty, TagEmpty, TooDeep}
+use Rattle.yaml_base.specs.declared.errors.yaml_error_t.TheVariants.{AnchorAlphabet, AnchorEmpty, TagEmpty, TooDeep}
 
 -- ---- events of a stream
 
@@ -94,12 +94,7 @@ anchor_stands walk number = by (position (λ other. other == number) (shared_nod
     by (Some place) = no_name_fault AnchorEmpty AnchorAlphabet (place + 1)
 
 alias_stands : (walk : List Step) (number : ℕ) (name : Text) → anchor_of walk number ≡ Some name → alias_fault (unwrap_or (anchor_of walk number) []) ≡ None
-alias_stands walk number name is = by (position (λ other. other == number) (shared_nodes walk)) is
-  where
-    by : (found : Option ℕ) → option_map (λ place. numbered_name (place + 1)) found ≡ Some name
-        → alias_fault (unwrap_or (option_map (λ place. numbered_name (place + 1)) found) []) ≡ None
-    by None same = cc
-    by (Some place) same = no_name_fault AliasEmpty AliasAlphabet (place + 1)
+alias_stands walk number name is = grind (arith, no_name_fault)
 
 -- ---- the events of a graph
 
@@ -150,9 +145,7 @@ again_has : (number : ℕ) (walk : List Step) → IsIn (meets_again number) walk
 again_has number [] within = absurd within
 again_has number (enters other ∷ walk) (inl is) = cc
 again_has number (leaves other ∷ walk) (inl is) = cc
-again_has number (meets_again other ∷ walk) (inl is) =
-    let same : other ≡ number = cc in
-    ap (λ (b : Bool). b || has number (filter_map node_met_again walk)) (eq-eqb other number same)
+again_has number (meets_again other ∷ walk) (inl is) = grind (arith, eq-eqb)
 again_has number (enters other ∷ walk) (inr later) = again_has number walk later
 again_has number (leaves other ∷ walk) (inr later) = again_has number walk later
 again_has number (meets_again other ∷ walk) (inr later) =

@@ -1,20 +1,16 @@
 -- What a number of JSON is spelled as is the same number.
 use Rattle.yaml_base.proofs.Common.{ℕ, ◌*◌, ◌+◌, if◌then◌else◌, Option, None, Some, codes, neg_ℤ, negsuc, pos, ℤ, ◌+ℤ◌, Bool, false, not, true, ◌&&◌, []}
-use Rattle.yaml_base.proofs.Common.{◌++◌, refl, ◌≡◌, append-nil, ap, sym, ◌∙◌, arith, Decides-int_eq, digits_value, Text, is_word, JsonExponent, JsonNumber}
+use Rattle.yaml_base.proofs.Common.{◌++◌, ◌≡◌, append-nil, ap, sym, arith, Decides-int_eq, digits_value, Text, is_word, JsonExponent, JsonNumber}
 use Rattle.yaml_base.proofs.Common.{exponent_value, json_value, number_meant, means_number, Decimal, meant_integer, meant_decimal, signed}
 use Rattle.std.{proofs.lemmas.Int.ints, proofs.lemmas.Int.Digits.digits_value_push, specs.Ordering.int_eq, specs.Prelude.◌*ℤ◌, specs.Prelude.◌-ℤ◌}
-use Rattle.std.{specs.Prelude.◌^◌}
-use Rattle.yaml_base.specs.values.JsonNumbers.{value_with, above, is_same_number}
+use Rattle.yaml_base.specs.values.JsonNumbers.{value_with, is_same_number}
 
 same_integer : (a b : ℤ) → a ≡ b → int_eq a b ≡ true
 same_integer a b h = (Decides-int_eq a b).1 h
 
 -- a decimal is the same number as itself
 pub itself_same : (number : Decimal) → is_same_number number number ≡ true
-itself_same number = same_integer side side refl
-  where
-    side : ℤ
-    side = number.digits *ℤ pos (10 ^ above number.exponent number.exponent)
+itself_same number = grind (arith, same_integer)
 
 one_above : (e : ℤ) → (neg_ℤ (pos 0) +ℤ e) -ℤ (neg_ℤ (pos 1) +ℤ e) ≡ pos 1
 one_above e = omega (arith, ints)
@@ -37,15 +33,7 @@ rise gap = elim gap as (λ _. ℕ) [
 zero_added : (negative : Bool) (whole : Text) (e : ℤ)
     → is_same_number (record { digits = signed negative (digits_value 10 (whole ++ codes "0")); exponent = neg_ℤ (pos 1) +ℤ e })
     (record { digits = signed negative (digits_value 10 (whole ++ [])); exponent = neg_ℤ (pos 0) +ℤ e }) ≡ true
-zero_added negative whole e =
-    same_integer
-    (signed negative (digits_value 10 (whole ++ codes "0")) *ℤ pos (10 ^ above (neg_ℤ (pos 1) +ℤ e) (neg_ℤ (pos 0) +ℤ e)))
-    (signed negative (digits_value 10 (whole ++ [])) *ℤ pos (10 ^ above (neg_ℤ (pos 0) +ℤ e) (neg_ℤ (pos 1) +ℤ e)))
-    (ap (λ z. signed negative (digits_value 10 (whole ++ codes "0")) *ℤ pos (10 ^ rise z)) (one_below e)
-    ∙ ap (λ n. signed negative n *ℤ pos 1) (digits_value_push 10 whole 48)
-    ∙ tenfold negative (digits_value 10 whole)
-    ∙ ap (λ t. signed negative (digits_value 10 t) *ℤ pos 10) (sym (append-nil whole))
-    ∙ sym (ap (λ z. signed negative (digits_value 10 (whole ++ [])) *ℤ pos (10 ^ rise z)) (one_above e)))
+zero_added negative whole e = grind (arith, same_integer, one_below, digits_value_push, tenfold, append-nil, one_above)
 
 -- what a number's spelling means is the number, by its parts
 keeps : (negative : Bool) (whole : Text) (fraction : Option Text) (exponent : Option JsonExponent)

@@ -1,10 +1,10 @@
 -- A number's spelling, cut where the schemas cut it: past its sign, at its point, at its exponent.
-use Rattle.yaml_base.proofs.Common.{suc, ℕ, if◌then◌else◌, ⊤, ◌==◌, Option, None, Some, codes, length, Bool, false, not, true, ◌&&◌, ◌||◌, List, [], ◌++◌}
-use Rattle.yaml_base.proofs.Common.{◌∷◌, refl, ◌≡◌, eqb-true, ne_eqb, append-nil, ap, sym, ◌∙◌, arith, and_parts, and_from, and_left, or_from, or_left}
+use Rattle.yaml_base.proofs.Common.{suc, ℕ, if◌then◌else◌, ⊤, ◌==◌, Option, None, Some, codes, length, Bool, false, not, true, ◌||◌, List, [], ◌++◌}
+use Rattle.yaml_base.proofs.Common.{◌∷◌, refl, ◌≡◌, eqb-true, ne_eqb, append-nil, ap, ◌∙◌, arith, and_parts, and_from, and_left, or_from, or_left}
 use Rattle.yaml_base.proofs.Common.{not_from_false, false≢true, slice_split-cons_yes, take_while-cons, list_all, slice_split, take_while, Text, named}
-use Rattle.yaml_base.proofs.Common.{JsonExponent, minus, exponent_negative, exponent_spelled, Resolved, meant_timestamp, words_of_core, words_of_11, is_point}
+use Rattle.yaml_base.proofs.Common.{JsonExponent, minus, exponent_negative, exponent_spelled, Resolved, words_of_core, words_of_11, is_point}
 use Rattle.yaml_base.proofs.Common.{is_exponent_letter, is_plus_or_minus, is_decimal, first_meets, past_sign, is_negative, are_digits, is_underscore}
-use Rattle.yaml_base.proofs.Common.{ungrouped, are_grouped, past, is_hyphen, is_date, is_time_after_date, in_date, timestamp_11}
+use Rattle.yaml_base.proofs.Common.{ungrouped, are_grouped, is_hyphen, is_date, in_date, timestamp_11}
 use Rattle.std.proofs.lemmas.List.{Elements.All-cons, Elements.All-append, Splits.slice_split_none, Splits.slice_split_at, Sums.AllPass-from_list_all}
 use Rattle.std.specs.List.{All}
 use Rattle.yaml_base.proofs.SchemaWords.{named_unlike}
@@ -13,11 +13,7 @@ use Rattle.yaml_base.proofs.SchemaWords.{named_unlike}
 
 -- a digit isn't a character that is none
 pub digit_unlike : (c n : ℕ) → is_decimal n ≡ false → is_decimal c ≡ true → (c == n) ≡ false
-digit_unlike c n other digit = by (c == n) refl
-  where
-    by : (x : Bool) → (c == n) ≡ x → x ≡ false
-    by true e = absurd (false≢true (sym other ∙ ap is_decimal (sym (eqb-true c n e)) ∙ digit))
-    by false e = refl
+digit_unlike c n other digit = grind (arith, false≢true, eqb-true)
 
 digit_no_point : (c : ℕ) → is_decimal c ≡ true → is_point c ≡ false
 digit_no_point c digit = digit_unlike c 0x2E refl digit
@@ -103,9 +99,7 @@ no_exponent_letter_in_mantissa whole fraction h g =
 pub at_exponent : (whole fraction : Text) (exponent : Option JsonExponent) → list_all is_decimal whole ≡ true → list_all is_decimal fraction ≡ true
     → HasDigits exponent
     → slice_split is_exponent_letter (mantissa_of whole fraction ++ exponent_spelled exponent) ≡ mantissa_of whole fraction ∷ exponent_parts exponent
-at_exponent whole fraction None h g e =
-    ap (slice_split is_exponent_letter) (append-nil (mantissa_of whole fraction))
-    ∙ slice_split_none is_exponent_letter (mantissa_of whole fraction) (no_exponent_letter_in_mantissa whole fraction h g)
+at_exponent whole fraction None h g e = grind (arith, append-nil, slice_split_none, no_exponent_letter_in_mantissa)
 at_exponent whole fraction (Some exponent) h g e = by (exponent_negative exponent)
   where
     digits : list_all is_decimal exponent.digits ≡ true
@@ -177,25 +171,10 @@ Short parts = (least : ℕ) → is_date least parts ≡ false
 
 short_prefix : (negative : Bool) (digits rest : Text) → list_all is_decimal digits ≡ true → first_meets in_date rest ≡ false
     → Short (slice_split is_hyphen (take_while in_date (minus negative ++ (digits ++ rest))))
-short_prefix true digits rest h g least =
-    ap (λ text. is_date least (slice_split is_hyphen text)) (take_while-cons in_date 0x2D (digits ++ rest)
-    ∙ ap (λ text. 0x2D ∷ text) (date_prefix digits rest h g))
-    ∙ ap (is_date least) (slice_split-cons_yes is_hyphen 0x2D digits refl ∙ ap (λ parts. [] ∷ parts) (uncut is_hyphen digit_no_hyphen digits h))
-short_prefix false digits rest h g least =
-    ap (λ text. is_date least (slice_split is_hyphen text)) (date_prefix digits rest h g)
-    ∙ ap (is_date least) (uncut is_hyphen digit_no_hyphen digits h)
+short_prefix true digits rest h g least = grind (arith, take_while-cons, date_prefix, slice_split-cons_yes, uncut, digit_no_hyphen)
+short_prefix false digits rest h g least = grind (arith, date_prefix, uncut, digit_no_hyphen)
 
 -- a number is no timestamp
 pub no_timestamp : (negative : Bool) (digits rest : Text) → list_all is_decimal digits ≡ true → first_meets in_date rest ≡ false
     → timestamp_11 (minus negative ++ (digits ++ rest)) ≡ None
-no_timestamp negative digits rest h g = ap (λ x. if x then Some meant_timestamp else None) neither
-  where
-    text : Text
-    text = minus negative ++ (digits ++ rest)
-
-    date : List Text
-    date = slice_split is_hyphen (take_while in_date text)
-
-    neither : ((is_date 2 date && length (past in_date text) == 0) || (is_date 1 date && is_time_after_date (past in_date text))) ≡ false
-    neither = or_from _ _ (and_left (is_date 2 date) _ (short_prefix negative digits rest h g 2))
-        (and_left (is_date 1 date) _ (short_prefix negative digits rest h g 1))
+no_timestamp negative digits rest h g = grind (arith, or_from, and_left, short_prefix)

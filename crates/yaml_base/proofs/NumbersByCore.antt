@@ -1,10 +1,9 @@
 -- The core schema reads the spelling of a number of JSON as that number.
-use Rattle.yaml_base.proofs.Common.{ℕ, if◌then◌else◌, ◌==◌, Option, None, Some, codes, neg_ℤ, pos, ℤ, ◌+ℤ◌, length, Bool, false, not, true, ◌&&◌, List, []}
-use Rattle.yaml_base.proofs.Common.{◌++◌, ◌∷◌, refl, ◌≡◌, append_assoc, ap, sym, ◌∙◌, and_parts, and_from, and_left, and_right, list_all-append, list_all}
-use Rattle.yaml_base.proofs.Common.{slice_split, digits_value, Text, named, JsonExponent, minus, exponent_negative, exponent_value, exponent_spelled, Decimal}
-use Rattle.yaml_base.proofs.Common.{Resolved, meant_integer, meant_decimal, first_reading, words_of_core, is_point, is_exponent_letter, is_decimal}
-use Rattle.yaml_base.proofs.Common.{first_meets, past_sign, is_negative, signed, are_digits, decimal_of_digits, exponent_read, times_power_of_ten, scientific}
-use Rattle.yaml_base.proofs.Common.{core_integer, core_based, core_mantissa, core_decimal, resolved_by_core}
+use Rattle.yaml_base.proofs.Common.{arith, nat_tests, ℕ, if◌then◌else◌, ◌==◌, Option, None, Some, codes, neg_ℤ, pos, ℤ, ◌+ℤ◌, length, Bool, false, true, List}
+use Rattle.yaml_base.proofs.Common.{[], ◌++◌, ◌∷◌, refl, ◌≡◌, append_assoc, ap, sym, ◌∙◌, and_parts, and_from, and_left, and_right, list_all-append, list_all}
+use Rattle.yaml_base.proofs.Common.{slice_split, digits_value, Text, JsonExponent, minus, exponent_value, exponent_spelled, Decimal, Resolved, meant_integer}
+use Rattle.yaml_base.proofs.Common.{meant_decimal, first_reading, is_exponent_letter, is_decimal, first_meets, signed, are_digits, decimal_of_digits}
+use Rattle.yaml_base.proofs.Common.{exponent_read, times_power_of_ten, scientific, core_integer, core_based, core_decimal, resolved_by_core}
 use Rattle.yaml_base.proofs.NumberCuts.{digit_unlike, some_digits, at_point, mantissa_of, exponent_parts, HasDigits, at_exponent, past_minus, minus_read}
 use Rattle.yaml_base.proofs.NumberCuts.{no_word_of_core}
 
@@ -33,10 +32,7 @@ decimal_of negative whole fraction = record {
 
 pub pointed_read : (negative : Bool) (c : ℕ) (whole fraction : Text) → list_all is_decimal (c ∷ whole) ≡ true → list_all is_decimal fraction ≡ true
     → decimal_of_digits negative (c ∷ whole) fraction ≡ Some (decimal_of negative (c ∷ whole) fraction)
-pointed_read negative c whole fraction h g =
-    given (are_digits 10 ((c ∷ whole) ++ fraction)) (decimal_of negative (c ∷ whole) fraction)
-    (some_digits c (whole ++ fraction)
-    (list_all-append is_decimal (c ∷ whole) fraction ∙ and_from (list_all is_decimal (c ∷ whole)) (list_all is_decimal fraction) h g))
+pointed_read negative c whole fraction h g = grind (arith, given, some_digits, list_all-append, and_from)
 
 -- An exponent
 
@@ -57,35 +53,18 @@ pub scientific_read : (mantissa : Text → Option Decimal) (read : Text → Opti
     → scientific mantissa read (text ∷ exponent_parts exponent)
     ≡ Some (meant_decimal (record { digits = decimal.digits; exponent = decimal.exponent +ℤ exponent_value exponent }))
 scientific_read mantissa read text decimal None reads h e = ap (λ d. times_power_of_ten d (Some (pos 0))) h
-scientific_read mantissa read text decimal (Some exponent) reads h e =
-    ap (λ d. times_power_of_ten d (read (exponent_sign (exponent_negative exponent) ++ exponent.digits))) h
-    ∙ ap (times_power_of_ten (Some decimal)) (reads (exponent_negative exponent) exponent.digits e)
+scientific_read mantissa read text decimal (Some exponent) reads h e = grind (arith)
 
 -- The core schema
 
 core_integer_read : (negative : Bool) (c : ℕ) (digits : Text) → list_all is_decimal (c ∷ digits) ≡ true
     → core_integer (minus negative ++ (c ∷ digits)) ≡ Some (meant_integer (signed negative (digits_value 10 (c ∷ digits))))
-core_integer_read negative c digits h =
-    ap (λ text. if are_digits 10 text then Some (meant_integer (signed (is_negative (minus negative ++ (c ∷ digits))) (digits_value 10 text))) else None)
-    (past_minus negative c digits digit)
-    ∙ ap (λ x. if are_digits 10 (c ∷ digits) then Some (meant_integer (signed x (digits_value 10 (c ∷ digits)))) else None) (minus_read negative c digits digit)
-    ∙ given (are_digits 10 (c ∷ digits)) (meant_integer (signed negative (digits_value 10 (c ∷ digits)))) (some_digits c digits h)
-  where
-    digit : is_decimal c ≡ true
-    digit = (and_parts (is_decimal c) (list_all is_decimal digits) h).0
+core_integer_read negative c digits h = grind (arith, past_minus, minus_read, given, some_digits, and_parts)
 
 -- an integer by the core schema
 pub integer_by_core : (negative : Bool) (c : ℕ) (digits : Text) → list_all is_decimal (c ∷ digits) ≡ true
     → resolved_by_core (minus negative ++ (c ∷ digits)) ≡ meant_integer (signed negative (digits_value 10 (c ∷ digits)))
-integer_by_core negative c digits h =
-    passed (named words_of_core text) (core_integer text ∷ rest) (no_word_of_core negative c digits (and_parts (is_decimal c) (list_all is_decimal digits) h).0)
-    ∙ found (core_integer text) rest _ (core_integer_read negative c digits h)
-  where
-    text : Text
-    text = minus negative ++ (c ∷ digits)
-
-    rest : List (Option Resolved)
-    rest = core_based 0x6F 8 text ∷ core_based 0x78 16 text ∷ core_decimal text ∷ []
+integer_by_core negative c digits h = grind (arith, passed, no_word_of_core, and_parts, found, core_integer_read)
 
 -- what follows the whole part of a number that is no integer
 abbrev pub after_whole : (fraction : Text) → Option JsonExponent → Text
@@ -93,18 +72,11 @@ after_whole fraction exponent = codes "." ++ fraction ++ exponent_spelled expone
 
 -- such a number is more than digits
 not_digits : (c : ℕ) (whole fraction : Text) (exponent : Option JsonExponent) → are_digits 10 ((c ∷ whole) ++ after_whole fraction exponent) ≡ false
-not_digits c whole fraction exponent =
-    and_right (not (length ((c ∷ whole) ++ after_whole fraction exponent) == 0)) (list_all is_decimal ((c ∷ whole) ++ after_whole fraction exponent))
-    (list_all-append is_decimal (c ∷ whole) (after_whole fraction exponent) ∙ and_right (list_all is_decimal (c ∷ whole)) false refl)
+not_digits c whole fraction exponent = grind (arith, and_right, list_all-append)
 
 core_integer_none : (negative : Bool) (c : ℕ) (rest : Text) → is_decimal c ≡ true → are_digits 10 (c ∷ rest) ≡ false
     → core_integer (minus negative ++ (c ∷ rest)) ≡ None
-core_integer_none negative c rest digit h =
-    withheld (are_digits 10 (past_sign text)) (meant_integer (signed (is_negative text) (digits_value 10 (past_sign text))))
-    (ap (are_digits 10) (past_minus negative c rest digit) ∙ h)
-  where
-    text : Text
-    text = minus negative ++ (c ∷ rest)
+core_integer_none negative c rest digit h = grind (arith, withheld, past_minus)
 
 -- no letter begins what follows a digit
 pub no_letter : (letter : ℕ) (digits rest : Text) → is_decimal letter ≡ false → list_all is_decimal digits ≡ true → first_meets (λ c. c == letter) rest ≡ false
@@ -116,9 +88,7 @@ core_based_none : (letter base : ℕ) (negative : Bool) (c : ℕ) (rest : Text) 
     → core_based letter base (minus negative ++ (c ∷ rest)) ≡ None
 core_based_none letter base true c rest h = refl
 core_based_none letter base false c [] h = refl
-core_based_none letter base false c (d ∷ rest) h =
-    withheld (c == 0x30 && d == letter && are_digits base rest) (meant_integer (pos (digits_value base rest)))
-    (and_left (c == 0x30 && d == letter) (are_digits base rest) (and_right (c == 0x30) (d == letter) h))
+core_based_none letter base false c (d ∷ rest) h = grind (arith, withheld, and_left, and_right)
 
 -- a number that is no integer, cut at its exponent
 pub cut_read : (c : ℕ) (whole fraction : Text) (exponent : Option JsonExponent) → list_all is_decimal (c ∷ whole) ≡ true → list_all is_decimal fraction ≡ true
@@ -139,42 +109,11 @@ core_decimal_read : (negative : Bool) (c : ℕ) (whole fraction : Text) (exponen
     → list_all is_decimal fraction ≡ true → HasDigits exponent
     → core_decimal (minus negative ++ ((c ∷ whole) ++ after_whole fraction exponent)) ≡ Some (scientific_of negative (c ∷ whole) fraction exponent)
 core_decimal_read negative c whole fraction exponent h g e =
-    ap (λ x. scientific (λ m. core_mantissa x (slice_split is_point m)) exponent_read (slice_split is_exponent_letter (past_sign text)))
-    (minus_read negative c (whole ++ after_whole fraction exponent) digit)
-    ∙ ap (λ t. scientific mantissa exponent_read (slice_split is_exponent_letter t)) (past_minus negative c (whole ++ after_whole fraction exponent) digit)
-    ∙ ap (scientific mantissa exponent_read) (cut_read c whole fraction exponent h g e)
-    ∙ scientific_read mantissa exponent_read (mantissa_of (c ∷ whole) fraction) (decimal_of negative (c ∷ whole) fraction) exponent exponent_read_signed
-    (ap (core_mantissa negative) (at_point (c ∷ whole) fraction h g) ∙ pointed_read negative c whole fraction h g) e
-  where
-    text : Text
-    text = minus negative ++ ((c ∷ whole) ++ after_whole fraction exponent)
-
-    digit : is_decimal c ≡ true
-    digit = (and_parts (is_decimal c) (list_all is_decimal whole) h).0
-
-    mantissa : Text → Option Decimal
-    mantissa m = core_mantissa negative (slice_split is_point m)
+    grind (arith, nat_tests, minus_read, past_minus, cut_read, scientific_read, exponent_read_signed, at_point, pointed_read, and_parts)
 
 -- a number that is no integer, by the core schema
 pub decimal_by_core : (negative : Bool) (c : ℕ) (whole fraction : Text) (exponent : Option JsonExponent) → list_all is_decimal (c ∷ whole) ≡ true
     → list_all is_decimal fraction ≡ true → HasDigits exponent
     → resolved_by_core (minus negative ++ ((c ∷ whole) ++ after_whole fraction exponent)) ≡ scientific_of negative (c ∷ whole) fraction exponent
 decimal_by_core negative c whole fraction exponent h g e =
-    passed (named words_of_core text) (core_integer text ∷ core_based 0x6F 8 text ∷ core_based 0x78 16 text ∷ core_decimal text ∷ [])
-    (no_word_of_core negative c rest both.0)
-    ∙ passed (core_integer text) (core_based 0x6F 8 text ∷ core_based 0x78 16 text ∷ core_decimal text ∷ [])
-    (core_integer_none negative c rest both.0 (not_digits c whole fraction exponent))
-    ∙ passed (core_based 0x6F 8 text) (core_based 0x78 16 text ∷ core_decimal text ∷ [])
-    (core_based_none 0x6F 8 negative c rest (no_letter 0x6F whole (after_whole fraction exponent) refl both.1 refl))
-    ∙ passed (core_based 0x78 16 text) (core_decimal text ∷ [])
-    (core_based_none 0x78 16 negative c rest (no_letter 0x78 whole (after_whole fraction exponent) refl both.1 refl))
-    ∙ found (core_decimal text) [] (scientific_of negative (c ∷ whole) fraction exponent) (core_decimal_read negative c whole fraction exponent h g e)
-  where
-    rest : Text
-    rest = whole ++ after_whole fraction exponent
-
-    text : Text
-    text = minus negative ++ (c ∷ rest)
-
-    both : (is_decimal c ≡ true) × (list_all is_decimal whole ≡ true)
-    both = and_parts (is_decimal c) (list_all is_decimal whole) h
+    grind (arith, passed, no_word_of_core, core_integer_none, not_digits, core_based_none, no_letter, found, core_decimal_read, and_parts)

@@ -63,10 +63,7 @@ mutual
 -- an event that is neither
 none_more : (event : Event) (rest : List Event) (n : ℕ) → begins_collection event ≡ false → ends_collection event ≡ false → Leaves rest n
     → Leaves (event ∷ rest) n
-none_more event rest n begin end h =
-    let b : begins (event ∷ []) ≡ 0 = ap (λ x. 0 + cond x 1 0) begin in
-    let e : ends (event ∷ []) ≡ 0 = ap (λ x. 0 + cond x 1 0) end in
-    record { counts = omega (arith, begins-append (event ∷ []) rest, ends-append (event ∷ []) rest, h.counts) }
+none_more event rest n begin end h = grind (arith, begins-append, ends-append)
 
 document_leaves : (x : Document) → Leaves (document_events x) 0
 document_leaves x =

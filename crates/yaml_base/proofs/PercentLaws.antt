@@ -4,7 +4,7 @@ use Rattle.yaml_base.proofs.Common.{◌≡◌, eqb-true, ltb-true, ap, ◌∙◌
 use Rattle.yaml_base.proofs.Common.{list_all-append, list_any-append, chars-encodes, length-encode, len_utf8_bounds, len_utf8, flat_map, list_all, list_any}
 use Rattle.yaml_base.proofs.Common.{scalar_cases, scalars, Text, is_among, is_alpha, is_blank, is_break, hex_digit, percent_sign, is_tag_character}
 use Rattle.yaml_base.proofs.Common.{byte_escaped, character_written, percent_escaped, is_suffix_character, suffix_escaped, prefix_escaped, percent_read}
-use Rattle.std.{proofs.Common.⊎_elim, proofs.lemmas.Str.is_utf8-from_IsUtf8, specs.Str.is_utf8}
+use Rattle.std.{proofs.Common.⊎_elim, proofs.lemmas.Str.is_utf8-from_IsUtf8}
 use lib.Utf8.{encode, encodes, scalar}
 use Rattle.yaml_base.specs.reading.ReadPercent.{between_forms, digit_given, byte_given, form_bytes}
 
@@ -81,9 +81,7 @@ prefix_read portable (c ∷ text) h =
 
 -- what reads as the bytes of a text is decoded as the text
 decoded_by : (text written : Text) → scalars text ≡ true → form_bytes between_forms written ≡ encodes text → percent_read written ≡ Some text
-decoded_by text written h e =
-    let whole : is_utf8 (encodes text) ≡ true = is_utf8-from_IsUtf8 _ (text, (h, refl)) in
-    rw (e, whole, chars-encodes text h) refl
+decoded_by text written h e = grind (arith, is_utf8-from_IsUtf8, chars-encodes)
 
 -- decoding undoes escaping
 pub decoded_escaped : (text : Text) → scalars text ≡ true → percent_read (percent_escaped text) ≡ Some text
@@ -116,9 +114,7 @@ character_stands false c k = forms_stand (encode c)
 text_stands : (kept : ℕ → Bool) → ((c : ℕ) → kept c ≡ true → is_tag_character c ≡ true) → (text : Text)
     → list_all stands_written (flat_map (λ c. character_written (kept c) c) text) ≡ true
 text_stands kept k [] = refl
-text_stands kept k (c ∷ text) =
-    list_all-append stands_written (character_written (kept c) c) (flat_map (λ d. character_written (kept d) d) text)
-    ∙ and_from _ _ (character_stands (kept c) c (k c)) (text_stands kept k text)
+text_stands kept k (c ∷ text) = grind (arith, list_all-append, and_from, character_stands, text_stands kept k text)
 
 -- each character of a written text may stand there
 pub escaped_stands : (text : Text) → list_all stands_written (percent_escaped text) ≡ true
@@ -143,14 +139,7 @@ first_in_prefix false c k = all_in_prefix (flat_map byte_escaped (encode c)) (fo
 
 kept_in_prefix : (portable : Bool) (c : ℕ) → ((portable && c == 0x21) || is_tag_character c) ≡ true → stands_in_prefix c ≡ true
 kept_in_prefix false c h = rw h refl
-kept_in_prefix true c h = by (c == 0x21) (is_tag_character c) (c == percent_sign) h
-  where
-    by : (mark kept sign : Bool) → (mark || kept) ≡ true → ((kept || sign) || mark) ≡ true
-    by true true sign h = refl
-    by true false true h = refl
-    by true false false h = refl
-    by false true sign h = refl
-    by false false sign h = absurd (cc)
+kept_in_prefix true c h = grind (arith)
 
 -- each character of a written prefix may stand there
 pub prefix_stands : (portable : Bool) (text : Text) → list_all stands_in_prefix (prefix_escaped portable text) ≡ true

@@ -1,14 +1,14 @@
 -- One piece for each event; and the pieces of a beginning are those of each list that goes on from it.
-use Rattle.yaml_base.proofs.Common.{suc, unwrap_or, option_map, option_and_then, Option, None, Some, length, take, Bool, false, true, ◌&&◌, List, [], ◌++◌, ◌∷◌}
-use Rattle.yaml_base.proofs.Common.{refl, ◌≡◌, ap, sym, ◌∙◌, Event, stream_start, stream_end, document_start, document_end, alias, scalar, sequence_start}
-use Rattle.yaml_base.proofs.Common.{sequence_end, mapping_start, mapping_end, no_nodes, no_pairs, Stream, stream_events, at_item, at_key, Partial}
-use Rattle.yaml_base.proofs.Common.{before_stream, within_document, after_stream, push, pushed, partial_of, finished, first_standing, layout, Standing, missing}
-use Rattle.yaml_base.proofs.Common.{missing_after, completion, list_layout, first_ends_collection, closes_at_once, begins_collection, ends_collection}
-use Rattle.yaml_base.proofs.Common.{Effective, Stage, at_stream, at_document, at_node, at_document_end, step, ends_next, Steps, then_steps, steps}
+use Rattle.yaml_base.proofs.Common.{arith, suc, unwrap_or, option_map, option_and_then, Option, None, Some, length, take, Bool, false, true, ◌&&◌, List, []}
+use Rattle.yaml_base.proofs.Common.{◌++◌, ◌∷◌, refl, ◌≡◌, ap, sym, ◌∙◌, Event, stream_start, stream_end, document_start, document_end, alias, scalar}
+use Rattle.yaml_base.proofs.Common.{sequence_start, sequence_end, mapping_start, mapping_end, Stream, stream_events, Partial, within_document, after_stream}
+use Rattle.yaml_base.proofs.Common.{push, pushed, partial_of, finished, first_standing, layout, Standing, missing, completion, list_layout}
+use Rattle.yaml_base.proofs.Common.{first_ends_collection, closes_at_once, begins_collection, ends_collection, Effective, Stage, at_stream, at_document}
+use Rattle.yaml_base.proofs.Common.{at_node, at_document_end, step, ends_next, Steps, then_steps, steps}
 use Rattle.std.proofs.lemmas.List.{length-take-le, take_at}
 use Rattle.yaml_base.{proofs.Pushes.partial_of_events, proofs.StepLaws.stream_steps, proofs.Trees.stream_pushed, specs.Layout.OnePieceEach}
 use Rattle.yaml_base.{specs.Pieces.last_begins_collection, specs.Pieces.PiecesStand, specs.Steps.joined_steps}
-use Rattle.yaml_base.proofs.Completions.{stream_completed, completion_pushed, prefix_is_partial}
+use Rattle.yaml_base.proofs.Completions.{completion_pushed, prefix_is_partial}
 
 -- Each event gives one piece.
 pub steps_count : (events : List Event) (s : Effective) (follows : Bool) (stage : Stage) (standing : Standing)
@@ -40,10 +40,7 @@ steps-append (event ∷ a) b s follows stage standing =
 -- The first pieces are those of the prefix.
 pub prefix_pieces : (a b : List Event) (s : Effective) (follows : Bool) (stage : Stage) (standing : Standing)
     → take (length a) (steps s follows (a ++ b) stage standing).pieces ≡ (steps s (ends_next b follows) a stage standing).pieces
-prefix_pieces a b s follows stage standing =
-    let prefix = steps s (ends_next b follows) a stage standing in
-    ap (λ (made : Steps). take (length a) made.pieces) (steps-append a b s follows stage standing)
-    ∙ take_at prefix.pieces (steps s follows b prefix.stage prefix.standing).pieces (length a) (steps_count a s (ends_next b follows) stage standing)
+prefix_pieces a b s follows stage standing = grind (arith, steps-append, take_at, steps_count)
 
 -- What follows matters to a collection's start alone.
 pub step_same : (event : Event) (stage : Stage) (s : Effective) (f g : Bool) (standing : Standing) → begins_collection event ≡ false
@@ -93,19 +90,12 @@ list_layout_steps events t s whole =
 -- A prefix's pieces in any whole list that begins with it and doesn't at once close a collection that it begins last.
 pub prefix_layout : (prefix rest : List Event) (t : Stream) (s : Effective) → partial_of (prefix ++ rest) ≡ Some (after_stream t)
     → closes_at_once prefix rest ≡ false → take (length prefix) (list_layout s (prefix ++ rest)) ≡ (steps s false prefix at_stream first_standing).pieces
-prefix_layout prefix rest t s whole other =
-    ap (take (length prefix)) (list_layout_steps (prefix ++ rest) t s whole)
-    ∙ prefix_pieces prefix rest s false at_stream first_standing
-    ∙ open_steps prefix rest s (last_begins_collection prefix) (first_ends_collection rest) refl refl other
+prefix_layout prefix rest t s whole other = grind (arith, list_layout_steps, prefix_pieces, open_steps)
 
 -- A completion doesn't at once close a collection.
 start_not_closed : (event : Event) (p q : Partial) → push p event ≡ Some q → begins_collection event && first_ends_collection (missing q) ≡ false
-start_not_closed (sequence_start c) (within_document e d s levels) q given =
-    let same : within_document e d s (at_item c no_nodes ∷ levels) ≡ q = cc in
-    ap (λ r. first_ends_collection (missing r)) (sym same)
-start_not_closed (mapping_start c) (within_document e d s levels) q given =
-    let same : within_document e d s (at_key c no_pairs ∷ levels) ≡ q = cc in
-    ap (λ r. first_ends_collection (missing r)) (sym same)
+start_not_closed (sequence_start c) (within_document e d s levels) q given = grind (arith)
+start_not_closed (mapping_start c) (within_document e d s levels) q given = grind (arith)
 start_not_closed (sequence_start c) p q given = cc
 start_not_closed (mapping_start c) p q given = cc
 start_not_closed (stream_start e) p q given = refl
@@ -135,12 +125,7 @@ completion_not_closed (event ∷ rest) p q given =
 -- The pieces of a beginning, event by event.
 pub begun_pieces : (prefix : List Event) (p : Partial) (s : Effective) → partial_of prefix ≡ Some p
     → take (length prefix) (list_layout s (completion prefix)) ≡ (steps s false prefix at_stream first_standing).pieces
-begun_pieces prefix p s begins =
-    let same : completion prefix ≡ prefix ++ missing p = ap (λ o. prefix ++ missing_after o) begins in
-    ap (λ events. take (length prefix) (list_layout s events)) same
-    ∙ prefix_layout prefix (missing p) (stream_completed p) s
-    (ap partial_of (sym same) ∙ completion_pushed prefix p begins)
-    (completion_not_closed prefix before_stream p begins)
+begun_pieces prefix p s begins = grind (arith, prefix_layout, completion_pushed, completion_not_closed)
 
 pub pieces_stand : PiecesStand
 pieces_stand s events rest k within accepted other =

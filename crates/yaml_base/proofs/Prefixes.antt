@@ -1,5 +1,5 @@
 -- Prefixes of lists.
-use Rattle.yaml_base.proofs.Common.{ℕ, ◌-◌, ◌≤◌, length, take, List, [], ◌++◌, refl, ◌≡◌, append-nil, append_assoc, ap, sym, ◌∙◌, arith}
+use Rattle.yaml_base.proofs.Common.{nat_tests, ℕ, ◌-◌, ◌≤◌, length, take, List, [], ◌++◌, refl, ◌≡◌, append-nil, append_assoc, ap, sym, ◌∙◌, arith}
 use Rattle.std.proofs.Math.Seq.{take-append-add}
 use Rattle.yaml_base.specs.Prefix.{IsPrefix}
 
@@ -13,11 +13,7 @@ prefix_itself xs = prefix_same xs xs refl
 
 -- a prefix's prefix
 pub prefix_then : {A : Type 0} {xs ys zs : List A} → IsPrefix xs ys → IsPrefix ys zs → IsPrefix xs zs
-prefix_then {A} {xs} {ys} {zs} first next =
-    record {
-      rest = first.rest ++ next.rest;
-      parts = sym (append_assoc xs first.rest next.rest) ∙ ap (λ l. l ++ next.rest) first.parts ∙ next.parts;
-    }
+prefix_then {A} {xs} {ys} {zs} first next = grind (arith, nat_tests, append_assoc)
 
 -- a cut after a list's end keeps the list
 pub prefix_cut : {A : Type 0} (n : ℕ) (xs ys : List A) → length xs ≤ n → IsPrefix xs (take n (xs ++ ys))

@@ -1,10 +1,10 @@
 -- A partial tree's events: each push adds its event at their end.
-use Rattle.yaml_base.proofs.Common.{option_and_then, Option, None, Some, List, [], ◌++◌, ◌∷◌, refl, ◌≡◌, append-nil, append_assoc, ap, sym, ◌∙◌}
+use Rattle.yaml_base.proofs.Common.{arith, option_and_then, Option, None, Some, List, [], ◌++◌, ◌∷◌, refl, ◌≡◌, append-nil, append_assoc, ap, sym, ◌∙◌}
 use Rattle.yaml_base.proofs.Common.{DocumentStart, Event, stream_start, stream_end, document_start, document_end, alias, scalar, sequence_start, sequence_end}
 use Rattle.yaml_base.proofs.Common.{mapping_start, mapping_end, Node, alias_node, scalar_node, sequence_node, mapping_node, no_nodes, no_pairs, Document}
-use Rattle.yaml_base.proofs.Common.{Documents, no_documents, documents_and, Stream, node_events, nodes_events, pairs_events, documents_events, stream_events}
-use Rattle.yaml_base.proofs.Common.{Level, at_item, at_key, at_value, Partial, before_stream, between_documents, within_document, after_root, after_stream}
-use Rattle.yaml_base.proofs.Common.{with_node, closed, push_within, push, pushed, partial_of, Encoding}
+use Rattle.yaml_base.proofs.Common.{Documents, no_documents, documents_and, node_events, nodes_events, pairs_events, documents_events, stream_events, Level}
+use Rattle.yaml_base.proofs.Common.{at_item, at_key, at_value, Partial, before_stream, between_documents, within_document, after_root, after_stream, with_node}
+use Rattle.yaml_base.proofs.Common.{closed, push_within, push, pushed, partial_of, Encoding}
 
 abbrev pub level_events : Level → List Event
 level_events (at_item c items) = sequence_start c ∷ nodes_events items
@@ -29,19 +29,14 @@ partial_events (after_stream t) = stream_events t
 -- A node more: its events come last.
 added : (e : Option Encoding) (d : Documents) (s : DocumentStart) (outer : List Event) (level node : List Event)
     → begun_events e d s (outer ++ (level ++ node)) ≡ begun_events e d s (outer ++ level) ++ node
-added e d s outer level node =
-    let head = stream_start e ∷ (documents_events d ++ document_start s ∷ []) in
-    ap (λ inside. head ++ inside) (sym (append_assoc outer level node)) ∙ sym (append_assoc head (outer ++ level) node)
+added e d s outer level node = grind (arith, append_assoc)
 
 with_node_events : (e : Option Encoding) (d : Documents) (s : DocumentStart) (levels : List Level) (n : Node)
     → partial_events (with_node e d s levels n) ≡ begun_events e d s (levels_events levels) ++ node_events n
 with_node_events e d s [] n = ap (λ events. events ++ node_events n) (sym (append-nil (stream_start e ∷ (documents_events d ++ document_start s ∷ []))))
 with_node_events e d s (at_item c items ∷ outer) n = added e d s (levels_events outer) (sequence_start c ∷ nodes_events items) (node_events n)
 with_node_events e d s (at_key c pairs ∷ outer) n = added e d s (levels_events outer) (mapping_start c ∷ pairs_events pairs) (node_events n)
-with_node_events e d s (at_value c pairs key ∷ outer) n =
-    ap (λ events. begun_events e d s (levels_events outer ++ (mapping_start c ∷ events)))
-    (sym (append_assoc (pairs_events pairs) (node_events key) (node_events n)))
-    ∙ added e d s (levels_events outer) (mapping_start c ∷ (pairs_events pairs ++ node_events key)) (node_events n)
+with_node_events e d s (at_value c pairs key ∷ outer) n = grind (arith, append_assoc, added)
 
 -- The end of the innermost collection.
 closed_events : (level : Level) (event : Event) (n : Node) → closed level event ≡ Some n → node_events n ≡ level_events level ++ event ∷ []
@@ -58,28 +53,15 @@ closed_added : (e : Option Encoding) (d : Documents) (s : DocumentStart) (level 
     → closed level event ≡ made → option_and_then (λ node. Some (with_node e d s outer node)) made ≡ Some q
     → AddsEvent (within_document e d s (level ∷ outer)) event q
 closed_added e d s level outer event None q is given = cc
-closed_added e d s level outer event (Some n) q is given =
-    let same : with_node e d s outer n ≡ q = cc in
-    ap partial_events (sym same)
-    ∙ with_node_events e d s outer n
-    ∙ ap (λ events. begun_events e d s (levels_events outer) ++ events) (closed_events level event n is)
-    ∙ append_assoc (stream_start e ∷ (documents_events d ++ document_start s ∷ [])) (levels_events outer) (level_events level ++ event ∷ [])
-    ∙ added e d s (levels_events outer) (level_events level) (event ∷ [])
+closed_added e d s level outer event (Some n) q is given = grind (arith, with_node_events, closed_events, append_assoc, added)
 
 node_added : (e : Option Encoding) (d : Documents) (s : DocumentStart) (levels : List Level) (n : Node) (q : Partial) → Some (with_node e d s levels n) ≡ Some q
     → partial_events q ≡ begun_events e d s (levels_events levels) ++ node_events n
-node_added e d s levels n q given =
-    let same : with_node e d s levels n ≡ q = cc in
-    ap partial_events (sym same) ∙ with_node_events e d s levels n
+node_added e d s levels n q given = grind (arith, with_node_events)
 
 level_added : (e : Option Encoding) (d : Documents) (s : DocumentStart) (levels : List Level) (level : Level) (event : Event) (q : Partial)
     → level_events level ≡ event ∷ [] → Some (within_document e d s (level ∷ levels)) ≡ Some q → AddsEvent (within_document e d s levels) event q
-level_added e d s levels level event q only given =
-    let same : within_document e d s (level ∷ levels) ≡ q = cc in
-    let head = stream_start e ∷ (documents_events d ++ document_start s ∷ []) in
-    ap partial_events (sym same)
-    ∙ ap (λ events. begun_events e d s (levels_events levels ++ events)) only
-    ∙ sym (append_assoc head (levels_events levels) (event ∷ []))
+level_added e d s levels level event q only given = grind (arith, append_assoc)
 
 within_added : (e : Option Encoding) (d : Documents) (s : DocumentStart) (levels : List Level) (event : Event) (q : Partial)
     → push_within e d s levels event ≡ Some q → AddsEvent (within_document e d s levels) event q
@@ -92,21 +74,13 @@ within_added e d s [] event q given = cc
 
 with_read_document : (e : Option Encoding) (d : Documents) (x : Document)
     → stream_start e ∷ documents_events (documents_and d x) ≡ begun_events e d x.start (node_events x.root) ++ document_end x.end_implicit ∷ []
-with_read_document e d x =
-    let head = documents_events d ++ document_start x.start ∷ [] in
-    ap (λ events. stream_start e ∷ events)
-    (sym (append_assoc (documents_events d) (document_start x.start ∷ []) (node_events x.root ++ document_end x.end_implicit ∷ []))
-    ∙ sym (append_assoc head (node_events x.root) (document_end x.end_implicit ∷ [])))
+with_read_document e d x = grind (arith, append_assoc)
 
 pub push_events : (p : Partial) (event : Event) (q : Partial) → push p event ≡ Some q → AddsEvent p event q
 push_events before_stream (stream_start encoding) q given =
     let same : between_documents encoding no_documents ≡ q = cc in ap partial_events (sym same)
-push_events (between_documents e d) (document_start s) q given =
-    let same : within_document e d s [] ≡ q = cc in
-    ap partial_events (sym same) ∙ append-nil (stream_start e ∷ (documents_events d ++ document_start s ∷ []))
-push_events (between_documents e d) stream_end q given =
-    let t : Stream = record { encoding = e; documents = d } in
-    let same : after_stream t ≡ q = cc in ap partial_events (sym same)
+push_events (between_documents e d) (document_start s) q given = grind (arith, append-nil)
+push_events (between_documents e d) stream_end q given = grind (arith)
 push_events (within_document e d s levels) event q given = within_added e d s levels event q given
 push_events (after_root e d s root) (document_end implicit) q given =
     let x : Document = record { start = s; root = root; end_implicit = implicit } in

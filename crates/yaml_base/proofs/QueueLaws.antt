@@ -1,7 +1,7 @@
 -- What is held back: it begins with an event that awaits others, and nothing of a whole stream is held back.
 use Rattle.yaml_base.proofs.Common.{suc, ℕ, ◌+◌, ◌≤◌, if◌then◌else◌, ◌==◌, count_by, nat_lt, drop, length, take, Bool, cond, false, true, ◌&&◌, ◌||◌, List}
-use Rattle.yaml_base.proofs.Common.{[], map, ◌++◌, ◌∷◌, refl, ◌≡◌, eq-eqb, length-append, append_assoc, ap, sym, ◌∙◌, arith, nat_tests, sum_by-append}
-use Rattle.yaml_base.proofs.Common.{list_any, Event, stream_end, document_start, document_end, sequence_start, sequence_end, mapping_start, mapping_end, Node}
+use Rattle.yaml_base.proofs.Common.{[], map, ◌++◌, ◌∷◌, refl, ◌≡◌, eq-eqb, length-append, append_assoc, ap, ◌∙◌, arith, sum_by-append}
+use Rattle.yaml_base.proofs.Common.{list_any, Event, document_start, document_end, sequence_start, sequence_end, mapping_start, mapping_end, Node}
 use Rattle.yaml_base.proofs.Common.{alias_node, scalar_node, Nodes, sequence_node, Pairs, mapping_node, no_nodes, nodes_and, no_pairs, pairs_and, Document}
 use Rattle.yaml_base.proofs.Common.{Documents, no_documents, documents_and, Stream, node_events, nodes_events, pairs_events, document_events}
 use Rattle.yaml_base.proofs.Common.{documents_events, stream_events, first_ends_collection, closes_at_once, awaited, is_balanced, nonempty_prefixes, is_ready}
@@ -24,29 +24,19 @@ HeldWaits events k = (event : Event) (rest : List Event) → drop k events ≡ e
 held_if : (first : Event) (others : List Event) (b : Bool) → is_ready first others ≡ b → HeldWaits others (written others)
     → HeldWaits (first ∷ others) (if b then suc (written others) else 0)
 held_if first others true is h event rest given = h event rest given
-held_if first others false is h event rest given =
-    let same : first ≡ event = cc in
-    let tail : others ≡ rest = cc in
-    sym (ap (λ e. is_ready e rest) same) ∙ sym (ap (λ r. is_ready first r) tail) ∙ is
+held_if first others false is h event rest given = grind (arith)
 
 pub held_waits : (events : List Event) → HeldWaits events (written events)
 held_waits [] = λ event rest given. cc
 held_waits (first ∷ others) = held_if first others (is_ready first others) refl (held_waits others)
 
 middle_false : (a b c : Bool) → (a || b) || c ≡ false → b ≡ false
-middle_false false b c h = left_false b c h
-  where
-    left_false : (b c : Bool) → b || c ≡ false → b ≡ false
-    left_false false c h = refl
-    left_false true c h = h
+middle_false false b c h = grind (arith)
 middle_false true b c h = cc
 
 -- So an event that is held first awaits at least as many as stand from it on.
 pub held_is_short : (event : Event) (rest : List Event) → is_ready event rest ≡ false → length (event ∷ rest) ≤ awaited event
-held_is_short event rest waits =
-    let short : nat_lt (awaited event) (length (event ∷ rest)) ≡ false =
-    middle_false (awaited event == 0) (nat_lt (awaited event) (length (event ∷ rest))) (list_any is_balanced (nonempty_prefixes (event ∷ rest))) waits in
-    grind (arith, nat_tests)
+held_is_short event rest waits = grind (arith, middle_false)
 
 -- A collection that the ready events begin last isn't closed by what is held, nor by what may come.
 pub no_end_held : (event : Event) (rest : List Event) → is_ready event rest ≡ false → ends_collection event ≡ false
@@ -161,13 +151,7 @@ whole_both a b rest h k =
 
 whole_around : (start : Event) (end : Event) (inside rest : List Event) → is_ready end rest ≡ true → Balanced (start ∷ (inside ++ end ∷ []))
     → Whole inside (end ∷ rest) → Whole (start ∷ (inside ++ end ∷ [])) rest
-whole_around start end inside rest ends balanced h =
-    let first : written (start ∷ ((inside ++ end ∷ []) ++ rest))
-    ≡ suc (written ((inside ++ end ∷ []) ++ rest)) = ap (λ b. if b then suc (written ((inside ++ end ∷ []) ++ rest)) else 0)
-    (balanced_ready start (inside ++ end ∷ []) rest balanced) in
-    let others : written ((inside ++ end ∷ []) ++ rest) ≡ written (inside ++ end ∷ rest) = ap written (append_assoc inside (end ∷ []) rest) in
-    let last : written (end ∷ rest) ≡ suc (written rest) = ap (λ b. if b then suc (written rest) else 0) ends in
-    record { count = omega (arith, length-append inside (end ∷ []), h.count) }
+whole_around start end inside rest ends balanced h = grind (arith, balanced_ready, append_assoc, length-append)
 
 mutual
   node_whole : (n : Node) (rest : List Event) → Whole (node_events n) rest
@@ -200,6 +184,4 @@ documents_whole (documents_and d x) rest = whole_both (documents_events d) (docu
 
 -- Nothing of a whole stream is held back.
 pub stream_written : (t : Stream) → written (stream_events t) ≡ length (stream_events t)
-stream_written t =
-    let inside = documents_whole t.documents (stream_end ∷ []) in
-    omega (arith, length-append (documents_events t.documents) (stream_end ∷ []), inside.count)
+stream_written t = grind (arith, documents_whole, length-append)

@@ -1,5 +1,5 @@
 -- Isomorphic graphs are dumped as events that differ in styles alone, so in canonical mode as the same bytes.
-use Rattle.yaml_base.proofs.Common.{ℕ, ◌≤◌, if◌then◌else◌, ◌==◌, All, unwrap_or, option_map, bytes_eq, Option, None, Some, length, Bool, false, true, List}
+use Rattle.yaml_base.proofs.Common.{ℕ, ◌≤◌, ◌==◌, All, unwrap_or, option_map, bytes_eq, Option, None, Some, length, false, true, List}
 use Rattle.yaml_base.proofs.Common.{[], map, ◌++◌, ◌∷◌, refl, ◌≡◌, inl, inr, ap, sym, ◌∙◌, arith, nat_tests, map-append, All-head, All-tail, Text, any_style}
 use Rattle.yaml_base.proofs.Common.{any_layout, DocumentStart, Event, stream_start, stream_end, document_start, document_end, alias, scalar, sequence_start}
 use Rattle.yaml_base.proofs.Common.{sequence_end, mapping_start, mapping_end, encoding_asked, output_of, Encoding, Settings, AreDumped, label_at, Isomorphic}
@@ -66,10 +66,7 @@ step_alike first second iso walk (enters number) all reached =
     ∙ ap (λ (anchor : Option Text). beginning_by anchor (label_at second (iso.partner number))) (anchors_alike first second iso walk number all reached)
     ∙ ap (beginning_by (anchor_of walk number)) (iso.labels number reached)
     ∙ sym (begins_by (anchor_of walk number) (node_numbered first number))
-step_alike first second iso walk (leaves number) all reached =
-    ends_by (node_numbered second (iso.partner number))
-    ∙ ap ending_by (iso.labels number reached)
-    ∙ sym (ends_by (node_numbered first number))
+step_alike first second iso walk (leaves number) all reached = grind (arith, ends_by)
 step_alike first second iso walk (meets_again number) all reached =
     ap (λ (anchor : Option Text). alias (unwrap_or anchor []) ∷ []) (anchors_alike first second iso walk number all reached)
 
@@ -97,11 +94,7 @@ events_within graph = flat_map (step_events graph (steps graph)) (steps graph)
 document_is : (graph : Graph) → IsDocument graph
     → map unstyled (document_event_list graph)
     ≡ unstyled (document_start graph.start) ∷ (map unstyled (events_within graph) ++ document_end graph.end_implicit ∷ [])
-document_is graph is =
-    ap (λ (none : Bool). map unstyled (if none then [] else document_start graph.start ∷ (events_within graph ++ document_end graph.end_implicit ∷ [])))
-    is.has_nodes
-    ∙ ap (λ (events : List Event). unstyled (document_start graph.start) ∷ events)
-    (map-append unstyled (events_within graph) (document_end graph.end_implicit ∷ []))
+document_is graph is = grind (arith, map-append)
 
 within_alike : (first second : Graph) → IsDocument first → IsDocument second → Isomorphic first second
     → map unstyled (events_within second) ≡ map unstyled (events_within first)
@@ -113,21 +106,11 @@ within_alike first second is also iso =
 
 start_alike : (first second : DocumentStart) → first.version ≡ second.version → first.directives ≡ second.directives
     → unstyled (document_start first) ≡ unstyled (document_start second)
-start_alike first second version directives =
-    ap (λ v. document_start (record { version = v; directives = first.directives; implicit = true })) version
-    ∙ ap (λ d. document_start (record { version = second.version; directives = d; implicit = true })) directives
+start_alike first second version directives = grind (arith)
 
 document_alike : (first second : Graph) → IsDocument first → IsDocument second → IsWrittenAlike first second
     → map unstyled (document_event_list first) ≡ map unstyled (document_event_list second)
-document_alike first second is also alike =
-    document_is first is
-    ∙ ap (λ (start : Event). start ∷ (map unstyled (events_within first) ++ document_end first.end_implicit ∷ []))
-    (start_alike first.start second.start alike.says.version alike.says.directives)
-    ∙ ap (λ (events : List Event). unstyled (document_start second.start) ∷ (events ++ document_end first.end_implicit ∷ []))
-    (sym (within_alike first second is also alike.says.graphs))
-    ∙ ap (λ (implicit : Bool). unstyled (document_start second.start) ∷ (map unstyled (events_within second) ++ document_end implicit ∷ []))
-    alike.end_implicit
-    ∙ sym (document_is second also)
+document_alike first second is also alike = grind (arith, document_is, start_alike, within_alike)
 
 documents_alike : (firsts seconds : List Graph) → All IsDocument firsts → All IsDocument seconds → AreWrittenAlike firsts seconds
     → map unstyled (flat_map document_event_list firsts) ≡ map unstyled (flat_map document_event_list seconds)
@@ -146,9 +129,7 @@ documents_alike (first ∷ firsts) (second ∷ seconds) are also alike =
 
 stream_is : (graphs : List Graph) (events : List Event) (dumped : AreDumped graphs events)
     → map unstyled events ≡ stream_start dumped.encoding ∷ (map unstyled (flat_map document_event_list graphs) ++ stream_end ∷ [])
-stream_is graphs events dumped =
-    ap (map unstyled) (sym dumped.parts)
-    ∙ ap (λ (inside : List Event). stream_start dumped.encoding ∷ inside) (map-append unstyled (flat_map document_event_list graphs) (stream_end ∷ []))
+stream_is graphs events dumped = grind (arith, map-append)
 
 -- streams of documents that canonical mode writes alike
 pub same_canonical_output : (given : Settings) (firsts seconds : List Graph) (first second : List Event) → given.canonical ≡ true

@@ -1,8 +1,8 @@
 -- Graphs that one shape unfolds are isomorphic.
-use Rattle.yaml_base.proofs.Common.{ℕ, ◌≤◌, ◌==◌, count_by, Option, Some, Bool, cond, false, true, List, [], map, ◌++◌, ◌∷◌, refl, ◌≡◌, eq-eqb, eqb-true}
+use Rattle.yaml_base.proofs.Common.{ℕ, ◌==◌, count_by, Option, Some, Bool, cond, false, true, List, [], map, ◌++◌, ◌∷◌, refl, ◌≡◌, eq-eqb, eqb-true}
 use Rattle.yaml_base.proofs.Common.{append_assoc, inl, inr, ap, subst, sym, ◌∙◌, arith, map-append, bytes_eq-Decides, Text, label_at, Isomorphic, Graph}
 use Rattle.yaml_base.proofs.Common.{children, Shape, number_at, numbers_at, Occurrence, alias_occurrence, node_occurrence, occurrences, has_anchor}
-use Rattle.yaml_base.proofs.Common.{is_occurrence_of, IsNamed, AreNamed, IsReached, first_reached}
+use Rattle.yaml_base.proofs.Common.{is_occurrence_of, AreNamed, IsReached, first_reached}
 use Rattle.yaml_base.proofs.Twins.{Twin, alias_twin, Twins, node_twin, none_twins, twins_and, first_placed, firsts_placed, second_placed, seconds_placed}
 use Rattle.yaml_base.proofs.Twins.{TwinFits, TwinsFit, joined, Pair, alias_pair, node_pair, pairs, pairs_below, first_number, second_number, first_of}
 use Rattle.yaml_base.proofs.Twins.{second_of, first_occurrences, second_occurrences, IsIn, in_left, in_right, in_either, contained_in, in_map, number_in}
@@ -23,32 +23,21 @@ here_or_later : (b : Bool) (anchor given : Option Text) (one other number anothe
     → (a : Option Text) × IsIn (node_pair a number (cond b other rest)) (node_pair anchor one other ∷ all)
 here_or_later true anchor given one other number another rest all is within later =
     (anchor, inl (ap (λ (n : ℕ). node_pair anchor n other) (sym (eqb-true number one is))))
-here_or_later false anchor given one other number another rest all is (inl same) later =
-    let both : number == one ≡ true = eq-eqb number one (sym (ap first_number same)) in
-    absurd (let no : true ≡ false = sym both ∙ is in cc)
-here_or_later false anchor given one other number another rest all is (inr within) later =
-    let found = later within in
-    (found.0, inr found.1)
+here_or_later false anchor given one other number another rest all is (inl same) later = grind (arith, eq-eqb)
+here_or_later false anchor given one other number another rest all is (inr within) later = grind (arith)
 
 partner_there : (all : List Pair) (anchor : Option Text) (number other : ℕ) → IsIn (node_pair anchor number other) all
     → (a : Option Text) × IsIn (node_pair a number (partner_in all number)) all
 partner_there [] anchor number other within = absurd within
 partner_there (alias_pair name one another ∷ all) anchor number other (inl is) = cc
-partner_there (alias_pair name one another ∷ all) anchor number other (inr within) =
-    let found = partner_there all anchor number other within in
-    (found.0, inr found.1)
+partner_there (alias_pair name one another ∷ all) anchor number other (inr within) = grind (arith, partner_there all anchor number other within)
 partner_there (node_pair given one another ∷ all) anchor number other within =
     here_or_later (number == one) given anchor one another number other (partner_in all number) all refl within (partner_there all anchor number other)
 
 -- where a node has one place
 partner_is : (all : List Pair) (anchor : Option Text) (number other : ℕ) → IsIn (node_pair anchor number other) all
     → count_by (is_occurrence_of number) (map first_of all) ≡ 1 → partner_in all number ≡ other
-partner_is all anchor number other within once =
-    let found = partner_there all anchor number other within in
-    ap second_number
-    (only_one (λ pair. is_occurrence_of number (first_of pair)) (node_pair found.0 number (partner_in all number)) (node_pair anchor number other) all
-    found.1 within (eq-eqb number number refl) (eq-eqb number number refl)
-    (sym (count_map first_of (is_occurrence_of number) all) ∙ once))
+partner_is all anchor number other within once = grind (arith, partner_there, only_one, eq-eqb, count_map)
 
 -- the pairs, the other way round
 abbrev turned : Pair → Pair
@@ -62,9 +51,7 @@ turned_firsts (node_pair anchor one other ∷ all) = ap (λ rest. node_occurrenc
 
 back_is : (all : List Pair) (anchor : Option Text) (number other : ℕ) → IsIn (node_pair anchor number other) all
     → count_by (is_occurrence_of other) (map second_of all) ≡ 1 → partner_in (map turned all) other ≡ number
-back_is all anchor number other within once =
-    partner_is (map turned all) anchor other number (in_map turned (node_pair anchor number other) all within)
-    (ap (count_by (is_occurrence_of other)) (turned_firsts all) ∙ once)
+back_is all anchor number other within once = grind (arith, partner_is, in_map, turned_firsts)
 
 -- ---- aliases
 
@@ -72,9 +59,7 @@ back_is all anchor number other within once =
 named_at : (all before rest : List Occurrence) (name : Text) (number : ℕ) → AreNamed all before rest → IsIn (alias_occurrence name number) rest
     → (count_by (has_anchor name) all ≡ 1) × IsIn (node_occurrence (Some name) number) (before ++ rest)
 named_at all before [] name number named within = absurd within
-named_at all before (first ∷ rest) name number named (inl is) =
-    let one : IsNamed all before (alias_occurrence name number) = subst (λ o. IsNamed all before o) is named.0 in
-    (one.0, in_left (node_occurrence (Some name) number) before (first ∷ rest) (contained_in (node_occurrence (Some name) number) before one.1))
+named_at all before (first ∷ rest) name number named (inl is) = grind (arith, in_left, contained_in)
 named_at all before (first ∷ rest) name number named (inr later) =
     let found = named_at all (before ++ first ∷ []) rest name number named.1 later in
     (found.0, subst (λ xs. IsIn (node_occurrence (Some name) number) xs) (append_assoc before (first ∷ []) rest) found.1)
@@ -171,16 +156,7 @@ record HasPair (all : List Pair) (first_meets : ℕ) : Type 0 where
   within : IsIn (node_pair anchor first_meets other) all
 
 node_of : (all : List Pair) (number : ℕ) → count_by (is_occurrence_of number) (map first_of all) ≡ 1 → HasPair all number
-node_of all number once =
-    let some : 1 ≤ count_by (λ pair. is_occurrence_of number (first_of pair)) all =
-    omega (arith, sym (count_map first_of (is_occurrence_of number) all) ∙ once) in
-    let found = counted_in (λ pair. is_occurrence_of number (first_of pair)) all some in
-    by found.0 found.1 found.2
-  where
-    by : (pair : Pair) → IsIn pair all → is_occurrence_of number (first_of pair) ≡ true → HasPair all number
-    by (alias_pair name one other) within is = cc
-    by (node_pair anchor one other) within is =
-        record { anchor = anchor; other = other; within = subst (λ (n : ℕ). IsIn (node_pair anchor n other) all) (sym (eqb-true number one is)) within }
+node_of all number once = grind (arith, count_map, counted_in, eqb-true)
 
 record HasBack (all : List Pair) (second_is : ℕ) : Type 0 where
   anchor : Option Text
@@ -188,16 +164,7 @@ record HasBack (all : List Pair) (second_is : ℕ) : Type 0 where
   within : IsIn (node_pair anchor number second_is) all
 
 back_of : (all : List Pair) (other : ℕ) → count_by (is_occurrence_of other) (map second_of all) ≡ 1 → HasBack all other
-back_of all other once =
-    let some : 1 ≤ count_by (λ pair. is_occurrence_of other (second_of pair)) all =
-    omega (arith, sym (count_map second_of (is_occurrence_of other) all) ∙ once) in
-    let found = counted_in (λ pair. is_occurrence_of other (second_of pair)) all some in
-    by found.0 found.1 found.2
-  where
-    by : (pair : Pair) → IsIn pair all → is_occurrence_of other (second_of pair) ≡ true → HasBack all other
-    by (alias_pair name one two) within is = cc
-    by (node_pair anchor one two) within is =
-        record { anchor = anchor; number = one; within = subst (λ (n : ℕ). IsIn (node_pair anchor one n) all) (sym (eqb-true other two is)) within }
+back_of all other once = grind (arith, count_map, counted_in, eqb-true)
 
 -- ---- the law
 

@@ -2,11 +2,10 @@
 -- same but for the numbers of the nodes.
 use Rattle.yaml_base.proofs.Common.{suc, ℕ, ◌+◌, ◌≤◌, ⊤, ◌==◌, Contains, option_map, Option, None, Some, nat_lt, length, Bool, cond, false, not, true, ◌||◌}
 use Rattle.yaml_base.proofs.Common.{List, [], map, ◌++◌, ◌∷◌, refl, ◌≡◌, eq-eqb, eqb-true, length-append, append-nil, append_assoc, inl, inr, ap, subst, sym}
-use Rattle.yaml_base.proofs.Common.{◌∙◌, arith, same_from_decides, Decides-eqb, length-map, map-append, Contains-append_left, Contains-append_right, filter}
+use Rattle.yaml_base.proofs.Common.{◌∙◌, arith, same_from_decides, length-map, map-append, Contains-append_left, Contains-append_right, filter}
 use Rattle.yaml_base.proofs.Common.{filter_map, list_any, position, position_or_len, Text, Isomorphic, Graph, children, is_whole, Step, enters, leaves}
 use Rattle.yaml_base.proofs.Common.{meets_again, is_entry_of, node_met_again, first_of_each, shared_nodes, numbered_name, anchor_of, Placed, alias_placed}
 use Rattle.yaml_base.proofs.Common.{PlacedNodes, node_placed, none_placed, placed_and, number_at, numbers_at, IsReached, first_reached, child_reached}
-use Rattle.std.specs.Prelude.{Decides}
 use Rattle.yaml_base.{proofs.Twins.IsIn, proofs.Twins.in_either, proofs.UnfoldSteps.Keeps, proofs.UnfoldSteps.steps_keep, specs.graphs.Meetings.steps}
 use Rattle.yaml_base.proofs.UnfoldTrees.{placed_steps, below_steps, Fits, AllFit, walk_placed}
 
@@ -31,12 +30,7 @@ turns_more before (first ∷ walk) step turns now = (
 )
 
 keeps_turns : (graph : Graph) → Keeps graph (AreStepsOf [])
-keeps_turns graph =
-    record {
-      met = λ before number some turns. turns_more [] before (meets_again number) turns some;
-      entered = λ before number reached none turns. turns_more [] before (enters number) turns none;
-      left = λ before number turns. turns_more [] before (leaves number) turns tt;
-    }
+keeps_turns graph = grind (arith, turns_more)
 
 walk_turns : (graph : Graph) → AreStepsOf [] (steps graph)
 walk_turns graph = steps_keep graph (AreStepsOf []) (keeps_turns graph) (suc (length graph.nodes)) [] 1 first_reached tt
@@ -104,12 +98,7 @@ injective first second iso number other reached also same = sym (iso.one_to_one 
 -- partners are the same exactly where the nodes are
 same_test : (first second : Graph) (iso : Isomorphic first second) (number other : ℕ) → IsReached first number → IsReached first other
     → (iso.partner number == iso.partner other) ≡ (number == other)
-same_test first second iso number other reached also =
-    let decides : Decides (iso.partner number == iso.partner other) (number ≡ other) = (
-      λ is. injective first second iso number other reached also (eqb-true (iso.partner number) (iso.partner other) is),
-      λ same. eq-eqb (iso.partner number) (iso.partner other) (ap iso.partner same),
-    ) in
-    same_from_decides (iso.partner number == iso.partner other) (number == other) decides (Decides-eqb number other)
+same_test first second iso number other reached also = grind (arith, injective, eqb-true, eq-eqb, same_from_decides)
 
 step_entered : (first second : Graph) (iso : Isomorphic first second) (number : ℕ) (step : Step) → IsReached first number
     → IsReached first (node_of_step step)

@@ -18,9 +18,7 @@ one_without true number y ys h = ap (λ (t : Bool). t || has number ys) (sym (h 
 -- without x, a list has what it had beside x
 has_without : (number x : ℕ) (xs : List ℕ) → (x == number) ≡ false → has number (filter (λ other. not (other == x)) xs) ≡ has number xs
 has_without number x [] differs = refl
-has_without number x (y ∷ xs) differs =
-    let apart : (y == x) ≡ true → (y == number) ≡ false = λ same. grind (arith, nat_tests) in
-    one_without (y == x) number y (filter (λ other. not (other == x)) xs) apart ∙ ap (λ (t : Bool). y == number || t) (has_without number x xs differs)
+has_without number x (y ∷ xs) differs = grind (arith, one_without, has_without number x xs differs)
 
 either_same : (b a c : Bool) → (b ≡ false → a ≡ c) → (b || a) ≡ (b || c)
 either_same true a c h = refl
@@ -29,9 +27,7 @@ either_same false a c h = h refl
 -- the first of each number are the same numbers
 pub has_first : (number : ℕ) (xs : List ℕ) → has number (first_of_each xs) ≡ has number xs
 has_first number [] = refl
-has_first number (x ∷ xs) =
-    either_same (x == number) (has number (filter (λ other. not (other == x)) (first_of_each xs))) (has number xs)
-    (λ differs. has_without number x (first_of_each xs) differs ∙ has_first number xs)
+has_first number (x ∷ xs) = grind (arith, either_same, has_without, has_first number xs)
 
 -- that a list has a number is that it first stands before the end
 one_position : (b a : Bool) (k l : ℕ) → a ≡ nat_lt k l → (b || a) ≡ nat_lt (cond (not b) (1 + k) 0) (suc l)
@@ -46,10 +42,7 @@ has_position number (x ∷ xs) = one_position (x == number) (has number xs) (pos
 
 -- a digit's value
 value_of_digit : (digit : ℕ) → digit < 10 → digit_value (digit_glyph false digit) ≡ digit
-value_of_digit digit small =
-    let glyph : digit_glyph false digit ≡ 48 + digit = grind (arith, nat_tests) in
-    let value = digit_value_digit (48 + digit) (omega arith, omega arith) in
-    ap digit_value glyph ∙ omega (arith, value)
+value_of_digit digit small = grind (arith, digit_value_digit)
 
 -- digits that were written tell their number, before those that follow
 digits_value : (room number : ℕ) (rest : List ℕ) → number < room

@@ -1,14 +1,12 @@
 -- A stage allows and refuses what the partial tree does that it stands for.
-use Rattle.yaml_base.proofs.Common.{suc, ℕ, is_none, option_and_then, Option, None, Some, nat_lt, length, Bool, false, not, true, ◌&&◌, List, [], ◌∷◌, refl}
-use Rattle.yaml_base.proofs.Common.{◌≡◌, ap, subst, sym, ◌∙◌, option_or, TagDirective, DocumentStart, Event, stream_start, stream_end, document_start}
-use Rattle.yaml_base.proofs.Common.{document_end, alias, scalar, sequence_start, sequence_end, mapping_start, mapping_end, Node, alias_node, scalar_node}
-use Rattle.yaml_base.proofs.Common.{no_nodes, nodes_and, no_pairs, pairs_and, Documents, no_documents, documents_and, Level, at_item, at_key, at_value, Partial}
-use Rattle.yaml_base.proofs.Common.{before_stream, between_documents, within_document, after_root, after_stream, with_node, closed, push_within, push, pushed}
-use Rattle.yaml_base.proofs.Common.{partial_of, first_standing, Standing, Role, as_item, as_key, as_value, is_key, some_if, name_or_tag_fault, content_fault}
-use Rattle.yaml_base.proofs.Common.{expected, most_open, begins_collection, ends_collection, open_levels, refusal_at, refusal, Encoding, Effective, Frame}
-use Rattle.yaml_base.proofs.Common.{Stage, at_stream, at_document, at_node, at_document_end, at_nothing, stage_after, step, ends_next, steps}
+use Rattle.yaml_base.proofs.Common.{arith, suc, is_none, option_and_then, Option, None, Some, length, Bool, false, not, true, List, [], ◌∷◌, refl, ◌≡◌, ap}
+use Rattle.yaml_base.proofs.Common.{subst, sym, ◌∙◌, TagDirective, DocumentStart, Event, stream_start, stream_end, document_start, document_end, alias, scalar}
+use Rattle.yaml_base.proofs.Common.{sequence_start, sequence_end, mapping_start, mapping_end, Node, nodes_and, pairs_and, Documents, no_documents}
+use Rattle.yaml_base.proofs.Common.{documents_and, Level, at_item, at_key, at_value, Partial, before_stream, between_documents, within_document, after_root}
+use Rattle.yaml_base.proofs.Common.{after_stream, with_node, closed, push_within, push, pushed, partial_of, first_standing, Standing, Role, as_item, as_key}
+use Rattle.yaml_base.proofs.Common.{as_value, is_key, expected, ends_collection, open_levels, refusal_at, refusal, Encoding, Effective, Frame, Stage, at_stream}
+use Rattle.yaml_base.proofs.Common.{at_document, at_node, at_document_end, at_nothing, stage_after, step, ends_next, steps}
 use Rattle.yaml_base.specs.Steps.{role_after, is_item, node_allowed, stage_allows, stage_expected, open_frames, stage_refusal}
-use Rattle.yaml_base.specs.declared.errors.yaml_error_t.TheVariants.{TooDeep}
 
 -- a frame awaits what a level does
 abbrev Awaits : Level → Role → Type 0
@@ -73,18 +71,10 @@ closed_none level event h = refl
 
 within_follows : (e : Option Encoding) (d : Documents) (s : DocumentStart) (levels : List Level) (t : List TagDirective) (frames : List Frame) (event : Event)
     → AllAwait levels frames → Follows (within_document e d s levels) (at_node t frames) event
-within_follows e d s levels t frames (alias name) h q eff empty standing given =
-    let after = (step eff (at_node t frames) (alias name) empty standing).stage in
-    stands_as (with_node e d s levels (alias_node name)) q after given (node_stands e d s levels (alias_node name) t frames _ h)
-within_follows e d s levels t frames (scalar content) h q eff empty standing given =
-    let after = (step eff (at_node t frames) (scalar content) empty standing).stage in
-    stands_as (with_node e d s levels (scalar_node content)) q after given (node_stands e d s levels (scalar_node content) t frames _ h)
-within_follows e d s levels t frames (sequence_start c) h q eff empty standing given =
-    let after = (step eff (at_node t frames) (sequence_start c) empty standing).stage in
-    stands_as (within_document e d s (at_item c no_nodes ∷ levels)) q after given (tt, h)
-within_follows e d s levels t frames (mapping_start c) h q eff empty standing given =
-    let after = (step eff (at_node t frames) (mapping_start c) empty standing).stage in
-    stands_as (within_document e d s (at_key c no_pairs ∷ levels)) q after given (tt, h)
+within_follows e d s levels t frames (alias name) h q eff empty standing given = grind (arith, stands_as, node_stands)
+within_follows e d s levels t frames (scalar content) h q eff empty standing given = grind (arith, stands_as, node_stands)
+within_follows e d s levels t frames (sequence_start c) h q eff empty standing given = grind (arith, stands_as)
+within_follows e d s levels t frames (mapping_start c) h q eff empty standing given = grind (arith, stands_as)
 within_follows e d s (level ∷ levels) t (frame ∷ frames) sequence_end h q eff empty standing given =
     end_follows e d s level levels t frame frames sequence_end q (closed level sequence_end) h.1 given
 within_follows e d s (level ∷ levels) t (frame ∷ frames) mapping_end h q eff empty standing given =
@@ -209,13 +199,7 @@ frames_open p stage h = absurd h
 -- The refusal at a stage is the refusal after the list.
 pub stage_refuses : (canonical : Bool) (p : Partial) (stage : Stage) (event : Event) → StandsFor p stage
     → stage_refusal canonical stage event ≡ refusal_at canonical p event
-stage_refuses canonical p stage event h =
-    let names = name_or_tag_fault canonical event in
-    let content = content_fault canonical event in
-    let full = (λ (n : ℕ). some_if (begins_collection event && not (nat_lt n most_open)) TooDeep) in
-    ap (λ b. option_or names (option_or (some_if b (stage_expected stage)) (option_or content (full (open_frames stage))))) (stage_allowed p stage event h)
-    ∙ ap (λ x. option_or names (option_or (some_if (is_none (push p event)) x) (option_or content (full (open_frames stage))))) (stage_expects p stage h)
-    ∙ ap (λ n. option_or names (option_or (some_if (is_none (push p event)) (expected p)) (option_or content (full n)))) (frames_open p stage h)
+stage_refuses canonical p stage event h = grind (arith, stage_allowed, stage_expects, frames_open)
 
 pub stage_refusal_after : (canonical : Bool) (events : List Event) (event : Event) (p : Partial) (s : Effective) (follows : Bool) → partial_of events ≡ Some p
     → stage_refusal canonical (steps s follows events at_stream first_standing).stage event ≡ refusal canonical events event

@@ -1,14 +1,13 @@
 -- The pieces of a list, event by event, are those of its tree's layout.
-use Rattle.yaml_base.proofs.Common.{ℕ, Bool, false, true, List, [], ◌++◌, ◌∷◌, refl, ◌≡◌, append-nil, append_assoc, ap, sym, ◌∙◌, TagDirective, Event}
-use Rattle.yaml_base.proofs.Common.{stream_end, document_start, document_end, sequence_start, sequence_end, mapping_start, mapping_end, Node, alias_node}
-use Rattle.yaml_base.proofs.Common.{scalar_node, Nodes, sequence_node, Pairs, mapping_node, no_nodes, nodes_and, no_pairs, pairs_and, Document, Documents}
-use Rattle.yaml_base.proofs.Common.{no_documents, documents_and, Stream, node_events, nodes_events, pairs_events, document_events, documents_events}
-use Rattle.yaml_base.proofs.Common.{stream_events, document_start_piece, document_end_piece, root_place, render_document, has_no_documents, render_documents}
-use Rattle.yaml_base.proofs.Common.{first_standing, stream_end_piece, layout, Piece, Standing, RenderedPieces, one_piece, then_pieces, start_piece}
+use Rattle.yaml_base.proofs.Common.{arith, ℕ, Bool, false, true, List, [], ◌++◌, ◌∷◌, refl, ◌≡◌, append-nil, append_assoc, ap, sym, ◌∙◌, TagDirective, Event}
+use Rattle.yaml_base.proofs.Common.{sequence_start, sequence_end, mapping_start, mapping_end, Node, alias_node, scalar_node, Nodes, sequence_node, Pairs}
+use Rattle.yaml_base.proofs.Common.{mapping_node, no_nodes, nodes_and, no_pairs, pairs_and, Document, Documents, no_documents, documents_and, Stream}
+use Rattle.yaml_base.proofs.Common.{node_events, nodes_events, pairs_events, document_events, documents_events, stream_events, render_document}
+use Rattle.yaml_base.proofs.Common.{has_no_documents, render_documents, first_standing, layout, Standing, RenderedPieces, one_piece, then_pieces, start_piece}
 use Rattle.yaml_base.proofs.Common.{is_written_in_flow, square, curly, entry_place, render_node, render_nodes, render_pairs, Role, as_item, as_key, as_value}
-use Rattle.yaml_base.proofs.Common.{is_undented, entries_column, has_no_nodes, has_no_pairs, is_simple, is_simple_at, Effective, Frame, at_stream}
-use Rattle.yaml_base.proofs.Common.{at_document, at_node, at_nothing, next_place, stage_after, step, ends_next, Steps, then_steps, steps, directives_in_force}
-use Rattle.yaml_base.specs.Layout.{stream_start_piece, end_piece}
+use Rattle.yaml_base.proofs.Common.{is_undented, entries_column, has_no_nodes, has_no_pairs, is_simple, is_simple_at, Effective, Frame, at_stream, at_document}
+use Rattle.yaml_base.proofs.Common.{at_node, next_place, stage_after, step, ends_next, Steps, then_steps, steps}
+use Rattle.yaml_base.specs.Layout.{end_piece}
 
 -- pieces of a tree, and then steps from where they leave off
 abbrev after_pieces : RenderedPieces → (Standing → Steps) → Steps
@@ -19,11 +18,7 @@ after_pieces rendered next =
 -- More pieces and then steps: the pieces, then the more, then the steps.
 after_pieces-then_pieces : (a : RenderedPieces) (f : Standing → RenderedPieces) (g : Standing → Steps)
     → after_pieces (then_pieces a f) g ≡ after_pieces a (λ standing. after_pieces (f standing) g)
-after_pieces-then_pieces a f g =
-    let b = f a.standing in
-    let c = g b.standing in
-    ap (λ (pieces : List Piece). let made : Steps = record { pieces = pieces; standing = c.standing; stage = c.stage } in made)
-    (append_assoc a.pieces b.pieces c.pieces)
+after_pieces-then_pieces a f g = grind (arith, append_assoc)
 
 -- Steps that agree where the pieces leave off.
 after_pieces-same : (a : RenderedPieces) (f g : Standing → Steps) → f a.standing ≡ g a.standing → after_pieces a f ≡ after_pieces a g
@@ -46,26 +41,22 @@ nodes_begin (nodes_and items last) rest follows opens =
 pairs_begin : (pairs : Pairs) (rest : List Event) (follows : Bool) → ends_next rest follows ≡ false → ends_next (pairs_events pairs ++ rest) follows ≡ false
 pairs_begin no_pairs rest follows opens = opens
 pairs_begin (pairs_and pairs key value) rest follows opens =
-    ap (λ events. ends_next events follows)
-    (append_assoc (pairs_events pairs) (node_events key ++ node_events value) rest
-    ∙ ap (λ after. pairs_events pairs ++ after) (append_assoc (node_events key) (node_events value) rest))
-    ∙ pairs_begin pairs (node_events key ++ (node_events value ++ rest)) follows (node_begins key (node_events value ++ rest) follows)
+    grind (
+      arith,
+      append_assoc,
+      node_begins,
+      pairs_begin pairs (node_events key ++ (node_events value ++ rest)) follows (node_begins key (node_events value
+          ++ rest) follows),
+    )
 
 -- A collection's end follows its start at once exactly where it is empty.
 sequence_ends : (items : Nodes) (rest : List Event) (follows : Bool) → ends_next (nodes_events items ++ sequence_end ∷ rest) follows ≡ has_no_nodes items
 sequence_ends no_nodes rest follows = refl
-sequence_ends (nodes_and items last) rest follows =
-    ap (λ events. ends_next events follows) (append_assoc (nodes_events items) (node_events last) (sequence_end ∷ rest))
-    ∙ nodes_begin items (node_events last ++ sequence_end ∷ rest) follows (node_begins last (sequence_end ∷ rest) follows)
+sequence_ends (nodes_and items last) rest follows = grind (arith, append_assoc, nodes_begin, node_begins)
 
 mapping_ends : (pairs : Pairs) (rest : List Event) (follows : Bool) → ends_next (pairs_events pairs ++ mapping_end ∷ rest) follows ≡ has_no_pairs pairs
 mapping_ends no_pairs rest follows = refl
-mapping_ends (pairs_and pairs key value) rest follows =
-    ap (λ events. ends_next events follows)
-    (append_assoc (pairs_events pairs) (node_events key ++ node_events value) (mapping_end ∷ rest)
-    ∙ ap (λ after. pairs_events pairs ++ after) (append_assoc (node_events key) (node_events value) (mapping_end ∷ rest)))
-    ∙ pairs_begin pairs (node_events key ++ (node_events value ++ mapping_end ∷ rest)) follows
-    (node_begins key (node_events value ++ mapping_end ∷ rest) follows)
+mapping_ends (pairs_and pairs key value) rest follows = grind (arith, append_assoc, pairs_begin, node_begins)
 
 abbrev frame_at : (in_flow : Bool) → Role → ℕ → (simple : Bool) → Frame
 frame_at in_flow role column simple = record { place = entry_place in_flow role column; simple = simple }
@@ -165,44 +156,23 @@ mutual
 pub document_steps : (x : Document) (s : Effective) (first follows : Bool) (rest : List Event) (standing : Standing)
     → steps s follows (document_events x ++ rest) (at_document first) standing
     ≡ after_pieces (render_document s first x standing) (steps s follows rest (at_document false))
-document_steps x s first follows rest standing =
-    let d = directives_in_force x.start.directives in
-    let start = document_start_piece s first x.start standing in
-    let root = render_node x.root s d root_place in
-    let end : Standing → RenderedPieces = (λ after. one_piece (document_end_piece x.end_implicit after)) in
-    let next = steps s follows rest (at_document false) in
-    ap (λ events. steps s follows (document_start x.start ∷ events) (at_document first) standing)
-    (append_assoc (node_events x.root) (document_end x.end_implicit ∷ []) rest)
-    ∙ after_pieces-same (one_piece start) (steps s follows (node_events x.root ++ document_end x.end_implicit ∷ rest) (at_node d []))
-    (λ after. after_pieces (root after) (λ last. after_pieces (end last) next))
-    (node_steps x.root s follows (document_end x.end_implicit ∷ rest) d [] start.standing)
-    ∙ sym (after_pieces-then_pieces (then_pieces (one_piece start) root) end next
-    ∙ after_pieces-then_pieces (one_piece start) root (λ last. after_pieces (end last) next))
+document_steps x s first follows rest standing = grind (arith, append_assoc, after_pieces-same, node_steps, after_pieces-then_pieces)
 
 pub documents_steps : (x : Documents) (s : Effective) (follows : Bool) (rest : List Event) (standing : Standing)
     → steps s follows (documents_events x ++ rest) (at_document true) standing
     ≡ after_pieces (render_documents s x standing) (steps s follows rest (at_document (has_no_documents x)))
 documents_steps no_documents s follows rest standing = refl
 documents_steps (documents_and x last) s follows rest standing =
-    let before = render_documents s x standing in
-    let first = has_no_documents x in
-    let next = steps s follows rest (at_document false) in
-    ap (λ events. steps s follows events (at_document true) standing) (append_assoc (documents_events x) (document_events last) rest)
-    ∙ documents_steps x s follows (document_events last ++ rest) standing
-    ∙ after_pieces-same before (steps s follows (document_events last ++ rest) (at_document first))
-    (λ after. after_pieces (render_document s first last after) next) (document_steps last s first follows rest before.standing)
-    ∙ sym (after_pieces-then_pieces before (render_document s first last) next)
+    grind (
+      arith,
+      append_assoc,
+      after_pieces-same,
+      document_steps,
+      after_pieces-then_pieces,
+      documents_steps x s follows (document_events last ++ rest)
+          standing,
+    )
 
 -- The layout of a stream is what its events give, one after another.
 pub stream_steps : (t : Stream) (s : Effective) → (steps s false (stream_events t) at_stream first_standing).pieces ≡ layout s t
-stream_steps t s =
-    let start = stream_start_piece first_standing in
-    let inside = render_documents s t.documents in
-    let end : Standing → RenderedPieces = (λ after. one_piece (stream_end_piece after)) in
-    let next : Standing → Steps = steps s false [] at_nothing in
-    ap (λ (made : Steps). made.pieces)
-    (after_pieces-same (one_piece start) (steps s false (documents_events t.documents ++ stream_end ∷ []) (at_document true))
-    (λ after. after_pieces (inside after) (λ last. after_pieces (end last) next)) (documents_steps t.documents s false (stream_end ∷ []) start.standing)
-    ∙ sym (after_pieces-then_pieces (then_pieces (one_piece start) inside) end next
-    ∙ after_pieces-then_pieces (one_piece start) inside (λ last. after_pieces (end last) next)))
-    ∙ append-nil (layout s t)
+stream_steps t s = grind (arith, after_pieces-same, documents_steps, after_pieces-then_pieces, append-nil)

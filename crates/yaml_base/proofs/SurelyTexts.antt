@@ -1,13 +1,12 @@
 -- A text that is surely one means a text by both schemas.
-use Rattle.yaml_base.proofs.Common.{ℕ, if◌then◌else◌, ⊤, ◌==◌, Option, None, Bool, false, not, true, ◌&&◌, ◌||◌, List, [], ◌∷◌, ◌⊎◌, refl, ◌≡◌, eqb-true}
-use Rattle.yaml_base.proofs.Common.{true≢false, inl, inr, ap, sym, ◌∙◌, and_cases, and_left, or_parts, not-false, not-true, list_all, list_any, Text, named}
-use Rattle.yaml_base.proofs.Common.{Resolved, meant_text, first_reading, words_of_core, words_of_11, is_point, is_exponent_letter, is_plus_or_minus}
-use Rattle.yaml_base.proofs.Common.{is_decimal, first_meets, past_sign, is_negative, are_digits, core_integer, core_based, core_decimal, resolved_by_core}
-use Rattle.yaml_base.proofs.Common.{is_underscore, are_grouped, based_11, past, timestamp_11, numbers_11, resolved_by_11, is_reserved, is_symbol, is_based}
-use Rattle.yaml_base.proofs.Common.{is_number_letter, in_number, is_numeric}
-use Rattle.yaml_base.proofs.SchemaWords.{named_unlike}
-use Rattle.yaml_base.proofs.no_numbers.{NoNumbers.NoNumber, NoNumbers.off, NoNumbers.past_cons, NumbersBegin.begins_digits, NumbersBegin.without_begin}
-use Rattle.yaml_base.proofs.no_numbers.{NumbersHoldDigits.without_digits, NumbersWithin.with_others}
+use Rattle.yaml_base.proofs.Common.{arith, ℕ, if◌then◌else◌, ⊤, ◌==◌, Option, None, Bool, false, not, true, ◌&&◌, ◌||◌, List, [], ◌∷◌, ◌⊎◌, refl, ◌≡◌, eqb-true}
+use Rattle.yaml_base.proofs.Common.{true≢false, inl, inr, ap, ◌∙◌, and_cases, and_left, or_parts, not-false, not-true, list_all, list_any, Text, named}
+use Rattle.yaml_base.proofs.Common.{Resolved, meant_text, first_reading, words_of_core, words_of_11, is_plus_or_minus, is_decimal, first_meets, past_sign}
+use Rattle.yaml_base.proofs.Common.{are_digits, core_based, resolved_by_core, is_underscore, are_grouped, based_11, past, resolved_by_11, is_reserved}
+use Rattle.yaml_base.proofs.Common.{is_symbol, is_based, is_number_letter, in_number, is_numeric}
+use Rattle.yaml_base.proofs.{SchemaWords.named_unlike, no_numbers.NumbersHoldDigits.without_digits, no_numbers.NumbersWithin.with_others}
+use Rattle.yaml_base.proofs.no_numbers.NoNumbers.{NoNumber, off, past_cons}
+use Rattle.yaml_base.proofs.no_numbers.NumbersBegin.{begins_digits, without_begin}
 use Rattle.yaml_base.specs.values.SurelyText.{precedes_number, names_base, begins_based, begins_number, SurelyTextIsText}
 
 -- ---- words
@@ -36,14 +35,7 @@ past_sign_based (c ∷ rest) = by (is_plus_or_minus c) refl
 -- `0` and the letter of a base
 unbased : (c d letter : ℕ) (rest : Text) → names_base letter ≡ true → begins_based (past precedes_number (c ∷ d ∷ rest)) ≡ false
     → (c == 0x30 && d == letter) ≡ false
-unbased c d letter rest base h = by (c == 0x30) (d == letter) refl refl
-  where
-    by : (x y : Bool) → (c == 0x30) ≡ x → (d == letter) ≡ y → (x && y) ≡ false
-    by false y e f = refl
-    by true false e f = refl
-    by true true e f =
-        absurd (true≢false (sym base ∙ ap names_base (sym (eqb-true d letter f))
-        ∙ ap (λ n. begins_based (past precedes_number (n ∷ d ∷ rest))) (sym (eqb-true c 0x30 e)) ∙ h))
+unbased c d letter rest base h = grind (arith, true≢false, eqb-true)
 
 based_by_11 : (negative : Bool) (letter base : ℕ) (text : Text) → names_base letter ≡ true
     → begins_based (past precedes_number text) ≡ false → based_11 negative letter base text ≡ None
@@ -64,14 +56,7 @@ based_by_core letter base (c ∷ d ∷ rest) among h =
 -- a text that begins no number has no sign
 without_first : (text : Text) → first_meets begins_number text ≡ false → first_meets begins_digits (past_sign text) ≡ false
 without_first [] h = refl
-without_first (c ∷ rest) h =
-    ap (λ x. first_meets begins_digits (if x then rest else c ∷ rest)) sign ∙ (or_parts (is_decimal c || is_point c) (precedes_number c) marked).0
-  where
-    marked : (is_decimal c || is_point c || precedes_number c) ≡ false
-    marked = (or_parts (is_decimal c || is_point c || precedes_number c) (is_exponent_letter c) h).0
-
-    sign : is_plus_or_minus c ≡ false
-    sign = (or_parts (is_plus_or_minus c) _ (or_parts (is_decimal c || is_point c) (precedes_number c) marked).1).0
+without_first (c ∷ rest) h = grind (arith, or_parts)
 
 -- a text that isn't numeric is no number
 number_none : (text : Text) → is_numeric text ≡ false → NoNumber text
@@ -101,46 +86,10 @@ nothing_read [] h = refl
 nothing_read (reading ∷ rest) h = ap (λ r. first_reading (r ∷ rest)) h.0 ∙ nothing_read rest h.1
 
 text_by_11 : (text : Text) → is_reserved text ≡ false → is_based text ≡ false → NoNumber text → resolved_by_11 text ≡ meant_text
-text_by_11 text word based none =
-    nothing_read (named words_of_11 text ∷ timestamp_11 text ∷ numbers_11 negative number) (
-      word_by_11 text word,
-      (
-        none.timestamp,
-        (
-          none.float,
-          (
-            of_base 0x62 2 refl,
-            (
-              of_base 0x78 16 refl,
-              (
-                none.octal,
-                (
-                  none.decimal,
-                  (
-                    none.sixties,
-                    (none.fine_sixties, (none.more_points, (none.points, tt))),
-                  ),
-                ),
-              ),
-            ),
-          ),
-        ),
-      ),
-    )
-  where
-    negative : Bool
-    negative = is_negative text
-
-    number : Text
-    number = past_sign text
-
-    of_base : (letter base : ℕ) → names_base letter ≡ true → based_11 negative letter base number ≡ None
-    of_base letter base among = based_by_11 negative letter base number among (sym (past_sign_based text) ∙ based)
+text_by_11 text word based none = grind (arith, nothing_read, word_by_11, based_by_11, past_sign_based)
 
 text_by_core : (text : Text) → is_reserved text ≡ false → is_based text ≡ false → NoNumber text → resolved_by_core text ≡ meant_text
-text_by_core text word based none =
-    nothing_read (named words_of_core text ∷ core_integer text ∷ core_based 0x6F 8 text ∷ core_based 0x78 16 text ∷ core_decimal text ∷ [])
-    (word_by_core text word, (none.core_integer, (based_by_core 0x6F 8 text refl based, (based_by_core 0x78 16 text refl based, (none.core_decimal, tt)))))
+text_by_core text word based none = grind (arith, nothing_read, word_by_core, based_by_core)
 
 -- a text that is surely one means a text by both
 pub surely_text : SurelyTextIsText

@@ -1,6 +1,6 @@
 -- The forms of handles and tags: what they consist of, and how a tag is spelled by the directives in force.
-use Rattle.yaml_base.proofs.Common.{ℕ, ◌==◌, option_map, bytes_eq, Option, None, Some, codes, Bool, cond, false, not, true, List, [], ◌++◌, ◌∷◌, ◌⊎◌, refl}
-use Rattle.yaml_base.proofs.Common.{◌≡◌, eqb-true, append_assoc, inl, inr, ap, sym, ◌∙◌, and_parts, or_parts, not-false, bytes_eq-Decides, list_all, scalars}
+use Rattle.yaml_base.proofs.Common.{arith, ℕ, ◌==◌, option_map, bytes_eq, Option, None, Some, codes, Bool, cond, false, not, true, List, [], ◌++◌, ◌∷◌, ◌⊎◌}
+use Rattle.yaml_base.proofs.Common.{refl, ◌≡◌, eqb-true, append_assoc, inr, ap, sym, ◌∙◌, and_parts, or_parts, not-false, bytes_eq-Decides, list_all, scalars}
 use Rattle.yaml_base.proofs.Common.{Text, is_alpha, TagDirective, exclamation_mark, handle_fault, directive_fault, gives_handle, next_directive_fault}
 use Rattle.yaml_base.proofs.Common.{directives_fault_after, directives_fault, directives_in_force, Spelling, shorthand, verbatim, spelling, prefix_among}
 use Rattle.yaml_base.proofs.Common.{directives_assumed, without_closing_angle}
@@ -47,9 +47,7 @@ IsHandle handle =
 
 pub handle_form : (handle : Text) → handle_fault handle ≡ None → IsHandle handle
 handle_form [] e = absurd (cc)
-handle_form (c ∷ []) e =
-    let tests = handle_tests (not (c == exclamation_mark)) (not (c == exclamation_mark)) true e in
-    inl (ap (λ x. x ∷ []) (eqb-true c exclamation_mark (not-false _ tests.0)))
+handle_form (c ∷ []) e = grind (arith, handle_tests, eqb-true, not-false)
 handle_form (c ∷ d ∷ rest) e =
     let tests = handle_tests (not (c == exclamation_mark)) (not (last_from c (d ∷ rest) == exclamation_mark)) (list_all is_alpha (without_last (d ∷ rest))) e in
     let first : c ≡ exclamation_mark = eqb-true _ _ (not-false _ tests.0) in

@@ -1,12 +1,11 @@
 -- The tree of events of a walk's tree: its events are those of the walk's steps, and its shape fits.
 use Rattle.yaml_base.proofs.Common.{suc, zero, ℕ, ◌+◌, option_map, bytes_eq, Option, None, Some, length, Bool, false, true, List, [], ◌++◌, ◌∷◌, refl, ◌≡◌}
-use Rattle.yaml_base.proofs.Common.{length-append, append-nil, append_assoc, ap, subst, sym, ◌∙◌, arith, flat_map-append, flat_map, Text, Event, alias}
-use Rattle.yaml_base.proofs.Common.{sequence_end, mapping_end, Node, alias_node, scalar_node, Nodes, sequence_node, Pairs, mapping_node, no_nodes, nodes_and}
-use Rattle.yaml_base.proofs.Common.{no_pairs, pairs_and, node_events, nodes_events, pairs_events, NumberPair, Held, scalar_held, sequence_held, mapping_held}
-use Rattle.yaml_base.proofs.Common.{GraphNode, Graph, node_numbered, numbers_held, numbers_in, children, Step, leaves, anchor_of, string_tag, sequence_tag}
-use Rattle.yaml_base.proofs.Common.{mapping_tag, opening_event_of, opening_events, closing_event_of, closing_events, step_events, no_shapes, node_shape_of}
-use Rattle.yaml_base.proofs.Common.{nodes_shapes, pairs_shapes, Placed, alias_placed, PlacedNodes, node_placed, none_placed, placed_and, numbers_at, label_of}
-use Rattle.yaml_base.proofs.Common.{HasShape, HaveShapes}
+use Rattle.yaml_base.proofs.Common.{length-append, append-nil, append_assoc, ap, sym, ◌∙◌, arith, flat_map-append, flat_map, Text, Event, alias, sequence_end}
+use Rattle.yaml_base.proofs.Common.{mapping_end, Node, alias_node, scalar_node, Nodes, sequence_node, Pairs, mapping_node, no_nodes, nodes_and, no_pairs}
+use Rattle.yaml_base.proofs.Common.{pairs_and, node_events, nodes_events, pairs_events, NumberPair, Held, scalar_held, sequence_held, mapping_held, GraphNode}
+use Rattle.yaml_base.proofs.Common.{Graph, node_numbered, numbers_held, numbers_in, children, Step, leaves, anchor_of, string_tag, sequence_tag, mapping_tag}
+use Rattle.yaml_base.proofs.Common.{opening_event_of, opening_events, closing_event_of, closing_events, step_events, node_shape_of, nodes_shapes, pairs_shapes}
+use Rattle.yaml_base.proofs.Common.{Placed, alias_placed, PlacedNodes, node_placed, none_placed, placed_and, numbers_at, label_of, HasShape, HaveShapes}
 use Rattle.yaml_base.proofs.UnfoldTrees.{placed_steps, below_steps, Fits, AllFit}
 
 -- ---- the tree of events
@@ -150,13 +149,7 @@ holding_shape : (anchor : Option Text) (tag : Text) (held : Held) (node : GraphN
     → numbers_at below ≡ children graph number → numbers_at below ≡ numbers_held held → HaveShapes true graph below (nodes_shapes (items_at graph below))
     → (are_pairs below ≡ true → HaveShapes true graph below (pairs_shapes (pairs_at graph below)))
     → HasShape true graph (node_placed anchor number below) (node_shape_of (node_holding anchor tag held (items_at graph below) (pairs_at graph below)))
-holding_shape anchor tag (scalar_held value style) node graph number below is all held items pairs = (
-  refl,
-  ap (option_map (label_of true)) is,
-  all,
-  subst (λ (occurrences : PlacedNodes). HaveShapes true graph occurrences no_shapes)
-      (sym (none_held below held)) tt,
-)
+holding_shape anchor tag (scalar_held value style) node graph number below is all held items pairs = grind (arith, none_held)
 holding_shape anchor tag (sequence_held numbers style) node graph number below is all held items pairs = (refl, ap (option_map (label_of true)) is, all, items)
 holding_shape anchor tag (mapping_held numbers style) node graph number below is all held items pairs =
     (refl, ap (option_map (label_of true)) is, all, pairs (held_pairs below numbers held))

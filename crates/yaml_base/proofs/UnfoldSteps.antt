@@ -98,18 +98,12 @@ once_added false false counted is fails = omega (arith, is)
 once_more : (test : Step → Bool) (before : List Step) (step : Step) → count_by test before ≡ cond (list_any test before) 1 0
     → (list_any test before ≡ true → test step ≡ false)
     → count_by test (before ++ step ∷ []) ≡ cond (list_any test (before ++ step ∷ [])) 1 0
-once_more test before step is fails =
-    count_added test before step ∙ once_added (list_any test before) (test step) (count_by test before) is fails
-    ∙ ap (λ (b : Bool). cond b 1 0) (sym (any_added test before step))
+once_more test before step is fails = grind (arith, count_added, once_added, any_added)
 
 -- another number than that of a node which isn't entered yet
 differs : (before : List Step) (number other : ℕ) → list_any (is_entry_of number) before ≡ false → list_any (is_entry_of other) before ≡ true
     → (other == number) ≡ false
-differs before number other none some =
-    elim (cases_eq other number) as (λ _. (other == number) ≡ false) [
-      | inl same ↦ let both = sym some ∙ ap (λ (n : ℕ). list_any (is_entry_of n) before) same ∙ none in cc
-      | inr apart ↦ ne_eqb other number apart
-    ]
+differs before number other none some = grind (arith, cases_eq, ne_eqb)
 
 -- one more step that comes after the entry of its node
 follow_more : (before walk : List Step) (step : Step) → FollowEntries before walk → FollowsEntry (before ++ walk) step

@@ -51,9 +51,7 @@ abbrev name_nodes : ℕ → List ℕ → Bool
 name_nodes count numbers = list_all (λ number. nat_le 1 number && nat_le number count) numbers
 
 first_names : (count number : ℕ) (numbers : List ℕ) → name_nodes count (number ∷ numbers) ≡ true → Names count number
-first_names count number numbers all =
-    let both = both_true (nat_le 1 number) (nat_le number count) (both_true (nat_le 1 number && nat_le number count) (name_nodes count numbers) all).0 in
-    record { first = leb-true 1 number both.0; last = leb-true number count both.1 }
+first_names count number numbers all = grind (arith, both_true, leb-true)
 
 rest_names : (count number : ℕ) (numbers : List ℕ) → name_nodes count (number ∷ numbers) ≡ true → name_nodes count numbers ≡ true
 rest_names count number numbers all = (both_true (nat_le 1 number && nat_le number count) (name_nodes count numbers) all).1
@@ -104,11 +102,7 @@ unentered_grown (suc count) walk more =
 
 now_entered : (walk : List Step) (number : ℕ) → list_any (is_entry_of number) walk ≡ false
     → suc (cond (list_any (is_entry_of number) (walk ++ enters number ∷ [])) 0 1) ≤ cond (list_any (is_entry_of number) walk) 0 1
-now_entered walk number none =
-    let some : list_any (is_entry_of number) (walk ++ enters number ∷ []) ≡ true =
-    list_any-append (is_entry_of number) walk (enters number ∷ [])
-    ∙ ap (λ (b : Bool). list_any (is_entry_of number) walk || (b || false)) (eq-eqb number number refl) ∙ or-true (list_any (is_entry_of number) walk) in
-    omega (arith, ap {B = ℕ} (λ (b : Bool). cond b 0 1) some, ap {B = ℕ} (λ (b : Bool). cond b 0 1) none)
+now_entered walk number none = grind (arith, list_any-append, eq-eqb, or-true)
 
 -- an entry leaves one fewer
 unentered_fewer : (count : ℕ) (walk : List Step) (number : ℕ) → Names count number → list_any (is_entry_of number) walk ≡ false

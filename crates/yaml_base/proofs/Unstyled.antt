@@ -1,15 +1,13 @@
 -- In canonical mode no layout goes by the styles of events, nor by whether a document's start is implicit.
-use Rattle.yaml_base.proofs.Common.{if◌then◌else◌, ◌==◌, unwrap_or, option_map, Option, None, Some, Bool, false, not, true, ◌&&◌, ◌||◌, List, [], map, ◌∷◌}
-use Rattle.yaml_base.proofs.Common.{refl, ◌≡◌, ap, sym, ◌∙◌, render_then, cut, ScalarStyle, any_style, any_layout, TagDirective, DocumentStart, Scalar}
-use Rattle.yaml_base.proofs.Common.{Collection, Event, stream_start, stream_end, document_start, document_end, alias, scalar, sequence_start, sequence_end}
-use Rattle.yaml_base.proofs.Common.{mapping_start, mapping_end, Stream, stream_events, render_if, render_closing_marker, render_version}
-use Rattle.yaml_base.proofs.Common.{render_tag_directives, has_directives, is_explicit, render_document_marker, first_standing, layout, Piece, Standing}
-use Rattle.yaml_base.proofs.Common.{RenderedPiece, piece_without_body, render_body, open_ended_after, body_at, start_piece, Role, as_item, as_key, Place}
-use Rattle.yaml_base.proofs.Common.{is_key, is_undented, deeper, is_simple_scalar, is_simple_collection, encoding_asked, settings_for, bytes_written}
-use Rattle.yaml_base.proofs.Common.{output_of, list_layout, ends_collection, Encoding, Settings, Effective, effective, Frame, Stage, at_stream, at_document}
-use Rattle.yaml_base.proofs.Common.{at_node, next_place, Stepped, leaf_step, frame_opened, start_step, step, ends_next, Steps, then_steps, steps}
-use Rattle.yaml_base.proofs.Common.{directives_in_force, Allowances, Choice, chosen}
-use Rattle.yaml_base.{proofs.StepLaws.stream_steps, proofs.Trees.tree_of-stream_events, specs.Layout.scalar_lead}
+use Rattle.yaml_base.proofs.Common.{arith, ◌==◌, Option, Bool, false, not, true, ◌&&◌, ◌||◌, List, [], map, ◌∷◌, refl, ◌≡◌, ap, sym, ◌∙◌, render_then, cut}
+use Rattle.yaml_base.proofs.Common.{ScalarStyle, any_style, any_layout, TagDirective, DocumentStart, Scalar, Collection, Event, stream_start, stream_end}
+use Rattle.yaml_base.proofs.Common.{document_start, document_end, alias, scalar, sequence_start, sequence_end, mapping_start, mapping_end, Stream}
+use Rattle.yaml_base.proofs.Common.{stream_events, render_if, render_closing_marker, render_version, render_tag_directives, has_directives, is_explicit}
+use Rattle.yaml_base.proofs.Common.{render_document_marker, first_standing, layout, Piece, Standing, piece_without_body, Role, encoding_asked, settings_for}
+use Rattle.yaml_base.proofs.Common.{bytes_written, output_of, list_layout, ends_collection, Encoding, Settings, Effective, effective, Frame, Stage, at_stream}
+use Rattle.yaml_base.proofs.Common.{at_document, at_node, Stepped, start_step, step, ends_next, Steps, then_steps, steps, directives_in_force, Allowances}
+use Rattle.yaml_base.proofs.Common.{chosen}
+use Rattle.yaml_base.proofs.{StepLaws.stream_steps, Trees.tree_of-stream_events}
 
 -- an event of no style; a document's start is implicit
 abbrev pub unstyled : Event → Event
@@ -28,28 +26,11 @@ chosen_canonical : (allowed : Allowances) (asked other : ScalarStyle) (empty tag
 chosen_canonical allowed asked other empty tag_written plain_implicit quoted_implicit in_flow simple true on = refl
 chosen_canonical allowed asked other empty tag_written plain_implicit quoted_implicit in_flow simple false on = cc
 
--- a scalar's piece, by its style
-abbrev scalar_by : Effective → List TagDirective → Place → (simple : Bool) → Scalar → Standing → Choice → RenderedPiece
-scalar_by s directives place simple content standing choice =
-    let lead = scalar_lead s directives place simple choice content standing.cursor in
-    let limit = if simple then None else s.width in
-    let body = render_body choice.style s limit (deeper s.indent place.column) content.value lead.cursor in
-    record {
-      piece = record { lead = lead.text; body = Some (body_at place choice.style content.value body) };
-      standing = record { cursor = body.cursor; open_ended = open_ended_after choice.style content.value standing.open_ended };
-    }
-
-abbrev simple_scalar : Effective → List TagDirective → List Frame → Scalar → Bool
-simple_scalar s directives frames content = is_key (next_place frames).role && (not s.canonical && is_simple_scalar s.canonical directives content)
-
 scalar_unstyled : (s : Effective) → s.canonical ≡ true → (directives : List TagDirective) (frames : List Frame) (content : Scalar) (empty : Bool)
     (standing : Standing)
     → step s (at_node directives frames) (scalar (record content { style = any_style })) empty standing
     ≡ step s (at_node directives frames) (scalar content) empty standing
-scalar_unstyled s on directives frames content empty standing =
-    let simple = simple_scalar s directives frames content in
-    ap (λ (choice : Choice). leaf_step directives frames simple (scalar_by s directives (next_place frames) simple content standing choice))
-    (chosen_canonical _ any_style content.style _ _ content.plain_implicit content.quoted_implicit (next_place frames).in_flow simple s.canonical on)
+scalar_unstyled s on directives frames content empty standing = grind (arith, chosen_canonical)
 
 -- ---- collections
 
@@ -63,13 +44,7 @@ start_unstyled : (s : Effective) → s.canonical ≡ true → (directives : List
     (start : Collection) (standing : Standing)
     → start_step s directives frames undented simple empty role (record start { style = any_layout }) standing
     ≡ start_step s directives frames undented simple empty role start standing
-start_unstyled s on directives frames undented simple empty role start standing =
-    let place = next_place frames in
-    let rendered = start_piece s directives place simple start standing in
-    ap (λ (in_flow : Bool).
-    let made : Stepped = record { rendered = rendered; stage = at_node directives (frame_opened s place in_flow undented simple role rendered ∷ frames) } in
-    made)
-    (in_flow_canonical place.in_flow s.canonical _ empty _ on)
+start_unstyled s on directives frames undented simple empty role start standing = grind (arith, in_flow_canonical)
 
 -- ---- a document's start
 
@@ -113,14 +88,8 @@ document_unstyled s on first empty start standing =
 step_unstyled : (s : Effective) → s.canonical ≡ true → (stage : Stage) (event : Event) (empty : Bool) (standing : Standing)
     → step s stage (unstyled event) empty standing ≡ step s stage event empty standing
 step_unstyled s on (at_node directives frames) (scalar content) empty standing = scalar_unstyled s on directives frames content empty standing
-step_unstyled s on (at_node directives frames) (sequence_start start) empty standing =
-    start_unstyled s on directives frames (is_undented s (next_place frames).role)
-    (is_key (next_place frames).role && (not s.canonical && is_simple_collection s.canonical directives start empty))
-    empty (as_item true) start standing
-step_unstyled s on (at_node directives frames) (mapping_start start) empty standing =
-    start_unstyled s on directives frames false
-    (is_key (next_place frames).role && (not s.canonical && is_simple_collection s.canonical directives start empty))
-    empty (as_key true) start standing
+step_unstyled s on (at_node directives frames) (sequence_start start) empty standing = grind (arith, start_unstyled)
+step_unstyled s on (at_node directives frames) (mapping_start start) empty standing = grind (arith, start_unstyled)
 step_unstyled s on (at_document first) (document_start start) empty standing = document_unstyled s on first empty start standing
 step_unstyled s on stage (document_start start) empty standing = refl
 step_unstyled s on stage (scalar content) empty standing = refl
@@ -134,18 +103,7 @@ step_unstyled s on stage sequence_end empty standing = refl
 step_unstyled s on stage mapping_end empty standing = refl
 
 still_ends : (event : Event) → ends_collection (unstyled event) ≡ ends_collection event
-still_ends event = elim event as (λ e. ends_collection (unstyled e) ≡ ends_collection e) [
-  | stream_start encoding ↦ refl
-  | stream_end ↦ refl
-  | document_start start ↦ refl
-  | document_end implicit ↦ refl
-  | alias name ↦ refl
-  | scalar content ↦ refl
-  | sequence_start start ↦ refl
-  | sequence_end ↦ refl
-  | mapping_start start ↦ refl
-  | mapping_end ↦ refl
-]
+still_ends event = grind (arith)
 
 next_ends : (events : List Event) (follows : Bool) → ends_next (map unstyled events) follows ≡ ends_next events follows
 next_ends [] follows = refl
@@ -173,9 +131,7 @@ layouts_same s on one two same =
     ∙ stream_steps two s
 
 list_is : (s : Effective) (stream : Stream) (events : List Event) → stream_events stream ≡ events → list_layout s events ≡ layout s stream
-list_is s stream events is =
-    ap (list_layout s) (sym is)
-    ∙ ap (λ (tree : Option Stream). unwrap_or (option_map (layout s) tree) []) (tree_of-stream_events stream)
+list_is s stream events is = grind (arith, tree_of-stream_events)
 
 asked_unstyled : (events : List Event) → encoding_asked (map unstyled events) ≡ encoding_asked events
 asked_unstyled [] = refl

@@ -1,8 +1,7 @@
 -- What no number and no timestamp of a schema is, but for numbers in a base; and conditions that don't hold.
-use Rattle.yaml_base.proofs.Common.{suc, ℕ, ◌+◌, if◌then◌else◌, ◌==◌, Option, None, drop, Bool, false, true, ◌∷◌, refl, ◌≡◌, ne_eqb, ap, arith, slice_split}
+use Rattle.yaml_base.proofs.Common.{suc, ℕ, if◌then◌else◌, ◌==◌, Option, None, Bool, false, ◌∷◌, ◌≡◌, ne_eqb, ap, arith, slice_split}
 use Rattle.yaml_base.proofs.Common.{Text, is_point, is_exponent_letter, past_sign, is_negative, core_integer, core_decimal, octal_11, decimal_11, is_colon}
 use Rattle.yaml_base.proofs.Common.{sixties_11, fine_sixties_11, float_11, more_points_11, points_11, past, timestamp_11}
-use Rattle.std.specs.List.{prefix_len}
 
 -- neither schema reads a number without a base, and no timestamp
 pub record NoNumber (text : Text) : Type 0 where
@@ -26,8 +25,4 @@ filled n = ne_eqb (suc n) 0 (λ e. omega arith)
 
 -- past a character that passes, or before one that doesn't
 pub past_cons : (test : ℕ → Bool) (c : ℕ) (rest : Text) → past test (c ∷ rest) ≡ (if test c then past test rest else c ∷ rest)
-past_cons test c rest = by (test c)
-  where
-    by : (x : Bool) → drop (if x then 1 + prefix_len test rest else 0) (c ∷ rest) ≡ (if x then drop (prefix_len test rest) rest else c ∷ rest)
-    by true = let more : 1 + prefix_len test rest ≡ suc (prefix_len test rest) = omega arith in ap (λ n. drop n (c ∷ rest)) more
-    by false = refl
+past_cons test c rest = grind (arith)

@@ -1,11 +1,10 @@
 -- A text that begins with no digit and no point, past its sign, is no number and no timestamp.
-use Rattle.yaml_base.proofs.Common.{ℕ, if◌then◌else◌, ◌==◌, Option, None, Some, pos, ℤ, length, Bool, false, not, true, ◌||◌, List, [], ◌++◌, ◌∷◌, refl, ◌≡◌}
-use Rattle.yaml_base.proofs.Common.{eqb-true, true≢false, ap, sym, ◌∙◌, and_left, and_right, or_parts, or_from, false≢true, slice_split-cons_no}
-use Rattle.yaml_base.proofs.Common.{take_while-cons, onto_first, slice_split, take_while, Text, is_between, Decimal, is_point, is_exponent_letter}
-use Rattle.yaml_base.proofs.Common.{is_plus_or_minus, is_decimal, first_meets, past_sign, is_negative, are_digits, counted_digits, decimal_of_digits}
-use Rattle.yaml_base.proofs.Common.{exponent_read, times_power_of_ten, scientific, core_mantissa, are_grouped, begins_grouped, is_leading, octal_11}
-use Rattle.yaml_base.proofs.Common.{decimal_11, are_sixtieths, is_colon, fine_sixties_11, mantissa_11, exponent_11, has_more_points, more_points_11}
-use Rattle.yaml_base.proofs.Common.{is_hyphen, is_date, in_date, timestamp_11}
+use Rattle.yaml_base.proofs.Common.{arith, ℕ, if◌then◌else◌, ◌==◌, Option, None, Some, pos, ℤ, length, Bool, false, not, true, ◌||◌, List, [], ◌++◌, ◌∷◌, refl}
+use Rattle.yaml_base.proofs.Common.{◌≡◌, eqb-true, true≢false, ap, ◌∙◌, and_left, and_right, or_parts, or_from, false≢true, slice_split-cons_no}
+use Rattle.yaml_base.proofs.Common.{take_while-cons, onto_first, slice_split, take_while, Text, is_between, Decimal, is_point, is_decimal, first_meets}
+use Rattle.yaml_base.proofs.Common.{past_sign, are_digits, counted_digits, decimal_of_digits, times_power_of_ten, scientific, core_mantissa, are_grouped}
+use Rattle.yaml_base.proofs.Common.{begins_grouped, is_leading, octal_11, decimal_11, are_sixtieths, is_colon, fine_sixties_11, mantissa_11, has_more_points}
+use Rattle.yaml_base.proofs.Common.{more_points_11, is_date, in_date, timestamp_11}
 use Rattle.yaml_base.proofs.no_numbers.NoNumbers.{NoNumber, off, filled}
 
 -- a digit or a point
@@ -24,19 +23,11 @@ onto_first_begins test c (part ∷ parts) = refl
 -- a cut text's first piece begins with what the text begins with, or is empty
 pub split_begins : (test sign : ℕ → Bool) (text : Text) → first_meets test text ≡ false → first_meets test (first_part (slice_split sign text)) ≡ false
 split_begins test sign [] h = refl
-split_begins test sign (c ∷ rest) h = by (sign c)
-  where
-    by : (x : Bool) → first_meets test (first_part (if x then [] ∷ slice_split sign rest else onto_first c (slice_split sign rest))) ≡ false
-    by true = refl
-    by false = onto_first_begins test c (slice_split sign rest) ∙ h
+split_begins test sign (c ∷ rest) h = grind (arith, onto_first_begins)
 
 -- a character that is no digit isn't this one, which is
 pub unlike : (c n : ℕ) → is_decimal n ≡ true → is_decimal c ≡ false → (c == n) ≡ false
-unlike c n digit other = by (c == n) refl
-  where
-    by : (x : Bool) → (c == n) ≡ x → x ≡ false
-    by true e = absurd (true≢false (sym digit ∙ ap is_decimal (sym (eqb-true c n e)) ∙ other))
-    by false e = refl
+unlike c n digit other = grind (arith, true≢false, eqb-true)
 
 -- Numbers without their sign
 
@@ -56,39 +47,15 @@ scientific_begins mantissa exponent (m ∷ e ∷ f ∷ rest) h = refl
 
 core_mantissa_begins : (negative : Bool) (text : Text) → first_meets begins_digits text ≡ false → core_mantissa negative (slice_split is_point text) ≡ None
 core_mantissa_begins negative [] h = refl
-core_mantissa_begins negative (c ∷ rest) h =
-    ap (core_mantissa negative) (slice_split-cons_no is_point c rest (or_parts (is_decimal c) (is_point c) h).1) ∙ by (slice_split is_point rest)
-  where
-    other : is_decimal c ≡ false
-    other = (or_parts (is_decimal c) (is_point c) h).0
-
-    by : (parts : List Text) → core_mantissa negative (onto_first c parts) ≡ None
-    by [] = pointed_begins negative c [] [] other
-    by (a ∷ []) = pointed_begins negative c a [] other
-    by (a ∷ b ∷ []) = pointed_begins negative c a b other
-    by (a ∷ b ∷ d ∷ parts) = refl
+core_mantissa_begins negative (c ∷ rest) h = grind (arith, slice_split-cons_no, or_parts, pointed_begins)
 
 mantissa_11_begins : (negative : Bool) (text : Text) → first_meets begins_digits text ≡ false → mantissa_11 negative (slice_split is_point text) ≡ None
 mantissa_11_begins negative [] h = refl
-mantissa_11_begins negative (c ∷ rest) h =
-    ap (mantissa_11 negative) (slice_split-cons_no is_point c rest (or_parts (is_decimal c) (is_point c) h).1) ∙ by (slice_split is_point rest)
-  where
-    by : (parts : List Text) → mantissa_11 negative (onto_first c parts) ≡ None
-    by [] = refl
-    by (a ∷ []) = refl
-    by (a ∷ b ∷ []) = off _ _ (and_left _ _ (and_left (is_decimal c) _ (or_parts (is_decimal c) (is_point c) h).0))
-    by (a ∷ b ∷ d ∷ parts) = refl
+mantissa_11_begins negative (c ∷ rest) h = grind (arith, slice_split-cons_no, or_parts, off, and_left)
 
 more_points_begin : (text : Text) → first_meets begins_digits text ≡ false → has_more_points (slice_split is_point text) ≡ false
 more_points_begin [] h = refl
-more_points_begin (c ∷ rest) h =
-    ap has_more_points (slice_split-cons_no is_point c rest (or_parts (is_decimal c) (is_point c) h).1) ∙ by (slice_split is_point rest)
-  where
-    by : (parts : List Text) → has_more_points (onto_first c parts) ≡ false
-    by [] = refl
-    by (a ∷ []) = refl
-    by (a ∷ b ∷ []) = refl
-    by (a ∷ b ∷ d ∷ parts) = and_left _ _ (or_from _ _ (filled (length a)) (and_left (is_decimal c) _ (or_parts (is_decimal c) (is_point c) h).0))
+more_points_begin (c ∷ rest) h = grind (arith, slice_split-cons_no, or_parts, and_left, or_from, filled)
 
 pub more_points_11_begins : (parts : List Text) → has_more_points (slice_split is_point (first_part parts)) ≡ false → more_points_11 parts ≡ None
 more_points_11_begins [] h = refl
@@ -144,32 +111,12 @@ date_begins least (a ∷ b ∷ d ∷ []) h = and_left _ (counted_digits least 2 
 date_begins least (a ∷ b ∷ d ∷ e ∷ rest) h = refl
 
 pub timestamp_begins : (text : Text) → first_meets is_decimal text ≡ false → timestamp_11 text ≡ None
-timestamp_begins text h =
-    off _ _
-    (or_from _ _ (and_left (is_date 2 date) _ (date_begins 2 date begun)) (and_left (is_date 1 date) _ (date_begins 1 date begun)))
-  where
-    date : List Text
-    date = slice_split is_hyphen (take_while in_date text)
-
-    begun : first_meets is_decimal (first_part date) ≡ false
-    begun = split_begins is_decimal is_hyphen (take_while in_date text) (date_prefix text h)
+timestamp_begins text h = grind (arith, off, or_from, and_left, date_begins, split_begins, date_prefix)
 
 -- a sign begins no number, so the text itself begins none either
 whole_begins : (text : Text) → first_meets begins_digits (past_sign text) ≡ false → first_meets is_decimal text ≡ false
 whole_begins [] h = refl
-whole_begins (c ∷ rest) h = by (is_plus_or_minus c) refl h
-  where
-    of_sign : is_plus_or_minus c ≡ true → is_decimal c ≡ false
-    of_sign e = by_sign (c == 0x2B) (c == 0x2D) refl refl e
-      where
-        by_sign : (x y : Bool) → (c == 0x2B) ≡ x → (c == 0x2D) ≡ y → (x || y) ≡ true → is_decimal c ≡ false
-        by_sign true y e f g = ap is_decimal (eqb-true c 0x2B e)
-        by_sign false true e f g = ap is_decimal (eqb-true c 0x2D f)
-        by_sign false false e f g = absurd (false≢true g)
-
-    by : (x : Bool) → is_plus_or_minus c ≡ x → first_meets begins_digits (if x then rest else c ∷ rest) ≡ false → is_decimal c ≡ false
-    by true e g = of_sign e
-    by false e g = (or_parts (is_decimal c) (is_point c) g).0
+whole_begins (c ∷ rest) h = grind (arith, eqb-true, false≢true, or_parts)
 
 digit_begins : (text : Text) → first_meets begins_digits text ≡ false → first_meets is_decimal text ≡ false
 digit_begins [] h = refl
@@ -184,33 +131,24 @@ point_begins (c ∷ rest) h = (or_parts (is_decimal c) (is_point c) h).1
 -- it is no number and no timestamp
 pub without_begin : (text : Text) → first_meets begins_digits (past_sign text) ≡ false → NoNumber text
 without_begin text h =
-    record {
-      timestamp = timestamp_begins text (whole_begins text h);
-      float = scientific_begins _ exponent_11 parts (mantissa_11_begins negative mantissa begun);
-      octal = octal_11_begins negative number digit;
-      decimal = decimal_11_begins negative number digit;
-      sixties = off _ _ (groups_begin is_leading (slice_split is_colon number) (split_begins is_leading is_colon number (leading_begins number digit)));
-      fine_sixties = fine_sixties_begin negative (slice_split is_point number) (split_begins is_decimal is_point number digit);
-      more_points = more_points_11_begins parts (more_points_begin mantissa begun);
-      points = off _ _ (and_left (first_meets is_point number) _ (point_begins number h));
-      core_integer = off _ _ (digits_begin number digit);
-      core_decimal = scientific_begins _ exponent_read parts (core_mantissa_begins negative mantissa begun);
-    }
-  where
-    negative : Bool
-    negative = is_negative text
-
-    number : Text
-    number = past_sign text
-
-    parts : List Text
-    parts = slice_split is_exponent_letter number
-
-    mantissa : Text
-    mantissa = first_part parts
-
-    digit : first_meets is_decimal number ≡ false
-    digit = digit_begins number h
-
-    begun : first_meets begins_digits mantissa ≡ false
-    begun = split_begins begins_digits is_exponent_letter number h
+    grind (
+      arith,
+      timestamp_begins,
+      whole_begins,
+      scientific_begins,
+      mantissa_11_begins,
+      octal_11_begins,
+      decimal_11_begins,
+      off,
+      groups_begin,
+      split_begins,
+      leading_begins,
+      fine_sixties_begin,
+      more_points_11_begins,
+      more_points_begin,
+      and_left,
+      point_begins,
+      digits_begin,
+      core_mantissa_begins,
+      digit_begins,
+    )

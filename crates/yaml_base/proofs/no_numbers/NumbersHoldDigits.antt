@@ -1,8 +1,7 @@
 -- A text without a digit is no number and no timestamp, unless it is of points alone.
-use Rattle.yaml_base.proofs.Common.{ℕ, if◌then◌else◌, ◌==◌, None, length, Bool, false, true, ◌||◌, List, [], ◌++◌, ◌∷◌, refl, ◌≡◌, eqb-true, true≢false, ap}
-use Rattle.yaml_base.proofs.Common.{sym, ◌∙◌, and_parts, and_left, and_right, or_parts, or_from, list_any-append, concat, list_all, list_any, onto_first}
-use Rattle.yaml_base.proofs.Common.{slice_split, Text, is_point, is_exponent_letter, is_plus_or_minus, is_decimal, first_meets, past_sign, is_negative}
-use Rattle.yaml_base.proofs.Common.{decimal_of_digits, exponent_read, core_mantissa, begins_grouped, is_leading, is_colon, mantissa_11, exponent_11}
+use Rattle.yaml_base.proofs.Common.{arith, ℕ, if◌then◌else◌, None, Bool, false, true, ◌||◌, List, [], ◌++◌, ◌∷◌, refl, ◌≡◌, eqb-true, true≢false, ap, ◌∙◌}
+use Rattle.yaml_base.proofs.Common.{and_parts, and_left, and_right, or_parts, or_from, list_any-append, concat, list_all, list_any, onto_first, slice_split}
+use Rattle.yaml_base.proofs.Common.{Text, is_point, is_decimal, first_meets, past_sign, decimal_of_digits, core_mantissa, begins_grouped, mantissa_11}
 use Rattle.yaml_base.proofs.Common.{has_more_points, is_number_letter}
 use Rattle.yaml_base.proofs.no_numbers.NoNumbers.{NoNumber, off, filled}
 use Rattle.yaml_base.proofs.no_numbers.NumbersBegin.{first_part, split_begins, digits_begin, scientific_begins, more_points_11_begins, groups_begin}
@@ -19,11 +18,7 @@ first_without (c ∷ rest) h = (or_parts (is_decimal c) (holds_digit rest) h).0
 -- past its sign
 past_sign_without : (test : ℕ → Bool) (text : Text) → list_any test text ≡ false → list_any test (past_sign text) ≡ false
 past_sign_without test [] h = h
-past_sign_without test (c ∷ rest) h = by (is_plus_or_minus c)
-  where
-    by : (x : Bool) → list_any test (if x then rest else c ∷ rest) ≡ false
-    by true = (or_parts (test c) (list_any test rest) h).1
-    by false = h
+past_sign_without test (c ∷ rest) h = grind (arith, or_parts)
 
 -- in its pieces
 onto_without : (c : ℕ) (parts : List Text) → is_decimal c ≡ false → list_any holds_digit parts ≡ false
@@ -68,9 +63,7 @@ begins_without text h = and_left (first_meets is_decimal text) _ (first_without 
 core_mantissa_without : (negative : Bool) (parts : List Text) → list_any holds_digit parts ≡ false → core_mantissa negative parts ≡ None
 core_mantissa_without negative [] h = refl
 core_mantissa_without negative (whole ∷ []) h = pointed_without negative whole [] (or_parts (holds_digit whole) false h).0 refl
-core_mantissa_without negative (whole ∷ fraction ∷ []) h =
-    let both = or_parts (holds_digit whole) (holds_digit fraction || false) h in
-    pointed_without negative whole fraction both.0 (or_parts (holds_digit fraction) false both.1).0
+core_mantissa_without negative (whole ∷ fraction ∷ []) h = grind (arith, or_parts, pointed_without)
 core_mantissa_without negative (a ∷ b ∷ c ∷ rest) h = refl
 
 mantissa_11_without : (negative : Bool) (parts : List Text) → list_any holds_digit parts ≡ false → mantissa_11 negative parts ≡ None
@@ -89,9 +82,7 @@ more_points_without (whole ∷ []) h = refl
 more_points_without (whole ∷ a ∷ []) h = refl
 more_points_without ([] ∷ a ∷ b ∷ rest) h =
     digits_begin (concat (a ∷ b ∷ rest)) (first_without (concat (a ∷ b ∷ rest)) (concat_without (a ∷ b ∷ rest) h))
-more_points_without ((c ∷ whole) ∷ a ∷ b ∷ rest) h =
-    and_left _ _
-    (or_from _ _ (filled (length whole)) (begins_without (c ∷ whole) (or_parts (holds_digit (c ∷ whole)) (list_any holds_digit (a ∷ b ∷ rest)) h).0))
+more_points_without ((c ∷ whole) ∷ a ∷ b ∷ rest) h = grind (arith, and_left, or_from, filled, begins_without, or_parts)
 
 -- ---- points alone
 
@@ -104,57 +95,33 @@ points_lack_letters (c ∷ rest) h =
     both = and_parts (is_point c) (list_all is_point rest) h
 
 not_points : (text : Text) → list_any is_number_letter text ≡ true → list_all is_point (past_sign text) ≡ false
-not_points text h = by (list_all is_point (past_sign text)) refl
-  where
-    of_rest : (rest : Text) → list_any is_number_letter (past_sign rest) ≡ false → list_any is_number_letter rest ≡ false
-    of_rest [] k = refl
-    of_rest (c ∷ rest) k = by_sign (c == 0x2B) (c == 0x2D) refl refl k
-      where
-        by_sign : (x y : Bool) → (c == 0x2B) ≡ x → (c == 0x2D) ≡ y → list_any is_number_letter (if x || y then rest else c ∷ rest) ≡ false
-            → (is_number_letter c || list_any is_number_letter rest) ≡ false
-        by_sign true y e f g = or_from _ _ (ap is_number_letter (eqb-true c 0x2B e)) g
-        by_sign false true e f g = or_from _ _ (ap is_number_letter (eqb-true c 0x2D f)) g
-        by_sign false false e f g = g
-
-    by : (x : Bool) → list_all is_point (past_sign text) ≡ x → x ≡ false
-    by true e = absurd (true≢false (sym h ∙ of_rest text (points_lack_letters (past_sign text) e)))
-    by false e = refl
+not_points text h = grind (arith, or_from, eqb-true, true≢false, points_lack_letters)
 
 -- ---- all
 
 -- with a letter it is no number and no timestamp
 pub without_digits : (text : Text) → list_any is_decimal text ≡ false → list_any is_number_letter text ≡ true → NoNumber text
 without_digits text h letter =
-    record {
-      timestamp = timestamp_begins text (first_without text h);
-      float = scientific_begins _ exponent_11 parts (mantissa_11_without negative pieces at_point);
-      octal = octal_11_begins negative number digit;
-      decimal = decimal_11_begins negative number digit;
-      sixties = off _ _ (groups_begin is_leading (slice_split is_colon number) (split_begins is_leading is_colon number (leading_begins number digit)));
-      fine_sixties = fine_sixties_begin negative (slice_split is_point number) (split_begins is_decimal is_point number digit);
-      more_points = more_points_11_begins parts (more_points_without pieces at_point);
-      points = off _ _ (and_right (first_meets is_point number) _ (not_points text letter));
-      core_integer = off _ _ (digits_begin number digit);
-      core_decimal = scientific_begins _ exponent_read parts (core_mantissa_without negative pieces at_point);
-    }
-  where
-    negative : Bool
-    negative = is_negative text
-
-    number : Text
-    number = past_sign text
-
-    parts : List Text
-    parts = slice_split is_exponent_letter number
-
-    none : holds_digit number ≡ false
-    none = past_sign_without is_decimal text h
-
-    digit : first_meets is_decimal number ≡ false
-    digit = first_without number none
-
-    pieces : List Text
-    pieces = slice_split is_point (first_part parts)
-
-    at_point : list_any holds_digit pieces ≡ false
-    at_point = parts_without is_point (first_part parts) (first_part_without parts (parts_without is_exponent_letter number none))
+    grind (
+      arith,
+      timestamp_begins,
+      first_without,
+      scientific_begins,
+      mantissa_11_without,
+      octal_11_begins,
+      decimal_11_begins,
+      off,
+      groups_begin,
+      split_begins,
+      leading_begins,
+      fine_sixties_begin,
+      more_points_11_begins,
+      more_points_without,
+      and_right,
+      not_points,
+      digits_begin,
+      core_mantissa_without,
+      past_sign_without,
+      parts_without,
+      first_part_without,
+    )

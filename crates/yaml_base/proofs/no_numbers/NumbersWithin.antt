@@ -1,12 +1,11 @@
 -- A text that holds a character which stands in no number is no number and no timestamp.
-use Rattle.yaml_base.proofs.Common.{ℕ, if◌then◌else◌, ◌==◌, Option, None, Some, codes, pos, ℤ, length, Bool, false, not, true, ◌&&◌, ◌||◌, List, [], ◌++◌}
-use Rattle.yaml_base.proofs.Common.{◌∷◌, ◌⊎◌, refl, ◌≡◌, eqb-true, lt-ltb, ltb-true, true≢false, inl, inr, ap, sym, ◌∙◌, arith, or_cases, and_cases, and_left}
-use Rattle.yaml_base.proofs.Common.{and_right, or_from, or_left, list_all-append, bytes_eq-Decides, digit_value, concat, list_all, onto_first, slice_split}
-use Rattle.yaml_base.proofs.Common.{Text, is_between, is_blank, is_word, Decimal, is_point, is_exponent_letter, is_plus_or_minus, is_decimal, first_meets}
-use Rattle.yaml_base.proofs.Common.{past_sign, is_negative, are_digits, counted_digits, decimal_of_digits, exponent_read, times_power_of_ten, scientific}
-use Rattle.yaml_base.proofs.Common.{core_mantissa, is_underscore, ungrouped, are_grouped, begins_grouped, is_leading, octal_11, decimal_11, are_sixtieths}
-use Rattle.yaml_base.proofs.Common.{is_colon, fine_sixties_11, mantissa_11, exponent_11, has_more_points, more_points_11, past, is_hyphen, is_time_after_date}
-use Rattle.yaml_base.proofs.Common.{in_date, timestamp_11, in_number}
+use Rattle.yaml_base.proofs.Common.{ℕ, ◌==◌, Option, None, Some, codes, pos, ℤ, length, Bool, false, not, true, ◌&&◌, ◌||◌, List, [], ◌++◌, ◌∷◌, ◌⊎◌, refl, ◌≡◌}
+use Rattle.yaml_base.proofs.Common.{eqb-true, lt-ltb, ltb-true, true≢false, inl, inr, ap, sym, ◌∙◌, arith, or_cases, and_cases, and_left, and_right, or_from}
+use Rattle.yaml_base.proofs.Common.{or_left, list_all-append, bytes_eq-Decides, digit_value, concat, list_all, onto_first, slice_split, Text, is_between}
+use Rattle.yaml_base.proofs.Common.{is_blank, is_word, Decimal, is_point, is_exponent_letter, is_plus_or_minus, is_decimal, first_meets, past_sign, is_negative}
+use Rattle.yaml_base.proofs.Common.{are_digits, counted_digits, decimal_of_digits, exponent_read, times_power_of_ten, scientific, core_mantissa, is_underscore}
+use Rattle.yaml_base.proofs.Common.{are_grouped, begins_grouped, is_leading, octal_11, decimal_11, are_sixtieths, is_colon, fine_sixties_11, mantissa_11}
+use Rattle.yaml_base.proofs.Common.{exponent_11, has_more_points, more_points_11, past, is_hyphen, is_time_after_date, in_date, timestamp_11, in_number}
 use Rattle.std.specs.Char.{is_digit}
 use Rattle.yaml_base.proofs.no_numbers.NoNumbers.{NoNumber, off, filled, past_cons}
 use Rattle.yaml_base.specs.values.SchemaOf11.{is_sixtieth, is_offset, is_zone, in_clock, is_time}
@@ -21,11 +20,7 @@ within text = list_all in_number text
 stronger : {X : Type 0} (weak strong : X → Bool) → ((x : X) → strong x ≡ true → weak x ≡ true) → (xs : List X)
     → list_all weak xs ≡ false → list_all strong xs ≡ false
 stronger weak strong implied [] h = absurd (true≢false h)
-stronger weak strong implied (x ∷ xs) h = by (strong x) refl (stronger weak strong implied xs)
-  where
-    by : (t : Bool) → strong x ≡ t → (list_all weak xs ≡ false → list_all strong xs ≡ false) → (t && list_all strong xs) ≡ false
-    by false e later = refl
-    by true e later = later (sym (ap (λ t. t && list_all weak xs) (implied x e)) ∙ h)
+stronger weak strong implied (x ∷ xs) h = grind (arith, stronger weak strong implied xs)
 
 and_true : (x : Bool) → (x && true) ≡ x
 and_true true = refl
@@ -50,11 +45,7 @@ same_stands n c h e = ap in_number (eqb-true c n e) ∙ h
 
 -- one of two
 either_stands : (n m c : ℕ) → in_number n ≡ true → in_number m ≡ true → (c == n || c == m) ≡ true → in_number c ≡ true
-either_stands n m c h k e = by (or_cases (c == n) (c == m) e)
-  where
-    by : ((c == n) ≡ true) ⊎ ((c == m) ≡ true) → in_number c ≡ true
-    by (inl f) = same_stands n c h f
-    by (inr f) = same_stands m c k f
+either_stands n m c h k e = grind (arith, or_cases, same_stands)
 
 sign_stands : (c : ℕ) → is_plus_or_minus c ≡ true → in_number c ≡ true
 sign_stands c h = either_stands 0x2B 0x2D c refl refl h
@@ -74,11 +65,7 @@ colon_stands c h = same_stands 0x3A c refl h
 -- a digit or another character of numbers
 or_stands : (test other : ℕ → Bool) → ((c : ℕ) → test c ≡ true → in_number c ≡ true) → ((c : ℕ) → other c ≡ true → in_number c ≡ true)
     → (c : ℕ) → (test c || other c) ≡ true → in_number c ≡ true
-or_stands test other one two c h = by (or_cases (test c) (other c) h)
-  where
-    by : (test c ≡ true) ⊎ (other c ≡ true) → in_number c ≡ true
-    by (inl e) = one c e
-    by (inr e) = two c e
+or_stands test other one two c h = grind (arith, or_cases)
 
 date_stands : (c : ℕ) → in_date c ≡ true → in_number c ≡ true
 date_stands c h = or_stands is_decimal is_hyphen digit_stands (λ d k. same_stands 0x2D d refl k) c h
@@ -108,44 +95,19 @@ filled_outside [] h = absurd (true≢false h)
 filled_outside (c ∷ rest) h = filled (length rest)
 
 word_outside : (word text : Text) → within word ≡ true → within text ≡ false → is_word text word ≡ false
-word_outside word text k h = by (is_word text word) refl
-  where
-    by : (x : Bool) → is_word text word ≡ x → x ≡ false
-    by true e = absurd (true≢false (sym k ∙ ap within (sym ((bytes_eq-Decides text word).0 e)) ∙ h))
-    by false e = refl
+word_outside word text k h = grind (arith, true≢false, bytes_eq-Decides)
 
 -- ---- pieces
 
 -- such a character is in one of the pieces
 onto_within : (c : ℕ) (parts : List Text) → list_all within (onto_first c parts) ≡ (in_number c && list_all within parts)
-onto_within c [] = by (in_number c)
-  where
-    by : (x : Bool) → ((x && true) && true) ≡ (x && true)
-    by true = refl
-    by false = refl
-onto_within c (part ∷ parts) = by (in_number c)
-  where
-    by : (x : Bool) → ((x && within part) && list_all within parts) ≡ (x && (within part && list_all within parts))
-    by true = refl
-    by false = refl
+onto_within c [] = grind (arith)
+onto_within c (part ∷ parts) = grind (arith)
 
 parts_outside : (sign : ℕ → Bool) → ((c : ℕ) → sign c ≡ true → in_number c ≡ true) → (text : Text) → within text ≡ false
     → list_all within (slice_split sign text) ≡ false
 parts_outside sign stands [] h = absurd (true≢false h)
-parts_outside sign stands (c ∷ rest) h = by (sign c) refl (parts_outside sign stands rest)
-  where
-    parts : List Text
-    parts = slice_split sign rest
-
-    either : (within rest ≡ false → list_all within parts ≡ false) → (in_number c ≡ false) ⊎ (within rest ≡ false)
-        → (in_number c && list_all within parts) ≡ false
-    either later (inl e) = and_left (in_number c) _ e
-    either later (inr e) = and_right (in_number c) _ (later e)
-
-    by : (x : Bool) → sign c ≡ x → (within rest ≡ false → list_all within parts ≡ false)
-        → list_all within (if x then [] ∷ parts else onto_first c parts) ≡ false
-    by true e later = later (sym (ap (λ t. t && within rest) (stands c e)) ∙ h)
-    by false e later = onto_within c parts ∙ either later (and_cases (in_number c) (within rest) h)
+parts_outside sign stands (c ∷ rest) h = grind (arith, and_left, and_right, onto_within, and_cases, parts_outside sign stands rest)
 
 -- or in all of them together
 concat_within : (parts : List Text) → within (concat parts) ≡ list_all within parts
@@ -155,19 +117,11 @@ concat_within (part ∷ parts) = list_all-append in_number part (concat parts) �
 -- past characters of numbers it is still there
 past_outside : (test : ℕ → Bool) → ((c : ℕ) → test c ≡ true → in_number c ≡ true) → (text : Text) → within text ≡ false → within (past test text) ≡ false
 past_outside test stands [] h = absurd (true≢false h)
-past_outside test stands (c ∷ rest) h = ap within (past_cons test c rest) ∙ by (test c) refl (past_outside test stands rest)
-  where
-    by : (x : Bool) → test c ≡ x → (within rest ≡ false → within (past test rest) ≡ false) → within (if x then past test rest else c ∷ rest) ≡ false
-    by true e later = later (sym (ap (λ t. t && within rest) (stands c e)) ∙ h)
-    by false e later = h
+past_outside test stands (c ∷ rest) h = grind (arith, past_cons, past_outside test stands rest)
 
 sign_outside : (text : Text) → within text ≡ false → within (past_sign text) ≡ false
 sign_outside [] h = h
-sign_outside (c ∷ rest) h = by (is_plus_or_minus c) refl
-  where
-    by : (x : Bool) → is_plus_or_minus c ≡ x → within (if x then rest else c ∷ rest) ≡ false
-    by true e = sym (ap (λ t. t && within rest) (sign_stands c e)) ∙ h
-    by false e = h
+sign_outside (c ∷ rest) h = grind (arith, sign_stands)
 
 -- ---- floats
 
@@ -180,22 +134,14 @@ scientific_outside : (mantissa : Text → Option Decimal) (exponent : Text → O
     → scientific mantissa exponent parts ≡ None
 scientific_outside mantissa exponent one two [] h = refl
 scientific_outside mantissa exponent one two (m ∷ []) h = ap (λ d. times_power_of_ten d (Some (pos 0))) (one m (sym (and_true (within m)) ∙ h))
-scientific_outside mantissa exponent one two (m ∷ e ∷ []) h = by (two_cases (within m) (within e) h)
-  where
-    by : (within m ≡ false) ⊎ (within e ≡ false) → times_power_of_ten (mantissa m) (exponent e) ≡ None
-    by (inl f) = ap (λ d. times_power_of_ten d (exponent e)) (one m f)
-    by (inr f) = ap (times_power_of_ten (mantissa m)) (two e f) ∙ scaled_none (mantissa m)
+scientific_outside mantissa exponent one two (m ∷ e ∷ []) h = grind (arith, two_cases, scaled_none)
 scientific_outside mantissa exponent one two (m ∷ e ∷ f ∷ rest) h = refl
 
 exponent_outside : (text : Text) → within text ≡ false → exponent_read text ≡ None
 exponent_outside text h = off _ _ (digits_outside (past_sign text) (sign_outside text h))
 
 exponent_11_outside : (text : Text) → within text ≡ false → exponent_11 text ≡ None
-exponent_11_outside text h = by (first_meets is_plus_or_minus text)
-  where
-    by : (x : Bool) → (if x then exponent_read text else None) ≡ None
-    by true = exponent_outside text h
-    by false = refl
+exponent_11_outside text h = grind (arith, exponent_outside)
 
 pointed_outside : (negative : Bool) (whole fraction : Text) → (within whole && within fraction) ≡ false → decimal_of_digits negative whole fraction ≡ None
 pointed_outside negative whole fraction h = off _ _ (digits_outside (whole ++ fraction) (list_all-append in_number whole fraction ∙ h))
@@ -212,11 +158,8 @@ mantissa_11_outside negative [] h = refl
 mantissa_11_outside negative ([] ∷ []) h = refl
 mantissa_11_outside negative ((c ∷ whole) ∷ []) h = refl
 mantissa_11_outside negative ([] ∷ fraction ∷ []) h = pointed_outside negative [] fraction (sym (and_true (within fraction)) ∙ h)
-mantissa_11_outside negative ((c ∷ whole) ∷ fraction ∷ []) h = off _ _ (by (two_cases (within (c ∷ whole)) (within fraction) h))
-  where
-    by : (within (c ∷ whole) ≡ false) ⊎ (within fraction ≡ false) → (begins_grouped is_decimal (c ∷ whole) && are_grouped 10 fraction) ≡ false
-    by (inl e) = and_left _ (are_grouped 10 fraction) (begins_outside is_decimal (c ∷ whole) e)
-    by (inr e) = and_right (begins_grouped is_decimal (c ∷ whole)) _ (grouped_outside 10 digit_stands fraction e)
+mantissa_11_outside negative ((c ∷ whole) ∷ fraction ∷ []) h =
+    grind (arith, off, two_cases, and_left, begins_outside, and_right, grouped_outside, digit_stands)
 mantissa_11_outside negative ([] ∷ a ∷ b ∷ rest) h = refl
 mantissa_11_outside negative ((c ∷ whole) ∷ a ∷ b ∷ rest) h = refl
 
@@ -224,27 +167,15 @@ points_outside : (parts : List Text) → list_all within parts ≡ false → has
 points_outside [] h = refl
 points_outside (whole ∷ []) h = refl
 points_outside (whole ∷ a ∷ []) h = refl
-points_outside (whole ∷ a ∷ b ∷ rest) h = by (and_cases (within whole) _ h)
-  where
-    by : (within whole ≡ false) ⊎ (list_all within (a ∷ b ∷ rest) ≡ false) → has_more_points (whole ∷ a ∷ b ∷ rest) ≡ false
-    by (inl e) = and_left _ _ (or_from _ _ (filled_outside whole e) (begins_outside is_decimal whole e))
-    by (inr e) =
-        and_right (length whole == 0 || begins_grouped is_decimal whole) _
-        (digits_outside (ungrouped whole ++ concat (a ∷ b ∷ rest))
-        (list_all-append in_number (ungrouped whole) (concat (a ∷ b ∷ rest)) ∙ and_right (within (ungrouped whole)) _ (concat_within (a ∷ b ∷ rest) ∙ e)))
+points_outside (whole ∷ a ∷ b ∷ rest) h =
+    grind (arith, and_cases, and_left, or_from, filled_outside, begins_outside, and_right, digits_outside, list_all-append, concat_within)
 
 more_points_outside : (parts : List Text) → list_all within parts ≡ false → more_points_11 parts ≡ None
 more_points_outside [] h = refl
 more_points_outside (m ∷ []) h =
     off _ _ (points_outside (slice_split is_point m) (parts_outside is_point point_stands m (sym (and_true (within m)) ∙ h)))
-more_points_outside (m ∷ e ∷ []) h = off _ _ (by (two_cases (within m) (within e) h))
-  where
-    more : Bool
-    more = has_more_points (slice_split is_point m)
-
-    by : (within m ≡ false) ⊎ (within e ≡ false) → (more && first_meets is_plus_or_minus e && are_digits 10 (past_sign e)) ≡ false
-    by (inl f) = and_left _ _ (and_left more _ (points_outside (slice_split is_point m) (parts_outside is_point point_stands m f)))
-    by (inr f) = and_right (more && first_meets is_plus_or_minus e) _ (digits_outside (past_sign e) (sign_outside e f))
+more_points_outside (m ∷ e ∷ []) h =
+    grind (arith, off, two_cases, and_left, points_outside, parts_outside, point_stands, and_right, digits_outside, sign_outside)
 more_points_outside (m ∷ e ∷ f ∷ rest) h = refl
 
 -- ---- integers
@@ -262,32 +193,18 @@ decimal_outside : (negative : Bool) (text : Text) → within text ≡ false → 
 decimal_outside negative text h = off _ _ (or_from _ _ (word_outside (codes "0") text refl h) (begins_outside is_leading text h))
 
 sixtieth_stands : (text : Text) → is_sixtieth text ≡ true → within text ≡ true
-sixtieth_stands text k = by (within text) refl
-  where
-    by : (x : Bool) → within text ≡ x → x ≡ true
-    by true e = refl
-    by false e = absurd (true≢false (sym k ∙ and_left _ _ (counted_outside 1 2 text e)))
+sixtieth_stands text k = grind (arith, true≢false, and_left, counted_outside)
 
 groups_outside : (test : ℕ → Bool) (groups : List Text) → list_all within groups ≡ false → are_sixtieths test groups ≡ false
 groups_outside test [] h = refl
 groups_outside test (a ∷ []) h = refl
-groups_outside test (a ∷ b ∷ rest) h = by (and_cases (within a) _ h)
-  where
-    by : (within a ≡ false) ⊎ (list_all within (b ∷ rest) ≡ false) → are_sixtieths test (a ∷ b ∷ rest) ≡ false
-    by (inl e) = and_left _ (list_all is_sixtieth (b ∷ rest)) (begins_outside test a e)
-    by (inr e) = and_right (begins_grouped test a) _ (stronger within is_sixtieth sixtieth_stands (b ∷ rest) e)
+groups_outside test (a ∷ b ∷ rest) h = grind (arith, and_cases, and_left, begins_outside, and_right, stronger, sixtieth_stands)
 
 fine_sixties_outside : (negative : Bool) (parts : List Text) → list_all within parts ≡ false → fine_sixties_11 negative parts ≡ None
 fine_sixties_outside negative [] h = refl
 fine_sixties_outside negative (a ∷ []) h = refl
-fine_sixties_outside negative (a ∷ b ∷ []) h = off _ _ (by (two_cases (within a) (within b) h))
-  where
-    groups : List Text
-    groups = slice_split is_colon a
-
-    by : (within a ≡ false) ⊎ (within b ≡ false) → (are_sixtieths is_decimal groups && are_grouped 10 b) ≡ false
-    by (inl e) = and_left _ (are_grouped 10 b) (groups_outside is_decimal groups (parts_outside is_colon colon_stands a e))
-    by (inr e) = and_right (are_sixtieths is_decimal groups) _ (grouped_outside 10 digit_stands b e)
+fine_sixties_outside negative (a ∷ b ∷ []) h =
+    grind (arith, off, two_cases, and_left, groups_outside, parts_outside, colon_stands, and_right, grouped_outside, digit_stands)
 fine_sixties_outside negative (a ∷ b ∷ d ∷ rest) h = refl
 
 -- ---- timestamps
@@ -301,11 +218,7 @@ rest_outside c rest true later stands fails h = fails (sym (ap (λ t. t && withi
 offset_outside : (parts : List Text) → list_all within parts ≡ false → is_offset parts ≡ false
 offset_outside [] h = refl
 offset_outside (hours ∷ []) h = counted_outside 1 2 hours (sym (and_true (within hours)) ∙ h)
-offset_outside (hours ∷ minutes ∷ []) h = by (two_cases (within hours) (within minutes) h)
-  where
-    by : (within hours ≡ false) ⊎ (within minutes ≡ false) → is_offset (hours ∷ minutes ∷ []) ≡ false
-    by (inl e) = and_left _ (counted_digits 2 2 minutes) (counted_outside 1 2 hours e)
-    by (inr e) = and_right (counted_digits 1 2 hours) _ (counted_outside 2 2 minutes e)
+offset_outside (hours ∷ minutes ∷ []) h = grind (arith, two_cases, and_left, counted_outside, and_right)
 offset_outside (a ∷ b ∷ d ∷ rest) h = refl
 
 zone_outside : (text : Text) → within text ≡ false → is_zone text ≡ false
@@ -317,15 +230,7 @@ zone_outside (c ∷ rest) h =
     (λ e. offset_outside (slice_split is_colon rest) (parts_outside is_colon colon_stands rest e)) h)
 
 time_outside : (text : Text) → within text ≡ false → is_time text ≡ false
-time_outside text h =
-    and_right _ _
-    (or_from _ _ (filled_outside rest later) (zone_outside (past is_blank rest) (past_outside is_blank blank_stands rest later)))
-  where
-    rest : Text
-    rest = past in_clock text
-
-    later : within rest ≡ false
-    later = past_outside in_clock clock_stands text h
+time_outside text h = grind (arith, and_right, or_from, filled_outside, zone_outside, past_outside, blank_stands, clock_stands)
 
 after_date_outside : (text : Text) → within text ≡ false → is_time_after_date text ≡ false
 after_date_outside [] h = refl
@@ -336,13 +241,7 @@ after_date_outside (c ∷ rest) h =
     (λ e. time_outside (past is_blank rest) (past_outside is_blank blank_stands rest e)) h)
 
 timestamp_outside : (text : Text) → within text ≡ false → timestamp_11 text ≡ None
-timestamp_outside text h = off _ _ (or_from _ _ (and_right _ _ (filled_outside rest later)) (and_right _ _ (after_date_outside rest later)))
-  where
-    rest : Text
-    rest = past in_date text
-
-    later : within rest ≡ false
-    later = past_outside in_date date_stands text h
+timestamp_outside text h = grind (arith, off, or_from, and_right, filled_outside, after_date_outside, past_outside, date_stands)
 
 -- ---- all
 

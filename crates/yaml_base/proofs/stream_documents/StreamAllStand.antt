@@ -1,7 +1,7 @@
 -- Each document of an accepted list stands: its names and tags by what is accepted, its scalars by their bodies.
-use Rattle.yaml_base.proofs.Common.{◌≤◌, if◌then◌else◌, Option, None, Some, nat_le, negsuc, pos, ℤ, Bool, false, true, ◌&&◌, List, [], ◌∷◌, refl, ◌≡◌}
-use Rattle.yaml_base.proofs.Common.{leb-true, ap, subst, sym, ◌∙◌, arith, list_all, is_printable, Rendered, Event, Documents, no_documents, documents_and}
-use Rattle.yaml_base.proofs.Common.{tree_of, root_place, has_no_documents, render_documents, first_standing, text_of, has_scalar_values, MeaningIsKept}
+use Rattle.yaml_base.proofs.Common.{◌≤◌, Option, None, Some, negsuc, pos, ℤ, true, List, [], ◌∷◌, refl, ◌≡◌}
+use Rattle.yaml_base.proofs.Common.{leb-true, subst, arith, list_all, is_printable, Rendered, Event, Documents, no_documents, documents_and}
+use Rattle.yaml_base.proofs.Common.{root_place, has_no_documents, render_documents, first_standing, text_of, has_scalar_values, MeaningIsKept}
 use Rattle.yaml_base.proofs.Common.{has_scalar_texts, text_written, bytes_written, list_layout, IsAccepted, Encoding, Settings, Effective, effective_indent}
 use Rattle.yaml_base.proofs.Common.{effective, reads_alike, directives_in_force, BodiesAreTidy, characters_read, documents_in_order}
 use Rattle.yaml_base.proofs.{Trees.tree_of-stream_events, stream_documents.StreamDocumentTexts.start_rendered}
@@ -47,12 +47,7 @@ documents_stand s (documents_and before document) low high sound bodies =
 indent_low : (indent : Option ℤ) → effective_indent indent ≤ 9
 indent_low None = omega arith
 indent_low (Some (negsuc n)) = omega arith
-indent_low (Some (pos n)) = by (nat_le 2 n) (nat_le n 9) refl
-  where
-    by : (x y : Bool) → nat_le n 9 ≡ y → (if x && y then n else 2) ≤ 9
-    by true true e = leb-true n 9 e
-    by true false e = omega arith
-    by false y e = omega arith
+indent_low (Some (pos n)) = grind (arith, leb-true)
 
 -- The law
 
@@ -83,17 +78,7 @@ StreamsStand =
 -- it does where bodies are tidy and keep their meaning, and texts are printable and read from their bytes
 pub streams_stand : BodiesAreTidy → MeaningIsKept → TextsAreValues → LayoutsArePrintable → LayoutsAreRead → StreamsStand
 streams_stand tidy kept values printable characters given encoding events accepted texts portable =
-    let s = effective given encoding in
-    let stream = accepted.stream in
-    let own = subst (IsAccepted given.canonical) (sym accepted.is_stream) accepted in
-    let scalars = ap (list_all has_scalar_values) accepted.is_stream ∙ values events texts in
-    record {
-      documents = documents_stand s stream.documents (indent_deep given.indent) (indent_low given.indent)
-          (accepted_names_stand given events stream accepted texts portable (ap tree_of (sym accepted.is_stream) ∙ tree_of-stream_events stream))
-          (roots_stand given encoding stream tidy kept own scalars);
-      printable = printable given encoding events accepted;
-      characters = characters given encoding events accepted;
-    }
+    grind (arith, documents_stand, indent_deep, indent_low, accepted_names_stand, tree_of-stream_events, roots_stand)
 
 -- and then reads back
 pub streams_read_back : StreamsStand → StreamReadsBack

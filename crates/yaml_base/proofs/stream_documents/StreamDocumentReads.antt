@@ -1,12 +1,11 @@
 -- One document more of a stream: its directives, its `---` and its root, or a root without `---` at the stream's start.
-use Rattle.yaml_base.proofs.Common.{ℕ, ◌==◌, is_some, Option, None, Some, codes, length, Bool, false, not, true, ◌&&◌, List, [], ◌++◌, ◌∷◌, refl, ◌≡◌}
-use Rattle.yaml_base.proofs.Common.{eqb-true, append-nil, append_assoc, ap, subst, sym, ◌∙◌, arith, or_parts, false≢true, Text, line_feed, render_then}
-use Rattle.yaml_base.proofs.Common.{Version, TagDirective, DocumentStart, render_version, render_tag_directives, has_directives, Effective, DocumentTree}
-use Rattle.yaml_base.proofs.Common.{start_marker, Section, Heading, no_heading, heading_of, after_heading, with_heading, section_by_kind, lines_of}
+use Rattle.yaml_base.proofs.Common.{ℕ, ◌==◌, is_some, Option, None, Some, codes, length, Bool, false, not, true, ◌&&◌, List, [], ◌++◌, ◌∷◌, refl, ◌≡◌, eqb-true}
+use Rattle.yaml_base.proofs.Common.{append-nil, append_assoc, ap, subst, sym, ◌∙◌, arith, or_parts, false≢true, Text, line_feed, Version, TagDirective}
+use Rattle.yaml_base.proofs.Common.{DocumentStart, has_directives, Effective, DocumentTree, start_marker, Section, Heading, no_heading, heading_of}
+use Rattle.yaml_base.proofs.Common.{after_heading, with_heading, section_by_kind, lines_of}
+use Rattle.yaml_base.proofs.stream_lines.{StreamClosed.lines_broken, StreamClosed.closed_both, StreamLineLaws.is_closed, StreamLineLaws.OneLine}
 use Rattle.yaml_base.proofs.stream_documents.StreamRootsStand.{heading_text, HeadingStands}
 use Rattle.yaml_base.proofs.stream_documents.StreamSoFar.{WalkProgress, prefix_alone, one_more, Percents, percents_unmarked, percents_shown, prefix_heading}
-use Rattle.yaml_base.proofs.stream_lines.StreamClosed.{margin_cursor, lines_broken, closed_both}
-use Rattle.yaml_base.proofs.stream_lines.StreamLineLaws.{is_closed, OneLine}
 use Rattle.yaml_base.specs.streams.StreamDocuments.{StreamPlace, after_root, document_read}
 
 -- Ends
@@ -26,9 +25,7 @@ Awaits breaks12 depth text documents false = WalkProgress breaks12 depth text (r
 
 -- so it is at a stream's start
 pub awaits_first : (breaks12 : Bool) (depth : ℕ) → Awaits breaks12 depth [] [] true
-awaits_first breaks12 depth = λ lines parsed ends percents reads.
-    prefix_alone breaks12 depth lines (record { documents = []; place = after_heading parsed }) ends (percents_unmarked (lines_of breaks12 lines) percents)
-    (prefix_heading breaks12 depth (lines_of breaks12 lines) parsed percents reads)
+awaits_first breaks12 depth = grind (arith, prefix_alone, percents_unmarked, prefix_heading)
 
 -- three indicators break no line
 dots_line : (breaks12 : Bool) → OneLine breaks12 (codes "...")
@@ -85,17 +82,11 @@ no_directives start h =
 
 -- are written as nothing
 pub nothing_headed : (s : Effective) (start : DocumentStart) → has_directives start ≡ false → heading_text s start ≡ []
-nothing_headed s start h =
-    let parts = no_directives start h in
-    ap (λ v. (render_then (render_version v (margin_cursor 0)) (render_tag_directives s.portable start.directives)).text) parts.0
-    ∙ ap (λ l. (render_tag_directives s.portable l (margin_cursor 0)).text) parts.1
+nothing_headed s start h = grind (arith, no_directives)
 
 -- and say nothing
 pub nothing_parsed : (start : DocumentStart) → has_directives start ≡ false → no_heading ≡ heading_parsed start
-nothing_parsed start h =
-    let parts = no_directives start h in
-    sym (ap (λ v. let made : Heading = record { version = v; directives = start.directives } in made) parts.0
-    ∙ ap (λ l. let made : Heading = record { version = None; directives = l } in made) parts.1)
+nothing_parsed start h = grind (arith, no_directives)
 
 -- the directives of a document, behind `...` where the document before them is open
 pub headed : (s : Effective) (depth : ℕ) (text : Text) (documents : List DocumentTree) (start : DocumentStart) (ended : Bool)

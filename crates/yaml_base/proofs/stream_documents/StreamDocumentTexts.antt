@@ -1,12 +1,12 @@
 -- The text of a document by itself: its directives, its marker, its root and its end, as one text in place of pieces.
-use Rattle.yaml_base.proofs.Common.{if◌then◌else◌, ◌==◌, Option, None, Some, codes, Bool, false, not, true, ◌&&◌, ◌||◌, List, [], ◌++◌, ◌∷◌, refl, ◌≡◌}
-use Rattle.yaml_base.proofs.Common.{append-nil, append_assoc, ap, subst, sym, ◌∙◌, flat_map-append, Text, line_feed, Cursor, Rendered, render_then, new_line}
-use Rattle.yaml_base.proofs.Common.{Version, TagDirective, DocumentStart, Document, render_if, render_closing_marker, render_version, render_tag_directives}
+use Rattle.yaml_base.proofs.Common.{arith, if◌then◌else◌, ◌==◌, Option, None, Some, codes, Bool, false, not, true, ◌&&◌, ◌||◌, List, [], ◌++◌, ◌∷◌, refl, ◌≡◌}
+use Rattle.yaml_base.proofs.Common.{append-nil, append_assoc, ap, subst, sym, ◌∙◌, flat_map-append, Text, line_feed, Cursor, Rendered, new_line, Version}
+use Rattle.yaml_base.proofs.Common.{TagDirective, DocumentStart, Document, render_if, render_closing_marker, render_version, render_tag_directives}
 use Rattle.yaml_base.proofs.Common.{has_directives, is_explicit, render_document_marker, render_document_start, document_start_piece, document_end_piece}
 use Rattle.yaml_base.proofs.Common.{root_place, render_document, Piece, piece_text, text_of, Standing, RenderedPiece, RenderedPieces, one_piece, render_node}
 use Rattle.yaml_base.proofs.Common.{Effective, directives_in_force}
-use Rattle.yaml_base.proofs.stream_documents.{StreamDocumentReads.dots, StreamDocumentReads.dots_if, StreamRootAdded.marked_text}
-use Rattle.yaml_base.proofs.stream_documents.{StreamRootsStand.root_cursor, StreamRootsStand.render_root, StreamRootsStand.heading_text}
+use Rattle.yaml_base.proofs.stream_documents.{StreamDocumentReads.dots_if, StreamRootAdded.marked_text}
+use Rattle.yaml_base.proofs.stream_documents.StreamRootsStand.{root_cursor, render_root, heading_text}
 use Rattle.yaml_base.proofs.stream_lines.StreamClosed.{closing, closed, Settled, new_line_closes, margin_cursor}
 use Rattle.yaml_base.proofs.stream_nodes.StreamTexts.{node_own, node_joined}
 
@@ -49,23 +49,7 @@ pub start_rendered : (s : Effective) (first : Bool) (start : DocumentStart) (sta
       text = before_root s (standing.open_ended == 0) start ++ marker_text (is_explicit (s.canonical || s.portable) first start) s.canonical;
       cursor = root_cursor (is_explicit (s.canonical || s.portable) first start && not s.canonical);
     }
-start_rendered s first start standing at =
-    let explicit = is_explicit (s.canonical || s.portable) first start in
-    let need = has_directives start && not (standing.open_ended == 0) in
-    let version = render_version start.version (margin_cursor 0) in
-    let directives = render_tag_directives s.portable start.directives version.cursor in
-    ap (λ c. render_then (render_then (render_then (render_if need render_closing_marker c) (render_version start.version))
-    (render_tag_directives s.portable start.directives)) (render_if explicit (render_document_marker s.canonical))) at
-    ∙ ap (λ l. render_then (render_then (render_then l (render_version start.version)) (render_tag_directives s.portable start.directives))
-    (render_if explicit (render_document_marker s.canonical))) (dots_rendered need)
-    ∙ ap (λ c. let made : Rendered = record {
-      text = ((dots_if need ++ version.text) ++ directives.text) ++ (render_if explicit (render_document_marker s.canonical) c).text;
-      cursor = (render_if explicit (render_document_marker s.canonical) c).cursor;
-    } in made) (directives_end s.portable start.directives version.cursor (version_ends start.version))
-    ∙ ap (λ (l : Rendered). let made : Rendered = record { text = ((dots_if need ++ version.text) ++ directives.text) ++ l.text; cursor = l.cursor } in made)
-    (marker_rendered explicit s.canonical)
-    ∙ ap (λ t. let made : Rendered = record { text = t ++ marker_text explicit s.canonical; cursor = root_cursor (explicit && not s.canonical) } in made)
-    (append_assoc (dots_if need) version.text directives.text)
+start_rendered s first start standing at = grind (arith, dots_rendered, directives_end, version_ends, marker_rendered, append_assoc)
 
 -- Ends
 
@@ -74,9 +58,7 @@ end_text : (implicit : Bool) (standing : Standing) → Settled standing.cursor
     → text_of (one_piece (document_end_piece implicit standing)).pieces ≡ closing standing.cursor ++ dots_if (not implicit)
 end_text true standing settled =
     append-nil ((new_line 0 standing.cursor).text ++ []) ∙ append-nil (new_line 0 standing.cursor).text ∙ new_line_closes 0 standing.cursor settled
-end_text false standing settled =
-    append-nil (((new_line 0 standing.cursor).text ++ dots) ++ []) ∙ append-nil ((new_line 0 standing.cursor).text ++ dots)
-    ∙ ap (λ t. t ++ dots) (new_line_closes 0 standing.cursor settled ∙ append-nil (closing standing.cursor))
+end_text false standing settled = grind (arith, append-nil, new_line_closes)
 
 pub end_cursor : (implicit : Bool) (standing : Standing) → (document_end_piece implicit standing).standing.cursor ≡ margin_cursor 0
 end_cursor true standing = refl
@@ -84,11 +66,7 @@ end_cursor false standing = refl
 
 -- an implicit end leaves the document open, an explicit one doesn't
 end_marker : (implicit : Bool) (standing : Standing) → ((document_end_piece implicit standing).standing.open_ended == 0) ≡ not implicit
-end_marker true standing = by (standing.open_ended == 0) refl
-  where
-    by : (x : Bool) → (standing.open_ended == 0) ≡ x → ((if x then 1 else standing.open_ended) == 0) ≡ false
-    by true e = refl
-    by false e = e
+end_marker true standing = grind (arith)
 end_marker false standing = refl
 
 -- Documents
@@ -112,10 +90,7 @@ marked_root false s document = refl
 
 -- regrouped: what stands before a marker, the marker, a root and its end
 regrouped : (a m r c e : Text) → ((((a ++ m) ++ []) ++ []) ++ r) ++ (c ++ e) ≡ a ++ ((m ++ (r ++ c)) ++ e)
-regrouped a m r c e =
-    ap (λ t. (t ++ r) ++ (c ++ e)) (append-nil ((a ++ m) ++ []) ∙ append-nil (a ++ m))
-    ∙ append_assoc (a ++ m) r (c ++ e) ∙ append_assoc a m (r ++ (c ++ e))
-    ∙ ap (λ t. a ++ (m ++ t)) (sym (append_assoc r c e)) ∙ ap (λ t. a ++ t) (sym (append_assoc m (r ++ c) e))
+regrouped a m r c e = grind (arith, append-nil, append_assoc)
 
 -- what is rendered for a document is this text, after which a line begins and the document is ended or open
 pub record RenderedDocument (s : Effective) (first : Bool) (document : Document) (standing : Standing) : Type 0 where

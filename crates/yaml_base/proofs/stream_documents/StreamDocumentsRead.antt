@@ -1,7 +1,8 @@
 -- The documents of a stream, one after another: each that stands is one document more, and the stream may end after them.
-use Rattle.yaml_base.proofs.Common.{ℕ, ◌≤◌, is_some, Bool, false, not, true, ◌&&◌, ◌||◌, List, [], ◌++◌, refl, ◌≡◌, true≢false, append-nil, append_assoc, ap}
-use Rattle.yaml_base.proofs.Common.{subst, sym, ◌∙◌, or_parts, Text, DocumentStart, scalar_tag, Node, alias_node, scalar_node, sequence_node, mapping_node}
-use Rattle.yaml_base.proofs.Common.{Document, has_directives, is_explicit, Effective, is_written_as_nothing, is_empty, DocumentTree}
+use Rattle.yaml_base.proofs.Common.{arith}
+use Rattle.yaml_base.proofs.Common.{ℕ, ◌≤◌, Bool, false, not, true, ◌&&◌, ◌||◌, List, [], ◌++◌, refl, ◌≡◌, true≢false, append-nil, append_assoc, ap}
+use Rattle.yaml_base.proofs.Common.{subst, sym, ◌∙◌, or_parts, Text, DocumentStart, Node, alias_node, scalar_node, sequence_node, mapping_node}
+use Rattle.yaml_base.proofs.Common.{Document, has_directives, is_explicit, Effective, is_written_as_nothing, DocumentTree}
 use Rattle.yaml_base.{proofs.stream_lines.StreamClosed.closed, proofs.stream_nodes.StreamFits.size, specs.streams.StreamDocuments.after_root}
 use Rattle.yaml_base.proofs.stream_documents.{StreamDocumentTexts.before_root, StreamDocumentTexts.root_part, StreamDocumentTexts.document_text}
 use Rattle.yaml_base.proofs.stream_documents.{StreamRootAdded.with_document, StreamRootAdded.marked_added, StreamRootAdded.unmarked_added}
@@ -14,13 +15,7 @@ use Rattle.yaml_base.proofs.stream_documents.StreamRootsStand.{render_root, Root
 -- in canonical mode each root is written
 something_canonical : (canonical : Bool) (n : Node) → canonical ≡ true → is_written_as_nothing canonical n ≡ false
 something_canonical canonical (alias_node name) h = refl
-something_canonical canonical (scalar_node content) h =
-    ap (λ c. is_written_as_nothing c (scalar_node content)) h
-    ∙ and_no (is_empty content.value && not (is_some content.anchor) && not (is_some (scalar_tag true content)) && content.plain_implicit)
-  where
-    and_no : (x : Bool) → x && false ≡ false
-    and_no true = refl
-    and_no false = refl
+something_canonical canonical (scalar_node content) h = grind (arith)
 something_canonical canonical (sequence_node start items) h = refl
 something_canonical canonical (mapping_node start pairs) h = refl
 
@@ -67,11 +62,7 @@ implicit_more s depth document ended deep stands small none some =
 
 -- a document that isn't the first has its marker
 pub later_explicit : (each : Bool) (start : DocumentStart) → is_explicit each false start ≡ true
-later_explicit each start = by (not start.implicit) each (has_directives start)
-  where
-    by : (x y z : Bool) → (x || true || y || z) ≡ true
-    by true y z = refl
-    by false y z = refl
+later_explicit each start = grind (arith)
 
 -- one without a marker has no directives
 without_marker : (each first : Bool) (start : DocumentStart) → is_explicit each first start ≡ false → has_directives start ≡ false
@@ -82,15 +73,7 @@ pub later_more : (s : Effective) (depth : ℕ) (text : Text) (documents : List D
     → DocumentStands s false document
     → size document.root ≤ depth → Awaits s.breaks12 depth text documents ended
     → Awaits s.breaks12 depth (text ++ document_text s false ended document) (with_document s documents document) (not document.end_implicit)
-later_more s depth text documents document ended deep stands small awaits =
-    subst (λ x. Awaits s.breaks12 depth (text ++ (before_root s ended document.start ++ (root_part x s document ++ dots_if (not document.end_implicit))))
-    (with_document s documents document)
-    (not document.end_implicit))
-    (sym explicit) (explicit_more s depth text documents document ended deep
-    (subst (λ x. RootStands s document (x && not s.canonical)) explicit stands.root) stands.heading small awaits)
-  where
-    explicit : is_explicit (s.canonical || s.portable) false document.start ≡ true
-    explicit = later_explicit (s.canonical || s.portable) document.start
+later_more s depth text documents document ended deep stands small awaits = grind (arith, explicit_more, later_explicit)
 
 -- the first, where it isn't lost
 pub first_more : (s : Effective) (depth : ℕ) (document : Document) → 2 ≤ s.indent → DocumentStands s true document → size document.root ≤ depth

@@ -1,13 +1,13 @@
 -- The lines of a document's directives: each begins with `%`, and they are read as its version and its directives.
-use Rattle.yaml_base.proofs.Common.{if◌then◌else◌, option_and_then, Option, None, Some, codes, pos, Bool, false, true, ◌||◌, List, [], ◌++◌, ◌∷◌, refl, ◌≡◌}
+use Rattle.yaml_base.proofs.Common.{if◌then◌else◌, option_and_then, Option, None, Some, Bool, false, true, ◌||◌, List, [], ◌++◌, ◌∷◌, refl, ◌≡◌}
 use Rattle.yaml_base.proofs.Common.{int_eq, append-nil, append_assoc, ap, sym, ◌∙◌, arith, or_parts, or_from, nat_tests, list_all, list_any, Text, line_feed}
-use Rattle.yaml_base.proofs.Common.{space, is_blank, is_break, Cursor, Rendered, first_cursor, render_then, Version, TagDirective, DocumentStart, version_1_1}
-use Rattle.yaml_base.proofs.Common.{version_1_2, render_version, render_tag_directives, is_read_break, directive_scalars, prefix_escaped, Effective}
+use Rattle.yaml_base.proofs.Common.{is_blank, is_break, Rendered, first_cursor, render_then, Version, TagDirective, DocumentStart}
+use Rattle.yaml_base.proofs.Common.{render_version, render_tag_directives, is_read_break, directive_scalars, Effective}
 use Rattle.yaml_base.proofs.Common.{version_fault, handle_fault, prefix_fault, directive_fault, gives_handle, next_directive_fault, directives_fault_after}
 use Rattle.yaml_base.proofs.Common.{directives_fault, heading_of, begins_with_percent, Line, lines_of, text_of_lines}
 use Rattle.yaml_base.{proofs.NoFaults.neither, proofs.PercentLaws.prefix_stands, proofs.TagForms.handle_form, proofs.TagWords.handle_ends_no_word}
-use Rattle.yaml_base.{proofs.stream_documents.StreamSoFar.Percents, proofs.stream_nodes.StreamProperties.holds_white, specs.Indicators.render_indicator}
-use Rattle.yaml_base.{specs.Indicators.yaml_directive, specs.Layout.then_line_end, specs.declared.errors.yaml_error_t.TheVariants.DuplicateDirective}
+use Rattle.yaml_base.{proofs.stream_documents.StreamSoFar.Percents, proofs.stream_nodes.StreamProperties.holds_white}
+use Rattle.yaml_base.{specs.declared.errors.yaml_error_t.TheVariants.DuplicateDirective}
 use Rattle.yaml_base.proofs.stream_documents.StreamRootsStand.{heading_text, HeadingStands}
 use Rattle.yaml_base.proofs.stream_lines.StreamClosed.{character_line, lines_broken, closed_behind}
 use Rattle.yaml_base.proofs.stream_lines.StreamLineLaws.{is_closed, OneLine, one_line_both}
@@ -24,13 +24,7 @@ WholeLines breaks12 (line ∷ rest) = OneLine breaks12 line.text × (line.ending
 whole_lines : (breaks12 : Bool) (lines : List Line) (rest : Text) → WholeLines breaks12 lines
     → lines_of breaks12 (text_of_lines lines ++ rest) ≡ lines ++ lines_of breaks12 rest
 whole_lines breaks12 [] rest h = refl
-whole_lines breaks12 (line ∷ lines) rest h =
-    ap (lines_of breaks12) (append_assoc line.text (line.ending ++ text_of_lines lines) rest)
-    ∙ ap (λ ending. lines_of breaks12 (line.text ++ ((ending ++ text_of_lines lines) ++ rest))) h.1
-    ∙ lines_broken breaks12 line.text (text_of_lines lines ++ rest) h.0
-    ∙ ap (λ ending. let made : Line = record { text = line.text; ending = ending } in made ∷ lines_of breaks12 (text_of_lines lines ++ rest))
-    (sym h.1)
-    ∙ ap (λ all. line ∷ all) (whole_lines breaks12 lines rest h.2)
+whole_lines breaks12 (line ∷ lines) rest h = grind (arith, append_assoc, lines_broken, whole_lines breaks12 lines rest h.2)
 
 -- lines, and then others
 whole_both : (breaks12 : Bool) (some others : List Line) → WholeLines breaks12 some → WholeLines breaks12 others → WholeLines breaks12 (some ++ others)
@@ -40,10 +34,7 @@ whole_both breaks12 (line ∷ rest) others h k = (h.0, h.1, whole_both breaks12 
 -- the text of lines, and then of others
 text_of_both : (some others : List Line) → text_of_lines (some ++ others) ≡ text_of_lines some ++ text_of_lines others
 text_of_both [] others = refl
-text_of_both (line ∷ rest) others =
-    ap (λ t. line.text ++ (line.ending ++ t)) (text_of_both rest others)
-    ∙ ap (λ t. line.text ++ t) (sym (append_assoc line.ending (text_of_lines rest) (text_of_lines others)))
-    ∙ sym (append_assoc line.text (line.ending ++ text_of_lines rest) (text_of_lines others))
+text_of_both (line ∷ rest) others = grind (arith, append_assoc, text_of_both rest others)
 
 -- A heading's lines
 
@@ -63,19 +54,7 @@ dark_line breaks12 (c ∷ text) h =
 directive_whole : (breaks12 portable : Bool) (directive : TagDirective) → handle_fault directive.handle ≡ None
     → OneLine breaks12 (directive_text portable directive)
 directive_whole breaks12 portable directive sound =
-    let prefix = prefix_escaped portable directive.prefix in
-    one_line_both breaks12 (codes "%TAG" ++ space ∷ []) (directive.handle ++ (space ∷ prefix)) (by breaks12)
-    (one_line_both breaks12 directive.handle (space ∷ prefix)
-    (dark_line breaks12 directive.handle (handle_ends_no_word directive.handle (handle_form directive.handle sound)))
-    (character_line breaks12 space prefix (at breaks12) (dark_line breaks12 prefix (prefix_no_white prefix (prefix_stands portable directive.prefix)))))
-  where
-    by : (x : Bool) → OneLine x (codes "%TAG" ++ space ∷ [])
-    by true = refl
-    by false = refl
-
-    at : (x : Bool) → is_read_break x space ≡ false
-    at true = refl
-    at false = refl
+    grind (arith, one_line_both, dark_line, handle_ends_no_word, handle_form, character_line, prefix_no_white, prefix_stands)
 
 tags_whole : (breaks12 portable : Bool) (before directives : List TagDirective) → directives_fault_after before directives ≡ None
     → WholeLines breaks12 (tag_lines portable directives)
@@ -88,13 +67,7 @@ tags_whole breaks12 portable before (directive ∷ rest) sound =
 
 version_whole : (breaks12 : Bool) (version : Option Version) → WholeLines breaks12 (version_lines version)
 version_whole breaks12 None = tt
-version_whole breaks12 (Some version) = (by breaks12 (int_eq version.minor (pos 2)), refl, tt)
-  where
-    by : (x two : Bool) → OneLine x (codes "%YAML" ++ (space ∷ (if two then version_1_2 else version_1_1).text))
-    by true true = refl
-    by true false = refl
-    by false true = refl
-    by false false = refl
+version_whole breaks12 (Some version) = grind (arith, int_eq)
 
 -- the lines of a heading without a fault
 heading_whole : (breaks12 portable : Bool) (start : DocumentStart) → directives_fault start.directives ≡ None
@@ -117,57 +90,31 @@ tags_percent portable (directive ∷ rest) = tags_percent portable rest
 
 -- each line of a heading does
 heading_percent : (portable : Bool) (start : DocumentStart) → Percents (heading_lines portable start)
-heading_percent portable start = by start.version
-  where
-    by : (version : Option Version) → Percents (version_lines version ++ tag_lines portable start.directives)
-    by None = tags_percent portable start.directives
-    by (Some version) = tags_percent portable start.directives
+heading_percent portable start = grind (arith, tags_percent)
 
 -- As they are rendered
 
--- a text at the start of a line
-abbrev render_as : Text → Cursor → Rendered
-render_as text cursor = record { text = text; cursor = cursor }
-
 version_is : (version : Option Version) → render_version version first_cursor ≡ record { text = text_of_lines (version_lines version); cursor = first_cursor }
 version_is None = refl
-version_is (Some version) = by (int_eq version.minor (pos 2))
-  where
-    by : (two : Bool) → then_line_end (render_then (render_indicator yaml_directive first_cursor) (render_indicator (if two then version_1_2 else version_1_1)))
-        ≡ (let line : Line = record { text = codes "%YAML" ++ (space ∷ (if two then version_1_2 else version_1_1).text); ending = line_feed ∷ [] } in
-        let rendered : Rendered = record { text = text_of_lines (line ∷ []); cursor = first_cursor } in rendered)
-    by true = refl
-    by false = refl
+version_is (Some version) = grind (arith, int_eq)
 
 tags_are : (portable : Bool) (directives : List TagDirective)
     → render_tag_directives portable directives first_cursor ≡ record { text = text_of_lines (tag_lines portable directives); cursor = first_cursor }
 tags_are portable [] = refl
-tags_are portable (directive ∷ rest) =
-    let text = directive_text portable directive in
-    ap (λ (after : Rendered). render_as ((text ++ line_feed ∷ []) ++ after.text) after.cursor) (tags_are portable rest)
-    ∙ ap (λ t. render_as t first_cursor) (append_assoc text (line_feed ∷ []) (text_of_lines (tag_lines portable rest)))
+tags_are portable (directive ∷ rest) = grind (arith, append_assoc, tags_are portable rest)
 
 -- the version and the directives are rendered as these lines
 heading_rendered : (portable : Bool) (start : DocumentStart)
     → render_then (render_version start.version first_cursor) (render_tag_directives portable start.directives)
     ≡ record { text = text_of_lines (heading_lines portable start); cursor = first_cursor }
-heading_rendered portable start =
-    ap (λ (rendered : Rendered). render_then rendered (render_tag_directives portable start.directives)) (version_is start.version)
-    ∙ ap (λ (after : Rendered). render_as (text_of_lines (version_lines start.version) ++ after.text) after.cursor) (tags_are portable start.directives)
-    ∙ ap (λ t. render_as t first_cursor) (sym (text_of_both (version_lines start.version) (tag_lines portable start.directives)))
+heading_rendered portable start = grind (arith, version_is, tags_are, text_of_both)
 
 -- A heading as it is rendered
 
 -- the last of whole lines ends their text
 whole_closed : (breaks12 : Bool) (lines : List Line) → WholeLines breaks12 lines → is_closed breaks12 (text_of_lines lines) ≡ true
 whole_closed breaks12 [] h = refl
-whole_closed breaks12 (line ∷ rest) h =
-    ap (λ ending. is_closed breaks12 (line.text ++ (ending ++ text_of_lines rest))) h.1
-    ∙ closed_behind breaks12 line.text line_feed (text_of_lines rest) (by (text_of_lines rest) (whole_closed breaks12 rest h.2))
-  where
-    by : (t : Text) → is_closed breaks12 t ≡ true → is_closed breaks12 (line_feed ∷ t) ≡ true
-    by [] h = refl
-    by (c ∷ t) h = h
+whole_closed breaks12 (line ∷ rest) h = grind (arith, closed_behind, whole_closed breaks12 rest h.2)
 
 -- the lines of its text
 heading_text_lines : (s : Effective) (start : DocumentStart) → directives_fault start.directives ≡ None

@@ -1,21 +1,19 @@
 -- A document's directives, as they are written, are lines that are read as these directives.
-use Rattle.yaml_base.proofs.Common.{ℕ, if◌then◌else◌, ◌==◌, fold, option_and_then, Option, None, Some, codes, negsuc, pos, ℤ, Bool, false, not, true, ◌&&◌}
-use Rattle.yaml_base.proofs.Common.{◌||◌, List, [], ◌++◌, ◌∷◌, ◌⊎◌, refl, ◌≡◌, int_eq, eqb-true, append-nil, append_assoc, inl, inr, ap, subst, sym, ◌∙◌, arith}
-use Rattle.yaml_base.proofs.Common.{and_parts, and_from, or_from, not-true, false≢true, nat_tests, list_all-append, slice_split-cons_yes, slice_split-cons_no}
-use Rattle.yaml_base.proofs.Common.{list_all, onto_first, slice_split, all_scalars, Text, line_feed, space, is_alpha, is_space, is_blank, is_break, Version}
-use Rattle.yaml_base.proofs.Common.{TagDirective, DocumentStart, version_1_1, version_1_2, directive_scalars, percent_sign, is_tag_character, character_written}
-use Rattle.yaml_base.proofs.Common.{percent_escaped, prefix_escaped, version_fault, exclamation_mark, handle_fault, prefix_fault, directive_fault, gives_handle}
-use Rattle.yaml_base.proofs.Common.{next_directive_fault, directives_fault_after, directives_fault, is_uri_character, percent_read, Heading, no_heading}
-use Rattle.yaml_base.proofs.Common.{heading_of, Line}
+use Rattle.yaml_base.proofs.Common.{ℕ, if◌then◌else◌, ◌==◌, fold, option_and_then, Option, None, Some, codes, pos, Bool, false, not, true, ◌&&◌, ◌||◌, List, []}
+use Rattle.yaml_base.proofs.Common.{◌++◌, ◌∷◌, ◌⊎◌, refl, ◌≡◌, int_eq, eqb-true, append-nil, append_assoc, inl, inr, ap, sym, ◌∙◌, arith, and_parts, and_from}
+use Rattle.yaml_base.proofs.Common.{or_from, not-true, false≢true, nat_tests, list_all-append, slice_split-cons_yes, slice_split-cons_no, list_all, onto_first}
+use Rattle.yaml_base.proofs.Common.{slice_split, all_scalars, Text, line_feed, space, is_alpha, is_space, is_blank, is_break, Version, TagDirective}
+use Rattle.yaml_base.proofs.Common.{DocumentStart, directive_scalars, is_tag_character, character_written, percent_escaped, prefix_escaped, version_fault}
+use Rattle.yaml_base.proofs.Common.{exclamation_mark, handle_fault, prefix_fault, directive_fault, gives_handle, next_directive_fault, directives_fault_after}
+use Rattle.yaml_base.proofs.Common.{directives_fault, is_uri_character, percent_read, Heading, heading_of, Line}
 use Rattle.std.proofs.lemmas.List.Sums.{fold-append}
 use Rattle.yaml_base.{proofs.NoFaults.neither, proofs.NoFaults.not_given, proofs.TagForms.IsHandle, proofs.TagForms.handle_form}
-use Rattle.yaml_base.{proofs.TagWords.handle_ends_no_word, proofs.stream_nodes.StreamTags.uri_character, proofs.stream_nodes.StreamTags.uri_text}
-use Rattle.yaml_base.{specs.Layout.version_word, specs.Tags.equals_integer, specs.declared.errors.yaml_error_t.yaml_error_t}
+use Rattle.yaml_base.{proofs.TagWords.handle_ends_no_word, specs.Layout.version_word, specs.declared.errors.yaml_error_t.TheVariants.DuplicateDirective}
+use Rattle.yaml_base.proofs.stream_nodes.StreamTags.{uri_character, uri_text}
 use Rattle.yaml_base.proofs.stream_nodes.StreamProperties.{holds_white, has_no_space, no_white_no_space}
-use Rattle.yaml_base.specs.declared.errors.yaml_error_t.TheVariants.{DuplicateDirective, IncompatibleVersion}
 use Rattle.yaml_base.proofs.PercentLaws.{decoded_prefix, character_stands, escaped_stands, stands_in_prefix, prefix_stands, prefix_begins}
 use Rattle.yaml_base.specs.reading.ReadTags.{closes_handle, is_handle_text, prefix_parsed, is_handle_given}
-use Rattle.yaml_base.specs.streams.StreamDocuments.{version_parsed, with_version, with_directive, directive_by_words, directive_line}
+use Rattle.yaml_base.specs.streams.StreamDocuments.{version_parsed, with_directive, directive_by_words, directive_line}
 
 -- Words
 
@@ -73,24 +71,12 @@ parsed_if [] h = absurd (false≢true h)
 parsed_if (c ∷ rest) h = ap (λ x. if x then percent_read (c ∷ rest) else None) h
 
 uri_prefix : (c : ℕ) (text : Text) → list_all is_uri_character (c ∷ text) ≡ true → may_be_prefix (c ∷ text) ≡ true
-uri_prefix c text h =
-    let parts = and_parts (is_uri_character c) (list_all is_uri_character text) h in
-    and_from (c == exclamation_mark || is_uri_character c) (list_all is_uri_character text) (by (c == exclamation_mark) parts.0) parts.1
-  where
-    by : (x : Bool) → is_uri_character c ≡ true → (x || is_uri_character c) ≡ true
-    by true h = refl
-    by false h = h
+uri_prefix c text h = grind (arith, and_parts, and_from)
 
 -- what stands as itself at the start of a prefix may stand there
 kept_first : (portable : Bool) (c : ℕ) → ((portable && c == exclamation_mark) || is_tag_character c) ≡ true
     → (c == exclamation_mark || is_uri_character c) ≡ true
-kept_first portable c h = by portable (c == exclamation_mark) (is_tag_character c) refl h
-  where
-    by : (portable marker kept : Bool) → is_tag_character c ≡ kept → ((portable && marker) || kept) ≡ true → (marker || is_uri_character c) ≡ true
-    by portable true kept e h = refl
-    by portable false true e h = uri_character c (ap (λ x. x || c == percent_sign) e)
-    by true false false e h = absurd (false≢true h)
-    by false false false e h = absurd (false≢true h)
+kept_first portable c h = grind (arith, uri_character, false≢true)
 
 -- a written prefix may be one
 written_prefix : (portable : Bool) (c : ℕ) (text : Text) → may_be_prefix (prefix_escaped portable (c ∷ text)) ≡ true
@@ -128,12 +114,7 @@ directive_text portable directive = codes "%TAG" ++ (space ∷ (directive.handle
 directive_words : (portable : Bool) (directive : TagDirective) → handle_fault directive.handle ≡ None
     → slice_split is_space (directive_text portable directive) ≡ codes "%TAG" ∷ directive.handle ∷ prefix_escaped portable directive.prefix ∷ []
 directive_words portable directive sound =
-    let prefix = prefix_escaped portable directive.prefix in
-    split_word (codes "%TAG") (directive.handle ++ (space ∷ prefix)) refl
-    ∙ ap (λ (words : List Text). codes "%TAG" ∷ words)
-    (split_word directive.handle prefix (no_white_no_space directive.handle (handle_ends_no_word directive.handle (handle_form directive.handle sound)))
-    ∙ ap (λ (words : List Text). directive.handle ∷ words)
-    (split_last prefix (no_white_no_space prefix (prefix_no_white prefix (prefix_stands portable directive.prefix)))))
+    grind (arith, split_word, no_white_no_space, handle_ends_no_word, handle_form, split_last, prefix_no_white, prefix_stands)
 
 -- a directive without a fault whose handle isn't given yet is read after those before it
 directive_reads : (portable : Bool) (version : Option Version) (before : List TagDirective) (directive : TagDirective) (ending : Text)
@@ -182,34 +163,11 @@ abbrev pub version_of : ℕ → Version
 version_of minor = record { major = pos 1; minor = pos minor }
 
 pub version_form : (version : Version) → version_fault version ≡ None → (version ≡ version_of 1) ⊎ (version ≡ version_of 2)
-version_form version h = by version.major version.minor (tests _ _ _ h)
-  where
-    tests : (a b c : Bool) → ◌≡◌ {A = Option yaml_error_t} (if a && (b || c) then None else Some IncompatibleVersion) None
-        → (a ≡ true) × ((b ≡ true) ⊎ (c ≡ true))
-    tests true true c h = (refl, inl refl)
-    tests true false true h = (refl, inr refl)
-    tests true false false h = absurd (cc)
-    tests false b c h = absurd (cc)
-
-    by : (major minor : ℤ) → (equals_integer 1 major ≡ true) × ((equals_integer 1 minor ≡ true) ⊎ (equals_integer 2 minor ≡ true))
-        → (◌≡◌ {A = Version} (record { major = major; minor = minor }) (version_of 1))
-        ⊎ (◌≡◌ {A = Version} (record { major = major; minor = minor }) (version_of 2))
-    by (negsuc a) minor h = absurd (false≢true h.0)
-    by (pos a) (negsuc b) (k, inl h) = absurd (false≢true h)
-    by (pos a) (negsuc b) (k, inr h) = absurd (false≢true h)
-    by (pos a) (pos b) (k, inl h) = let e : 1 ≡ a = eqb-true 1 a k in let f : 1 ≡ b = eqb-true 1 b h in inl (rw (← e, ← f) refl)
-    by (pos a) (pos b) (k, inr h) = let e : 1 ≡ a = eqb-true 1 a k in let f : 2 ≡ b = eqb-true 2 b h in inr (rw (← e, ← f) refl)
+version_form version h = grind (arith, false≢true, eqb-true)
 
 -- a version without a fault is read as it was given
 version_reads : (version : Version) → version_fault version ≡ None → version_parsed ((version_word version).text) ≡ Some version
-version_reads version h = by (version_form version h)
-  where
-    IsRead : Version → Type 0
-    IsRead version = version_parsed ((version_word version).text) ≡ Some version
-
-    by : (version ≡ version_of 1) ⊎ (version ≡ version_of 2) → IsRead version
-    by (inl e) = subst IsRead (sym e) refl
-    by (inr e) = subst IsRead (sym e) refl
+version_reads version h = grind (arith, version_form)
 
 -- the line of a version, if there is one
 abbrev pub version_lines : Option Version → List Line
@@ -220,15 +178,7 @@ version_lines (Some version) = record { text = codes "%YAML" ++ (space ∷ (vers
 version_read : (version : Option Version) → option_and_then version_fault version ≡ None
     → heading_of (version_lines version) ≡ Some (record { version = version; directives = [] })
 version_read None sound = refl
-version_read (Some version) sound =
-    ap (directive_by_words no_heading) (words (int_eq version.minor (pos 2)))
-    ∙ ap (with_version no_heading) (version_reads version sound)
-  where
-    words : (x : Bool)
-        → slice_split is_space (codes "%YAML" ++ (space ∷ (if x then version_1_2 else version_1_1).text))
-        ≡ codes "%YAML" ∷ (if x then version_1_2 else version_1_1).text ∷ []
-    words true = refl
-    words false = refl
+version_read (Some version) sound = grind (arith, int_eq, version_reads)
 
 -- Headings
 
@@ -240,7 +190,4 @@ heading_lines portable start = version_lines start.version ++ tag_lines portable
 pub heading_reads : (portable : Bool) (start : DocumentStart) → option_and_then version_fault start.version ≡ None
     → directives_fault start.directives ≡ None → list_all directive_scalars start.directives ≡ true
     → heading_of (heading_lines portable start) ≡ Some (record { version = start.version; directives = start.directives })
-heading_reads portable start version directives scalars =
-    fold-append directive_line (Some no_heading) (version_lines start.version) (tag_lines portable start.directives)
-    ∙ ap (λ (heading : Option Heading). fold directive_line heading (tag_lines portable start.directives)) (version_read start.version version)
-    ∙ tags_read portable start.version [] start.directives directives scalars
+heading_reads portable start version directives scalars = grind (arith, fold-append, version_read, tags_read)

@@ -1,17 +1,15 @@
 -- The law of whole streams, where each document stands and the layout's text is printable and read from its bytes.
-use Rattle.yaml_base.proofs.Common.{◌≤◌, if◌then◌else◌, is_some, is_none, unwrap_or, option_map, Option, None, Some, nat_le, negsuc, pos, ℤ, Bool, false, not}
-use Rattle.yaml_base.proofs.Common.{true, ◌&&◌, ◌||◌, List, [], ◌++◌, ◌∷◌, refl, ◌≡◌, leb-true, true≢false, ap, sym, ◌∙◌, arith, and_parts, and_from}
-use Rattle.yaml_base.proofs.Common.{false≢true, list_all, list_any, option_or, is_printable, Scalar, Event, stream_start, stream_end, document_start}
-use Rattle.yaml_base.proofs.Common.{document_end, scalar, sequence_start, sequence_end, mapping_start, mapping_end, scalar_tag, Node, alias_node, scalar_node}
-use Rattle.yaml_base.proofs.Common.{Nodes, sequence_node, Pairs, mapping_node, no_nodes, nodes_and, no_pairs, pairs_and, Document, Documents, no_documents}
-use Rattle.yaml_base.proofs.Common.{documents_and, Stream, node_events, nodes_events, pairs_events, documents_events, stream_events, tree_of, has_directives}
-use Rattle.yaml_base.proofs.Common.{is_explicit, layout, Piece, text_of, with_breaks_written, bytes_written, list_layout, some_if, name_or_tag_fault, is_sound}
-use Rattle.yaml_base.proofs.Common.{IsAccepted, Encoding, Settings, Effective, effective_indent, effective, is_written_as_nothing, loses_document}
-use Rattle.yaml_base.proofs.Common.{document_has_flow_indicator, are_portable, reads_alike, characters_read, lacks_tag_and_flags, DocumentTree, document_agrees}
-use Rattle.yaml_base.proofs.Common.{documents_in_order, agrees, documents_of, stream_trees}
-use Rattle.yaml_base.{proofs.Trees.tree_of-stream_events, proofs.stream_documents.StreamRootsStand.DocumentsStand}
-use Rattle.yaml_base.{proofs.stream_lines.StreamBytes.trees_of_bytes, specs.declared.errors.yaml_error_t.yaml_error_t}
-use Rattle.yaml_base.{specs.declared.errors.yaml_error_t.TheVariants.NoTagNorImplicit, specs.streams.StreamContent.documents_agree}
+use Rattle.yaml_base.proofs.Common.{◌≤◌, is_some, unwrap_or, option_map, Option, None, Some, negsuc, pos, ℤ, Bool, false, not, true, ◌&&◌, List, [], ◌++◌, ◌∷◌}
+use Rattle.yaml_base.proofs.Common.{refl, ◌≡◌, leb-true, true≢false, ap, sym, ◌∙◌, arith, and_parts, and_from, false≢true, list_all, list_any, is_printable}
+use Rattle.yaml_base.proofs.Common.{Scalar, Event, stream_start, stream_end, document_start, document_end, scalar, sequence_start, sequence_end, mapping_start}
+use Rattle.yaml_base.proofs.Common.{mapping_end, scalar_tag, Node, alias_node, scalar_node, Nodes, sequence_node, Pairs, mapping_node, no_nodes, nodes_and}
+use Rattle.yaml_base.proofs.Common.{no_pairs, pairs_and, Document, Documents, no_documents, documents_and, Stream, node_events, nodes_events, pairs_events}
+use Rattle.yaml_base.proofs.Common.{documents_events, stream_events, tree_of, layout, Piece, text_of, with_breaks_written, bytes_written, list_layout, is_sound}
+use Rattle.yaml_base.proofs.Common.{IsAccepted, Encoding, Settings, Effective, effective_indent, effective, loses_document, document_has_flow_indicator}
+use Rattle.yaml_base.proofs.Common.{are_portable, reads_alike, characters_read, lacks_tag_and_flags, DocumentTree, document_agrees, documents_in_order, agrees}
+use Rattle.yaml_base.proofs.Common.{documents_of, stream_trees}
+use Rattle.yaml_base.{proofs.Trees.tree_of-stream_events, proofs.stream_lines.StreamBytes.trees_of_bytes, specs.streams.StreamContent.documents_agree}
+use Rattle.yaml_base.proofs.stream_documents.StreamRootsStand.{DocumentsStand}
 use Rattle.yaml_base.proofs.stream_documents.StreamEachDocument.{AllDocuments, all_of_both, each_document}
 use Rattle.yaml_base.proofs.stream_documents.StreamWholeReads.{FirstWritten, document_trees, stream_reads}
 use Rattle.yaml_base.proofs.stream_nodes.StreamAgrees.{document_tree, node_is_tagged, nodes_are_tagged, pairs_are_tagged, document_tree_agrees}
@@ -21,14 +19,7 @@ use Rattle.yaml_base.proofs.stream_nodes.StreamAgrees.{document_tree, node_is_ta
 -- a scalar that is accepted has a tag that is written, or a flag
 sound_scalar : (canonical : Bool) (content : Scalar) → is_sound canonical (scalar content) ≡ true
     → not (lacks_tag_and_flags (is_some (scalar_tag canonical content)) content.plain_implicit content.quoted_implicit) ≡ true
-sound_scalar canonical content h =
-    by (name_or_tag_fault canonical (scalar content))
-    (lacks_tag_and_flags (is_some (scalar_tag canonical content)) content.plain_implicit content.quoted_implicit) h
-  where
-    by : (fault : Option yaml_error_t) (x : Bool) → is_none (option_or fault (some_if x NoTagNorImplicit)) ≡ true → not x ≡ true
-    by (Some n) x h = absurd (false≢true h)
-    by None true h = absurd (false≢true h)
-    by None false h = refl
+sound_scalar canonical content h = grind (arith, false≢true)
 
 -- a test on the events after the first
 after_first : (test : Event → Bool) (event : Event) (rest : List Event) → list_all test (event ∷ rest) ≡ true → list_all test rest ≡ true
@@ -112,34 +103,12 @@ trees_agree s (documents_and before document) tagged =
 pub indent_deep : (indent : Option ℤ) → 2 ≤ effective_indent indent
 indent_deep None = omega arith
 indent_deep (Some (negsuc n)) = omega arith
-indent_deep (Some (pos n)) = by (nat_le 2 n) refl (nat_le n 9)
-  where
-    by : (x : Bool) → nat_le 2 n ≡ x → (y : Bool) → 2 ≤ (if x && y then n else 2)
-    by true e true = leb-true 2 n e
-    by true e false = omega arith
-    by false e y = omega arith
+indent_deep (Some (pos n)) = grind (arith, leb-true)
 
 -- no document is lost where all is read alike
 first_written : (s : Effective) (documents : List Document) → (s.portable ≡ false → loses_document s.canonical documents ≡ false) → FirstWritten s documents
 first_written s [] kept = tt
-first_written s (document ∷ rest) kept = by s.portable refl
-  where
-    none : Bool → Bool
-    none each = not (is_explicit each true document.start) && is_written_as_nothing s.canonical document.root
-
-    by : (x : Bool) → s.portable ≡ x → is_explicit (s.canonical || x) true document.start ≡ false → is_written_as_nothing s.canonical document.root ≡ false
-    by true e h = absurd (false≢true (sym h ∙ marked (not document.start.implicit) s.canonical (has_directives document.start)))
-      where
-        marked : (x y z : Bool) → (x || false || (y || true) || z) ≡ true
-        marked true y z = refl
-        marked false true z = refl
-        marked false false z = refl
-    by false e h =
-        sym (ap (λ x. not x && is_written_as_nothing s.canonical document.root) h) ∙ ap none (or_no s.canonical) ∙ kept e
-      where
-        or_no : (x : Bool) → (x || false) ≡ x
-        or_no true = refl
-        or_no false = refl
+first_written s (document ∷ rest) kept = grind (arith, false≢true)
 
 -- The law
 

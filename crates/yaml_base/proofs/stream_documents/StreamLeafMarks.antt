@@ -1,16 +1,15 @@
 -- No line of a leaf at the root after its first is a document's marker.
-use Rattle.yaml_base.proofs.Common.{ℕ, ◌-◌, ◌≤◌, if◌then◌else◌, ◌==◌, Option, None, Some, codes, Bool, false, not, true, ◌&&◌, ◌||◌, List, [], ◌++◌, ◌∷◌}
-use Rattle.yaml_base.proofs.Common.{refl, ◌≡◌, eqb-true, append-nil, append_assoc, ap, ◌∙◌, arith, and_parts, and_from, false≢true, list_all, Text, line_feed}
-use Rattle.yaml_base.proofs.Common.{is_printable, Cursor, Rendered, render_nothing, render_then, breaks_line, new_line, indicator, ScalarStyle, any_style}
-use Rattle.yaml_base.proofs.Common.{plain, single_quoted, double_quoted, literal, folded, TagDirective, Scalar, Collection, scalar_tag, collection_tag, Node}
-use Rattle.yaml_base.proofs.Common.{alias_node, scalar_node, Nodes, sequence_node, Pairs, mapping_node, root_place, render_properties, render_alias}
-use Rattle.yaml_base.proofs.Common.{render_separation, render_body, choice_of, is_written_in_flow, Brackets, square, curly, empty_or_comma, render_end}
-use Rattle.yaml_base.proofs.Common.{deeper, entries_column, has_no_nodes, has_no_pairs, is_read_break, Effective, has_deep_lines, is_tidy_style, is_empty}
-use Rattle.yaml_base.proofs.Common.{marker_of, prepend_character, lines_of, spaces, name_read}
+use Rattle.yaml_base.proofs.Common.{ℕ, ◌≤◌, if◌then◌else◌, ◌==◌, Option, None, Some, Bool, false, not, true, ◌&&◌, ◌||◌, List, [], ◌++◌, ◌∷◌, refl, ◌≡◌}
+use Rattle.yaml_base.proofs.Common.{eqb-true, append-nil, append_assoc, ap, ◌∙◌, arith, and_parts, and_from, false≢true, list_all, Text, line_feed}
+use Rattle.yaml_base.proofs.Common.{is_printable, Cursor, Rendered, ScalarStyle, any_style, plain, single_quoted, double_quoted, literal, folded, TagDirective}
+use Rattle.yaml_base.proofs.Common.{Scalar, Collection, scalar_tag, collection_tag, Node, alias_node, scalar_node, Nodes, sequence_node, Pairs, mapping_node}
+use Rattle.yaml_base.proofs.Common.{root_place, render_properties, render_alias, render_separation, render_body, choice_of, is_written_in_flow, Brackets}
+use Rattle.yaml_base.proofs.Common.{square, curly, empty_or_comma, render_end, deeper, entries_column, has_no_nodes, has_no_pairs, Effective, has_deep_lines}
+use Rattle.yaml_base.proofs.Common.{is_tidy_style, is_empty, marker_of, lines_of, name_read}
 use Rattle.yaml_base.proofs.{stream_documents.StreamRootsStand.is_leaf, stream_flow.StreamFlowTakes.and_false, stream_lines.StreamLineLaws.OneLine}
-use Rattle.yaml_base.proofs.{stream_lines.StreamLineLaws.one_line_both, stream_lines.StreamSections.is_unmarked, stream_lines.StreamSections.AllUnmarked}
-use Rattle.yaml_base.proofs.{stream_lines.StreamUnmarked.inside_unmarked, stream_lines.StreamUnmarked.all_unmarked, stream_nodes.StreamOwnWords.deep_more}
-use Rattle.yaml_base.proofs.{stream_nodes.StreamProperties.IsNamed}
+use Rattle.yaml_base.proofs.{stream_lines.StreamLineLaws.one_line_both, stream_nodes.StreamOwnWords.deep_more, stream_nodes.StreamProperties.IsNamed}
+use Rattle.yaml_base.proofs.stream_lines.StreamSections.{is_unmarked, AllUnmarked}
+use Rattle.yaml_base.proofs.stream_lines.StreamUnmarked.{inside_unmarked, all_unmarked}
 use Rattle.yaml_base.proofs.stream_flow.StreamFlowDeep.{properties_line, indicator_deep, indicators_line, brackets_line, alias_deep, items_deep, pairs_deep}
 use Rattle.yaml_base.proofs.stream_lines.StreamClosed.{closing, closed, spaces_line, after_line}
 use Rattle.yaml_base.proofs.stream_lines.StreamDeepBreaks.{after_breaks, begins_deep, Deep, Keeps, after_both, after_weaker, after_line_of, deep_keeps}
@@ -33,50 +32,17 @@ begins_unmarked breaks12 text = begins_deep breaks12 1 text || begins_closing te
 -- more text doesn't change that
 unmarked_keeps : (breaks12 : Bool) → Keeps (begins_unmarked breaks12)
 unmarked_keeps breaks12 [] b h = absurd (false≢true h)
-unmarked_keeps breaks12 (c ∷ a) b h = by (begins_deep breaks12 1 (c ∷ a)) refl h
-  where
-    by : (x : Bool) → begins_deep breaks12 1 (c ∷ a) ≡ x → (x || begins_closing (c ∷ a)) ≡ true
-        → (begins_deep breaks12 1 (c ∷ (a ++ b)) || begins_closing (c ∷ (a ++ b))) ≡ true
-    by true e h = ap (λ x. x || begins_closing (c ∷ (a ++ b))) (deep_keeps breaks12 1 (c ∷ a) b e)
-    by false e h = or_true (begins_deep breaks12 1 (c ∷ (a ++ b))) (c == 0x5D || c == 0x7D) h
-      where
-        or_true : (x y : Bool) → y ≡ true → (x || y) ≡ true
-        or_true true y h = refl
-        or_true false y h = h
+unmarked_keeps breaks12 (c ∷ a) b h = grind (arith, deep_keeps)
 
 -- a line that begins with a bracket is no marker
 bracket_unmarked : (c : ℕ) (t : Text) → (c == 0x5D || c == 0x7D) ≡ true → is_unmarked (marker_of (c ∷ t)) ≡ true
-bracket_unmarked c t h = by (c == 0x5D) (c == 0x7D) refl refl h
-  where
-    first : (t : Text) → (is_unmarked (marker_of (0x5D ∷ t)) ≡ true) × (is_unmarked (marker_of (0x7D ∷ t)) ≡ true)
-    first [] = (refl, refl)
-    first (a ∷ []) = (refl, refl)
-    first (a ∷ b ∷ t) = (refl, refl)
-
-    by : (x y : Bool) → (c == 0x5D) ≡ x → (c == 0x7D) ≡ y → (x || y) ≡ true → is_unmarked (marker_of (c ∷ t)) ≡ true
-    by true y e f h = ap (λ d. is_unmarked (marker_of (d ∷ t))) (eqb-true c 0x5D e) ∙ (first t).0
-    by false true e f h = ap (λ d. is_unmarked (marker_of (d ∷ t))) (eqb-true c 0x7D f) ∙ (first t).1
-    by false false e f h = absurd (false≢true h)
+bracket_unmarked c t h = grind (arith, eqb-true, false≢true)
 
 -- nor is any line that begins so
 first_unmarked : (breaks12 : Bool) (u : Text) → begins_unmarked breaks12 u ≡ true
     → is_unmarked (marker_of (first_text (lines_of breaks12 (u ++ (line_feed ∷ []))))) ≡ true
 first_unmarked breaks12 [] h = absurd (false≢true h)
-first_unmarked breaks12 (c ∷ u) h = by (begins_deep breaks12 1 (c ∷ u)) refl h
-  where
-    line : Text
-    line = first_text (lines_of breaks12 (c ∷ (u ++ (line_feed ∷ []))))
-
-    shown : (x : Bool) → is_read_break breaks12 c ≡ x → (c == 0x5D || c == 0x7D) ≡ true → is_unmarked (marker_of line) ≡ true
-    shown true e h = ap (λ x. is_unmarked (marker_of (first_text (prepend_character x c (lines_of breaks12 (u ++ (line_feed ∷ []))))))) e
-    shown false e h =
-        ap (λ x. is_unmarked (marker_of (first_text (prepend_character x c (lines_of breaks12 (u ++ (line_feed ∷ []))))))) e
-        ∙ ap (λ t. is_unmarked (marker_of t)) (first_extended c (lines_of breaks12 (u ++ (line_feed ∷ []))))
-        ∙ bracket_unmarked c (first_text (lines_of breaks12 (u ++ (line_feed ∷ [])))) h
-
-    by : (x : Bool) → begins_deep breaks12 1 (c ∷ u) ≡ x → (x || begins_closing (c ∷ u)) ≡ true → is_unmarked (marker_of line) ≡ true
-    by true e h = inside_unmarked true line (deep_first breaks12 0 (c ∷ u) e)
-    by false e h = shown (is_read_break breaks12 c) refl h
+first_unmarked breaks12 (c ∷ u) h = grind (arith, first_extended, bracket_unmarked, inside_unmarked, deep_first)
 
 -- after each break of a text something begins a line that is no marker
 abbrev Unmarked : Bool → Text → Type 0
@@ -93,46 +59,15 @@ unmarked_text breaks12 a b h k = after_both breaks12 (begins_unmarked breaks12) 
 
 -- a closing bracket on a line of its own
 bracket_below : (breaks12 : Bool) (closing : Text) → OneLine breaks12 closing → begins_closing closing ≡ true → Unmarked breaks12 (line_feed ∷ closing)
-bracket_below breaks12 closing one h =
-    and_from (begins_unmarked breaks12 closing) (after_breaks breaks12 (begins_unmarked breaks12) closing) (or_true (begins_deep breaks12 1 closing) h)
-    (after_line_of breaks12 (begins_unmarked breaks12) closing one)
-  where
-    or_true : (x : Bool) → begins_closing closing ≡ true → (x || begins_closing closing) ≡ true
-    or_true true h = refl
-    or_true false h = h
+bracket_below breaks12 closing one h = grind (arith, and_from, after_line_of)
 
 -- the end of a collection at the root
 end_unmarked : (s : Effective) (brackets : Brackets) (empty : Bool) (cursor : Cursor)
     → OneLine s.breaks12 brackets.opening → OneLine s.breaks12 brackets.closing
     → begins_closing brackets.closing ≡ true → Unmarked s.breaks12 (render_end s brackets true empty None cursor).text
-end_unmarked s brackets true cursor opening closing h =
-    unmarked_text s.breaks12 (indicator brackets.opening true true false cursor).text brackets.closing
-    (deep_unmarked s.breaks12 (indicator brackets.opening true true false cursor).text
-    (indicator_deep s.breaks12 1 brackets.opening true true false cursor opening))
-    (after_line_of s.breaks12 (begins_unmarked s.breaks12) brackets.closing closing)
-end_unmarked s brackets false cursor opening closing h = by s.canonical
-  where
-    alone : Unmarked s.breaks12 brackets.closing
-    alone = after_line_of s.breaks12 (begins_unmarked s.breaks12) brackets.closing closing
-
-    comma : Rendered
-    comma = indicator (codes ",") false false false cursor
-
-    comma_line : Unmarked s.breaks12 (codes ",")
-    comma_line = deep_unmarked s.breaks12 (codes ",") (indicator_deep s.breaks12 1 (codes ",") false false false cursor (indicators_line s.breaks12).0)
-
-    line : (x : Bool) → Unmarked s.breaks12 ((codes "," ++ (if x then line_feed ∷ spaces 0 else spaces (0 - comma.cursor.column))) ++ brackets.closing)
-    line true = unmarked_text s.breaks12 (codes ",") (line_feed ∷ brackets.closing) comma_line (bracket_below s.breaks12 brackets.closing closing h)
-    line false =
-        unmarked_text s.breaks12 (codes "," ++ spaces (0 - comma.cursor.column)) brackets.closing
-        (unmarked_text s.breaks12 (codes ",") (spaces (0 - comma.cursor.column)) comma_line
-        (after_line_of s.breaks12 (begins_unmarked s.breaks12) (spaces (0 - comma.cursor.column)) (spaces_line s.breaks12 (0 - comma.cursor.column))))
-        alone
-
-    by : (x : Bool) → Unmarked s.breaks12 (let rendered : Rendered = render_then (if x then render_then comma (new_line 0) else render_nothing cursor)
-        (indicator brackets.closing false false false) in rendered.text)
-    by true = line (breaks_line 0 comma.cursor)
-    by false = alone
+end_unmarked s brackets true cursor opening closing h = grind (arith, unmarked_text, deep_unmarked, indicator_deep, after_line_of)
+end_unmarked s brackets false cursor opening closing h =
+    grind (arith, after_line_of, deep_unmarked, indicator_deep, indicators_line, unmarked_text, bracket_below, spaces_line)
 
 -- Lines after the first
 
@@ -173,11 +108,7 @@ alias_unmarked s name simple cursor named =
 
 -- the break after a text, if it is there, leaves its lines deep
 closed_deep : (breaks12 : Bool) (count : ℕ) (own : Rendered) → has_deep_lines breaks12 count own.text ≡ true → has_deep_lines breaks12 count (closed own) ≡ true
-closed_deep breaks12 count own h = by own.cursor.indention
-  where
-    by : (x : Bool) → has_deep_lines breaks12 count (own.text ++ (if x then [] else line_feed ∷ [])) ≡ true
-    by true = ap (has_deep_lines breaks12 count) (append-nil own.text) ∙ h
-    by false = deep_more breaks12 count own.text h
+closed_deep breaks12 count own h = grind (arith, append-nil, deep_more)
 
 -- the space before a scalar's body
 separation_line : (breaks12 : Bool) (style : ScalarStyle) (in_flow : Bool) (value : Text) (cursor : Cursor)

@@ -1,9 +1,10 @@
 -- A root behind `---`, or one without it at a stream's start, is one document more of the stream.
-use Rattle.yaml_base.proofs.Common.{ℕ, ◌≤◌, if◌then◌else◌, ◌==◌, Option, None, Some, codes, Bool, false, not, true, ◌&&◌, ◌||◌, List, [], ◌++◌, ◌∷◌, refl}
-use Rattle.yaml_base.proofs.Common.{◌≡◌, ap, sym, ◌∙◌, and_from, false≢true, list_all, Text, line_feed, space, Document, has_directives, root_place}
+use Rattle.yaml_base.proofs.Common.{arith}
+use Rattle.yaml_base.proofs.Common.{ℕ, ◌≤◌, if◌then◌else◌, Option, None, Some, codes, Bool, false, not, true, ◌||◌, List, [], ◌++◌, ◌∷◌, refl}
+use Rattle.yaml_base.proofs.Common.{◌≡◌, ap, sym, ◌∙◌, and_from, false≢true, list_all, Text, line_feed, Document, has_directives, root_place}
 use Rattle.yaml_base.proofs.Common.{Effective, Tree, DocumentTree, begins_with_marker, start_marker, end_marker, no_exclamation, marker_of, Heading}
 use Rattle.yaml_base.proofs.Common.{stands_at_margin, root_below, with_read_document, section_by_kind, directive_lines, document_lines, prefix_kind}
-use Rattle.yaml_base.proofs.Common.{lines_before_marker_read, Line, lines_of, is_spaces, without_blank_lines, ends_indicator, node_read, Rules}
+use Rattle.yaml_base.proofs.Common.{lines_before_marker_read, Line, lines_of, is_spaces, without_blank_lines, node_read, Rules}
 use Rattle.yaml_base.{proofs.stream_nodes.StreamAgrees.document_tree, specs.streams.StreamDocuments.after_root}
 use Rattle.yaml_base.proofs.stream_documents.{StreamDocumentReads.Headed, StreamDocumentReads.heading_parsed, StreamDocumentReads.nothing_parsed}
 use Rattle.yaml_base.proofs.stream_documents.{StreamRootLines.begins_shown, StreamRootLines.stands_below, StreamRootLines.Stood, StreamRootStood.root_tree}
@@ -24,24 +25,14 @@ shown_margin (line ∷ rest) h = h
 -- and isn't blank
 shown_whole : (lines : List Line) → begins_shown lines ≡ true → without_blank_lines lines ≡ lines
 shown_whole [] h = refl
-shown_whole (line ∷ rest) h = ap (λ x. if x then without_blank_lines rest else line ∷ rest) (by line.text h)
-  where
-    by : (t : Text) → not (ends_indicator t) ≡ true → is_spaces t ≡ false
-    by [] h = absurd (false≢true h)
-    by (c ∷ t) h = step (c == space) refl h
-      where
-        step : (x : Bool) → (c == space) ≡ x → not x ≡ true → is_spaces (c ∷ t) ≡ false
-        step true e h = absurd (false≢true h)
-        step false e h = ap (λ y. y && is_spaces t) e
+shown_whole (line ∷ rest) h = grind (arith, false≢true)
 
 -- no line of what reads as a node is a marker, where none after its first is
 unmarked_whole : (lines : List Line) (depth : ℕ) (rules : Rules) (here : Bool) (column : Option ℕ) (tree : Tree)
     → node_read depth rules here column lines ≡ Some tree
     → AllUnmarked (lines_after_first lines) → AllUnmarked lines
 unmarked_whole [] depth rules here column tree reads after = refl
-unmarked_whole (line ∷ rest) depth rules here column tree reads after =
-    and_from (is_unmarked (marker_of line.text)) (list_all (λ line. is_unmarked (marker_of line.text)) rest)
-    (read_unmarked line rest depth rules here column tree reads) after
+unmarked_whole (line ∷ rest) depth rules here column tree reads after = grind (arith, and_from, read_unmarked)
 
 -- Documents behind `---`
 

@@ -1,16 +1,15 @@
 -- What a root that stands begins with, behind a space where one is needed: a character that no reader skips.
-use Rattle.yaml_base.proofs.Common.{ℕ, if◌then◌else◌, ◌==◌, Option, None, Some, Bool, false, not, true, ◌&&◌, List, [], ◌++◌, ◌∷◌, refl, ◌≡◌, true≢false}
-use Rattle.yaml_base.proofs.Common.{append-nil, append_assoc, ap, sym, ◌∙◌, and_parts, or_parts, false≢true, Text, space, tab, is_blank, Cursor, Rendered}
-use Rattle.yaml_base.proofs.Common.{space_if, ScalarStyle, any_style, plain, single_quoted, double_quoted, literal, folded, TagDirective, render_properties}
-use Rattle.yaml_base.proofs.Common.{render_alias, render_body, is_read_break, read_in_style, Effective, spelling, spelled, is_read_white, read_plain}
-use Rattle.yaml_base.proofs.Common.{ParsedTag, has_no_space_before_break, ends_white, has_clean_edges, is_tidy_style, Allowances, is_empty, double_inside}
-use Rattle.yaml_base.proofs.Common.{render_quote, runs, render_runs, quotes_doubled, single_quote, is_plain, fitting_style, Tree, Rules}
+use Rattle.yaml_base.proofs.Common.{arith, ℕ, ◌==◌, Option, None, Some, Bool, false, true, ◌&&◌, List, [], ◌++◌, ◌∷◌, refl, ◌≡◌, true≢false, append-nil}
+use Rattle.yaml_base.proofs.Common.{append_assoc, ap, ◌∙◌, and_parts, or_parts, false≢true, Text, space, Cursor, Rendered, space_if, ScalarStyle, any_style}
+use Rattle.yaml_base.proofs.Common.{plain, single_quoted, double_quoted, literal, folded, TagDirective, render_properties, render_alias, render_body}
+use Rattle.yaml_base.proofs.Common.{is_read_break, read_in_style, Effective, spelling, spelled, is_read_white, read_plain, ParsedTag, has_clean_edges}
+use Rattle.yaml_base.proofs.Common.{is_tidy_style, Allowances, is_empty, is_plain, fitting_style, Tree, Rules}
 use Rattle.yaml_base.proofs.{stream_documents.StreamRootsStand.Begins, stream_flow.StreamFlowFits.own_shows, stream_flow.StreamFlowReads.FlowContent}
 use Rattle.yaml_base.proofs.{stream_flow.StreamFlowScalars.rules_of, stream_flow.StreamFlowWords.Given, stream_flow.StreamPropertyWords.lead}
-use Rattle.yaml_base.proofs.{stream_nodes.StreamBegun.properties_whole, stream_nodes.StreamLeads.lead_rendered, stream_nodes.StreamLeads.tag_is_written}
-use Rattle.yaml_base.proofs.{stream_nodes.StreamProperties.IsNamed, stream_nodes.StreamScalarsFit.render_styled, stream_nodes.StreamScalarsFit.body_cursor}
-use Rattle.yaml_base.proofs.{stream_nodes.StreamScalarsFit.separation_text, stream_nodes.StreamStands.tag_written, stream_nodes.StreamStands.tag_meant}
-use Rattle.yaml_base.proofs.{stream_nodes.StreamStands.TagStands}
+use Rattle.yaml_base.proofs.{stream_nodes.StreamBegun.properties_whole, stream_nodes.StreamProperties.IsNamed}
+use Rattle.yaml_base.proofs.stream_nodes.StreamLeads.{lead_rendered, tag_is_written}
+use Rattle.yaml_base.proofs.stream_nodes.StreamScalarsFit.{render_styled, body_cursor, separation_text}
+use Rattle.yaml_base.proofs.stream_nodes.StreamStands.{tag_written, tag_meant, TagStands}
 
 -- Characters
 
@@ -22,27 +21,7 @@ property_line false = (refl, refl)
 -- what is rendered behind a space where one is needed
 spaced_begins : (breaks12 : Bool) (cursor : Cursor) (own : Rendered) (head : ℕ) (tail : Text) → own.text ≡ space_if true cursor ++ (head ∷ tail)
     → (head == space) ≡ false → is_read_break breaks12 head ≡ false → Begins breaks12 cursor own
-spaced_begins breaks12 cursor own head tail e shows goes_on = by cursor.whitespace refl
-  where
-    by : (x : Bool) → cursor.whitespace ≡ x → Begins breaks12 cursor own
-    by true h = record {
-      count = 0;
-      head = head;
-      tail = tail;
-      text = e ∙ ap (λ x. (if true && not x then space ∷ [] else []) ++ (head ∷ tail)) h;
-      margin = λ w. refl;
-      shows = shows;
-      goes_on = goes_on;
-    }
-    by false h = record {
-      count = 1;
-      head = head;
-      tail = tail;
-      text = e ∙ ap (λ x. (if true && not x then space ∷ [] else []) ++ (head ∷ tail)) h;
-      margin = λ w. absurd (true≢false (sym w ∙ h));
-      shows = shows;
-      goes_on = goes_on;
-    }
+spaced_begins breaks12 cursor own head tail e shows goes_on = grind (arith, true≢false)
 
 -- what stands behind properties or without them
 led_begins : (rules : Rules) (cursor : Cursor) (own : Rendered) (anchor tag : Option Text) (parsed : Option ParsedTag) (c : ℕ) (t : Text)
@@ -54,9 +33,7 @@ led_begins rules cursor own (Some name) None parsed c t given shows goes_on e =
     spaced_begins rules.breaks12 cursor own 0x26 ((name ++ (space ∷ [])) ++ (c ∷ t)) e refl (property_line rules.breaks12).0
 led_begins rules cursor own (Some name) (Some tag) parsed c t given shows goes_on e =
     spaced_begins rules.breaks12 cursor own 0x26 (((name ++ (space ∷ tag)) ++ (space ∷ [])) ++ (c ∷ t)) e refl (property_line rules.breaks12).0
-led_begins rules cursor own None (Some tag) (Some parsed) c t given shows goes_on e =
-    spaced_begins rules.breaks12 cursor own 0x21 ((given.tagged.rest ++ (space ∷ [])) ++ (c ∷ t))
-    (e ∙ ap (λ u. space_if true cursor ++ ((u ++ (space ∷ [])) ++ (c ∷ t))) given.tagged.begins) refl (property_line rules.breaks12).1
+led_begins rules cursor own None (Some tag) (Some parsed) c t given shows goes_on e = grind (arith, spaced_begins, property_line)
 led_begins rules cursor own None (Some tag) None c t given shows goes_on e = absurd given.tagged
 
 -- Properties
@@ -81,22 +58,14 @@ properties_begin s own directives (Some name) (Some tag) cursor stands some =
 
 -- an alias
 pub alias_begins : (s : Effective) (name : Text) (cursor : Cursor) → Begins s.breaks12 cursor (render_alias name false cursor)
-alias_begins s name cursor =
-    spaced_begins s.breaks12 cursor (render_alias name false cursor) 0x2A name
-    (append-nil ((space_if true cursor ++ (0x2A ∷ [])) ++ name) ∙ append_assoc (space_if true cursor) (0x2A ∷ []) name) refl (star s.breaks12)
-  where
-    star : (breaks12 : Bool) → is_read_break breaks12 0x2A ≡ false
-    star true = refl
-    star false = refl
+alias_begins s name cursor = grind (arith, spaced_begins, append-nil, append_assoc)
 
 -- Collections in flow
 
 -- a collection in flow
 pub flow_begins : (rules : Rules) (cursor : Cursor) (own : Rendered) (anchor tag given_tag : Option Text) (tree : Tree)
     → FlowContent rules cursor own anchor tag given_tag tree → Given rules anchor tag (tag_meant given_tag false) → Begins rules.breaks12 cursor own
-flow_begins rules cursor own anchor tag given_tag tree of given =
-    led_begins rules cursor own anchor tag (tag_meant given_tag false) of.bracket (of.inside ++ (of.closing ∷ [])) given (own_shows of.bracket of.content).0
-    (or_parts (is_read_break rules.breaks12 of.bracket) false of.one_line).0 of.whole
+flow_begins rules cursor own anchor tag given_tag tree of given = grind (arith, led_begins, own_shows, or_parts)
 
 -- Scalars
 
@@ -110,9 +79,7 @@ pub record HeadShows (breaks12 : Bool) (text : Text) : Type 0 where
 
 -- what isn't white
 shown_head : (breaks12 : Bool) (c : ℕ) (t : Text) → is_read_white breaks12 c ≡ false → HeadShows breaks12 (c ∷ t)
-shown_head breaks12 c t h =
-    let parts = or_parts (is_blank c) (is_read_break breaks12 c) h in
-    record { head = c; tail = t; is = refl; shows = (or_parts (c == space) (c == tab) parts.0).0; goes_on = parts.1 }
+shown_head breaks12 c t h = grind (arith, or_parts)
 
 -- quotes and the indicators of block scalars
 indicator_shows : (breaks12 : Bool) → (is_read_white breaks12 0x27 ≡ false) × (is_read_white breaks12 0x22 ≡ false) × (is_read_white breaks12 0x7C ≡ false)
@@ -125,42 +92,23 @@ plain_head : (breaks12 : Bool) (text value : Text) → is_empty value ≡ false 
     → HeadShows breaks12 text
 plain_head breaks12 [] [] some clean read = absurd (true≢false some)
 plain_head breaks12 [] (c ∷ value) some clean read = cc
-plain_head breaks12 (c ∷ text) value some clean read =
-    shown_head breaks12 c text (by (is_read_white breaks12 c) (and_parts (not (is_read_white breaks12 c)) (not (ends_white breaks12 (c ∷ text))) clean).0)
-  where
-    by : (x : Bool) → not x ≡ true → x ≡ false
-    by true h = absurd (false≢true h)
-    by false h = refl
+plain_head breaks12 (c ∷ text) value some clean read = grind (arith, shown_head, and_parts, false≢true)
 
 -- a body that isn't empty
 pub body_head : (s : Effective) (style : ScalarStyle) (limit : Option ℕ) (indent : ℕ) (column : Option ℕ) (value : Text) (cursor : Cursor)
     → (is_plain style && is_empty value) ≡ false → is_tidy_style style s.breaks12 (render_body style s limit indent value cursor).text ≡ true
     → read_in_style style s.breaks12 false column (render_body style s limit indent value cursor).text ≡ Some value
     → HeadShows s.breaks12 (render_body style s limit indent value cursor).text
-body_head s plain limit indent column value cursor some tidy read =
-    let text = (render_body plain s limit indent value cursor).text in
-    plain_head s.breaks12 text value some (and_parts (has_no_space_before_break s.breaks12 text) (has_clean_edges s.breaks12 text) tidy).1 read
-body_head s single_quoted limit indent column value cursor some tidy read =
-    shown_head s.breaks12 0x27 ((render_runs quotes_doubled limit indent true (runs value) (single_quote cursor).cursor).text ++ (0x27 ∷ []))
-    (indicator_shows s.breaks12).0
-body_head s double_quoted limit indent column value cursor some tidy read =
-    shown_head s.breaks12 0x22 ((double_inside s.unicode limit indent None value (render_quote cursor).cursor).text ++ (0x22 ∷ []))
-    (indicator_shows s.breaks12).1
+body_head s plain limit indent column value cursor some tidy read = grind (arith, plain_head, and_parts)
+body_head s single_quoted limit indent column value cursor some tidy read = grind (arith, shown_head, indicator_shows)
+body_head s double_quoted limit indent column value cursor some tidy read = grind (arith, shown_head, indicator_shows)
 body_head s any_style limit indent column value cursor some tidy read = absurd (false≢true tidy)
 body_head s literal limit indent column value cursor some tidy read = shown_head s.breaks12 0x7C _ (indicator_shows s.breaks12).2
 body_head s folded limit indent column value cursor some tidy read = shown_head s.breaks12 0x3E _ (indicator_shows s.breaks12).3
 
 -- what has the same text begins alike
 begins_alike : (breaks12 : Bool) (cursor : Cursor) (own other : Rendered) → other.text ≡ own.text → Begins breaks12 cursor own → Begins breaks12 cursor other
-begins_alike breaks12 cursor own other e b = record {
-  count = b.count;
-  head = b.head;
-  tail = b.tail;
-  text = e ∙ b.text;
-  margin = b.margin;
-  shows = b.shows;
-  goes_on = b.goes_on;
-}
+begins_alike breaks12 cursor own other e b = grind (arith)
 
 -- an empty plain scalar with properties
 pub empty_begins : (s : Effective) (own directives : List TagDirective) (anchor tag : Option Text) (bare : Bool) (style : ScalarStyle) (limit : Option ℕ)
@@ -200,16 +148,8 @@ pub plain_asked : (allowed : Allowances) (plain_fits block_fits : Bool) (asked :
     → is_plain (fitting_style allowed plain_fits block_fits asked) ≡ true
     → (is_plain asked ≡ true) × (plain_fits ≡ true)
 plain_asked allowed true block_fits plain h = (refl, refl)
-plain_asked allowed false block_fits plain h = absurd (quotes allowed.single_quoted h)
-  where
-    quotes : (x : Bool) → is_plain (if x then single_quoted else double_quoted) ≡ true → ⊥
-    quotes true h = false≢true h
-    quotes false h = false≢true h
-plain_asked allowed plain_fits block_fits single_quoted h = absurd (quotes allowed.single_quoted h)
-  where
-    quotes : (x : Bool) → is_plain (if x then single_quoted else double_quoted) ≡ true → ⊥
-    quotes true h = false≢true h
-    quotes false h = false≢true h
+plain_asked allowed false block_fits plain h = grind (arith, false≢true)
+plain_asked allowed plain_fits block_fits single_quoted h = grind (arith, false≢true)
 plain_asked allowed plain_fits true literal h = absurd (false≢true h)
 plain_asked allowed plain_fits false literal h = absurd (false≢true h)
 plain_asked allowed plain_fits true folded h = absurd (false≢true h)

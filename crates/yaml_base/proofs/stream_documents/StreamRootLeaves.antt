@@ -1,9 +1,8 @@
 -- A document's root that is a leaf stands, where its names, its bodies and the keys in it do.
-use Rattle.yaml_base.proofs.Common.{◌≤◌, is_some, Option, None, Bool, false, not, true, ◌&&◌, ◌||◌, List, [], refl, ◌≡◌, true≢false, ap, sym, ◌∙◌, arith}
-use Rattle.yaml_base.proofs.Common.{and_parts, and_from, false≢true, list_all, Text, is_printable, Cursor, TagDirective, Scalar, scalar_tag, collection_tag}
-use Rattle.yaml_base.proofs.Common.{Node, alias_node, scalar_node, sequence_node, mapping_node, Document, root_place, render_properties, charset_of, choice_of}
-use Rattle.yaml_base.proofs.Common.{as_root, deeper, Effective, is_written_as_nothing, directives_in_force, has_deep_lines, is_tidy_style, Allowances, is_empty}
-use Rattle.yaml_base.proofs.Common.{allowances, Choice, is_plain, requested_style, fits_plain}
+use Rattle.yaml_base.proofs.Common.{◌≤◌, is_some, Option, None, Bool, false, not, true, ◌&&◌, List, [], refl, ◌≡◌, true≢false, ap, sym, ◌∙◌, arith, and_parts}
+use Rattle.yaml_base.proofs.Common.{and_from, false≢true, list_all, Text, is_printable, Cursor, TagDirective, Scalar, scalar_tag, collection_tag, Node}
+use Rattle.yaml_base.proofs.Common.{alias_node, scalar_node, sequence_node, mapping_node, Document, root_place, render_properties, choice_of, as_root, deeper}
+use Rattle.yaml_base.proofs.Common.{Effective, is_written_as_nothing, directives_in_force, has_deep_lines, is_tidy_style, is_empty, Choice, is_plain}
 use Rattle.yaml_base.proofs.{stream_documents.StreamLeafMarks.leaf_unmarked, stream_flow.StreamFlowFits.flows_fit, stream_flow.StreamFlowKinds.KeysFit}
 use Rattle.yaml_base.proofs.{stream_flow.StreamFlowReads.sequence_reads, stream_flow.StreamFlowReads.mapping_reads, stream_flow.StreamFlowScalars.rules_of}
 use Rattle.yaml_base.proofs.{stream_flow.StreamFlowTakes.and_false, stream_nodes.StreamAgrees.node_tree, stream_nodes.StreamLeads.tag_is_written}
@@ -18,34 +17,7 @@ use Rattle.yaml_base.proofs.stream_nodes.StreamStands.{tag_written, NamesStand, 
 -- a scalar that is chosen to be plain, is empty and has no properties is written as nothing
 nothing_written : (s : Effective) (content : Scalar) → is_plain (choice_of s root_place false content).style ≡ true → is_empty content.value ≡ true
     → content.anchor ≡ None → scalar_tag s.canonical content ≡ None → is_written_as_nothing s.canonical (scalar_node content) ≡ true
-nothing_written s content is empty no_anchor no_tag =
-    and_from (is_empty content.value && not (is_some content.anchor) && not (is_some tag) && content.plain_implicit)
-    (is_plain (requested_style s.canonical content.style))
-    (and_from (is_empty content.value && not (is_some content.anchor) && not (is_some tag)) content.plain_implicit
-    (and_from (is_empty content.value && not (is_some content.anchor)) (not (is_some tag))
-    (and_from (is_empty content.value) (not (is_some content.anchor)) empty (ap (λ a. not (is_some a)) no_anchor)) (ap (λ t. not (is_some t)) no_tag)) implicit)
-    (ap (λ x. is_plain (requested_style x content.style)) (sym (or_false s.canonical)) ∙ chosen.0)
-  where
-    tag : Option Text
-    tag = scalar_tag s.canonical content
-
-    allowed : Allowances
-    allowed = allowances (charset_of s) content.value
-
-    or_false : (x : Bool) → (x || false) ≡ x
-    or_false true = refl
-    or_false false = refl
-
-    chosen : (is_plain (requested_style (s.canonical || false) content.style) ≡ true)
-        × (fits_plain allowed (is_empty content.value) (is_some tag) content.plain_implicit false false ≡ true)
-    chosen =
-        plain_asked allowed (fits_plain allowed (is_empty content.value) (is_some tag) content.plain_implicit false false) (allowed.block && true && true)
-        (requested_style (s.canonical || false) content.style) is
-
-    implicit : content.plain_implicit ≡ true
-    implicit =
-        ap (λ t. is_some t || content.plain_implicit) (sym no_tag)
-        ∙ (and_parts (allowed.block_plain && not (is_empty content.value && false)) (is_some tag || content.plain_implicit) chosen.1).1
+nothing_written s content is empty no_anchor no_tag = grind (arith, and_from, plain_asked, and_parts)
 
 -- a scalar of which something is written
 scalar_begins : (s : Effective) (own directives : List TagDirective) (cursor : Cursor) (content : Scalar)
@@ -102,20 +74,12 @@ pub leaf_stands : (s : Effective) (document : Document) (on_marker : Bool)
     1 ≤ s.indent → KeysFit s own directives → NamesStand s.portable own s.canonical directives document.root
     → BodiesHold (BodyStands s) document.root s directives root_place (root_cursor on_marker) → is_leaf s document.root ≡ true
     → LeafStands on_marker s document)
-leaf_stands s document on_marker deep keys names bodies leaf =
-    let own = document.start.directives in
-    let directives = directives_in_force own in
-    record {
-      begins = λ some. leaf_begins document.root s own directives (root_cursor on_marker) keys leaf names bodies some;
-      after = leaf_unmarked document.root s own directives (root_cursor on_marker) deep leaf names bodies;
-    }
+leaf_stands s document on_marker deep keys names bodies leaf = grind (arith, leaf_begins, leaf_unmarked)
 
 -- without properties nothing is rendered for them
 rendered_as_nothing : (s : Effective) (directives : List TagDirective) (anchor tag : Option Text) (cursor : Cursor) → anchor ≡ None → tag ≡ None
     → (render_properties s.portable directives anchor tag false cursor).text ≡ []
-rendered_as_nothing s directives anchor tag cursor no_anchor no_tag =
-    ap (λ a. (render_properties s.portable directives a tag false cursor).text) no_anchor
-    ∙ ap (λ t. (render_properties s.portable directives None t false cursor).text) no_tag
+rendered_as_nothing s directives anchor tag cursor no_anchor no_tag = grind (arith)
 
 -- and the properties of one that isn't begin so
 pub properties_stand : (n : Node) (s : Effective) (own directives : List TagDirective) (on_marker : Bool)

@@ -1,11 +1,11 @@
 -- The lines of a root: no line after its first is a marker, and its first stands where a root may begin.
-use Rattle.yaml_base.proofs.Common.{suc, zero, ℕ, ◌==◌, Option, Bool, false, not, true, ◌||◌, List, [], ◌++◌, ◌∷◌, refl, ◌≡◌, true≢false, append_assoc, ap}
-use Rattle.yaml_base.proofs.Common.{subst, sym, ◌∙◌, and_parts, list_all, list_any, Text, line_feed, space, Rendered, render_nothing, is_read_break, is_empty}
-use Rattle.yaml_base.proofs.Common.{marker_of, stands_at_margin, Line, prepend_to_first_line, prepend_character, lines_of, is_spaces, without_blank_lines}
-use Rattle.yaml_base.proofs.Common.{ends_indicator, spaces, NodeKind, Rules}
-use Rattle.yaml_base.proofs.{stream_documents.StreamRootsStand.root_cursor, stream_documents.StreamRootsStand.Begins, stream_lines.StreamInside.not_blank}
-use Rattle.yaml_base.proofs.{stream_lines.StreamLineLaws.one_line_both, stream_lines.StreamSections.is_unmarked, stream_lines.StreamSections.AllUnmarked}
-use Rattle.yaml_base.proofs.{stream_lines.StreamTidyLaws.lines_after_first, stream_nodes.StreamItems.Lays}
+use Rattle.yaml_base.proofs.Common.{arith, suc, zero, ℕ, ◌==◌, Option, Bool, false, not, true, ◌||◌, List, [], ◌++◌, ◌∷◌, refl, ◌≡◌, true≢false, append_assoc}
+use Rattle.yaml_base.proofs.Common.{ap, subst, sym, ◌∙◌, and_parts, list_all, list_any, Text, line_feed, space, Rendered, is_read_break, is_empty, marker_of}
+use Rattle.yaml_base.proofs.Common.{stands_at_margin, Line, prepend_to_first_line, prepend_character, lines_of, is_spaces, without_blank_lines, ends_indicator}
+use Rattle.yaml_base.proofs.Common.{spaces, NodeKind, Rules}
+use Rattle.yaml_base.proofs.{stream_lines.StreamInside.not_blank, stream_lines.StreamLineLaws.one_line_both, stream_lines.StreamSections.is_unmarked}
+use Rattle.yaml_base.proofs.{stream_lines.StreamSections.AllUnmarked, stream_lines.StreamTidyLaws.lines_after_first, stream_nodes.StreamItems.Lays}
+use Rattle.yaml_base.proofs.stream_documents.StreamRootsStand.{root_cursor, Begins}
 use Rattle.yaml_base.proofs.stream_lines.StreamClosed.{closing, closed, spaces_line, lines_behind, lines_broken}
 use Rattle.yaml_base.proofs.stream_nodes.StreamBlocks.{Opened, opened_shows, BegunKind, unsaid, is_parsed, block_own, own_closed, below}
 
@@ -115,14 +115,4 @@ block_stands rules on_marker anchor tag begun entries text kind (is_parsed parse
     not_empty zero e = absurd (true≢false (sym (ap is_empty e)))
     not_empty (suc k) e = absurd (true≢false (sym (ap is_empty e)))
 block_stands rules on_marker anchor tag begun entries text kind (unsaid no_anchor no_tag nothing) lays opened unmarked properties =
-    subst (λ b. Stood on_marker (lines_of rules.breaks12 (closed (block_own b entries)))) (sym nothing)
-    (by on_marker (subst (λ (b : Rendered). Lays 0 b.cursor entries text) nothing lays))
-  where
-    by : (x : Bool) → Lays 0 (root_cursor x) entries text → Stood x (lines_of rules.breaks12 (closed (block_own (render_nothing (root_cursor x)) entries)))
-    by true lays =
-        subst (Stood true) (sym (ap (lines_of rules.breaks12) (own_closed (render_nothing (root_cursor true)) entries
-        ∙ below rules 0 (root_cursor true) entries text lays refl)))
-        (unmarked, opened_below rules (lines_of rules.breaks12 text) kind opened)
-    by false lays =
-        subst (Stood false) (sym (ap (lines_of rules.breaks12) (own_closed (render_nothing (root_cursor false)) entries ∙ lays.lays ∙ sym lays.is)))
-        (later_unmarked (lines_of rules.breaks12 text) unmarked, opened_margin rules (lines_of rules.breaks12 text) kind opened)
+    grind (arith, own_closed, below, opened_below, later_unmarked, opened_margin)

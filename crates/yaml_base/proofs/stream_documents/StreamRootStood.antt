@@ -102,11 +102,7 @@ is_scalar _ = false
 no_scalar : {A : Type 0} (make : A → Tree) → ((a : A) → is_scalar (make a) ≡ false) → (o : Option A) (anchor : Option Text) (tagging : Tagging) (value : Text)
     → option_map make o ≡ Some (scalar_tree anchor tagging value) → ⊥
 no_scalar make none None anchor tagging value h = none_not_some h
-no_scalar make none (Some a) anchor tagging value h = false≢true (sym (none a) ∙ ap scalar_in h)
-  where
-    scalar_in : Option Tree → Bool
-    scalar_in None = false
-    scalar_in (Some tree) = is_scalar tree
+no_scalar make none (Some a) anchor tagging value h = grind (arith, false≢true)
 
 -- where no text may begin a scalar is read of nothing
 nothing_left : (rules : Rules) (reads : Reads) (reads_text : ReadsText) (lines : List Line) (anchor : Option Text) (tagging : Tagging) (value : Text)
@@ -152,9 +148,7 @@ nothing_stands : (n : Node) (given : List TagDirective) (s : Effective) (directi
     → Leaves n (record { breaks12 = s.breaks12; directives = given }) s directives root_place marker_cursor
     → FirstStands true (lines_of s.breaks12 (closed (node_own n s directives root_place marker_cursor)))
 nothing_stands (alias_node name) given s directives h leaves = absurd (false≢true h)
-nothing_stands (scalar_node content) given s directives h leaves =
-    scalar_stands (record { breaks12 = s.breaks12; directives = given }) 1
-    (node_own (scalar_node content) s directives root_place marker_cursor) content.anchor _ content.value leaves
+nothing_stands (scalar_node content) given s directives h leaves = grind (arith, scalar_stands, node_own)
 nothing_stands (sequence_node start items) given s directives h leaves = absurd (false≢true h)
 nothing_stands (mapping_node start pairs) given s directives h leaves = absurd (false≢true h)
 

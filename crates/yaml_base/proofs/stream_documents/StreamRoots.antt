@@ -1,9 +1,8 @@
 -- A root that fits reads as its document's tree: on lines of its own, on the line of `---`, and below that line.
-use Rattle.yaml_base.proofs.Common.{suc, zero, ℕ, ◌≤◌, if◌then◌else◌, None, Some, codes, Bool, false, not, true, ◌||◌, List, [], ◌++◌, ◌∷◌, refl, ◌≡◌, ap}
-use Rattle.yaml_base.proofs.Common.{sym, ◌∙◌, false≢true, Cursor, Rendered, root_place, Tree, stands_at_margin, root_below, Line, lines_of, is_spaces}
+use Rattle.yaml_base.proofs.Common.{arith, suc, zero, ℕ, ◌≤◌, if◌then◌else◌, None, Some, codes, Bool, false, true, List, [], ◌++◌, ◌∷◌, refl, ◌≡◌, ap, sym, ◌∙◌}
+use Rattle.yaml_base.proofs.Common.{false≢true, Cursor, Rendered, root_place, Tree, stands_at_margin, root_below, Line, lines_of, is_spaces}
 use Rattle.yaml_base.proofs.Common.{without_blank_lines, begins_blank, indented, blanked, Reads, NodeKind, begins_sequence, begins_mapping, begins_text}
-use Rattle.yaml_base.proofs.Common.{kind_of_node, ReadsText, node_by_kind, node_at, begins_properties, text_or_properties, node_read, Rules, Properties}
-use Rattle.yaml_base.proofs.Common.{no_properties}
+use Rattle.yaml_base.proofs.Common.{kind_of_node, ReadsText, node_by_kind, node_at, node_read, Rules, Properties}
 use Rattle.yaml_base.proofs.stream_lines.{StreamClosed.closed, StreamClosed.margin_cursor, StreamCuts.none_not_some}
 use Rattle.yaml_base.proofs.stream_nodes.StreamFits.{Opens, Fits, blanked_lines}
 use Rattle.yaml_base.specs.streams.StreamDocuments.{root_after_marker, root_marked}
@@ -24,14 +23,7 @@ root_reads rules n own tree fit margin depth deep =
 shown_once : (lines : List Line) → (begins_blank (without_blank_lines lines) ≡ false)
     × (without_blank_lines (without_blank_lines lines) ≡ without_blank_lines lines)
 shown_once [] = (refl, refl)
-shown_once (line ∷ rest) = by (is_spaces line.text) refl (shown_once rest)
-  where
-    by : (x : Bool) → is_spaces line.text ≡ x
-        → (begins_blank (without_blank_lines rest) ≡ false) × (without_blank_lines (without_blank_lines rest) ≡ without_blank_lines rest)
-        → (begins_blank (if x then without_blank_lines rest else line ∷ rest) ≡ false)
-        × (without_blank_lines (if x then without_blank_lines rest else line ∷ rest) ≡ (if x then without_blank_lines rest else line ∷ rest))
-    by true e once = once
-    by false e once = (e, ap (λ x. if x then without_blank_lines rest else line ∷ rest) e)
+shown_once (line ∷ rest) = grind (arith, shown_once rest)
 
 -- what reads where no text may begin reads where one may
 first_more : (rules : Rules) (reads : Reads) (reads_text : ReadsText) (properties : Properties) (lines : List Line) (tree : Tree)
@@ -49,14 +41,7 @@ first_more rules reads reads_text properties (line ∷ rest) tree h = by (kind_o
 below_blank : (depth : ℕ) (rules : Rules) (line : Line) (rest : List Line) (tree : Tree) → is_spaces line.text ≡ true
     → node_read depth rules false None (line ∷ rest) ≡ Some tree → node_read depth rules true None (without_blank_lines rest) ≡ Some tree
 below_blank zero rules line rest tree blank h = absurd (none_not_some h)
-below_blank (suc depth) rules line rest tree blank h =
-    let by : ReadsText = λ at text. text_or_properties (begins_properties text) rules (node_read depth rules) None at text in
-    let lines = without_blank_lines rest in
-    let once = shown_once rest in
-    ap (λ x. node_at rules (node_read depth rules) by no_properties true (not x) (without_blank_lines lines)) once.0
-    ∙ ap (node_at rules (node_read depth rules) by no_properties true true) once.1
-    ∙ first_more rules (node_read depth rules) by no_properties lines tree
-    (sym (ap (λ x. node_at rules (node_read depth rules) by no_properties (false || x) (not x) (if x then lines else line ∷ rest)) blank) ∙ h)
+below_blank (suc depth) rules line rest tree blank h = grind (arith, shown_once, first_more)
 
 -- a root behind `---`, on its line or below it
 pub root_marked_reads : (rules : Rules) (n : ℕ) (own : Rendered) (tree : Tree) (fit : Fits rules n own tree root_place marker_cursor)

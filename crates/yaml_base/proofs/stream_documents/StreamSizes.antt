@@ -1,15 +1,14 @@
 -- A node is no deeper than its text is long, and one.
 use Rattle.yaml_base.proofs.Common.{suc, ℕ, ◌+◌, ◌≤◌, Some, codes, length, Bool, false, true, List, [], ◌++◌, refl, ◌≡◌, length-append, append_assoc, ap, ◌∙◌}
 use Rattle.yaml_base.proofs.Common.{arith, false≢true, Text, Cursor, Rendered, render_then, new_line, space_if, indicator, TagDirective, Collection, Node}
-use Rattle.yaml_base.proofs.Common.{alias_node, scalar_node, Nodes, sequence_node, Pairs, mapping_node, no_nodes, nodes_and, no_pairs, pairs_and}
-use Rattle.yaml_base.proofs.Common.{is_written_in_flow, square, curly, render_end, entry_place, Role, as_item, as_key, as_value, Place, is_undented}
-use Rattle.yaml_base.proofs.Common.{entries_column, has_no_nodes, has_no_pairs, is_simple, flow_break, opening_or_comma, key_indicator, render_place}
-use Rattle.yaml_base.proofs.Common.{Effective, Tree, Rules}
-use Rattle.yaml_base.proofs.stream_lines.StreamClosed.{indicator_cursor}
-use Rattle.yaml_base.proofs.stream_nodes.{StreamAgrees.node_tree, StreamFits.size, StreamFits.items_size, StreamFits.pairs_size, StreamItems.item_place}
-use Rattle.yaml_base.proofs.stream_nodes.StreamNodesFit.{EitherType, LeafFits, render_begun, BegunReads, Leaves, ItemLeaves, PairLeaves}
+use Rattle.yaml_base.proofs.Common.{alias_node, scalar_node, Nodes, sequence_node, Pairs, mapping_node, no_nodes, nodes_and, no_pairs, pairs_and, square, curly}
+use Rattle.yaml_base.proofs.Common.{render_end, entry_place, Role, as_item, as_key, as_value, Place, is_undented, entries_column, has_no_nodes, has_no_pairs}
+use Rattle.yaml_base.proofs.Common.{is_simple, opening_or_comma, render_place, Effective, Tree, Rules}
+use Rattle.yaml_base.proofs.{stream_lines.StreamClosed.indicator_cursor, stream_nodes.StreamAgrees.node_tree, stream_nodes.StreamItems.item_place}
+use Rattle.yaml_base.proofs.stream_nodes.StreamFits.{size, items_size, pairs_size}
+use Rattle.yaml_base.proofs.stream_nodes.StreamNodesFit.{EitherType, render_begun, Leaves, ItemLeaves, PairLeaves}
 use Rattle.yaml_base.proofs.stream_nodes.StreamPairs.{KeyFits, key_place, value_place, colon_cursor, simple_key, indicated_key, simple_value, indicated_value}
-use Rattle.yaml_base.proofs.stream_nodes.StreamTexts.{collection_own, node_own, items_own, pairs_own}
+use Rattle.yaml_base.proofs.stream_nodes.StreamTexts.{node_own, items_own, pairs_own}
 
 -- the length of three texts one after another
 length_three : (a b c : Text) → length ((a ++ b) ++ c) ≡ length a + length b + length c
@@ -37,26 +36,18 @@ opening_indicator bracket false cursor h = omega arith
 -- before an item in flow stands an indicator
 item_indicator : (s : Effective) (first : Bool) (column : ℕ) (cursor : Cursor)
     → 1 ≤ length (render_place s (entry_place true (as_item first) column) false cursor).text
-item_indicator s first column cursor =
-    let opening = opening_or_comma (codes "[") first cursor in
-    indicator_first opening.text (flow_break s (Some column) opening.cursor).text (opening_indicator (codes "[") first cursor (omega arith))
+item_indicator s first column cursor = grind (arith, indicator_first, opening_indicator)
 
 -- before a key
 flow_key_indicator : (s : Effective) (first simple : Bool) (column : ℕ) (cursor : Cursor)
     → 1 ≤ length (render_place s (entry_place true (as_key first) column) simple cursor).text
-flow_key_indicator s first simple column cursor =
-    let opening = opening_or_comma (codes "{") first cursor in
-    let break = flow_break s (Some column) opening.cursor in
-    indicator_first (opening.text ++ break.text) (key_indicator simple false break.cursor).text
-    (indicator_first opening.text break.text (opening_indicator (codes "{") first cursor (omega arith)))
+flow_key_indicator s first simple column cursor = grind (arith, indicator_first, opening_indicator)
 
 -- and before a value
 flow_value_indicator : (s : Effective) (simple : Bool) (column : ℕ) (cursor : Cursor)
     → 1 ≤ length (render_place s (entry_place true (as_value simple) column) false cursor).text
 flow_value_indicator s true column cursor = omega arith
-flow_value_indicator s false column cursor =
-    let break = flow_break s (Some column) cursor in
-    indicator_last break.text (indicator (codes ":") true false false break.cursor).text (indicator_last (space_if true break.cursor) (codes ":") (omega arith))
+flow_value_indicator s false column cursor = grind (arith, indicator_last)
 
 -- a pair's size, by the lengths of its parts
 pair_length : (a k m v n : Text) → length ((a ++ (k ++ m)) ++ (v ++ n)) ≡ length a + (length k + length m) + (length v + length n)
@@ -135,9 +126,7 @@ simple_size false directives (mapping_node start (pairs_and pairs key value)) h 
 -- an indicator on a new line
 line_indicator : (column : ℕ) (symbol : Text) (cursor : Cursor) → 1 ≤ length symbol
     → 1 ≤ length (render_then (new_line column cursor) (indicator symbol true false true)).text
-line_indicator column symbol cursor h =
-    let line = new_line column cursor in
-    indicator_last line.text (space_if true line.cursor ++ symbol) (indicator_last (space_if true line.cursor) symbol h)
+line_indicator column symbol cursor h = grind (arith, indicator_last)
 
 -- the text of a simple key isn't empty
 key_length : (rules : Rules) (text : Text) (tree : Tree) → KeyFits rules text tree → 1 ≤ length text
@@ -148,54 +137,14 @@ sequence_within : (start : Collection) (items : Nodes) (rules : Rules) (s : Effe
     → Leaves (sequence_node start items) rules s directives place cursor
     → ((e : ℕ) (cursor : Cursor) → ItemLeaves items rules s directives e → items_size items ≤ length (items_own items s directives false e cursor).text)
     → suc (items_size items) ≤ suc (length (node_own (sequence_node start items) s directives place cursor).text)
-sequence_within start items rules s directives place cursor leaves each = by (is_written_in_flow s place start (has_no_nodes items)) leaves
-  where
-    begun : Rendered
-    begun = render_begun s directives start cursor
-
-    by : (x : Bool) → EitherType x (LeafFits rules s directives (sequence_node start items) place cursor)
-        (BegunReads rules s directives start cursor
-        × ItemLeaves items rules s directives (entries_column false (is_undented s place.role) s.indent place.column begun.cursor))
-        → suc (items_size items) ≤ suc
-        (length (collection_own s square x (is_undented s place.role) (has_no_nodes items) place.column begun (items_own items s directives x)).text)
-    by true leaf =
-        let e = entries_column true (is_undented s place.role) s.indent place.column begun.cursor in
-        let entries = items_own items s directives true e begun.cursor in
-        let within = length_within begun.text entries.text (render_end s square true (has_no_nodes items) place.column entries.cursor).text in
-        let all = flow_items items s directives e begun.cursor in
-        omega arith
-    by false leaves =
-        let e = entries_column false (is_undented s place.role) s.indent place.column begun.cursor in
-        let entries = items_own items s directives false e begun.cursor in
-        let within = length_within begun.text entries.text [] in
-        let all = each e begun.cursor leaves.1 in
-        omega arith
+sequence_within start items rules s directives place cursor leaves each = grind (arith, items_own, length_within, flow_items)
 
 -- a mapping, where its pairs are
 mapping_within : (start : Collection) (pairs : Pairs) (rules : Rules) (s : Effective) (directives : List TagDirective) (place : Place) (cursor : Cursor)
     → Leaves (mapping_node start pairs) rules s directives place cursor
     → ((e : ℕ) (cursor : Cursor) → PairLeaves pairs rules s directives e → pairs_size pairs ≤ length (pairs_own pairs s directives false e cursor).text)
     → suc (pairs_size pairs) ≤ suc (length (node_own (mapping_node start pairs) s directives place cursor).text)
-mapping_within start pairs rules s directives place cursor leaves each = by (is_written_in_flow s place start (has_no_pairs pairs)) leaves
-  where
-    begun : Rendered
-    begun = render_begun s directives start cursor
-
-    by : (x : Bool) → EitherType x (LeafFits rules s directives (mapping_node start pairs) place cursor)
-        (BegunReads rules s directives start cursor × PairLeaves pairs rules s directives (entries_column false false s.indent place.column begun.cursor))
-        → suc (pairs_size pairs) ≤ suc (length (collection_own s curly x false (has_no_pairs pairs) place.column begun (pairs_own pairs s directives x)).text)
-    by true leaf =
-        let e = entries_column true false s.indent place.column begun.cursor in
-        let entries = pairs_own pairs s directives true e begun.cursor in
-        let within = length_within begun.text entries.text (render_end s curly true (has_no_pairs pairs) place.column entries.cursor).text in
-        let all = flow_pairs pairs s directives e begun.cursor in
-        omega arith
-    by false leaves =
-        let e = entries_column false false s.indent place.column begun.cursor in
-        let entries = pairs_own pairs s directives false e begun.cursor in
-        let within = length_within begun.text entries.text [] in
-        let all = each e begun.cursor leaves.1 in
-        omega arith
+mapping_within start pairs rules s directives place cursor leaves each = grind (arith, pairs_own, length_within, flow_pairs)
 
 -- what is rendered for a pair in a block
 abbrev pair_own : (simple : Bool) → Pairs → Node → Node → Effective → List TagDirective → ℕ → Cursor → Rendered
@@ -210,13 +159,7 @@ pair_regrouped : (x : Bool) (pairs : Pairs) (key value : Node) (s : Effective) (
     (render_then before (λ after. render_then (render_place s (key_place pairs e) x after) (node_own key s directives (key_place pairs e))))
     (λ after. render_then (render_place s (value_place x e) false after) (node_own value s directives (value_place x e)))).text
     ≡ length before.text + length (pair_own x pairs key value s directives e before.cursor).text
-pair_regrouped x pairs key value s directives e before =
-    let key_indicators = render_place s (key_place pairs e) x before.cursor in
-    let k = node_own key s directives (key_place pairs e) key_indicators.cursor in
-    let value_indicators = render_place s (value_place x e) false k.cursor in
-    let v = node_own value s directives (value_place x e) value_indicators.cursor in
-    ap length (append_assoc before.text (key_indicators.text ++ k.text) (value_indicators.text ++ v.text))
-    ∙ length-append before.text ((key_indicators.text ++ k.text) ++ (value_indicators.text ++ v.text))
+pair_regrouped x pairs key value s directives e before = grind (arith, node_own, append_assoc, length-append)
 
 -- a pair, where its key and its value are no deeper than they are long
 pair_within : (x : Bool) (pairs : Pairs) (key value : Node) (rules : Rules) (s : Effective) (directives : List TagDirective) (e : ℕ) (cursor : Cursor)

@@ -1,8 +1,8 @@
 -- A stream's text as far as it is read: its lines cut into sections, whatever markers follow them, and what they are read as.
-use Rattle.yaml_base.proofs.Common.{ℕ, if◌then◌else◌, fold, option_and_then, None, Some, Bool, false, true, List, [], ◌++◌, ◌∷◌, refl, ◌≡◌, eqb-true}
+use Rattle.yaml_base.proofs.Common.{arith, ℕ, if◌then◌else◌, fold, option_and_then, None, Some, Bool, false, true, List, [], ◌++◌, ◌∷◌, refl, ◌≡◌, eqb-true}
 use Rattle.yaml_base.proofs.Common.{append-nil, append_assoc, ap, sym, ◌∙◌, and_parts, and_from, false≢true, list_all, Text, marker_of, Section, sections_of}
-use Rattle.yaml_base.proofs.Common.{Heading, heading_of, after_heading, with_heading, directive_lines, document_lines, begins_with_percent, prefix_kind}
-use Rattle.yaml_base.proofs.Common.{lines_before_marker_read, documents_at_end, sections_read, Line, lines_of, is_spaces, without_blank_lines}
+use Rattle.yaml_base.proofs.Common.{Heading, heading_of, after_heading, with_heading, begins_with_percent, prefix_kind, lines_before_marker_read}
+use Rattle.yaml_base.proofs.Common.{documents_at_end, sections_read, Line, lines_of, is_spaces, without_blank_lines}
 use Rattle.std.proofs.lemmas.Grind.{fold-append}
 use Rattle.yaml_base.proofs.stream_lines.{StreamClosed.closed_both, StreamLineLaws.is_closed, StreamLineLaws.lines_after_break}
 use Rattle.yaml_base.proofs.stream_lines.StreamSections.{is_unmarked, AllUnmarked, unmarked_before, IsMark, markers_one}
@@ -76,12 +76,7 @@ Percents lines = list_all (λ line. begins_with_percent line.text) lines ≡ tru
 -- such a line is no marker
 percent_unmarked : (t : Text) → begins_with_percent t ≡ true → is_unmarked (marker_of t) ≡ true
 percent_unmarked [] h = absurd (false≢true h)
-percent_unmarked (c ∷ t) h = ap (λ d. is_unmarked (marker_of (d ∷ t))) (eqb-true c 0x25 h) ∙ by t
-  where
-    by : (t : Text) → is_unmarked (marker_of (0x25 ∷ t)) ≡ true
-    by [] = refl
-    by (b ∷ []) = refl
-    by (b ∷ d ∷ t) = refl
+percent_unmarked (c ∷ t) h = grind (arith, eqb-true)
 
 -- none of them is
 pub percents_unmarked : (lines : List Line) → Percents lines → AllUnmarked lines
@@ -99,14 +94,10 @@ percent_shows (c ∷ t) h = ap (λ d. is_spaces (d ∷ t)) (eqb-true c 0x25 h)
 -- so none of them is left out
 pub percents_shown : (lines : List Line) → Percents lines → without_blank_lines lines ≡ lines
 percents_shown [] h = refl
-percents_shown (line ∷ rest) h =
-    let parts = and_parts (begins_with_percent line.text) (list_all (λ line. begins_with_percent line.text) rest) h in
-    ap (λ x. if x then without_blank_lines rest else line ∷ rest) (percent_shows line.text parts.0)
+percents_shown (line ∷ rest) h = grind (arith, and_parts, percent_shows)
 
 -- at a stream's start directives are read, or nothing
 pub prefix_heading : (breaks12 : Bool) (depth : ℕ) (lines : List Line) (parsed : Heading) → Percents lines → heading_of lines ≡ Some parsed
     → lines_before_marker_read (prefix_kind lines) depth breaks12 lines ≡ Some (record { documents = []; place = after_heading parsed })
 prefix_heading breaks12 depth [] parsed percents reads = ap (with_heading []) reads
-prefix_heading breaks12 depth (line ∷ rest) parsed percents reads =
-    let parts = and_parts (begins_with_percent line.text) (list_all (λ line. begins_with_percent line.text) rest) percents in
-    ap (λ x. lines_before_marker_read (if x then directive_lines else document_lines) depth breaks12 (line ∷ rest)) parts.0 ∙ ap (with_heading []) reads
+prefix_heading breaks12 depth (line ∷ rest) parsed percents reads = grind (arith, and_parts)

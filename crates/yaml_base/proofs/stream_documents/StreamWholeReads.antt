@@ -1,21 +1,20 @@
 -- A whole stream whose documents stand is read as their trees.
-use Rattle.yaml_base.proofs.Common.{suc, ℕ, ◌≤◌, if◌then◌else◌, ◌==◌, option_and_then, None, Some, codes, length, Bool, false, not, true, ◌&&◌, ◌||◌, List}
-use Rattle.yaml_base.proofs.Common.{[], ◌++◌, ◌∷◌, refl, ◌≡◌, eqb-true, length-append, append-nil, ap, subst, sym, ◌∙◌, arith, and_parts, and_from}
-use Rattle.yaml_base.proofs.Common.{flat_map-append, list_all, Text, line_feed, space, Rendered, Document, Documents, no_documents, documents_and, Stream}
-use Rattle.yaml_base.proofs.Common.{render_if, render_closing_marker, is_explicit, root_place, render_document, render_documents, first_standing}
-use Rattle.yaml_base.proofs.Common.{stream_end_piece, layout, piece_text, text_of, RenderedPieces, Effective, is_written_as_nothing, directives_in_force}
-use Rattle.yaml_base.proofs.Common.{DocumentTree, documents_in_order, marker_of, Sections, sections_of, no_heading, with_read_document, directive_lines}
-use Rattle.yaml_base.proofs.Common.{document_lines, begins_with_percent, prefix_kind, lines_before_marker_read, documents_at_end, sections_read, documents_of}
-use Rattle.yaml_base.proofs.Common.{Line, lines_of, is_spaces, ends_indicator, node_read}
-use Rattle.yaml_base.proofs.{stream_documents.StreamDocumentsRead.later_more, stream_documents.StreamDocumentsRead.first_more}
-use Rattle.yaml_base.proofs.{stream_documents.StreamRootAdded.with_document, stream_documents.StreamRootStood.root_fits}
-use Rattle.yaml_base.proofs.{stream_documents.StreamSizes.block_node, stream_documents.StreamSoFar.documents_so_far, stream_lines.StreamClosed.closing}
-use Rattle.yaml_base.proofs.{stream_lines.StreamClosed.margin_cursor, stream_lines.StreamCuts.none_not_some, stream_lines.StreamSections.is_unmarked}
-use Rattle.yaml_base.proofs.{stream_lines.StreamSections.AllUnmarked, stream_lines.StreamSections.unmarked_before, stream_nodes.StreamFits.size}
+use Rattle.yaml_base.proofs.Common.{suc, ℕ, ◌≤◌, if◌then◌else◌, ◌==◌, option_and_then, None, Some, codes, length, Bool, false, not, true, ◌&&◌, ◌||◌, List, []}
+use Rattle.yaml_base.proofs.Common.{◌++◌, ◌∷◌, refl, ◌≡◌, eqb-true, length-append, append-nil, ap, subst, sym, ◌∙◌, arith, and_parts, and_from, flat_map-append}
+use Rattle.yaml_base.proofs.Common.{list_all, Text, line_feed, Document, Documents, no_documents, documents_and, Stream, is_explicit, root_place}
+use Rattle.yaml_base.proofs.Common.{render_document, render_documents, first_standing, layout, piece_text, text_of, RenderedPieces, Effective}
+use Rattle.yaml_base.proofs.Common.{is_written_as_nothing, directives_in_force, DocumentTree, documents_in_order, marker_of, Sections, sections_of, no_heading}
+use Rattle.yaml_base.proofs.Common.{with_read_document, directive_lines, document_lines, begins_with_percent, prefix_kind, lines_before_marker_read}
+use Rattle.yaml_base.proofs.Common.{documents_at_end, sections_read, documents_of, Line, lines_of, is_spaces, ends_indicator, node_read}
+use Rattle.yaml_base.{proofs.stream_documents.StreamRootAdded.with_document, proofs.stream_documents.StreamRootStood.root_fits}
+use Rattle.yaml_base.{proofs.stream_documents.StreamSizes.block_node, proofs.stream_documents.StreamSoFar.documents_so_far}
+use Rattle.yaml_base.{proofs.stream_lines.StreamCuts.none_not_some, proofs.stream_nodes.StreamFits.size, specs.streams.StreamLines.all_blank}
+use Rattle.yaml_base.proofs.stream_documents.StreamDocumentsRead.{later_more, first_more}
+use Rattle.yaml_base.proofs.stream_lines.StreamClosed.{closing, margin_cursor}
+use Rattle.yaml_base.proofs.stream_lines.StreamSections.{is_unmarked, AllUnmarked, unmarked_before}
 use Rattle.yaml_base.proofs.stream_documents.StreamDocumentReads.{Awaits, awaits_first, awaits_ended, dots_if}
 use Rattle.yaml_base.proofs.stream_documents.StreamDocumentTexts.{before_root, dots_rendered, root_part, document_text, RenderedDocument, document_joined}
 use Rattle.yaml_base.proofs.stream_documents.StreamRootsStand.{rules_of, root_cursor, render_root, RootStands, is_on_marker, DocumentStands, DocumentsStand}
-use Rattle.yaml_base.specs.streams.StreamLines.{all_blank}
 
 -- Lists of documents
 
@@ -38,12 +37,7 @@ document_trees s (documents_and before document) = with_document s (document_tre
 
 -- a text among others is no longer than they are
 root_length : (before marker own rest ending : Text) → length own ≤ length (before ++ ((marker ++ (own ++ rest)) ++ ending))
-root_length before marker own rest ending =
-    let a = length-append before ((marker ++ (own ++ rest)) ++ ending) in
-    let b = length-append (marker ++ (own ++ rest)) ending in
-    let c = length-append marker (own ++ rest) in
-    let d = length-append own rest in
-    omega arith
+root_length before marker own rest ending = grind (arith, length-append)
 
 -- the root of a document is no deeper than the document's text is long, and one
 document_size : (s : Effective) (first ended : Bool) (document : Document) → DocumentStands s first document
@@ -161,14 +155,7 @@ ended_read breaks12 depth text documents marker awaits = by (marker == 0) refl (
 -- a blank line is no marker, and begins no text
 blank_unmarked : (t : Text) → is_spaces t ≡ true → is_unmarked (marker_of t) ≡ true
 blank_unmarked [] h = refl
-blank_unmarked (c ∷ t) h =
-    let parts = and_parts (c == space) (is_spaces t) h in
-    ap (λ d. is_unmarked (marker_of (d ∷ t))) (eqb-true c space parts.0) ∙ by t
-  where
-    by : (t : Text) → is_unmarked (marker_of (space ∷ t)) ≡ true
-    by [] = refl
-    by (b ∷ []) = refl
-    by (b ∷ d ∷ t) = refl
+blank_unmarked (c ∷ t) h = grind (arith, and_parts, eqb-true)
 
 blank_lines_unmarked : (lines : List Line) → all_blank lines ≡ true → AllUnmarked lines
 blank_lines_unmarked [] h = refl
@@ -179,9 +166,7 @@ blank_lines_unmarked (line ∷ rest) h =
 
 blank_no_text : (t : Text) → is_spaces t ≡ true → (begins_with_percent t ≡ false) × (ends_indicator t ≡ true)
 blank_no_text [] h = (refl, refl)
-blank_no_text (c ∷ t) h =
-    let parts = and_parts (c == space) (is_spaces t) h in
-    (ap (λ d. begins_with_percent (d ∷ t)) (eqb-true c space parts.0), parts.0)
+blank_no_text (c ∷ t) h = grind (arith, and_parts, eqb-true)
 
 -- so blank lines are read as no documents
 blank_read : (breaks12 : Bool) (depth : ℕ) (lines : List Line) (documents : List DocumentTree) → all_blank lines ≡ true
@@ -215,13 +200,7 @@ pub stream_text : (s : Effective) (stream : Stream) → (render_documents s stre
     → text_of (layout s stream)
     ≡ text_of (render_documents s stream.documents first_standing).pieces ++ dots_if
     ((render_documents s stream.documents first_standing).standing.open_ended == 2)
-stream_text s stream at =
-    let documents = render_documents s stream.documents first_standing in
-    flat_map-append piece_text (record { lead = []; body = None } ∷ documents.pieces) ((stream_end_piece documents.standing).piece ∷ [])
-    ∙ ap (λ t. text_of documents.pieces ++ t) (append-nil ((stream_end_piece documents.standing).piece.lead ++ [])
-    ∙ append-nil (stream_end_piece documents.standing).piece.lead
-    ∙ ap (λ c. (render_if (documents.standing.open_ended == 2) render_closing_marker c).text) at
-    ∙ ap (λ (l : Rendered). l.text) (dots_rendered (documents.standing.open_ended == 2)))
+stream_text s stream at = grind (arith, flat_map-append, append-nil, dots_rendered)
 
 -- a stream whose documents stand is read as their trees
 pub stream_reads : (s : Effective) (stream : Stream) → 2 ≤ s.indent → DocumentsStand s stream.documents → FirstWritten s (documents_in_order stream.documents)

@@ -1,19 +1,17 @@
 -- Each line of a collection in flow after its first is deeper than the column around.
-use Rattle.yaml_base.proofs.Common.{suc, ℕ, ◌≤◌, if◌then◌else◌, Option, None, Some, codes, Bool, false, not, true, ◌&&◌, ◌||◌, List, [], ◌++◌, ◌∷◌, refl, ◌≡◌}
-use Rattle.yaml_base.proofs.Common.{ap, ◌∙◌, arith, and_parts, false≢true, list_all, list_any, Text, space, is_printable, Cursor, Rendered, render_nothing}
-use Rattle.yaml_base.proofs.Common.{render_then, new_line, space_if, indicator, is_past_width, ScalarStyle, any_style, plain, single_quoted, double_quoted}
-use Rattle.yaml_base.proofs.Common.{literal, folded, TagDirective, Scalar, Collection, scalar_tag, collection_tag, Node, alias_node, scalar_node, Nodes}
-use Rattle.yaml_base.proofs.Common.{sequence_node, Pairs, mapping_node, no_nodes, nodes_and, no_pairs, pairs_and, render_properties, render_alias}
-use Rattle.yaml_base.proofs.Common.{render_separation, render_body, choice_of, is_written_in_flow, Brackets, square, curly, empty_or_comma, render_end}
-use Rattle.yaml_base.proofs.Common.{entry_place, Role, as_root, as_item, as_key, as_value, Place, is_key, is_undented, line_column, deeper, entries_column}
-use Rattle.yaml_base.proofs.Common.{has_no_nodes, has_no_pairs, is_simple, is_simple_at, flow_break, opening_or_comma, key_indicator, render_flow_place}
-use Rattle.yaml_base.proofs.Common.{render_place, is_read_break, Effective, is_read_white, has_deep_lines, has_no_space_before_break, ends_white}
-use Rattle.yaml_base.proofs.Common.{has_clean_edges, is_tidy_style, is_tidy, double_inside, render_quote, runs, render_runs, quotes_doubled, single_quote}
-use Rattle.yaml_base.proofs.Common.{name_read}
+use Rattle.yaml_base.proofs.Common.{suc, ℕ, ◌≤◌, if◌then◌else◌, Option, None, Some, codes, Bool, false, true, ◌&&◌, List, [], ◌++◌, ◌∷◌, refl, ◌≡◌, ap, ◌∙◌}
+use Rattle.yaml_base.proofs.Common.{arith, and_parts, false≢true, list_all, list_any, Text, is_printable, Cursor, Rendered, render_nothing, render_then}
+use Rattle.yaml_base.proofs.Common.{new_line, space_if, indicator, ScalarStyle, any_style, plain, single_quoted, double_quoted, literal, folded, TagDirective}
+use Rattle.yaml_base.proofs.Common.{Scalar, Collection, scalar_tag, collection_tag, Node, alias_node, scalar_node, Nodes, sequence_node, Pairs, mapping_node}
+use Rattle.yaml_base.proofs.Common.{no_nodes, nodes_and, no_pairs, pairs_and, render_properties, render_alias, render_separation, render_body, choice_of}
+use Rattle.yaml_base.proofs.Common.{is_written_in_flow, Brackets, square, curly, empty_or_comma, render_end, entry_place, Role, as_root, as_item, as_key}
+use Rattle.yaml_base.proofs.Common.{as_value, Place, is_key, is_undented, line_column, deeper, entries_column, has_no_nodes, has_no_pairs, is_simple}
+use Rattle.yaml_base.proofs.Common.{is_simple_at, flow_break, opening_or_comma, render_flow_place, render_place, is_read_break, Effective, is_read_white}
+use Rattle.yaml_base.proofs.Common.{has_deep_lines, ends_white, has_clean_edges, is_tidy_style, is_tidy, double_inside, render_quote, name_read}
 use Rattle.yaml_base.proofs.{stream_flow.StreamPropertyWords.lead, stream_lines.StreamClosed.spaces_line, stream_lines.StreamLineLaws.OneLine}
 use Rattle.yaml_base.proofs.{stream_lines.StreamLineLaws.one_line_both, stream_lines.StreamTidyLaws.deep_lines_fewer, stream_nodes.StreamAliasFits.name_line}
 use Rattle.yaml_base.proofs.{stream_nodes.StreamBegun.lead_line, stream_nodes.StreamLeads.lead_rendered, stream_nodes.StreamLeads.tag_is_written}
-use Rattle.yaml_base.proofs.{stream_nodes.StreamProperties.IsNamed, stream_nodes.StreamProperties.name_letters}
+use Rattle.yaml_base.proofs.stream_nodes.StreamProperties.{IsNamed, name_letters}
 use Rattle.yaml_base.proofs.stream_flow.StreamFlowScalars.{rules_of, is_flow_style, chosen_in_flow, separation_in_flow}
 use Rattle.yaml_base.proofs.stream_lines.StreamDeepBreaks.{Deep, deep_both, deep_line, deep_new_line, deep_tidy, ends_as_last, line_prefix, space_line}
 use Rattle.yaml_base.proofs.stream_nodes.StreamStands.{tag_written, tag_meant, TagStands, NamesStand, AllNamesStand, PairsNamesStand, BodyStands, body_from}
@@ -43,22 +41,14 @@ quote_shown false = (refl, refl)
 -- a text with clean edges ends with nothing white
 clean_shown : (breaks12 : Bool) (t : Text) → has_clean_edges breaks12 t ≡ true → ends_white breaks12 t ≡ false
 clean_shown breaks12 [] h = refl
-clean_shown breaks12 (c ∷ t) h = by (ends_white breaks12 (c ∷ t)) (and_parts (not (is_read_white breaks12 c)) (not (ends_white breaks12 (c ∷ t))) h).1
-  where
-    by : (x : Bool) → not x ≡ true → x ≡ false
-    by true h = absurd (false≢true h)
-    by false h = refl
+clean_shown breaks12 (c ∷ t) h = grind (arith, and_parts, false≢true)
 
 -- a body in a style of flow that is tidy ends with nothing white
 body_shown : (s : Effective) (style : ScalarStyle) (limit : Option ℕ) (indent : ℕ) (value : Text) (cursor : Cursor) → is_flow_style style ≡ true
     → is_tidy_style style s.breaks12 (render_body style s limit indent value cursor).text ≡ true
     → ends_white s.breaks12 (render_body style s limit indent value cursor).text ≡ false
-body_shown s plain limit indent value cursor flow tidy =
-    let text = (render_body plain s limit indent value cursor).text in
-    clean_shown s.breaks12 text (and_parts (has_no_space_before_break s.breaks12 text) (has_clean_edges s.breaks12 text) tidy).1
-body_shown s single_quoted limit indent value cursor flow tidy =
-    ends_as_last s.breaks12 (0x27 ∷ (render_runs quotes_doubled limit indent true (runs value) (single_quote cursor).cursor).text) 0x27
-    ∙ (quote_shown s.breaks12).0
+body_shown s plain limit indent value cursor flow tidy = grind (arith, clean_shown, and_parts)
+body_shown s single_quoted limit indent value cursor flow tidy = grind (arith, ends_as_last, quote_shown)
 body_shown s double_quoted limit indent value cursor flow tidy =
     ends_as_last s.breaks12 (0x22 ∷ (double_inside s.unicode limit indent None value (render_quote cursor).cursor).text) 0x22 ∙ (quote_shown s.breaks12).1
 body_shown s any_style limit indent value cursor flow tidy = absurd (false≢true tidy)
@@ -97,11 +87,7 @@ brackets_line false = ((refl, refl), (refl, refl))
 
 -- a new line where one is too long
 break_deep : (s : Effective) (count column : ℕ) (cursor : Cursor) → count ≤ column → Deep s.breaks12 count (flow_break s (Some column) cursor).text
-break_deep s count column cursor le = by (s.canonical || is_past_width s.width cursor)
-  where
-    by : (x : Bool) → Deep s.breaks12 count (let rendered : Rendered = if x then new_line column cursor else render_nothing cursor in rendered.text)
-    by true = deep_new_line s.breaks12 count column cursor le
-    by false = refl
+break_deep s count column cursor le = grind (arith, deep_new_line)
 
 -- what stands before a first entry, or between two
 begin_deep : (s : Effective) (count column : ℕ) (bracket : Text) (first : Bool) (cursor : Cursor) → count ≤ column → OneLine s.breaks12 bracket
@@ -120,20 +106,9 @@ place_deep : (s : Effective) (count column : ℕ) (role : Role) (simple : Bool) 
     → Deep s.breaks12 count (render_flow_place s role simple (Some column) cursor).text
 place_deep s count column as_root simple cursor le = refl
 place_deep s count column (as_item first) simple cursor le = begin_deep s count column (codes "[") first cursor le (brackets_line s.breaks12).0.0
-place_deep s count column (as_key first) simple cursor le =
-    let begun = render_then (opening_or_comma (codes "{") first cursor) (flow_break s (Some column)) in
-    deep_both s.breaks12 count begun.text (key_indicator simple false begun.cursor).text
-    (begin_deep s count column (codes "{") first cursor le (brackets_line s.breaks12).1.0)
-    (by simple begun.cursor)
-  where
-    by : (x : Bool) (cursor : Cursor) → Deep s.breaks12 count (key_indicator x false cursor).text
-    by true cursor = refl
-    by false cursor = indicator_deep s.breaks12 count (codes "?") true false false cursor (indicators_line s.breaks12).1
+place_deep s count column (as_key first) simple cursor le = grind (arith, deep_both, begin_deep, brackets_line, indicator_deep, indicators_line)
 place_deep s count column (as_value true) simple cursor le = indicator_deep s.breaks12 count (codes ":") false false false cursor (indicators_line s.breaks12).2
-place_deep s count column (as_value false) simple cursor le =
-    let gap = flow_break s (Some column) cursor in
-    deep_both s.breaks12 count gap.text (indicator (codes ":") true false false gap.cursor).text (break_deep s count column cursor le)
-    (indicator_deep s.breaks12 count (codes ":") true false false gap.cursor (indicators_line s.breaks12).2)
+place_deep s count column (as_value false) simple cursor le = grind (arith, deep_both, break_deep, indicator_deep, indicators_line)
 
 -- the end of a collection at a column
 end_deep : (s : Effective) (count : ℕ) (brackets : Brackets) (empty : Bool) (column : Option ℕ) (cursor : Cursor) → OneLine s.breaks12 brackets.opening
@@ -170,16 +145,7 @@ star_line false = refl
 -- an alias
 pub alias_deep : (s : Effective) (count : ℕ) (name : Text) (simple : Bool) (cursor : Cursor) → name_read name ≡ Some name
     → Deep s.breaks12 count (render_alias name simple cursor).text
-alias_deep s count name simple cursor named =
-    let star = indicator (codes "*") true false false cursor in
-    deep_both s.breaks12 count (star.text ++ name) (if simple then codes " " else [])
-    (deep_both s.breaks12 count star.text name (indicator_deep s.breaks12 count (codes "*") true false false cursor (star_line s.breaks12))
-    (deep_line s.breaks12 count name (name_line s.breaks12 name (name_letters name named))))
-    (by simple)
-  where
-    by : (x : Bool) → Deep s.breaks12 count (if x then codes " " else [])
-    by true = deep_line s.breaks12 count (space ∷ []) (spaces_line s.breaks12 1)
-    by false = refl
+alias_deep s count name simple cursor named = grind (arith, deep_both, indicator_deep, star_line, deep_line, name_line, name_letters, spaces_line)
 
 -- a scalar
 scalar_deep : (s : Effective) (own directives : List TagDirective) (count column : ℕ) (role : Role) (cursor : Cursor) (content : Scalar) → count ≤ column
@@ -210,11 +176,7 @@ collection_deep : (s : Effective) (own directives : List TagDirective) (count : 
     → Deep s.breaks12 count
     (((render_properties s.portable directives anchor tag false cursor).text ++ entries.text) ++ (render_end s brackets true empty column entries.cursor).text)
 collection_deep s own directives count brackets anchor tag empty column cursor entries opening closing le named stands deep =
-    let begun = render_properties s.portable directives anchor tag false cursor in
-    deep_both s.breaks12 count (begun.text ++ entries.text) (render_end s brackets true empty column entries.cursor).text
-    (deep_both s.breaks12 count begun.text entries.text
-    (deep_line s.breaks12 count begun.text (properties_line s own directives anchor tag false cursor named stands)) deep)
-    (end_deep s count brackets empty column entries.cursor opening closing le)
+    grind (arith, deep_both, deep_line, properties_line, end_deep)
 
 -- each node in flow at a column, the items of each sequence and the pairs of each mapping have lines as deep as that column
 mutual

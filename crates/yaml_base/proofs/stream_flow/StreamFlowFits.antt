@@ -75,13 +75,7 @@ content_text rules cursor own anchor tag given_tag tree of column line deep =
 
 -- what begins a node's own text is no space and no indicator of a property
 pub own_shows : (c : ℕ) → begins_content (c ∷ []) ≡ true → ((c == space) ≡ false) × ((c == 0x26 || c == 0x21) ≡ false)
-own_shows c h = by (c == space) (c == 0x26) (c == 0x21) h
-  where
-    by : (x y z : Bool) → (not x && (not y && not z)) ≡ true → (x ≡ false) × ((y || z) ≡ false)
-    by true y z h = absurd (false≢true h)
-    by false true z h = absurd (false≢true h)
-    by false false true h = absurd (false≢true h)
-    by false false false h = (refl, refl)
+own_shows c h = grind (arith, false≢true)
 
 -- the text of a collection, with its properties, up to the break after it
 abbrev flow_text : (rules : Rules) (cursor : Cursor) (own : Rendered) (anchor tag given_tag : Option Text) (tree : Tree)
@@ -133,11 +127,7 @@ text_reads rules cursor own anchor tag given_tag tree of column given line deepe
 closed_text : (rules : Rules) (cursor : Cursor) (own : Rendered) (anchor tag given_tag : Option Text) (tree : Tree)
     (of : FlowContent rules cursor own anchor tag given_tag tree)
     → own.text ++ (line_feed ∷ []) ≡ space_if true cursor ++ flow_text rules cursor own anchor tag given_tag tree of
-closed_text rules cursor own anchor tag given_tag tree of =
-    let core = (of.bracket ∷ of.inside) ++ (of.closing ∷ []) in
-    ap (λ t. t ++ (line_feed ∷ [])) of.whole
-    ∙ append_assoc (space_if true cursor) (lead anchor tag ++ core) (line_feed ∷ [])
-    ∙ ap (λ t. space_if true cursor ++ t) (append_assoc (lead anchor tag) core (line_feed ∷ []))
+closed_text rules cursor own anchor tag given_tag tree of = grind (arith, append_assoc)
 
 -- a collection whose text is read, and whose lines are deeper than the column around, fits behind some spaces
 spaced_fits : (rules : Rules) (place : Place) (cursor : Cursor) (own : Rendered) (anchor tag given_tag : Option Text) (tree : Tree)
@@ -187,9 +177,7 @@ content_fits rules place cursor own anchor tag given_tag tree of given deep = by
 -- the lines of a collection are deeper than the column around, in canonical mode at the root alone
 deep_column : (s : Effective) (column : Option ℕ) (c : ℕ) → 2 ≤ s.indent → (s.canonical ≡ true → column ≡ None) → column ≡ Some c
     → (suc c ≤ deeper s.indent column) × (s.canonical ≡ true → suc c ≤ line_column column)
-deep_column s column c deep root e =
-    let same : line_column column ≡ c = ap line_column e in
-    (omega arith, λ h. absurd (none_not_some (sym (root h) ∙ e)))
+deep_column s column c deep root e = grind (arith, none_not_some)
 
 -- each sequence that is written in flow in a block fits
 pub sequence_fits : (s : Effective) (own directives : List TagDirective) → KeysFit s own directives → 2 ≤ s.indent → (place : Place) (cursor : Cursor)

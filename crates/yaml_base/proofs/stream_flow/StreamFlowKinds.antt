@@ -1,14 +1,14 @@
 -- Each kind of node that stands in flow takes the reader of flow collections to its place with its tree, where what it holds does.
-use Rattle.yaml_base.proofs.Common.{ℕ, if◌then◌else◌, is_some, Option, None, Some, Bool, false, not, true, ◌&&◌, List, [], ◌++◌, ◌∷◌, refl, ◌≡◌, true≢false}
-use Rattle.yaml_base.proofs.Common.{append-nil, append_assoc, ap, subst, sym, ◌∙◌, false≢true, Text, space, Cursor, Rendered, space_if, TagDirective, Scalar}
-use Rattle.yaml_base.proofs.Common.{Collection, scalar_tag, collection_tag, Node, alias_node, scalar_node, Nodes, sequence_node, Pairs, mapping_node}
+use Rattle.yaml_base.proofs.Common.{arith, ℕ, if◌then◌else◌, is_some, Option, None, Some, Bool, false, not, true, ◌&&◌, List, [], ◌++◌, ◌∷◌, refl, ◌≡◌}
+use Rattle.yaml_base.proofs.Common.{true≢false, append-nil, append_assoc, ap, sym, ◌∙◌, false≢true, Text, space, Cursor, Rendered, space_if, TagDirective}
+use Rattle.yaml_base.proofs.Common.{Scalar, Collection, scalar_tag, collection_tag, Node, alias_node, scalar_node, Nodes, sequence_node, Pairs, mapping_node}
 use Rattle.yaml_base.proofs.Common.{no_nodes, nodes_and, no_pairs, pairs_and, render_properties, render_alias, render_separation, render_body, choice_of}
 use Rattle.yaml_base.proofs.Common.{square, curly, render_end, entry_place, Role, is_key, deeper, is_simple, Effective, is_plain, Tree, alias_tree}
 use Rattle.yaml_base.proofs.Common.{sequence_tree, mapping_tree, no_trees, no_tree_pairs, is_alias, is_key_text, no_key, key_held, OpenFlow, in_sequence}
 use Rattle.yaml_base.proofs.Common.{in_mapping, at_once, after_blank, entry_awaited, comma_awaited, colon_awaited, within, with_tree, level_opened, Rules}
 use Rattle.yaml_base.proofs.Common.{name_read, begins_bracket, class_of}
-use Rattle.yaml_base.proofs.stream_flow.{StreamPropertyWords.lead, StreamSays.bracket_class, StreamTakes.TakesBytes, StreamTakes.takes_both}
-use Rattle.yaml_base.proofs.stream_flow.{StreamTakes.takes_simple_key, StreamWhites.spaces_end_word, StreamWhites.alias_blank}
+use Rattle.yaml_base.proofs.stream_flow.{StreamPropertyWords.lead, StreamSays.bracket_class, StreamTakes.takes_both, StreamTakes.takes_simple_key}
+use Rattle.yaml_base.proofs.stream_flow.StreamWhites.{spaces_end_word, alias_blank}
 use Rattle.yaml_base.proofs.stream_flow.StreamFlowScalars.{rules_of, chosen_in_flow, bare_not_plain, body_flow_word, body_ended, scalar_whole}
 use Rattle.yaml_base.proofs.stream_flow.StreamFlowTakes.{FlowNode, FlowEntries, takes_word, takes_collection, opens_more, FlowEnd, and_false, sequence_ends}
 use Rattle.yaml_base.proofs.stream_flow.StreamFlowTakes.{mapping_ends}
@@ -17,7 +17,6 @@ use Rattle.yaml_base.proofs.stream_nodes.StreamAgrees.{node_tree, nodes_tree, pa
 use Rattle.yaml_base.proofs.stream_nodes.StreamLeads.{EndedCollection, lead_rendered, tag_is_written}
 use Rattle.yaml_base.proofs.stream_nodes.StreamStands.{tag_written, tag_meant, NamesStand, BodyStands, body_from, BodiesHold}
 use Rattle.yaml_base.proofs.stream_nodes.StreamTexts.{node_own, items_own, pairs_own}
-use Rattle.yaml_base.specs.streams.StreamFlow.{ColonPlace}
 
 -- the space after an alias that is a simple key
 abbrev pub alias_space : Node → Text
@@ -38,17 +37,7 @@ KeysFit s own directives =
 word_node : (rules : Rules) (simple : Bool) (cursor : Cursor) (own : Rendered) (text : Text) (tree : Tree) → own.text ≡ space_if true cursor ++ text
     → EndedCollection own.cursor
     → FlowWord rules text tree → is_alias tree ≡ false → (simple ≡ true → is_key_text rules.breaks12 tree text ≡ true) → FlowNode rules simple cursor own tree
-word_node rules simple cursor own text tree whole ended of other fits = record {
-  content = text;
-  whole = whole;
-  ended = ended;
-  opens = of.opens;
-  takes = λ h levels open_level spaced. takes_word rules levels spaced text tree of open_level;
-  key = λ h anchor tag pairs levels.
-      let at : ColonPlace → Type 0 = λ place. TakesBytes rules (within (in_mapping anchor tag pairs no_key ∷ levels) entry_awaited) text
-      (within (in_mapping anchor tag pairs (key_held tree) ∷ levels) (colon_awaited place)) in
-      subst at (ap (λ x. if x then after_blank else at_once) other) (takes_simple_key rules anchor tag pairs levels text tree of.says of.reads (fits h));
-}
+word_node rules simple cursor own text tree whole ended of other fits = grind (arith, takes_word, takes_simple_key)
 
 -- an alias, with a space after it where it is a simple key
 pub alias_step : (s : Effective) (own directives : List TagDirective) (fits : KeysFit s own directives) (role : Role) (column : ℕ) (cursor : Cursor)
@@ -123,25 +112,14 @@ scalar_step s own directives fits role column cursor content names body =
 pub empty_whole : (properties : Rendered) (cursor : Cursor) (before : Text) (a b : ℕ)
     → properties.text ++ space_if true properties.cursor ≡ space_if true cursor ++ before
     → (properties.text ++ []) ++ ((space_if true properties.cursor ++ (a ∷ [])) ++ (b ∷ [])) ≡ space_if true cursor ++ (before ++ (a ∷ b ∷ []))
-empty_whole properties cursor before a b e =
-    ap (λ t. t ++ ((space_if true properties.cursor ++ (a ∷ [])) ++ (b ∷ []))) (append-nil properties.text)
-    ∙ ap (λ t. properties.text ++ t) (append_assoc (space_if true properties.cursor) (a ∷ []) (b ∷ []))
-    ∙ sym (append_assoc properties.text (space_if true properties.cursor) (a ∷ b ∷ []))
-    ∙ ap (λ t. t ++ (a ∷ b ∷ [])) e
-    ∙ append_assoc (space_if true cursor) before (a ∷ b ∷ [])
+empty_whole properties cursor before a b e = grind (arith, append-nil, append_assoc)
 
 -- the text of a collection that holds something
 pub collection_whole : (properties : Rendered) (cursor : Cursor) (before : Text) (bracket : ℕ) (inside entries ending : Text)
     → properties.text ++ space_if true properties.cursor ≡ space_if true cursor ++ before
     → entries ≡ space_if true properties.cursor ++ (bracket ∷ inside)
     → (properties.text ++ entries) ++ ending ≡ space_if true cursor ++ (before ++ (bracket ∷ (inside ++ ending)))
-collection_whole properties cursor before bracket inside entries ending e whole =
-    ap (λ t. (properties.text ++ t) ++ ending) whole
-    ∙ ap (λ t. t ++ ending) (sym (append_assoc properties.text (space_if true properties.cursor) (bracket ∷ inside)))
-    ∙ ap (λ t. (t ++ (bracket ∷ inside)) ++ ending) e
-    ∙ ap (λ t. t ++ ending) (append_assoc (space_if true cursor) before (bracket ∷ inside))
-    ∙ append_assoc (space_if true cursor) (before ++ (bracket ∷ inside)) ending
-    ∙ ap (λ t. space_if true cursor ++ t) (append_assoc before (bracket ∷ inside) ending)
+collection_whole properties cursor before bracket inside entries ending e whole = grind (arith, append_assoc)
 
 -- such a collection is a node in flow
 collection_node : (rules : Rules) (simple : Bool) (cursor : Cursor) (properties entries ending : Rendered) (bracket : ℕ) (anchor tag given_tag : Option Text)

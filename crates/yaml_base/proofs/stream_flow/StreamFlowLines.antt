@@ -1,14 +1,14 @@
 -- A line that begins with the bracket of a collection in flow, after its properties, holds no simple key, so it begins no mapping
 -- in a block.
-use Rattle.yaml_base.proofs.Common.{ℕ, if◌then◌else◌, ◌==◌, option_map, option_and_then, Option, None, Some, nat_le, length, Bool, false, not, true, ◌&&◌, []}
+use Rattle.yaml_base.proofs.Common.{arith, ℕ, if◌then◌else◌, ◌==◌, option_map, option_and_then, Option, None, Some, nat_le, length, Bool, false, true, ◌&&◌, []}
 use Rattle.yaml_base.proofs.Common.{◌++◌, ◌∷◌, refl, ◌≡◌, append_assoc, ap, ◌∙◌, and_parts, false≢true, option_or, Text, space, plain, read_plain, ParsedTag}
-use Rattle.yaml_base.proofs.Common.{is_tidy, stood_plain, Tree, is_alias, longest_key, ends_indicator, begins_with_indicator, without_last_space}
-use Rattle.yaml_base.proofs.Common.{word_of_alias, key_of_text, key_ends, key_from, begins_text, kind_of_node, Rules, Properties, no_properties}
-use Rattle.yaml_base.proofs.Common.{scalar_parsed, scalar_of_style, empty_sequence, empty_mapping, a_scalar, word_by_kind, word_after}
-use Rattle.yaml_base.proofs.{stream_flow.StreamFlowWords.opens_inside, stream_flow.StreamFlowWords.Given, stream_flow.StreamFlowWords.given_reads}
-use Rattle.yaml_base.proofs.{stream_flow.StreamPropertyWords.lead, stream_keys.StreamKeys.no_alias_before, stream_keys.StreamKeys.key_by_word}
-use Rattle.yaml_base.proofs.{stream_keys.StreamNoKeys.tag_no_alias, stream_keys.StreamNoKeys.anchor_no_alias, stream_nodes.StreamOwnTexts.own_kind}
-use Rattle.yaml_base.proofs.{stream_nodes.StreamProperties.begins_content}
+use Rattle.yaml_base.proofs.Common.{stood_plain, Tree, is_alias, longest_key, ends_indicator, begins_with_indicator, without_last_space, word_of_alias}
+use Rattle.yaml_base.proofs.Common.{key_of_text, key_ends, key_from, begins_text, kind_of_node, Rules, Properties, no_properties, scalar_parsed}
+use Rattle.yaml_base.proofs.Common.{scalar_of_style, empty_sequence, empty_mapping, a_scalar, word_by_kind, word_after}
+use Rattle.yaml_base.proofs.{stream_flow.StreamPropertyWords.lead, stream_nodes.StreamOwnTexts.own_kind, stream_nodes.StreamProperties.begins_content}
+use Rattle.yaml_base.proofs.stream_flow.StreamFlowWords.{opens_inside, Given, given_reads}
+use Rattle.yaml_base.proofs.stream_keys.StreamKeys.{no_alias_before, key_by_word}
+use Rattle.yaml_base.proofs.stream_keys.StreamNoKeys.{tag_no_alias, anchor_no_alias}
 
 -- the bracket that begins a sequence, and the one that begins a mapping
 abbrev pub opening : (is_sequence : Bool) → ℕ
@@ -43,17 +43,11 @@ no_plain_read breaks12 false (c ∷ d ∷ t) = refl
 
 -- so no plain scalar does
 no_scalar : (rules : Rules) (q : Bool) (properties : Properties) (t : Text) → scalar_of_style plain rules false None properties (opening q ∷ t) ≡ None
-no_scalar rules q properties t =
-    ap (λ v. scalar_parsed properties stood_plain (if is_tidy plain rules.breaks12 None (opening q ∷ t) then v else None)) (no_plain_read rules.breaks12 q t)
-    ∙ nothing_plain properties (is_tidy plain rules.breaks12 None (opening q ∷ t))
+no_scalar rules q properties t = grind (arith, no_plain_read, nothing_plain)
 
 -- a character that closes nothing is no closing bracket
 not_closing : (c : ℕ) → opens_inside (c ∷ []) ≡ true → ((c == 0x5D) ≡ false) × ((c == 0x7D) ≡ false)
-not_closing c h = let parts = and_parts (not (c == 0x5D)) (not (c == 0x7D)) h in (by (c == 0x5D) parts.0, by (c == 0x7D) parts.1)
-  where
-    by : (x : Bool) → not x ≡ true → x ≡ false
-    by true h = absurd (false≢true h)
-    by false h = refl
+not_closing c h = grind (arith, and_parts, false≢true)
 
 -- a bracket and what keeps it open is no word, whatever properties it has
 no_word : (rules : Rules) (q : Bool) (properties : Properties) (t : Text) → keeps_open t ≡ true → word_after rules false None properties (opening q ∷ t) ≡ None
@@ -102,9 +96,7 @@ no_alias_led rules (Some name) None parsed q t given =
     no_alias_before rules 0x26 ((name ++ (space ∷ [])) ++ (opening q ∷ t)) refl (anchor_no_alias rules)
 no_alias_led rules (Some name) (Some tag) parsed q t given =
     no_alias_before rules 0x26 (((name ++ (space ∷ tag)) ++ (space ∷ [])) ++ (opening q ∷ t)) refl (anchor_no_alias rules)
-no_alias_led rules None (Some tag) (Some parsed) q t given =
-    ap (λ u. option_and_then (word_of_alias rules) (without_last_space ((u ++ (space ∷ [])) ++ (opening q ∷ t)))) given.tagged.begins
-    ∙ no_alias_before rules 0x21 ((given.tagged.rest ++ (space ∷ [])) ++ (opening q ∷ t)) refl (tag_no_alias rules)
+no_alias_led rules None (Some tag) (Some parsed) q t given = grind (arith, no_alias_before, tag_no_alias)
 no_alias_led rules None (Some tag) None q t given = absurd given.tagged
 
 -- No keys
@@ -156,13 +148,7 @@ bracket_indicator false t = (refl, refl)
 pub collection_kind : (rules : Rules) (anchor tag : Option Text) (parsed : Option ParsedTag) (q : Bool) (t : Text)
     → Given rules anchor tag parsed → keeps_open t ≡ true
     → kind_of_node rules (lead anchor tag ++ (opening q ∷ t)) ≡ begins_text
-collection_kind rules anchor tag parsed q t given h =
-    own_kind rules anchor tag parsed (opening q) t given (bracket_indicator q t).0 (bracket_indicator q t).1
-    (at q ∙ no_key_from rules anchor tag parsed q [] t given h)
-  where
-    at : (q : Bool) → key_from rules (lead anchor tag) (opening q ∷ t) ≡ key_from rules (lead anchor tag ++ (opening q ∷ [])) t
-    at true = refl
-    at false = refl
+collection_kind rules anchor tag parsed q t given h = grind (arith, own_kind, bracket_indicator, no_key_from)
 
 -- and so is an empty one
 pub empty_kind : (rules : Rules) (anchor tag : Option Text) (parsed : Option ParsedTag) → Given rules anchor tag parsed

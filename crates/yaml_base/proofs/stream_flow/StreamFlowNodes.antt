@@ -1,6 +1,6 @@
 -- Each node of the layout that stands in flow takes the reader of flow collections to its place with its tree.
-use Rattle.yaml_base.proofs.Common.{ℕ, Option, Some, codes, Bool, false, true, ◌&&◌, List, [], ◌++◌, ◌∷◌, refl, ◌≡◌, append-nil, append_assoc, ap, subst, sym}
-use Rattle.yaml_base.proofs.Common.{◌∙◌, Text, Cursor, Rendered, space_if, indicator, TagDirective, collection_tag, Node, alias_node, scalar_node, Nodes}
+use Rattle.yaml_base.proofs.Common.{arith, ℕ, Option, Some, codes, Bool, false, true, ◌&&◌, List, [], ◌++◌, ◌∷◌, refl, ◌≡◌, append-nil, append_assoc, ap, subst}
+use Rattle.yaml_base.proofs.Common.{sym, ◌∙◌, Text, Cursor, Rendered, space_if, indicator, TagDirective, collection_tag, Node, alias_node, scalar_node, Nodes}
 use Rattle.yaml_base.proofs.Common.{sequence_node, Pairs, mapping_node, no_nodes, nodes_and, no_pairs, pairs_and, render_properties, entry_place, Role, as_item}
 use Rattle.yaml_base.proofs.Common.{as_key, as_value, is_key, deeper, has_no_nodes, has_no_pairs, is_simple, flow_break, key_indicator, render_flow_place}
 use Rattle.yaml_base.proofs.Common.{render_place, Effective, Tree, TreePairs, no_trees, no_tree_pairs, tree_pairs_and, no_key, in_sequence, in_mapping, Rules}
@@ -64,11 +64,7 @@ pair_entry rules s column true cursor own value key_tree value_tree key node anc
 -- the text of the first pair
 first_pair : (blank : Text) (bracket : ℕ) (gap symbol key rest : Text)
     → ((((blank ++ (bracket ∷ [])) ++ gap) ++ symbol) ++ key) ++ rest ≡ blank ++ (bracket ∷ (((gap ++ symbol) ++ key) ++ rest))
-first_pair blank bracket gap symbol key rest =
-    ap (λ t. ((t ++ symbol) ++ key) ++ rest) (append_assoc blank (bracket ∷ []) gap)
-    ∙ ap (λ t. (t ++ key) ++ rest) (append_assoc blank (bracket ∷ gap) symbol)
-    ∙ ap (λ t. t ++ rest) (append_assoc blank (bracket ∷ (gap ++ symbol)) key)
-    ∙ append_assoc blank (bracket ∷ ((gap ++ symbol) ++ key)) rest
+first_pair blank bracket gap symbol key rest = grind (arith, append_assoc)
 
 -- one more pair
 pairs_step : (s : Effective) (own directives : List TagDirective) (pairs : Pairs) (key value : Node) (column : ℕ) (cursor : Cursor)

@@ -1,9 +1,9 @@
 -- The text of a collection in flow, after its properties, is read as the collection's tree.
-use Rattle.yaml_base.proofs.Common.{ℕ, option_map, Option, None, Some, codes, Bool, false, true, ◌&&◌, List, [], ◌++◌, ◌∷◌, refl, ◌≡◌, append-nil, append_assoc}
-use Rattle.yaml_base.proofs.Common.{ap, sym, ◌∙◌, and_parts, false≢true, list_all, Text, Cursor, Rendered, new_line, space_if, indicator, TagDirective}
-use Rattle.yaml_base.proofs.Common.{Collection, collection_tag, Nodes, sequence_node, Pairs, mapping_node, no_nodes, nodes_and, no_pairs, pairs_and}
-use Rattle.yaml_base.proofs.Common.{render_properties, is_written_in_flow, Brackets, square, curly, render_end, Place, is_undented, line_column, deeper}
-use Rattle.yaml_base.proofs.Common.{entries_column, has_no_nodes, has_no_pairs, Effective, is_read_white, ParsedTag, Tree, sequence_tree, mapping_tree}
+use Rattle.yaml_base.proofs.Common.{arith, ℕ, option_map, Option, None, Some, codes, Bool, false, true, ◌&&◌, List, [], ◌++◌, ◌∷◌, refl, ◌≡◌, append-nil}
+use Rattle.yaml_base.proofs.Common.{append_assoc, ap, sym, ◌∙◌, and_parts, false≢true, list_all, Text, Cursor, Rendered, new_line, space_if, indicator}
+use Rattle.yaml_base.proofs.Common.{TagDirective, Collection, collection_tag, Nodes, sequence_node, Pairs, mapping_node, no_nodes, nodes_and, no_pairs}
+use Rattle.yaml_base.proofs.Common.{pairs_and, render_properties, is_written_in_flow, Brackets, square, curly, render_end, Place, is_undented, line_column}
+use Rattle.yaml_base.proofs.Common.{deeper, entries_column, has_no_nodes, has_no_pairs, Effective, is_read_white, ParsedTag, Tree, sequence_tree, mapping_tree}
 use Rattle.yaml_base.proofs.Common.{no_trees, no_tree_pairs, no_key, OpenFlow, in_sequence, in_mapping, Awaited, collection_awaited, entry_awaited}
 use Rattle.yaml_base.proofs.Common.{comma_awaited, FlowReading, done, within, word_step, level_opened, opened, flow_step, tree_at_end, flow_read}
 use Rattle.yaml_base.proofs.Common.{prepend_to_trimmed, trimmed, kind_of_text, text_by_kind, begins_text, kind_of_node, Rules, Properties, word_after, symbol}
@@ -20,7 +20,7 @@ use Rattle.yaml_base.proofs.stream_flow.StreamFlowTakes.{FlowEntries, no_pair, o
 use Rattle.yaml_base.proofs.stream_flow.StreamPasses.{passes_both, takes_text, passes_comma, passes_entry_white, new_line_white}
 use Rattle.yaml_base.proofs.stream_flow.StreamSays.{comma_class, square_class, curly_class, indicator_ends, bracket_class, opens_before}
 use Rattle.yaml_base.proofs.stream_flow.StreamTakes.{steps, TakesBytes, takes_both, flow_reads}
-use Rattle.yaml_base.proofs.stream_nodes.StreamStands.{tag_written, tag_meant, NamesStand, BodyStands, BodiesHold, ItemsHold, PairsHold}
+use Rattle.yaml_base.proofs.stream_nodes.StreamStands.{tag_written, tag_meant, NamesStand, BodyStands, BodiesHold, ItemsHold}
 use Rattle.yaml_base.proofs.stream_nodes.StreamTexts.{collection_own, node_own, items_own, pairs_own}
 
 -- the text of a collection in flow: a space where one is needed, its properties, and from a bracket to a bracket what is
@@ -369,15 +369,4 @@ pub mapping_reads : (s : Effective) (own directives : List TagDirective) → Key
     → FlowReads s own directives start cursor (node_own (mapping_node start pairs) s directives place cursor)
     (node_tree (mapping_node start pairs) s directives place)
 mapping_reads s own directives fits place cursor start pairs in_flow names bodies =
-    by (is_written_in_flow s place start (has_no_pairs pairs)) in_flow bodies
-  where
-    begun : Rendered
-    begun = render_properties s.portable directives start.anchor (collection_tag s.canonical start) false cursor
-
-    by : (x : Bool) → x ≡ true → PairsHold (BodyStands s) pairs s directives x (entries_column x false s.indent place.column begun.cursor) begun.cursor
-        → FlowReads s own directives start cursor (collection_own s curly x false (has_no_pairs pairs) place.column begun (pairs_own pairs s directives x))
-        (mapping_tree start.anchor (collection_tag s.canonical start) (pairs_tree pairs s directives x))
-    by false h hold = absurd (false≢true h)
-    by true h hold =
-        mapping_content s own directives place.column cursor start pairs
-        (pairs_flow pairs s own directives fits (deeper s.indent place.column) begun.cursor names.2 hold)
+    grind (arith, pairs_own, pairs_tree, false≢true, mapping_content, pairs_flow)

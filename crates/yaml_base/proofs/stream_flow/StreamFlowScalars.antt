@@ -1,13 +1,13 @@
 -- A scalar of the layout in flow is one word that reads as its tree.
-use Rattle.yaml_base.proofs.Common.{ℕ, if◌then◌else◌, is_some, Option, None, Some, Bool, false, not, true, ◌&&◌, ◌||◌, List, [], ◌++◌, ◌∷◌, refl, ◌≡◌}
-use Rattle.yaml_base.proofs.Common.{true≢false, append_assoc, ap, ◌∙◌, and_parts, false≢true, Text, Cursor, Rendered, space_if, ScalarStyle, any_style, plain}
-use Rattle.yaml_base.proofs.Common.{single_quoted, double_quoted, literal, folded, TagDirective, Scalar, scalar_tag, render_properties, render_separation}
-use Rattle.yaml_base.proofs.Common.{render_body, charset_of, choice_of, entry_place, Role, read_in_style, Effective, read_plain, is_tidy, Allowances}
-use Rattle.yaml_base.proofs.Common.{is_empty, allowances, double_inside, render_quote, runs, render_runs, quotes_doubled, single_quote, is_plain}
-use Rattle.yaml_base.proofs.Common.{requested_style, quoted_style, fitting_style, fits_plain, Rules}
+use Rattle.yaml_base.proofs.Common.{arith, ℕ, is_some, Option, None, Some, Bool, false, not, true, ◌&&◌, ◌||◌, List, [], ◌++◌, ◌∷◌, refl, ◌≡◌, true≢false}
+use Rattle.yaml_base.proofs.Common.{append_assoc, and_parts, false≢true, Text, Cursor, Rendered, space_if, ScalarStyle, any_style, plain, single_quoted}
+use Rattle.yaml_base.proofs.Common.{double_quoted, literal, folded, TagDirective, Scalar, scalar_tag, render_properties, render_separation, render_body}
+use Rattle.yaml_base.proofs.Common.{charset_of, choice_of, entry_place, Role, read_in_style, Effective, read_plain, is_tidy, Allowances, is_empty, allowances}
+use Rattle.yaml_base.proofs.Common.{double_inside, render_quote, runs, render_runs, quotes_doubled, single_quote, is_plain, requested_style, quoted_style}
+use Rattle.yaml_base.proofs.Common.{fitting_style, fits_plain, Rules}
 use Rattle.yaml_base.proofs.{stream_flow.StreamFlowTakes.and_false, stream_flow.StreamPropertyWords.lead, stream_lines.StreamCuts.none_not_some}
-use Rattle.yaml_base.proofs.{stream_nodes.StreamLeads.EndedCollection, stream_nodes.StreamLeads.lead_rendered, stream_nodes.StreamStands.tag_written}
-use Rattle.yaml_base.proofs.{stream_nodes.StreamStands.tag_meant}
+use Rattle.yaml_base.proofs.stream_nodes.StreamLeads.{EndedCollection, lead_rendered}
+use Rattle.yaml_base.proofs.stream_nodes.StreamStands.{tag_written, tag_meant}
 use Rattle.yaml_base.proofs.stream_flow.StreamFlowWords.{FlowWord, Given, scalar_in, double_flow_word, single_flow_word, plain_flow_word}
 
 -- by what a document of the layout is read
@@ -21,11 +21,7 @@ is_flow_style folded = false
 is_flow_style _ = true
 
 quotes_in_flow : (allowed : Allowances) → is_flow_style (quoted_style allowed) ≡ true
-quotes_in_flow allowed = by allowed.single_quoted
-  where
-    by : (x : Bool) → is_flow_style (if x then single_quoted else double_quoted) ≡ true
-    by true = refl
-    by false = refl
+quotes_in_flow allowed = grind (arith)
 
 -- where no block style fits the style is one of flow
 style_in_flow : (allowed : Allowances) (fits x : Bool) (asked : ScalarStyle)
@@ -33,16 +29,8 @@ style_in_flow : (allowed : Allowances) (fits x : Bool) (asked : ScalarStyle)
 style_in_flow allowed true x plain = refl
 style_in_flow allowed false x plain = quotes_in_flow allowed
 style_in_flow allowed fits x single_quoted = quotes_in_flow allowed
-style_in_flow allowed fits x literal = by allowed.block
-  where
-    by : (b : Bool) → is_flow_style (if b && not true && not x then literal else double_quoted) ≡ true
-    by true = refl
-    by false = refl
-style_in_flow allowed fits x folded = by allowed.block
-  where
-    by : (b : Bool) → is_flow_style (if b && not true && not x then folded else double_quoted) ≡ true
-    by true = refl
-    by false = refl
+style_in_flow allowed fits x literal = grind (arith)
+style_in_flow allowed fits x folded = grind (arith)
 style_in_flow allowed fits x any_style = refl
 style_in_flow allowed fits x double_quoted = refl
 
@@ -94,18 +82,9 @@ body_flow_word s own anchor tag given_tag folded bare limit indent column value 
 pub body_ended : (s : Effective) (style : ScalarStyle) (limit : Option ℕ) (indent : ℕ) (value : Text) (cursor : Cursor) → is_flow_style style ≡ true
     → EndedCollection (render_body style s limit indent value cursor).cursor
 body_ended s plain limit indent value cursor h = record { white = refl; indention = refl }
-body_ended s single_quoted limit indent value cursor h = record {
-  white = refl;
-  indention = and_false (render_runs quotes_doubled limit indent true (runs value) (single_quote cursor).cursor).cursor.indention;
-}
-body_ended s double_quoted limit indent value cursor h = record {
-  white = refl;
-  indention = and_false (double_inside s.unicode limit indent None value (render_quote cursor).cursor).cursor.indention;
-}
-body_ended s any_style limit indent value cursor h = record {
-  white = refl;
-  indention = and_false (double_inside s.unicode limit indent None value (render_quote cursor).cursor).cursor.indention;
-}
+body_ended s single_quoted limit indent value cursor h = grind (arith, and_false)
+body_ended s double_quoted limit indent value cursor h = grind (arith, and_false)
+body_ended s any_style limit indent value cursor h = grind (arith, and_false)
 body_ended s literal limit indent value cursor h = absurd (false≢true h)
 body_ended s folded limit indent value cursor h = absurd (false≢true h)
 
@@ -124,8 +103,4 @@ pub scalar_whole : (portable : Bool) (directives : List TagDirective) (anchor ta
     → (let properties : Rendered = render_properties portable directives anchor tag bare cursor in
     (properties.text ++ (render_separation style true value properties.cursor).text) ++ body)
     ≡ space_if true cursor ++ (lead anchor (tag_written portable directives tag bare) ++ body)
-scalar_whole portable directives anchor tag bare style value cursor body =
-    let properties = render_properties portable directives anchor tag bare cursor in
-    ap (λ t. (properties.text ++ t) ++ body) (separation_in_flow style value properties.cursor)
-    ∙ ap (λ t. t ++ body) (lead_rendered portable directives anchor tag bare cursor)
-    ∙ append_assoc (space_if true cursor) (lead anchor (tag_written portable directives tag bare)) body
+scalar_whole portable directives anchor tag bare style value cursor body = grind (arith, separation_in_flow, lead_rendered, append_assoc)

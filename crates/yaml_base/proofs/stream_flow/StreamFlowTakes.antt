@@ -1,14 +1,13 @@
 -- What a node in flow, and the entries of a collection in flow, are to the reader of flow collections.
-use Rattle.yaml_base.proofs.Common.{ℕ, ◌+◌, if◌then◌else◌, ◌==◌, Option, codes, length, Bool, false, not, true, ◌&&◌, ◌||◌, List, [], ◌++◌, ◌∷◌, refl, ◌≡◌}
-use Rattle.yaml_base.proofs.Common.{eqb-true, append-nil, append_assoc, ap, sym, ◌∙◌, and_parts, false≢true, Text, line_feed, space, Cursor, Rendered}
-use Rattle.yaml_base.proofs.Common.{new_line, space_if, indicator, Brackets, square, curly, render_end, line_column, Effective, ParsedTag, Tree, Trees}
-use Rattle.yaml_base.proofs.Common.{sequence_tree, TreePairs, mapping_tree, no_key, key_due, key_held, OpenFlow, in_sequence, in_mapping, at_once, Awaited}
-use Rattle.yaml_base.proofs.Common.{entry_awaited, node_awaited, comma_awaited, colon_awaited, FlowReading, failed, within, with_tree, word_step}
-use Rattle.yaml_base.proofs.Common.{level_opened, opened, is_spaces, ends_indicator, spaces, Rules, properties_read, collection_tag_parsed, word, opens}
-use Rattle.yaml_base.proofs.Common.{symbol, free, begins_bracket, class_of, is_pair, flow_tokens}
-use Rattle.yaml_base.proofs.{stream_flow.StreamPlainWords.ends_word, stream_flow.StreamPropertyWords.lead, stream_flow.StreamPropertyWords.opens_after}
-use Rattle.yaml_base.proofs.{stream_lines.StreamInside.blank_spaces, stream_nodes.StreamLeads.EndedCollection, stream_nodes.StreamLeads.lead_spaces}
-use Rattle.yaml_base.proofs.{stream_nodes.StreamLeads.lead_then, stream_nodes.StreamStands.tag_meant}
+use Rattle.yaml_base.proofs.Common.{arith, ℕ, ◌+◌, if◌then◌else◌, Option, codes, length, Bool, false, true, ◌&&◌, List, [], ◌++◌, ◌∷◌, refl, ◌≡◌, eqb-true}
+use Rattle.yaml_base.proofs.Common.{append-nil, append_assoc, ap, sym, ◌∙◌, and_parts, false≢true, Text, Cursor, Rendered, new_line, space_if, indicator}
+use Rattle.yaml_base.proofs.Common.{Brackets, square, curly, render_end, line_column, Effective, ParsedTag, Tree, Trees, sequence_tree, TreePairs, mapping_tree}
+use Rattle.yaml_base.proofs.Common.{no_key, key_due, key_held, OpenFlow, in_sequence, in_mapping, at_once, Awaited, entry_awaited, node_awaited, comma_awaited}
+use Rattle.yaml_base.proofs.Common.{colon_awaited, FlowReading, within, with_tree, level_opened, ends_indicator, spaces, Rules, properties_read, opens, symbol}
+use Rattle.yaml_base.proofs.Common.{free, begins_bracket, class_of, is_pair, flow_tokens}
+use Rattle.yaml_base.proofs.{stream_flow.StreamPlainWords.ends_word, stream_lines.StreamInside.blank_spaces, stream_nodes.StreamStands.tag_meant}
+use Rattle.yaml_base.proofs.stream_flow.StreamPropertyWords.{lead, opens_after}
+use Rattle.yaml_base.proofs.stream_nodes.StreamLeads.{EndedCollection, lead_spaces, lead_then}
 use Rattle.yaml_base.proofs.stream_flow.StreamFlowWords.{opens_inside, FlowWord, Given, given_leads, tag_of_collection}
 use Rattle.yaml_base.proofs.stream_flow.StreamPasses.{passes_both, passes_then, takes_text, passes_comma, is_white_text, passes_entry_white, new_line_white}
 use Rattle.yaml_base.proofs.stream_flow.StreamSays.{EndsWord, says_indicator, comma_class, square_class, curly_class, indicator_ends}
@@ -57,12 +56,8 @@ with_word_open breaks12 (in_mapping anchor tag pairs (key_held key) ∷ levels) 
 -- a word takes its place
 pub takes_word : (rules : Rules) (levels : List OpenFlow) (spaced : Bool) (text : Text) (tree : Tree) → FlowWord rules text tree → may_open levels ≡ true
     → TakesBytes rules (within levels (awaited_of spaced)) text (with_tree levels tree)
-takes_word rules levels true text tree of h =
-    takes_to rules (within levels (node_awaited true)) (with_tree levels tree) text (word text ∷ []) of.says
-    (ap (word_step rules.breaks12 levels text) of.reads ∙ with_word_open rules.breaks12 levels text tree h)
-takes_word rules levels false text tree of h =
-    takes_to rules (within levels entry_awaited) (with_tree levels tree) text (word text ∷ []) of.says
-    (ap (word_step rules.breaks12 levels text) of.reads ∙ with_word_open rules.breaks12 levels text tree h)
+takes_word rules levels true text tree of h = grind (arith, takes_to, with_word_open)
+takes_word rules levels false text tree of h = grind (arith, takes_to, with_word_open)
 
 -- Collections
 
@@ -81,26 +76,11 @@ lead_reads rules anchor tag parsed given =
 opens_level : (rules : Rules) (levels : List OpenFlow) (bracket : ℕ) (anchor tag given_tag : Option Text) → Given rules anchor tag (tag_meant given_tag false)
     → may_open levels ≡ true
     → opened_with levels bracket (properties_read rules.directives (lead anchor tag)) ≡ within (level_opened bracket anchor given_tag ∷ levels) entry_awaited
-opens_level rules levels bracket anchor tag given_tag given h =
-    let count = length (properties_text anchor tag) + lead_spaces anchor tag in
-    ap (opened_with levels bracket) (lead_reads rules anchor tag (tag_meant given_tag false) given)
-    ∙ ap (λ x. if x && is_spaces (spaces count ++ []) then opened levels bracket anchor (collection_tag_parsed (tag_meant given_tag false)) else failed) h
-    ∙ ap (λ x. if x then opened levels bracket anchor (collection_tag_parsed (tag_meant given_tag false)) else failed)
-    (ap is_spaces (append-nil (spaces count)) ∙ blank_spaces count)
-    ∙ ap (opened levels bracket anchor) (tag_of_collection given_tag)
+opens_level rules levels bracket anchor tag given_tag given h = grind (arith, lead_reads, append-nil, blank_spaces, tag_of_collection)
 
 -- what doesn't close a collection is no pair with its bracket
 pub no_pair : (bracket c : ℕ) (rest : Text) → opens_inside (c ∷ rest) ≡ true → is_pair bracket c ≡ false
-no_pair bracket c rest h =
-    let parts = and_parts (not (c == 0x5D)) (not (c == 0x7D)) h in by (bracket == 0x5B) (bracket == 0x7B) (c == 0x5D) (c == 0x7D) parts.0 parts.1
-  where
-    by : (a b x y : Bool) → not x ≡ true → not y ≡ true → ((a && x) || (b && y)) ≡ false
-    by a b true y h k = absurd (false≢true h)
-    by a b false true h k = absurd (false≢true k)
-    by true true false false h k = refl
-    by true false false false h k = refl
-    by false true false false h k = refl
-    by false false false false h k = refl
+no_pair bracket c rest h = grind (arith, and_parts, false≢true)
 
 -- a collection takes its place
 pub takes_collection : (rules : Rules) (levels : List OpenFlow) (spaced : Bool) (bracket : ℕ) (anchor tag given_tag : Option Text) (inside : Text)
@@ -137,12 +117,7 @@ opens_more (c ∷ a) b h = h
 -- white space before one
 pub white_opens : (a b : Text) → is_white_text a ≡ true → opens_inside b ≡ true → opens_inside (a ++ b) ≡ true
 white_opens [] b h k = k
-white_opens (c ∷ a) b h k = by (c == space) (c == line_feed) refl refl (and_parts (c == space || c == line_feed) (is_white_text a) h).0
-  where
-    by : (x y : Bool) → (c == space) ≡ x → (c == line_feed) ≡ y → (x || y) ≡ true → opens_inside (c ∷ (a ++ b)) ≡ true
-    by true y e f h = ap (λ n. opens_inside (n ∷ (a ++ b))) (eqb-true c space e)
-    by false true e f h = ap (λ n. opens_inside (n ∷ (a ++ b))) (eqb-true c line_feed f)
-    by false false e f h = absurd (false≢true h)
+white_opens (c ∷ a) b h k = grind (arith, and_parts, eqb-true, false≢true)
 
 -- Ends
 

@@ -1,19 +1,18 @@
 -- A node's own word in flow, with its anchor and tag: it is one word among the tokens, and reads as the node's tree.
-use Rattle.yaml_base.proofs.Common.{ℕ, if◌then◌else◌, ◌==◌, option_map, Option, None, Some, codes, Bool, false, not, true, ◌&&◌, ◌||◌, [], ◌++◌, ◌∷◌, refl, ◌≡◌}
-use Rattle.yaml_base.proofs.Common.{true≢false, ap, ◌∙◌, arith, and_parts, or_parts, false≢true, nat_tests, list_all, Text, is_among, space, is_alpha, is_blank}
-use Rattle.yaml_base.proofs.Common.{is_printable, ScalarStyle, any_style, plain, single_quoted, double_quoted, literal, folded, is_read_break, read_double}
-use Rattle.yaml_base.proofs.Common.{is_read_white, begins_white, begins_with_hash, holds_no_plain, read_plain, read_single, ParsedTag, has_deep_lines}
-use Rattle.yaml_base.proofs.Common.{has_no_space_before_break, has_clean_edges, is_tidy, is_plain, Tree, alias_tree, scalar_tree, sequence_tree, mapping_tree}
-use Rattle.yaml_base.proofs.Common.{no_trees, no_tree_pairs, ends_indicator, spaces, Rules, name_read, collection_tag_parsed, tagging_parsed, standing_of}
-use Rattle.yaml_base.proofs.Common.{scalar_parsed, scalar_of_style, a_scalar, kind_of_word, word_by_kind, word_after, word_read, word, FlowStep, begins_plain}
-use Rattle.yaml_base.proofs.Common.{class_of, begun, flow_tokens}
-use Rattle.yaml_base.proofs.{stream_flow.StreamSays.Says, stream_flow.StreamSays.bracket_class, stream_keys.StreamAliasKeys.alias_word}
-use Rattle.yaml_base.proofs.{stream_lines.StreamCuts.none_not_some, stream_lines.StreamTidyLaws.tidy_at_root, stream_nodes.StreamAgrees.tagging_in}
-use Rattle.yaml_base.proofs.{stream_nodes.StreamLeads.lead_spaces, stream_nodes.StreamLeads.lead_then, stream_nodes.StreamStands.tag_meant}
+use Rattle.yaml_base.proofs.Common.{ℕ, if◌then◌else◌, ◌==◌, option_map, Option, None, Some, codes, Bool, false, not, true, ◌&&◌, [], ◌++◌, ◌∷◌, refl, ◌≡◌}
+use Rattle.yaml_base.proofs.Common.{true≢false, ap, ◌∙◌, arith, and_parts, or_parts, false≢true, nat_tests, list_all, Text, is_among, space, is_alpha}
+use Rattle.yaml_base.proofs.Common.{ScalarStyle, any_style, plain, single_quoted, double_quoted, literal, folded, read_double, is_read_white, holds_no_plain}
+use Rattle.yaml_base.proofs.Common.{read_plain, read_single, ParsedTag, has_clean_edges, is_tidy, is_plain, Tree, alias_tree, scalar_tree, sequence_tree}
+use Rattle.yaml_base.proofs.Common.{mapping_tree, no_trees, no_tree_pairs, Rules, name_read, collection_tag_parsed, tagging_parsed, standing_of, scalar_parsed}
+use Rattle.yaml_base.proofs.Common.{scalar_of_style, a_scalar, kind_of_word, word_by_kind, word_after, word_read, word, FlowStep, begins_plain, class_of, begun}
+use Rattle.yaml_base.proofs.Common.{flow_tokens}
+use Rattle.yaml_base.proofs.{stream_keys.StreamAliasKeys.alias_word, stream_lines.StreamCuts.none_not_some, stream_lines.StreamTidyLaws.tidy_at_root}
+use Rattle.yaml_base.proofs.{stream_nodes.StreamAgrees.tagging_in, stream_nodes.StreamLeads.lead_then, stream_nodes.StreamStands.tag_meant}
+use Rattle.yaml_base.proofs.stream_flow.StreamSays.{Says, bracket_class}
 use Rattle.yaml_base.proofs.stream_flow.StreamPlainWords.{stays_plain, is_white_class, all_stay, ends_shown, plain_text_word}
 use Rattle.yaml_base.proofs.stream_flow.StreamPropertyWords.{lead, lead_passes, Leads, says_double_after, says_single_after, says_plain_after, says_empty_after}
 use Rattle.yaml_base.proofs.stream_keys.StreamPlainKeys.{not_among, Begins, begins, plain_kind, plain_style, reads_plain, tidy_begins}
-use Rattle.yaml_base.proofs.stream_nodes.StreamProperties.{IsTagged, IsNamed, has_properties, begins_content, name_letters, word_with_properties}
+use Rattle.yaml_base.proofs.stream_nodes.StreamProperties.{IsTagged, IsNamed, begins_content, name_letters, word_with_properties}
 
 -- a text begins with a character that closes no collection
 abbrev pub opens_inside : Text → Bool
@@ -39,13 +38,7 @@ given_leads rules anchor tag parsed given rest = lead_passes rules.breaks12 rule
 -- what follows them is read with them
 pub given_reads : (rules : Rules) (flow : Bool) (anchor tag : Option Text) (parsed : Option ParsedTag) (rest : Text) → Given rules anchor tag parsed
     → begins_content rest ≡ true → word_read rules flow (lead anchor tag ++ rest) ≡ word_after rules flow None (record { anchor = anchor; tag = parsed }) rest
-given_reads rules flow anchor tag parsed rest given own =
-    ap (word_read rules flow) (lead_then anchor tag rest)
-    ∙ word_with_properties rules flow anchor tag parsed (lead_spaces anchor tag) rest given.named given.tagged own (by (has_properties anchor tag))
-  where
-    by : (x : Bool) → x ≡ true → ends_indicator (spaces (if x then 1 else 0) ++ rest) ≡ true
-    by true h = refl
-    by false h = absurd (false≢true h)
+given_reads rules flow anchor tag parsed rest given own = grind (arith, lead_then, word_with_properties, false≢true)
 
 -- properties begin with `&` or `!`, and else it is what follows them
 pub lead_opens : (rules : Rules) (anchor tag : Option Text) (parsed : Option ParsedTag) (rest : Text) → Given rules anchor tag parsed → opens_inside rest ≡ true
@@ -87,10 +80,7 @@ pub scalar_meant : (rules : Rules) (flow : Bool) (anchor tag : Option Text) (sty
     → scalar_parsed (record { anchor = anchor; tag = tag_meant tag bare }) (standing_of style)
     (if is_tidy style rules.breaks12 column text then value else None)
     ≡ Some (scalar_in anchor tag style bare v)
-scalar_meant rules flow anchor tag style bare column text v value h tidy read =
-    ap (λ x. scalar_parsed (record { anchor = anchor; tag = tag_meant tag bare }) (standing_of style) (if x then value else None)) tidy
-    ∙ ap (scalar_parsed (record { anchor = anchor; tag = tag_meant tag bare }) (standing_of style)) read
-    ∙ ap (option_map (λ tagging. scalar_tree anchor tagging v)) (tagging_meant tag style bare h)
+scalar_meant rules flow anchor tag style bare column text v value h tidy read = grind (arith, tagging_meant)
 
 -- a text in quotes is a scalar
 pub double_kind : (t : Text) → kind_of_word (0x22 ∷ t) ≡ a_scalar
@@ -136,38 +126,15 @@ single_flow_word rules anchor tag given_tag bare column t v given tidy read = re
 -- what begins plain text in flow is of that class
 plain_class : (breaks12 : Bool) (c : ℕ) → is_read_white breaks12 c ≡ false → Begins c → is_among (codes ",?:[]{}") c ≡ false
     → class_of breaks12 c ≡ begins_plain
-plain_class breaks12 c white b symbol =
-    let parts = or_parts (is_blank c) (is_read_break breaks12 c) white in
-    let is_not : (n : ℕ) → is_among (codes ",?:[]{}") n ≡ true → (c == n) ≡ false = λ n member. not_among (codes ",?:[]{}") c n member symbol in
-    rw (
-      parts.0,
-      parts.1,
-      is_not 0x5D refl,
-      is_not 0x7D refl,
-      is_not 0x2C refl,
-      is_not 0x3A refl,
-      is_not 0x3F refl,
-      b.anchor,
-      b.tag,
-      b.double,
-      b.single,
-      is_not 0x5B refl,
-      is_not 0x7B refl,
-    ) refl
+plain_class breaks12 c white b symbol = grind (arith, or_parts, not_among)
 
 -- what holds no flow indicator doesn't begin with one
 first_no_indicator : (breaks12 : Bool) (c : ℕ) (t : Text) → holds_no_plain breaks12 true (c ∷ t) ≡ false → is_among (codes ",?:[]{}") c ≡ false
-first_no_indicator breaks12 c t h =
-    let parts = or_parts ((c == 58 && begins_white breaks12 t) || (is_read_white breaks12 c && begins_with_hash t) || is_among (codes ",?:[]{}") c)
-    (holds_no_plain breaks12 true t) h in
-    (or_parts ((c == 58 && begins_white breaks12 t) || (is_read_white breaks12 c && begins_with_hash t)) (is_among (codes ",?:[]{}") c) parts.0).1
+first_no_indicator breaks12 c t h = grind (arith, or_parts)
 
 -- a tidy plain text has clean edges
 tidy_clean : (breaks12 : Bool) (text : Text) → is_tidy plain breaks12 None text ≡ true → has_clean_edges breaks12 text ≡ true
-tidy_clean breaks12 text tidy =
-    let style = (and_parts (list_all is_printable text && has_deep_lines breaks12 1 text)
-    (has_no_space_before_break breaks12 text && has_clean_edges breaks12 text) tidy).1 in
-    (and_parts (has_no_space_before_break breaks12 text) (has_clean_edges breaks12 text) style).1
+tidy_clean breaks12 text tidy = grind (arith, and_parts)
 
 -- a plain scalar
 pub plain_flow_word : (rules : Rules) (anchor tag given_tag : Option Text) (column : Option ℕ) (c : ℕ) (t v : Text)
@@ -202,18 +169,7 @@ plain_flow_word rules anchor tag given_tag column c t v given tidy read =
 
 -- a letter is of the class of plain text
 letter_class : (breaks12 : Bool) (c : ℕ) → is_alpha c ≡ true → class_of breaks12 c ≡ begins_plain
-letter_class breaks12 c h =
-    let blank : is_blank c ≡ false = grind (arith, nat_tests, h) in
-    let symbol : is_among (codes "]},:?") c ≡ false = grind (arith, nat_tests, h) in
-    let property : is_among (codes "&!") c ≡ false = grind (arith, nat_tests, h) in
-    let double : (c == 0x22) ≡ false = grind (arith, nat_tests, h) in
-    let single : (c == 0x27) ≡ false = grind (arith, nat_tests, h) in
-    let bracket : is_among (codes "[{") c ≡ false = grind (arith, nat_tests, h) in
-    rw (blank, no_break breaks12, symbol, property, double, single, bracket) refl
-  where
-    no_break : (breaks12 : Bool) → is_read_break breaks12 c ≡ false
-    no_break true = grind (arith, nat_tests, h)
-    no_break false = grind (arith, nat_tests, h)
+letter_class breaks12 c h = grind (arith, nat_tests)
 
 -- letters stay in plain text
 letters_stay : (breaks12 : Bool) (name : Text) → list_all is_alpha name ≡ true → all_stay breaks12 name ≡ true

@@ -1,12 +1,11 @@
 -- Indicators and white space in flow, which take the reader of flow collections on whatever follows them.
-use Rattle.yaml_base.proofs.Common.{suc, zero, ℕ, ◌-◌, if◌then◌else◌, ◌==◌, Option, codes, nat_lt, replicate, Bool, false, not, true, ◌&&◌, ◌||◌, List, []}
-use Rattle.yaml_base.proofs.Common.{◌++◌, ◌∷◌, refl, ◌≡◌, eqb-true, true≢false, append_assoc, ap, ◌∙◌, and_parts, and_from, false≢true, list_all-append}
-use Rattle.yaml_base.proofs.Common.{list_all, Text, line_feed, space, Cursor, Rendered, render_nothing, render_then, breaks_line, new_line, space_if}
-use Rattle.yaml_base.proofs.Common.{indicator, is_past_width, line_column, flow_break, Effective, OpenFlow, at_once, after_white, entry_awaited, node_awaited}
-use Rattle.yaml_base.proofs.Common.{comma_awaited, colon_awaited, FlowReading, within, flow_step, Rules, symbol, blank, line_end, free, FlowStep}
-use Rattle.yaml_base.proofs.Common.{is_flow_indicator, class_of, begun, flow_tokens}
-use Rattle.yaml_base.proofs.stream_flow.{StreamSays.comma_class, StreamSays.colon_class, StreamSays.question_class, StreamTakes.steps, StreamTakes.TakesBytes}
-use Rattle.yaml_base.proofs.stream_flow.{StreamWhites.space_class, StreamWhites.line_feed_class}
+use Rattle.yaml_base.proofs.Common.{arith, suc, zero, ℕ, ◌==◌, Option, codes, replicate, Bool, false, true, ◌||◌, List, [], ◌++◌, ◌∷◌, refl, ◌≡◌, eqb-true}
+use Rattle.yaml_base.proofs.Common.{true≢false, append_assoc, ap, ◌∙◌, and_parts, and_from, false≢true, list_all-append, list_all, Text, line_feed, space}
+use Rattle.yaml_base.proofs.Common.{Cursor, render_then, new_line, space_if, indicator, flow_break, Effective, OpenFlow, at_once, after_white, entry_awaited}
+use Rattle.yaml_base.proofs.Common.{node_awaited, comma_awaited, colon_awaited, FlowReading, within, flow_step, Rules, symbol, blank, line_end, free}
+use Rattle.yaml_base.proofs.Common.{is_flow_indicator, class_of, flow_tokens}
+use Rattle.yaml_base.proofs.stream_flow.{StreamTakes.steps, StreamTakes.TakesBytes, StreamWhites.space_class, StreamWhites.line_feed_class}
+use Rattle.yaml_base.proofs.stream_flow.StreamSays.{comma_class, colon_class, question_class}
 
 -- a text takes the reader from a reading to another, before anything
 pub record Passes (rules : Rules) (from : FlowReading) (text : Text) (to : FlowReading) : Type 0 where
@@ -19,55 +18,31 @@ passes_nothing rules from = record { passes = λ rest. refl }
 -- one such text after another
 pub passes_both : (rules : Rules) (from through to : FlowReading) (a b : Text) → Passes rules from a through → Passes rules through b to
     → Passes rules from (a ++ b) to
-passes_both rules from through to a b one two = record {
-  passes = λ rest.
-      ap (λ t. steps rules from (flow_tokens rules.breaks12 free t)) (append_assoc a b rest) ∙ one.passes (b ++ rest) ∙ two.passes rest;
-}
+passes_both rules from through to a b one two = grind (arith, append_assoc)
 
 -- and then one that takes it on before what ends a word
 pub passes_then : (rules : Rules) (from through to : FlowReading) (a b : Text) → Passes rules from a through → TakesBytes rules through b to
     → TakesBytes rules from (a ++ b) to
-passes_then rules from through to a b one two = record {
-  takes = λ rest h.
-      ap (λ t. steps rules from (flow_tokens rules.breaks12 free t)) (append_assoc a b rest) ∙ one.passes (b ++ rest) ∙ two.takes rest h;
-}
+passes_then rules from through to a b one two = grind (arith, append_assoc)
 
 -- equal texts take the reader to equal places
 pub passes_text : (rules : Rules) (from to : FlowReading) (a b : Text) → a ≡ b → Passes rules from b to → Passes rules from a to
-passes_text rules from to a b e one = record {
-  passes = λ rest. ap (λ t. steps rules from (flow_tokens rules.breaks12 free (t ++ rest))) e ∙ one.passes rest;
-}
+passes_text rules from to a b e one = grind (arith)
 
 pub takes_text : (rules : Rules) (from to : FlowReading) (a b : Text) → a ≡ b → TakesBytes rules from b to → TakesBytes rules from a to
-takes_text rules from to a b e one = record {
-  takes = λ rest h. ap (λ t. steps rules from (flow_tokens rules.breaks12 free (t ++ rest))) e ∙ one.takes rest h;
-}
+takes_text rules from to a b e one = grind (arith)
 
 -- One character
 
 passes_indicator : (rules : Rules) (from to : FlowReading) (c : ℕ) → class_of rules.breaks12 c ≡ is_flow_indicator → flow_step rules from (symbol c) ≡ to
     → Passes rules from (c ∷ []) to
-passes_indicator rules from to c e step = record {
-  passes = λ rest.
-      ap (λ class. steps rules from (let here : FlowStep = begun class [] c in here.tokens ++ flow_tokens rules.breaks12 here.place rest)) e
-      ∙ ap (λ r. steps rules r (flow_tokens rules.breaks12 free rest)) step;
-}
+passes_indicator rules from to c e step = grind (arith)
 
 passes_space : (rules : Rules) (from to : FlowReading) → flow_step rules from blank ≡ to → Passes rules from (space ∷ []) to
-passes_space rules from to step = record {
-  passes = λ rest.
-      ap (λ class. steps rules from (let here : FlowStep = begun class [] space in here.tokens ++ flow_tokens rules.breaks12 here.place rest))
-      (space_class rules.breaks12)
-      ∙ ap (λ r. steps rules r (flow_tokens rules.breaks12 free rest)) step;
-}
+passes_space rules from to step = grind (arith, space_class)
 
 passes_line_feed : (rules : Rules) (from to : FlowReading) → flow_step rules from line_end ≡ to → Passes rules from (line_feed ∷ []) to
-passes_line_feed rules from to step = record {
-  passes = λ rest.
-      ap (λ class. steps rules from (let here : FlowStep = begun class [] line_feed in here.tokens ++ flow_tokens rules.breaks12 here.place rest))
-      (line_feed_class rules.breaks12)
-      ∙ ap (λ r. steps rules r (flow_tokens rules.breaks12 free rest)) step;
-}
+passes_line_feed rules from to step = grind (arith, line_feed_class)
 
 -- a comma after an entry
 pub passes_comma : (rules : Rules) (levels : List OpenFlow) → Passes rules (within levels comma_awaited) (0x2C ∷ []) (within levels entry_awaited)
@@ -151,28 +126,15 @@ spaces_white (suc n) = spaces_white n
 
 -- a new line is white space
 pub new_line_white : (at : ℕ) (cursor : Cursor) → is_white_text (new_line at cursor).text ≡ true
-new_line_white at cursor = by (breaks_line at cursor)
-  where
-    by : (x : Bool) → is_white_text (if x then line_feed ∷ replicate at space else replicate (at - cursor.column) space) ≡ true
-    by true = spaces_white at
-    by false = spaces_white (at - cursor.column)
+new_line_white at cursor = grind (arith, spaces_white)
 
 -- so is what stands where a line in flow is too long
 pub flow_break_white : (s : Effective) (column : Option ℕ) (cursor : Cursor) → is_white_text (flow_break s column cursor).text ≡ true
-flow_break_white s column cursor = by (s.canonical || is_past_width s.width cursor)
-  where
-    by : (x : Bool) → is_white_text (let rendered : Rendered = if x then new_line
-        (line_column column) cursor else render_nothing cursor in rendered.text) ≡ true
-    by true = new_line_white (line_column column) cursor
-    by false = refl
+flow_break_white s column cursor = grind (arith, new_line_white)
 
 -- and the space before a word
 pub space_white : (cursor : Cursor) → is_white_text (space_if true cursor) ≡ true
-space_white cursor = by cursor.whitespace
-  where
-    by : (x : Bool) → is_white_text (if true && not x then space ∷ [] else []) ≡ true
-    by true = refl
-    by false = refl
+space_white cursor = grind (arith)
 
 -- two white texts
 pub white_both : (a b : Text) → is_white_text a ≡ true → is_white_text b ≡ true → is_white_text (a ++ b) ≡ true
@@ -188,21 +150,4 @@ pub record WhiteThen (text : Text) (c : ℕ) : Type 0 where
 -- after a node the `:` of a long key stands after white space
 pub late_colon : (s : Effective) (column : Option ℕ) (cursor : Cursor) → cursor.whitespace ≡ false → cursor.indention ≡ false
     → WhiteThen (render_then (flow_break s column cursor) (indicator (codes ":") true false false)).text 0x3A
-late_colon s column cursor white indention = by (s.canonical || is_past_width s.width cursor)
-  where
-    line : (x : Bool) → x ≡ true
-        → WhiteThen ((if x then line_feed ∷ replicate (line_column column) space else replicate (line_column column - cursor.column) space) ++ (0x3A ∷ [])) 0x3A
-    line true e = record { first = line_feed; more = replicate (line_column column) space; whole = refl; white = spaces_white (line_column column) }
-    line false e = absurd (false≢true e)
-
-    breaks : breaks_line (line_column column) cursor ≡ true
-    breaks = ap (λ x. not x || nat_lt (line_column column) cursor.column || (cursor.column == line_column column && not cursor.whitespace)) indention
-
-    same : (x : Bool) → x ≡ false → WhiteThen ((if true && not x then space ∷ [] else []) ++ (0x3A ∷ [])) 0x3A
-    same true e = absurd (true≢false e)
-    same false e = record { first = space; more = []; whole = refl; white = refl }
-
-    by : (x : Bool) → WhiteThen (let rendered : Rendered = render_then (if x then new_line (line_column column) cursor else render_nothing cursor)
-        (indicator (codes ":") true false false) in rendered.text) 0x3A
-    by true = line (breaks_line (line_column column) cursor) breaks
-    by false = same cursor.whitespace white
+late_colon s column cursor white indention = grind (arith, spaces_white, false≢true, true≢false)

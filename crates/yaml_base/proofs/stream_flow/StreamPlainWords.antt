@@ -1,10 +1,9 @@
 -- Plain text is one word among the tokens of flow, before white space and a flow indicator.
-use Rattle.yaml_base.proofs.Common.{ℕ, if◌then◌else◌, ◌==◌, None, Some, codes, Bool, false, not, true, ◌&&◌, ◌||◌, List, [], map, ◌++◌, ◌∷◌, refl, ◌≡◌}
-use Rattle.yaml_base.proofs.Common.{true≢false, append-nil, append_assoc, ap, sym, ◌∙◌, and_parts, or_parts, false≢true, map-append, list_all, Text, is_among}
-use Rattle.yaml_base.proofs.Common.{is_blank, is_read_break, unit_of, folding_read, is_read_white, begins_white, begins_no_plain, begins_with_hash}
-use Rattle.yaml_base.proofs.Common.{holds_no_plain, read_plain, ends_white, has_clean_edges, FlowToken, word, free, FlowStep, FlowClass, is_white_blank}
-use Rattle.yaml_base.proofs.Common.{is_white_break, is_flow_indicator, begins_property, begins_double, begins_single, begins_bracket, begins_plain, class_of}
-use Rattle.yaml_base.proofs.Common.{begun, flow_tokens}
+use Rattle.yaml_base.proofs.Common.{arith, ℕ, if◌then◌else◌, ◌==◌, None, Some, codes, Bool, false, not, true, ◌&&◌, ◌||◌, List, [], map, ◌++◌, ◌∷◌, refl, ◌≡◌}
+use Rattle.yaml_base.proofs.Common.{true≢false, append-nil, append_assoc, ap, ◌∙◌, and_parts, or_parts, false≢true, map-append, list_all, Text, is_among}
+use Rattle.yaml_base.proofs.Common.{unit_of, folding_read, is_read_white, begins_white, begins_no_plain, begins_with_hash, holds_no_plain, read_plain}
+use Rattle.yaml_base.proofs.Common.{ends_white, has_clean_edges, FlowToken, word, free, FlowStep, FlowClass, is_white_blank, is_white_break, is_flow_indicator}
+use Rattle.yaml_base.proofs.Common.{begins_property, begins_double, begins_single, begins_bracket, begins_plain, class_of, begun, flow_tokens}
 use Rattle.yaml_base.proofs.{stream_flow.StreamWords.GivesWord, stream_lines.StreamCuts.none_not_some}
 use Rattle.yaml_base.specs.streams.StreamTokens.{in_plain, white_of_class, white_token, plain_step}
 
@@ -126,9 +125,7 @@ plain_passes breaks12 c (d ∷ t) text white rest h k =
 -- a text without flow indicators, whose last character isn't white, is a word after its first character
 pub plain_text_word : (breaks12 : Bool) (before : Text) (c : ℕ) (t rest : Text) → all_stay breaks12 t ≡ true → ends_shown breaks12 (c ∷ t) ≡ true
     → ends_word breaks12 rest ≡ true → GivesWord breaks12 (in_plain (before ++ (c ∷ [])) []) (before ++ (c ∷ [])) t rest
-plain_text_word breaks12 before c [] rest h k ends =
-    plain_ends breaks12 (before ++ (c ∷ [])) [] rest ends
-    ∙ ap (λ s. word s ∷ flow_tokens breaks12 free rest) (sym (append-nil (before ++ (c ∷ []))))
+plain_text_word breaks12 before c [] rest h k ends = grind (arith, plain_ends, append-nil)
 plain_text_word breaks12 before c (d ∷ t) rest h k ends =
     plain_passes breaks12 d t (before ++ (c ∷ [])) [] rest h k ∙ plain_ends breaks12 ((before ++ (c ∷ [])) ++ (d ∷ t)) [] rest ends
 
@@ -136,33 +133,7 @@ plain_text_word breaks12 before c (d ∷ t) rest h k ends =
 
 -- what is none of the flow indicators
 stays_at : (breaks12 : Bool) (c : ℕ) → is_among (codes ",?:[]{}") c ≡ false → stays_plain (class_of breaks12 c) ≡ true
-stays_at breaks12 c h =
-    let comma = or_parts (c == 0x2C) (is_among (codes "?:[]{}") c) h in
-    let question = or_parts (c == 0x3F) (is_among (codes ":[]{}") c) comma.1 in
-    let colon = or_parts (c == 0x3A) (is_among (codes "[]{}") c) question.1 in
-    let opening = or_parts (c == 0x5B) (is_among (codes "]{}") c) colon.1 in
-    let closing = or_parts (c == 0x5D) (is_among (codes "{}") c) opening.1 in
-    let curly = or_parts (c == 0x7B) (is_among (codes "}") c) closing.1 in
-    let last = or_parts (c == 0x7D) false curly.1 in
-    by (is_blank c) (is_read_break breaks12 c) (is_among (codes "&!") c) (c == 0x22) (c == 0x27)
-    (none closing.0 (none last.0 (none comma.0 (none colon.0 (none question.0 refl)))))
-    (none opening.0 (none curly.0 refl))
-  where
-    none : {x y : Bool} → x ≡ false → y ≡ false → (x || y) ≡ false
-    none {x} {y} e f = ap (λ b. b || y) e ∙ f
-
-    by : (blank line_break property double single : Bool) → is_among (codes "]},:?") c ≡ false → is_among (codes "[{") c ≡ false
-        → stays_plain (if blank then is_white_blank else (if line_break then is_white_break else (if is_among (codes "]},:?") c then is_flow_indicator
-        else (if property then begins_property else (if double then begins_double else (if single then begins_single
-        else (if is_among (codes "[{") c then begins_bracket else begins_plain))))))) ≡ true
-    by true l p d s e f = refl
-    by false true l d s e f = refl
-    by false false true d s e f = ap (λ x. stays_plain (if x then is_flow_indicator else begins_property)) e
-    by false false false true s e f = ap (λ x. stays_plain (if x then is_flow_indicator else begins_double)) e
-    by false false false false true e f = ap (λ x. stays_plain (if x then is_flow_indicator else begins_single)) e
-    by false false false false false e f =
-        ap (λ x. stays_plain (if x then is_flow_indicator else (if is_among (codes "[{") c then begins_bracket else begins_plain))) e
-        ∙ ap (λ x. stays_plain (if x then begins_bracket else begins_plain)) f
+stays_at breaks12 c h = grind (arith, or_parts)
 
 -- what plain text in flow holds is no flow indicator
 pub plain_stays : (breaks12 : Bool) (t : Text) → holds_no_plain breaks12 true t ≡ false → all_stay breaks12 t ≡ true
@@ -175,23 +146,7 @@ plain_stays breaks12 (c ∷ t) h =
 
 -- a character that isn't white is of no white class
 pub shown_at : (breaks12 : Bool) (c : ℕ) → is_read_white breaks12 c ≡ false → is_white_class (class_of breaks12 c) ≡ false
-shown_at breaks12 c h =
-    let parts = or_parts (is_blank c) (is_read_break breaks12 c) h in
-    by (is_blank c) (is_read_break breaks12 c) (is_among (codes "]},:?") c) (is_among (codes "&!") c) (c == 0x22) (c == 0x27)
-    (is_among (codes "[{") c) parts.0 parts.1
-  where
-    by : (blank line_break symbol property double single bracket : Bool) → blank ≡ false → line_break ≡ false
-        → is_white_class (if blank then is_white_blank else (if line_break then is_white_break else (if symbol then is_flow_indicator
-        else (if property then begins_property else (if double then begins_double else (if single then begins_single
-        else (if bracket then begins_bracket else begins_plain))))))) ≡ false
-    by true l g p d s b e f = absurd (true≢false e)
-    by false true g p d s b e f = absurd (true≢false f)
-    by false false true p d s b e f = refl
-    by false false false true d s b e f = refl
-    by false false false false true s b e f = refl
-    by false false false false false true b e f = refl
-    by false false false false false false true e f = refl
-    by false false false false false false false e f = refl
+shown_at breaks12 c h = grind (arith, or_parts, true≢false)
 
 -- the last character of a text with clean edges isn't white
 pub clean_shown : (breaks12 : Bool) (c : ℕ) (t : Text) → ends_white breaks12 (c ∷ t) ≡ false → ends_shown breaks12 (c ∷ t) ≡ true

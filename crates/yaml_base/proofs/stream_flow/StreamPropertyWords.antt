@@ -1,7 +1,7 @@
 -- The tokens of a word in flow with its anchor and tag before it: it is one word with them, and so is what opens a collection.
 use Rattle.yaml_base.proofs.Common.{ℕ, Option, None, Some, Bool, false, true, ◌||◌, List, [], ◌++◌, ◌∷◌, refl, ◌≡◌, true≢false, append-nil, append_assoc, ap}
 use Rattle.yaml_base.proofs.Common.{sym, ◌∙◌, arith, or_parts, false≢true, nat_tests, Text, space, is_blank, is_break, TagDirective, read_double}
-use Rattle.yaml_base.proofs.Common.{is_read_white, read_plain, read_single, ParsedTag, has_clean_edges, word, opens, FlowPlace, free, FlowStep, FlowClass}
+use Rattle.yaml_base.proofs.Common.{read_plain, read_single, ParsedTag, has_clean_edges, word, opens, FlowPlace, free, FlowStep, FlowClass}
 use Rattle.yaml_base.proofs.Common.{is_white_blank, is_white_break, is_flow_indicator, begins_property, begins_double, begins_single, begins_bracket}
 use Rattle.yaml_base.proofs.Common.{begins_plain, class_of, begun, bracket_step, is_pair, flow_tokens}
 use Rattle.yaml_base.proofs.TagWords.{letters_end_no_word}
@@ -25,11 +25,7 @@ lead_place (c ∷ text) = after_property (c ∷ text)
 
 -- what is neither a blank nor a break is of no white class
 not_white : (breaks12 : Bool) (c : ℕ) → (is_blank c || is_break c) ≡ false → is_white_class (class_of breaks12 c) ≡ false
-not_white breaks12 c h = shown_at breaks12 c (by breaks12)
-  where
-    by : (breaks12 : Bool) → is_read_white breaks12 c ≡ false
-    by true = grind (arith, nat_tests, h)
-    by false = grind (arith, nat_tests, h)
+not_white breaks12 c h = grind (arith, nat_tests, shown_at)
 
 -- a character of a property is passed
 property_passes : (class : FlowClass) (text : Text) (c : ℕ) → is_white_class class ≡ false
@@ -88,34 +84,11 @@ pub lead_passes : (breaks12 : Bool) (directives : List TagDirective) (anchor tag
     → flow_tokens breaks12 free (lead anchor tag ++ rest) ≡ flow_tokens breaks12 (lead_place (lead anchor tag)) rest
 lead_passes breaks12 directives None None None rest named tagged = refl
 lead_passes breaks12 directives (Some name) None None rest named tagged =
-    begin_property breaks12 0x26 ((name ++ (space ∷ [])) ++ rest) (property_class breaks12).0
-    ∙ ap (flow_tokens breaks12 (in_property (0x26 ∷ []))) (append_assoc name (space ∷ []) rest)
-    ∙ rest_passes breaks12 (0x26 ∷ []) name (space ∷ rest) (letters_end_no_word name (name_letters name named))
-    ∙ property_ends breaks12 (0x26 ∷ name) rest
+    grind (arith, begin_property, property_class, append_assoc, rest_passes, letters_end_no_word, name_letters, property_ends)
 lead_passes breaks12 directives None (Some tag) (Some parsed) rest named tagged =
-    ap (λ t. flow_tokens breaks12 free ((t ++ (space ∷ [])) ++ rest)) tagged.begins
-    ∙ begin_property breaks12 0x21 ((tagged.rest ++ (space ∷ [])) ++ rest) (property_class breaks12).1
-    ∙ ap (flow_tokens breaks12 (in_property (0x21 ∷ []))) (append_assoc tagged.rest (space ∷ []) rest)
-    ∙ rest_passes breaks12 (0x21 ∷ []) tagged.rest (space ∷ rest) (rest_not_white directives tag parsed tagged)
-    ∙ property_ends breaks12 (0x21 ∷ tagged.rest) rest
-    ∙ ap (λ t. flow_tokens breaks12 (lead_place (t ++ (space ∷ []))) rest) (sym tagged.begins)
+    grind (arith, begin_property, property_class, append_assoc, rest_passes, rest_not_white, property_ends)
 lead_passes breaks12 directives (Some name) (Some tag) (Some parsed) rest named tagged =
-    ap (λ t. flow_tokens breaks12 free (((0x26 ∷ (name ++ (space ∷ t))) ++ (space ∷ [])) ++ rest)) tagged.begins
-    ∙ begin_property breaks12 0x26 (((name ++ (space ∷ 0x21 ∷ tagged.rest)) ++ (space ∷ [])) ++ rest) (property_class breaks12).0
-    ∙ ap (flow_tokens breaks12 (in_property (0x26 ∷ []))) (moved name (space ∷ 0x21 ∷ tagged.rest) (space ∷ []) rest)
-    ∙ rest_passes breaks12 (0x26 ∷ []) name (space ∷ 0x21 ∷ ((tagged.rest ++ (space ∷ [])) ++ rest)) (letters_end_no_word name (name_letters name named))
-    ∙ property_ends breaks12 (0x26 ∷ name) (0x21 ∷ ((tagged.rest ++ (space ∷ [])) ++ rest))
-    ∙ next_property breaks12 ((0x26 ∷ name) ++ (space ∷ [])) 0x21 ((tagged.rest ++ (space ∷ [])) ++ rest) (property_class breaks12).1
-    ∙ ap (flow_tokens breaks12 (in_property (((0x26 ∷ name) ++ (space ∷ [])) ++ (0x21 ∷ [])))) (append_assoc tagged.rest (space ∷ []) rest)
-    ∙ rest_passes breaks12 (((0x26 ∷ name) ++ (space ∷ [])) ++ (0x21 ∷ [])) tagged.rest (space ∷ rest) (rest_not_white directives tag parsed tagged)
-    ∙ property_ends breaks12 ((((0x26 ∷ name) ++ (space ∷ [])) ++ (0x21 ∷ [])) ++ tagged.rest) rest
-    ∙ ap (λ t. flow_tokens breaks12 (after_property (t ++ (space ∷ []))) rest)
-    (append_assoc ((0x26 ∷ name) ++ (space ∷ [])) (0x21 ∷ []) tagged.rest
-    ∙ append_assoc (0x26 ∷ name) (space ∷ []) (0x21 ∷ tagged.rest)
-    ∙ ap (λ t. 0x26 ∷ (name ++ (space ∷ t))) (sym tagged.begins))
-  where
-    moved : (a b c d : Text) → ((a ++ b) ++ c) ++ d ≡ a ++ ((b ++ c) ++ d)
-    moved a b c d = ap (λ t. t ++ d) (append_assoc a b c) ∙ append_assoc a (b ++ c) d
+    grind (arith, begin_property, property_class, rest_passes, letters_end_no_word, name_letters, property_ends, next_property, append_assoc, rest_not_white)
 lead_passes breaks12 directives None None (Some parsed) rest named tagged = absurd tagged
 lead_passes breaks12 directives None (Some tag) None rest named tagged = absurd tagged
 lead_passes breaks12 directives (Some name) None (Some parsed) rest named tagged = absurd tagged
@@ -135,19 +108,7 @@ begins_own _ = false
 begun_with : (breaks12 : Bool) (before : Text) (c : ℕ) (rest : Text) (class : FlowClass) → class_of breaks12 c ≡ class → begins_own class ≡ true
     → flow_tokens breaks12 (lead_place before) (c ∷ rest) ≡ (let here : FlowStep = begun class before c in here.tokens ++ flow_tokens breaks12 here.place rest)
 begun_with breaks12 [] c rest class e own = ap (λ class. (let here : FlowStep = begun class [] c in here.tokens ++ flow_tokens breaks12 here.place rest)) e
-begun_with breaks12 (x ∷ before) c rest class e own =
-    ap (λ class. (let here : FlowStep = begun_after_property class (x ∷ before) c in here.tokens ++ flow_tokens breaks12 here.place rest)) e
-    ∙ ap (λ (here : FlowStep). here.tokens ++ flow_tokens breaks12 here.place rest) (by class own)
-  where
-    by : (class : FlowClass) → begins_own class ≡ true → begun_after_property class (x ∷ before) c ≡ begun class (x ∷ before) c
-    by begins_double own = refl
-    by begins_single own = refl
-    by begins_bracket own = refl
-    by begins_plain own = refl
-    by is_white_blank own = absurd (false≢true own)
-    by is_white_break own = absurd (false≢true own)
-    by is_flow_indicator own = absurd (false≢true own)
-    by begins_property own = absurd (false≢true own)
+begun_with breaks12 (x ∷ before) c rest class e own = grind (arith, false≢true)
 
 -- a text is passed by the tokens, to where what follows it begins a word with it
 abbrev pub Leads : Bool → Text → Type 0
@@ -201,7 +162,4 @@ says_empty_after breaks12 before b c leads e pair = record {
 -- a bracket opens a collection with its properties, where the next character doesn't close it
 pub opens_after : (breaks12 : Bool) (before : Text) (b c : ℕ) (rest : Text) → Leads breaks12 before → class_of breaks12 b ≡ begins_bracket → is_pair b c ≡ false
     → flow_tokens breaks12 free (before ++ (b ∷ c ∷ rest)) ≡ opens before b ∷ flow_tokens breaks12 free (c ∷ rest)
-opens_after breaks12 before b c rest leads e pair =
-    leads (b ∷ c ∷ rest)
-    ∙ begun_with breaks12 before b (c ∷ rest) begins_bracket e refl
-    ∙ ap (λ x. (let here : FlowStep = bracket_step x (class_of breaks12 c) before b c in here.tokens ++ flow_tokens breaks12 here.place rest)) pair
+opens_after breaks12 before b c rest leads e pair = grind (arith, begun_with)

@@ -1,7 +1,7 @@
 -- What a text in flow is to its reader: these tokens, before anything that ends a word.
-use Rattle.yaml_base.proofs.Common.{ℕ, if◌then◌else◌, ◌==◌, Bool, false, true, List, [], ◌++◌, ◌∷◌, refl, ◌≡◌, eqb-true, ap, sym, ◌∙◌, false≢true, Text}
-use Rattle.yaml_base.proofs.Common.{FlowToken, opens, symbol, blank, free, FlowStep, is_white_blank, is_flow_indicator}
-use Rattle.yaml_base.proofs.Common.{begins_double, begins_single, begins_bracket, class_of, begun, bracket_step, is_pair, flow_tokens}
+use Rattle.yaml_base.proofs.Common.{arith, ℕ, Bool, false, true, List, [], ◌++◌, ◌∷◌, refl, ◌≡◌, eqb-true, ap, false≢true, Text, FlowToken, opens, symbol}
+use Rattle.yaml_base.proofs.Common.{blank, free, is_white_blank, is_flow_indicator, begins_double, begins_single, begins_bracket, class_of, is_pair}
+use Rattle.yaml_base.proofs.Common.{flow_tokens}
 use Rattle.yaml_base.proofs.stream_flow.{StreamPlainWords.ends_by, StreamPlainWords.ends_word, StreamWords.begins_unquoted}
 
 -- a text is these tokens where what follows ends a word
@@ -18,15 +18,11 @@ ends_anyhow breaks12 c text h rest k = h (ends_word breaks12 (text ++ rest))
 
 -- a flow indicator
 pub says_indicator : (breaks12 : Bool) (c : ℕ) → class_of breaks12 c ≡ is_flow_indicator → Says breaks12 (c ∷ []) (symbol c ∷ [])
-says_indicator breaks12 c e = record {
-  says = λ rest h. ap (λ class. (let here : FlowStep = begun class [] c in here.tokens ++ flow_tokens breaks12 here.place rest)) e;
-}
+says_indicator breaks12 c e = grind (arith)
 
 -- a blank
 pub says_blank : (breaks12 : Bool) (c : ℕ) → class_of breaks12 c ≡ is_white_blank → Says breaks12 (c ∷ []) (blank ∷ [])
-says_blank breaks12 c e = record {
-  says = λ rest h. ap (λ class. (let here : FlowStep = begun class [] c in here.tokens ++ flow_tokens breaks12 here.place rest)) e;
-}
+says_blank breaks12 c e = grind (arith)
 
 -- The flow indicators, with either rule of breaks
 pub comma_class : (breaks12 : Bool) → class_of breaks12 0x2C ≡ is_flow_indicator
@@ -64,12 +60,7 @@ indicator_ends breaks12 c text e = ends_anyhow breaks12 c text (λ more. ap (λ 
 -- what ends a word is no quote
 pub ends_unquoted : (breaks12 : Bool) (rest : Text) → ends_word breaks12 rest ≡ true → begins_unquoted rest ≡ true
 ends_unquoted breaks12 [] h = absurd (false≢true h)
-ends_unquoted breaks12 (c ∷ rest) h = by (c == 0x27) refl
-  where
-    by : (x : Bool) → (c == 0x27) ≡ x → (if x then false else true) ≡ true
-    by true e = absurd (false≢true (sym
-        (ap (λ class. ends_by class (ends_word breaks12 rest)) (ap (class_of breaks12) (eqb-true c 0x27 e) ∙ single_class breaks12)) ∙ h))
-    by false e = refl
+ends_unquoted breaks12 (c ∷ rest) h = grind (arith, false≢true, eqb-true, single_class)
 
 -- Words
 
@@ -80,6 +71,4 @@ bracket_class false = (refl, refl)
 -- a bracket opens a collection where the next character doesn't close it
 pub opens_before : (breaks12 : Bool) (b c : ℕ) (rest : Text) → class_of breaks12 b ≡ begins_bracket → is_pair b c ≡ false
     → flow_tokens breaks12 free (b ∷ c ∷ rest) ≡ opens [] b ∷ flow_tokens breaks12 free (c ∷ rest)
-opens_before breaks12 b c rest e h =
-    ap (λ class. (let here : FlowStep = begun class [] b in here.tokens ++ flow_tokens breaks12 here.place (c ∷ rest))) e
-    ∙ ap (λ x. (let here : FlowStep = bracket_step x (class_of breaks12 c) [] b c in here.tokens ++ flow_tokens breaks12 here.place rest)) h
+opens_before breaks12 b c rest e h = grind (arith)

@@ -1,10 +1,9 @@
 -- What a text in flow is to the reader of flow collections: it takes the reader from one reading to another.
-use Rattle.yaml_base.proofs.Common.{ℕ, if◌then◌else◌, fold, Option, Some, false, true, List, [], ◌++◌, ◌∷◌, refl, ◌≡◌, append_assoc, ap, ◌∙◌, Text, Tree}
-use Rattle.yaml_base.proofs.Common.{Trees, sequence_tree, TreePairs, mapping_tree, is_key_text, no_key, key_held, OpenFlow, in_sequence, in_mapping}
-use Rattle.yaml_base.proofs.Common.{Awaited, collection_awaited, entry_awaited, comma_awaited, colon_awaited, FlowReading, failed}
-use Rattle.yaml_base.proofs.Common.{done, within, with_tree, word_step, flow_step, tree_at_end, flow_read, Rules, Properties, word_read, FlowToken, word}
-use Rattle.yaml_base.proofs.Common.{symbol, free, FlowStep, is_flow_indicator, class_of, begun, flow_tokens}
-use Rattle.yaml_base.{proofs.stream_flow.StreamPlainWords.ends_by, proofs.stream_flow.StreamPlainWords.ends_word, specs.streams.StreamFlow.colon_after}
+use Rattle.yaml_base.proofs.Common.{arith, ℕ, fold, Option, Some, true, List, [], ◌++◌, ◌∷◌, refl, ◌≡◌, append_assoc, ap, ◌∙◌, Text, Tree, Trees, sequence_tree}
+use Rattle.yaml_base.proofs.Common.{TreePairs, mapping_tree, is_key_text, no_key, key_held, OpenFlow, in_sequence, in_mapping, Awaited, collection_awaited}
+use Rattle.yaml_base.proofs.Common.{entry_awaited, comma_awaited, colon_awaited, FlowReading, done, within, with_tree, flow_step, flow_read, Rules, Properties}
+use Rattle.yaml_base.proofs.Common.{word_read, FlowToken, word, symbol, free, is_flow_indicator, class_of, flow_tokens}
+use Rattle.yaml_base.{proofs.stream_flow.StreamPlainWords.ends_word, specs.streams.StreamFlow.colon_after}
 use Rattle.yaml_base.proofs.stream_flow.StreamSays.{Says, EndsWord, says_indicator, square_class, curly_class}
 
 -- the readings of some tokens
@@ -37,11 +36,7 @@ takes_to rules from to text tokens says e = record {
 -- a text, and then one that ends a word
 pub takes_both : (rules : Rules) (from through to : FlowReading) (a b : Text) → TakesBytes rules from a through → TakesBytes rules through b to
     → EndsWord rules.breaks12 b → TakesBytes rules from (a ++ b) to
-takes_both rules from through to a b one two ends = record {
-  takes = λ rest h.
-      ap (λ t. steps rules from (flow_tokens rules.breaks12 free t)) (append_assoc a b rest)
-      ∙ one.takes (b ++ rest) (ends rest h) ∙ two.takes rest h;
-}
+takes_both rules from through to a b one two ends = grind (arith, append_assoc)
 
 -- Words
 
@@ -50,28 +45,19 @@ pub takes_simple_key : (rules : Rules) (anchor tag : Option Text) (pairs : TreeP
     → Says rules.breaks12 text (word text ∷ []) → word_read rules true text ≡ Some tree → is_key_text rules.breaks12 tree text ≡ true
     → TakesBytes rules (within (in_mapping anchor tag pairs no_key ∷ levels) entry_awaited) text
     (within (in_mapping anchor tag pairs (key_held tree) ∷ levels) (colon_awaited (colon_after tree)))
-takes_simple_key rules anchor tag pairs levels text tree says read short =
-    takes_to rules (within (in_mapping anchor tag pairs no_key ∷ levels) entry_awaited)
-    (within (in_mapping anchor tag pairs (key_held tree) ∷ levels) (colon_awaited (colon_after tree)))
-    text (word text ∷ []) says
-    (ap (word_step rules.breaks12 (in_mapping anchor tag pairs no_key ∷ levels) text) read
-    ∙ ap (λ x. if x then within (in_mapping anchor tag pairs (key_held tree) ∷ levels) (colon_awaited (colon_after tree)) else failed) short)
+takes_simple_key rules anchor tag pairs levels text tree says read short = grind (arith, takes_to)
 
 -- Indicators
 
 -- a `]` after an item
 pub takes_sequence_end : (rules : Rules) (anchor tag : Option Text) (items : Trees) (levels : List OpenFlow)
     → TakesBytes rules (within (in_sequence anchor tag items ∷ levels) comma_awaited) (0x5D ∷ []) (with_tree levels (sequence_tree anchor tag items))
-takes_sequence_end rules anchor tag items levels =
-    takes_to rules (within (in_sequence anchor tag items ∷ levels) comma_awaited) (with_tree levels (sequence_tree anchor tag items))
-    (0x5D ∷ []) (symbol 0x5D ∷ []) (says_indicator rules.breaks12 0x5D (square_class rules.breaks12)) refl
+takes_sequence_end rules anchor tag items levels = grind (arith, takes_to, says_indicator, square_class)
 
 -- a `}` after a pair
 pub takes_mapping_end : (rules : Rules) (anchor tag : Option Text) (pairs : TreePairs) (levels : List OpenFlow)
     → TakesBytes rules (within (in_mapping anchor tag pairs no_key ∷ levels) comma_awaited) (0x7D ∷ []) (with_tree levels (mapping_tree anchor tag pairs))
-takes_mapping_end rules anchor tag pairs levels =
-    takes_to rules (within (in_mapping anchor tag pairs no_key ∷ levels) comma_awaited) (with_tree levels (mapping_tree anchor tag pairs))
-    (0x7D ∷ []) (symbol 0x7D ∷ []) (says_indicator rules.breaks12 0x7D (curly_class rules.breaks12)) refl
+takes_mapping_end rules anchor tag pairs levels = grind (arith, takes_to, says_indicator, curly_class)
 
 -- The whole
 
@@ -79,8 +65,4 @@ takes_mapping_end rules anchor tag pairs levels =
 pub flow_reads : (rules : Rules) (properties : Properties) (text : Text) (levels : List OpenFlow) (awaited : Awaited) (c : ℕ) (tree : Tree)
     → class_of rules.breaks12 c ≡ is_flow_indicator → TakesBytes rules (within [] (collection_awaited properties)) text (within levels awaited)
     → flow_step rules (within levels awaited) (symbol c) ≡ done tree → flow_read rules properties (text ++ (c ∷ [])) ≡ Some tree
-flow_reads rules properties text levels awaited c tree class takes e =
-    ap tree_at_end
-    (takes.takes (c ∷ []) (ap (λ k. ends_by k false) class)
-    ∙ ap (λ k. (let here : FlowStep = begun k [] c in steps rules (within levels awaited) (here.tokens ++ flow_tokens rules.breaks12 here.place []))) class
-    ∙ e)
+flow_reads rules properties text levels awaited c tree class takes e = grind (arith)

@@ -1,6 +1,6 @@
 -- White space in flow, and what it does to the reader of flow collections.
-use Rattle.yaml_base.proofs.Common.{suc, zero, ℕ, Bool, false, true, List, [], ◌++◌, ◌∷◌, refl, ◌≡◌, ap, ◌∙◌, line_feed, space, OpenFlow, at_once, after_blank}
-use Rattle.yaml_base.proofs.Common.{colon_awaited, within, spaces, Rules, blank, is_white_blank, is_white_break, class_of}
+use Rattle.yaml_base.proofs.Common.{arith, suc, zero, ℕ, Bool, false, true, List, [], ◌++◌, ◌∷◌, refl, ◌≡◌, ap, ◌∙◌, line_feed, space, OpenFlow, at_once}
+use Rattle.yaml_base.proofs.Common.{after_blank, colon_awaited, within, spaces, Rules, is_white_blank, is_white_break, class_of}
 use Rattle.yaml_base.proofs.stream_flow.{StreamSays.EndsWord, StreamSays.says_blank, StreamTakes.TakesBytes, StreamTakes.takes_to}
 use Rattle.yaml_base.proofs.stream_flow.StreamPlainWords.{ends_by, ends_word}
 
@@ -23,6 +23,4 @@ spaces_end_word breaks12 (suc n) rest h =
 -- the blank after an alias that is a key
 pub alias_blank : (rules : Rules) (levels : List OpenFlow)
     → TakesBytes rules (within levels (colon_awaited after_blank)) (space ∷ []) (within levels (colon_awaited at_once))
-alias_blank rules levels =
-    takes_to rules (within levels (colon_awaited after_blank)) (within levels (colon_awaited at_once)) (space ∷ []) (blank ∷ [])
-    (says_blank rules.breaks12 space (space_class rules.breaks12)) refl
+alias_blank rules levels = grind (arith, takes_to, says_blank, space_class)

@@ -1,13 +1,12 @@
 -- The text of a quoted scalar is one word among the tokens of flow, whatever may follow it.
-use Rattle.yaml_base.proofs.Common.{suc, zero, ℕ, ◌*◌, ◌+◌, if◌then◌else◌, ◌==◌, option_map, Option, None, Some, Bool, false, true, List, [], map, ◌++◌, ◌∷◌}
-use Rattle.yaml_base.proofs.Common.{refl, ◌≡◌, eqb-true, append_assoc, ap, sym, ◌∙◌, false≢true, Text, QuotePlace, between, goes_on, gives, ends_quotes}
-use Rattle.yaml_base.proofs.Common.{has_no_reading, Quoted, with_unit, after_step, quoted_from, quoted_reading, value_before, value_alone, read_double}
-use Rattle.yaml_base.proofs.Common.{FoldUnit, unit_of, folding_read, unquoted, read_single, FlowToken, word, FlowPlace, free, FlowStep, class_of, begun}
-use Rattle.yaml_base.proofs.Common.{flow_tokens}
+use Rattle.yaml_base.proofs.Common.{arith, suc, zero, ℕ, ◌*◌, ◌+◌, if◌then◌else◌, ◌==◌, option_map, Option, None, Some, Bool, false, true, List, [], map, ◌++◌}
+use Rattle.yaml_base.proofs.Common.{◌∷◌, refl, ◌≡◌, eqb-true, append_assoc, ap, sym, ◌∙◌, false≢true, Text, QuotePlace, between, goes_on, gives, ends_quotes}
+use Rattle.yaml_base.proofs.Common.{has_no_reading, Quoted, with_unit, after_step, quoted_from, quoted_reading, value_alone, read_double, FoldUnit, unit_of}
+use Rattle.yaml_base.proofs.Common.{folding_read, unquoted, read_single, FlowToken, word, FlowPlace, free, FlowStep, flow_tokens}
 use Rattle.yaml_base.{proofs.stream_lines.StreamCuts.none_not_some, specs.reading.ReadFolding.itself}
 use Rattle.yaml_base.specs.reading.ReadDouble.{after_backslash as backslash_place, within_digits, letter_meaning, digits_after_first, digit_meaning}
 use Rattle.yaml_base.specs.reading.ReadDouble.{is_scalar_number, digit_step, escape_step}
-use Rattle.yaml_base.specs.streams.StreamTokens.{in_double, after_backslash, in_single, after_quote, goes_to, completes, prepend_tokens}
+use Rattle.yaml_base.specs.streams.StreamTokens.{in_double, after_backslash, in_single, after_quote, goes_to, completes}
 
 -- a character more at the end of what stands before a text
 pub shifted : (breaks12 : Bool) (before : Text) (c : ℕ) (t rest : Text)
@@ -42,11 +41,7 @@ IsQuoted breaks12 t =
 
 -- a digit is not this character, which is no digit
 no_digit : (c d n : ℕ) → digit_meaning n ≡ None → digit_meaning c ≡ Some d → (c == n) ≡ false
-no_digit c d n none h = by (c == n) refl
-  where
-    by : (x : Bool) → (c == n) ≡ x → x ≡ false
-    by true e = absurd (none_not_some (sym none ∙ ap digit_meaning (sym (eqb-true c n e)) ∙ h))
-    by false e = refl
+no_digit c d n none h = grind (arith, none_not_some, eqb-true)
 
 -- between the quotes a character that is neither a quote nor a backslash is passed
 passed : (breaks12 : Bool) (before : Text) (c : ℕ) (t : Text) → (c == 0x22) ≡ false → (c == 0x5C) ≡ false
@@ -115,11 +110,7 @@ is_quoted breaks12 (c ∷ t) (within_digits more number) ends before rest = at_d
 -- what reads alone leaves nothing
 alone_ends : (quoted : Option Quoted) (v : Text) → value_alone (quoted_reading quoted) ≡ Some v → Ends quoted
 alone_ends None v e = absurd (none_not_some e)
-alone_ends (Some quoted) v e = by quoted.rest (folding_read quoted.units) e
-  where
-    by : (rest value : Text) → value_before rest value ≡ Some v → rest ≡ []
-    by [] value e = refl
-    by (c ∷ rest) value e = absurd (none_not_some e)
+alone_ends (Some quoted) v e = grind (arith, none_not_some)
 
 -- what reads as double-quoted is a word after its first quote, and after whatever stands before that
 pub double_quoted_word : (breaks12 : Bool) (before t rest v : Text) → read_double breaks12 (0x22 ∷ t) ≡ Some v
@@ -138,14 +129,7 @@ begins_unquoted (c ∷ rest) = if c == 0x27 then false else true
 after_quote_ends : (breaks12 : Bool) (text rest : Text) → begins_unquoted rest ≡ true
     → flow_tokens breaks12 (after_quote text) rest ≡ word text ∷ flow_tokens breaks12 free rest
 after_quote_ends breaks12 text [] h = absurd (false≢true h)
-after_quote_ends breaks12 text (c ∷ rest) h = by (c == 0x27) h
-  where
-    by : (x : Bool) → (if x then false else true) ≡ true
-        → (let here : FlowStep = if x then goes_to (in_single (text ++ (c ∷ []))) else prepend_tokens (word text ∷ []) (begun (class_of breaks12 c) [] c) in
-        here.tokens ++ flow_tokens breaks12 here.place rest)
-        ≡ word text ∷ flow_tokens breaks12 free (c ∷ rest)
-    by true h = absurd (false≢true h)
-    by false h = refl
+after_quote_ends breaks12 text (c ∷ rest) h = grind (arith, false≢true)
 
 -- two characters more
 shifted_twice : (breaks12 : Bool) (before : Text) (c d : ℕ) (t rest : Text)
@@ -158,13 +142,7 @@ abbrev IsUnquoted : Bool → Text → Type 0
 IsUnquoted breaks12 t = (unquoted t ≡ None → ⊥) → (before rest : Text) → begins_unquoted rest ≡ true → GivesWord breaks12 (in_single before) before t rest
 
 at_closing : (breaks12 : Bool) (c : ℕ) → IsUnquoted breaks12 (c ∷ [])
-at_closing breaks12 c closes before rest h = by (c == 0x27) closes
-  where
-    by : (x : Bool) → (◌≡◌ {A = Option Text} (if x then Some [] else None) None → ⊥)
-        → flow_tokens breaks12 (if x then after_quote (before ++ (c ∷ [])) else in_single (before ++ (c ∷ []))) rest
-        ≡ word (before ++ (c ∷ [])) ∷ flow_tokens breaks12 free rest
-    by true closes = after_quote_ends breaks12 (before ++ (c ∷ [])) rest h
-    by false closes = absurd (closes refl)
+at_closing breaks12 c closes before rest h = grind (arith, after_quote_ends)
 
 at_inside : (breaks12 : Bool) (c d : ℕ) (t : Text) → IsUnquoted breaks12 t → IsUnquoted breaks12 (d ∷ t) → IsUnquoted breaks12 (c ∷ d ∷ t)
 at_inside breaks12 c d t one two closes before rest h = by (c == 0x27) (d == 0x27) refl closes

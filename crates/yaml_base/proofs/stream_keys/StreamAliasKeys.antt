@@ -1,8 +1,8 @@
 -- An alias and a space are a simple key, before the `:` that follows.
-use Rattle.yaml_base.proofs.Common.{ℕ, if◌then◌else◌, ◌==◌, option_map, option_and_then, None, Some, nat_le, length, Bool, false, true, ◌&&◌, [], ◌++◌, ◌∷◌}
+use Rattle.yaml_base.proofs.Common.{arith, ℕ, if◌then◌else◌, ◌==◌, option_map, option_and_then, None, Some, nat_le, length, Bool, false, true, [], ◌++◌, ◌∷◌}
 use Rattle.yaml_base.proofs.Common.{refl, ◌≡◌, eqb-true, true≢false, ap, sym, ◌∙◌, and_parts, false≢true, list_all, option_or, Text, space, is_alpha}
-use Rattle.yaml_base.proofs.Common.{alias_tree, is_alias, longest_key, ends_indicator, without_last_space, word_but_alias, word_of_alias, key_of_line, Rules}
-use Rattle.yaml_base.proofs.Common.{name_read, word_read}
+use Rattle.yaml_base.proofs.Common.{alias_tree, longest_key, ends_indicator, without_last_space, word_but_alias, word_of_alias, key_of_line, Rules, name_read}
+use Rattle.yaml_base.proofs.Common.{word_read}
 use Rattle.yaml_base.proofs.stream_keys.StreamKeys.{NoKey, found, key_found}
 
 -- a name and a space
@@ -11,11 +11,7 @@ spaced name = name ++ (space ∷ [])
 
 -- a letter of the anchor alphabet is no `:`
 no_colon : (c : ℕ) → is_alpha c ≡ true → (c == 0x3A) ≡ false
-no_colon c h = by (c == 0x3A) refl
-  where
-    by : (x : Bool) → (c == 0x3A) ≡ x → x ≡ false
-    by true e = absurd (true≢false (sym h ∙ ap is_alpha (eqb-true c 0x3A e)))
-    by false e = refl
+no_colon c h = grind (arith, true≢false, eqb-true)
 
 -- no `:` stands in a name and the space after it
 name_no_key : (rules : Rules) (before name after : Text) → list_all is_alpha name ≡ true → NoKey rules before (spaced name) after
@@ -29,11 +25,7 @@ name_no_key rules before (c ∷ name) after h =
 -- a space is in no name
 spaced_no_name : (name : Text) → list_all is_alpha (spaced name) ≡ false
 spaced_no_name [] = refl
-spaced_no_name (c ∷ name) = ap (λ x. is_alpha c && x) (spaced_no_name name) ∙ by (is_alpha c)
-  where
-    by : (x : Bool) → (x && false) ≡ false
-    by true = refl
-    by false = refl
+spaced_no_name (c ∷ name) = grind (arith, spaced_no_name name)
 
 -- the space after a text is its last
 last_space : (c : ℕ) (t : Text) → without_last_space (spaced (c ∷ t)) ≡ Some (c ∷ t)
@@ -46,15 +38,10 @@ alias_word rules flow n [] = refl
 alias_word rules flow n (c ∷ t) = refl
 
 spaced_word : (rules : Rules) (n : ℕ) (t : Text) → word_but_alias rules (0x2A ∷ n ∷ spaced t) ≡ None
-spaced_word rules n t =
-    ap (option_and_then (λ tree. if is_alias tree then None else Some tree)) (alias_word rules false n (spaced t))
-    ∙ ap (λ x. option_and_then (λ tree. if is_alias tree then None else Some tree) (option_map alias_tree (if x then Some (n ∷ spaced t) else None)))
-    (spaced_no_name (n ∷ t))
+spaced_word rules n t = grind (arith, alias_word, spaced_no_name)
 
 named_word : (rules : Rules) (n : ℕ) (t : Text) → list_all is_alpha (n ∷ t) ≡ true → word_of_alias rules (0x2A ∷ n ∷ t) ≡ Some (alias_tree (n ∷ t))
-named_word rules n t h =
-    ap (option_and_then (λ tree. if is_alias tree then Some tree else None)) (alias_word rules false n t)
-    ∙ ap (λ x. option_and_then (λ tree. if is_alias tree then Some tree else None) (option_map alias_tree (if x then Some (n ∷ t) else None))) h
+named_word rules n t h = grind (arith, alias_word)
 
 -- an alias that isn't too long is a simple key, with the space before `:`
 pub alias_key : (rules : Rules) (n : ℕ) (t after : Text) → list_all is_alpha (n ∷ t) ≡ true → nat_le (length (0x2A ∷ n ∷ spaced t)) longest_key ≡ true

@@ -1,8 +1,8 @@
 -- What a line with a simple key begins with: no space, no indicator of an entry and no marker.
-use Rattle.yaml_base.proofs.Common.{ℕ, if◌then◌else◌, ◌==◌, Option, None, Some, codes, Bool, false, true, ◌&&◌, ◌||◌, [], ◌++◌, ◌∷◌, refl, ◌≡◌, eqb-true}
-use Rattle.yaml_base.proofs.Common.{true≢false, ap, subst, sym, ◌∙◌, or_parts, false≢true, Text, is_among, space, is_read_white, begins_white}
-use Rattle.yaml_base.proofs.Common.{begins_with_three, begins_no_plain, ParsedTag, Tree, begins_with_marker, start_marker, end_marker, no_exclamation}
-use Rattle.yaml_base.proofs.Common.{marker_of, ends_indicator, begins_with_indicator, key_of_text, key_entry, value_entry, simple_entry, Rules}
+use Rattle.yaml_base.proofs.Common.{arith, ℕ, if◌then◌else◌, ◌==◌, Option, None, Some, codes, Bool, false, true, ◌&&◌, ◌||◌, [], ◌++◌, ◌∷◌, refl, ◌≡◌, eqb-true}
+use Rattle.yaml_base.proofs.Common.{true≢false, ap, subst, sym, ◌∙◌, or_parts, false≢true, Text, is_among, space, begins_white, begins_with_three}
+use Rattle.yaml_base.proofs.Common.{begins_no_plain, ParsedTag, Tree, begins_with_marker, marker_of, ends_indicator, begins_with_indicator, key_of_text}
+use Rattle.yaml_base.proofs.Common.{key_entry, value_entry, simple_entry, Rules}
 use Rattle.yaml_base.proofs.{stream_flow.StreamFlowWords.Given, stream_flow.StreamPropertyWords.lead, stream_keys.StreamKeys.NoKey}
 use Rattle.yaml_base.proofs.{stream_keys.StreamKeys.key_found, stream_keys.StreamKeysFit.KeyText, stream_keys.StreamPlainKeys.not_among}
 use Rattle.yaml_base.proofs.{stream_keys.StreamPlainKeys.Begins, stream_lines.StreamSections.is_unmarked, stream_nodes.StreamPairs.KeyFits}
@@ -18,10 +18,7 @@ pub record KeyBeginning (text : Text) : Type 0 where
 
 -- a line with it is no marker
 pub beginning_unmarked : (text : Text) → KeyBeginning text → (after : Text) → is_unmarked (marker_of (text ++ (0x3A ∷ after))) ≡ true
-beginning_unmarked text prefix after =
-    ap (λ x. is_unmarked (if x then start_marker else (if begins_with_marker 0x2E (text ++ (0x3A ∷ after)) then end_marker else no_exclamation)))
-    (prefix.no_exclamation 0x2D refl after)
-    ∙ ap (λ x. is_unmarked (if x then end_marker else no_exclamation)) (prefix.no_exclamation 0x2E refl after)
+beginning_unmarked text prefix after = grind (arith)
 
 -- such a text is a simple key's, where it is cut off
 pub key_fits : (rules : Rules) (text : Text) (tree : Tree) → KeyBeginning text → KeyText rules.breaks12 text → ((after : Text) → NoKey rules [] text after)
@@ -43,36 +40,7 @@ key_fits rules text tree prefix of clear read = record {
 
 -- what begins with none of these characters
 pub other_prefix : (c : ℕ) (t : Text) → (c == space) ≡ false → is_among (codes "?:-.") c ≡ false → KeyBeginning (c ∷ t)
-other_prefix c t shows other = record {
-  first = c;
-  tail = t;
-  is = refl;
-  shows = shows;
-  no_indicator = λ symbol h after. ap (λ x. x && ends_indicator (t ++ (0x3A ∷ after))) (not_among (codes "?:-.") c symbol (more symbol h) other);
-  no_exclamation = λ symbol h after. marked symbol (t ++ (0x3A ∷ after)) (not_among (codes "?:-.") c symbol (markers symbol h) other);
-}
-  where
-    more : (symbol : ℕ) → is_among (codes "?:-") symbol ≡ true → is_among (codes "?:-.") symbol ≡ true
-    more symbol h = by (symbol == 0x3F) (symbol == 0x3A) (symbol == 0x2D) h
-      where
-        by : (x y z : Bool) → (x || (y || (z || false))) ≡ true → (x || (y || (z || ((symbol == 0x2E) || false)))) ≡ true
-        by true y z h = refl
-        by false true z h = refl
-        by false false true h = refl
-        by false false false h = absurd (false≢true h)
-
-    markers : (symbol : ℕ) → is_among (codes "-.") symbol ≡ true → is_among (codes "?:-.") symbol ≡ true
-    markers symbol h = by (symbol == 0x3F) (symbol == 0x3A) (symbol == 0x2D) (symbol == 0x2E) h
-      where
-        by : (x y z w : Bool) → (z || (w || false)) ≡ true → (x || (y || (z || (w || false)))) ≡ true
-        by true y z w h = refl
-        by false true z w h = refl
-        by false false z w h = h
-
-    marked : (symbol : ℕ) (u : Text) → (c == symbol) ≡ false → begins_with_marker symbol (c ∷ u) ≡ false
-    marked symbol [] h = refl
-    marked symbol (a ∷ []) h = refl
-    marked symbol (a ∷ b ∷ u) h = ap (λ x. x && a == symbol && b == symbol && ends_indicator u) h
+other_prefix c t shows other = grind (arith, not_among, false≢true)
 
 -- properties begin with `&` or `!`, and else it is what follows them
 pub lead_prefix : (rules : Rules) (anchor tag : Option Text) (parsed : Option ParsedTag) (rest : Text) → Given rules anchor tag parsed → KeyBeginning rest
@@ -80,9 +48,7 @@ pub lead_prefix : (rules : Rules) (anchor tag : Option Text) (parsed : Option Pa
 lead_prefix rules None None None rest given prefix = prefix
 lead_prefix rules (Some name) None parsed rest given prefix = other_prefix 0x26 ((name ++ (space ∷ [])) ++ rest) refl refl
 lead_prefix rules (Some name) (Some tag) parsed rest given prefix = other_prefix 0x26 (((name ++ (space ∷ tag)) ++ (space ∷ [])) ++ rest) refl refl
-lead_prefix rules None (Some tag) (Some parsed) rest given prefix =
-    subst (λ t. KeyBeginning ((t ++ (space ∷ [])) ++ rest)) (sym given.tagged.begins)
-    (other_prefix 0x21 ((given.tagged.rest ++ (space ∷ [])) ++ rest) refl refl)
+lead_prefix rules None (Some tag) (Some parsed) rest given prefix = grind (arith, other_prefix)
 lead_prefix rules None (Some tag) None rest given prefix = absurd given.tagged
 lead_prefix rules None None (Some parsed) rest given prefix = absurd given.tagged
 
@@ -91,38 +57,14 @@ lead_prefix rules None None (Some parsed) rest given prefix = absurd given.tagge
 -- what stands after an indicator that plain text begins with isn't white
 plain_indicator : (breaks12 : Bool) (c : ℕ) (t after : Text) → begins_no_plain breaks12 (c ∷ t) ≡ false → (symbol : ℕ) → is_among (codes "?:-") symbol ≡ true
     → begins_with_indicator symbol ((c ∷ t) ++ (0x3A ∷ after)) ≡ false
-plain_indicator breaks12 c t after h symbol member = by (c == symbol) refl
-  where
-    shown : (t : Text) → begins_white breaks12 t ≡ false → ends_indicator (t ++ (0x3A ∷ after)) ≡ false
-    shown [] h = refl
-    shown (d ∷ t) h = no_space (d == space) refl
-      where
-        no_space : (x : Bool) → (d == space) ≡ x → x ≡ false
-        no_space true e = absurd (true≢false (ap (is_read_white breaks12) (sym (eqb-true d space e)) ∙ h))
-        no_space false e = refl
-
-    last : (is_among (codes "?:-") c && begins_white breaks12 t) ≡ false
-    last = (or_parts (begins_with_three 45 (c ∷ t) || begins_with_three 46 (c ∷ t) || is_among (codes "#,[]{}&*!|>'\"%@`") c)
-        (is_among (codes "?:-") c && begins_white breaks12 t) h).1
-
-    by : (x : Bool) → (c == symbol) ≡ x → (x && ends_indicator (t ++ (0x3A ∷ after))) ≡ false
-    by false e = refl
-    by true e = shown t (ap (λ x. x && begins_white breaks12 t) (sym (ap (is_among (codes "?:-")) (eqb-true c symbol e) ∙ member)) ∙ last)
+plain_indicator breaks12 c t after h symbol member = grind (arith, true≢false, eqb-true, or_parts)
 
 -- nor does it begin with three of a marker's indicator
 plain_marker : (c : ℕ) (t after : Text) (symbol : ℕ) → (0x3A == symbol) ≡ false → begins_with_three symbol (c ∷ t) ≡ false → begins_with_marker symbol
     ((c ∷ t) ++ (0x3A ∷ after)) ≡ false
 plain_marker c [] [] symbol other h = refl
-plain_marker c [] (a ∷ after) symbol other h = ap (λ x. c == symbol && x && a == symbol && ends_indicator after) other ∙ never (c == symbol)
-  where
-    never : (x : Bool) → (x && false && a == symbol && ends_indicator after) ≡ false
-    never true = refl
-    never false = refl
-plain_marker c (a ∷ []) after symbol other h = ap (λ x. c == symbol && a == symbol && x && ends_indicator after) other ∙ never (c == symbol && a == symbol)
-  where
-    never : (x : Bool) → (x && false && ends_indicator after) ≡ false
-    never true = refl
-    never false = refl
+plain_marker c [] (a ∷ after) symbol other h = grind (arith)
+plain_marker c (a ∷ []) after symbol other h = grind (arith)
 plain_marker c (a ∷ b ∷ t) after symbol other h = ap (λ x. x && ends_indicator (t ++ (0x3A ∷ after))) h
 
 -- what plain text begins with

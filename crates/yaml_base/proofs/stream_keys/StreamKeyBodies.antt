@@ -1,14 +1,14 @@
 -- The body of a simple key: its value has no break and no fold stands in it, so that its text is the value's characters, each as
 -- its style writes it, on one line.
-use Rattle.yaml_base.proofs.Common.{suc, zero, ℕ, ◌%◌, ◌/◌, if◌then◌else◌, ◌==◌, Option, None, Some, nat_le, Bool, false, not, true, ◌&&◌, ◌||◌, List, []}
+use Rattle.yaml_base.proofs.Common.{suc, zero, ℕ, ◌/◌, if◌then◌else◌, ◌==◌, Option, None, Some, nat_le, Bool, false, not, true, ◌&&◌, ◌||◌, List, []}
 use Rattle.yaml_base.proofs.Common.{◌++◌, ◌∷◌, refl, ◌≡◌, eqb-true, append-nil, append_assoc, ap, sym, ◌∙◌, arith, and_parts, or_parts, agree_below_at}
-use Rattle.yaml_base.proofs.Common.{false≢true, nat_tests, flat_map, list_any, Text, space, is_space, is_break, hex_digit, hex_digits, Cursor, render_then}
+use Rattle.yaml_base.proofs.Common.{false≢true, nat_tests, flat_map, list_any, Text, space, is_space, is_break, hex_digits, Cursor, render_then}
 use Rattle.yaml_base.proofs.Common.{ScalarStyle, any_style, plain, single_quoted, double_quoted, literal, folded, render_body, is_read_break, Effective}
 use Rattle.yaml_base.proofs.Common.{short_escapes, letter_among, escape_after_backslash, escape_text, needs_escape, character_text, double_inside}
 use Rattle.yaml_base.proofs.Common.{render_quote, runs, render_runs, quotes_doubled, single_quote}
 use Rattle.yaml_base.{proofs.stream_flow.StreamFlowScalars.is_flow_style, proofs.stream_lines.StreamLineLaws.OneLine, specs.Cursor.render_text}
 use Rattle.yaml_base.specs.scalars.DoubleQuoted.{quote, ShortEscape, may_fold, double_fold}
-use Rattle.yaml_base.specs.scalars.Plain.{Kind, spaces, breaks, others, is_same_kind, Run, cons_run, run_text}
+use Rattle.yaml_base.specs.scalars.Plain.{Run, cons_run, run_text}
 
 -- Without folds
 
@@ -33,33 +33,7 @@ unfolded_runs written indent edge (run ∷ more) cursor =
 -- a character that is no break before runs
 run_joined : (written : Text → Text) (one : ℕ → Text) (writes : Writes written one) (indent c : ℕ) (all : List Run) → is_break c ≡ false
     → run_texts written indent (cons_run c all) ≡ one c ++ run_texts written indent all
-run_joined written one writes indent c all h = by (is_space c) refl all
-  where
-    by : (x : Bool) → is_space c ≡ x → (all : List Run) → run_texts written indent (cons_run c all) ≡ one c ++ run_texts written indent all
-    by true e [] = rw (e) (sym (ap (λ t. t ++ []) (writes.space c e)))
-    by true e (first ∷ more) = rw (e) (same first.kind)
-      where
-        same : (kind : Kind) → run_texts written indent
-            (if is_same_kind spaces kind then record { kind = kind; text = c ∷ first.text } ∷ more else
-            record { kind = spaces; text = c ∷ [] } ∷ record { kind = kind; text = first.text } ∷ more)
-            ≡ one c ++ (run_text written false indent kind first.text ++ run_texts written indent more)
-        same spaces = sym (ap (λ t. t ++ (first.text ++ run_texts written indent more)) (writes.space c e))
-        same breaks = sym (ap (λ t. t ++ (run_text written false indent breaks first.text ++ run_texts written indent more)) (writes.space c e))
-        same others = sym (ap (λ t. t ++ (written first.text ++ run_texts written indent more)) (writes.space c e))
-    by false e [] = rw (e, h) (ap (λ t. t ++ []) (writes.more c [] ∙ ap (λ t. one c ++ t) writes.nothing ∙ append-nil (one c)))
-    by false e (first ∷ more) = rw (e, h) (same first.kind)
-      where
-        lone : written (c ∷ []) ≡ one c
-        lone = writes.more c [] ∙ ap (λ t. one c ++ t) writes.nothing ∙ append-nil (one c)
-
-        same : (kind : Kind) → run_texts written indent
-            (if is_same_kind others kind then record { kind = kind; text = c ∷ first.text } ∷ more else
-            record { kind = others; text = c ∷ [] } ∷ record { kind = kind; text = first.text } ∷ more)
-            ≡ one c ++ (run_text written false indent kind first.text ++ run_texts written indent more)
-        same spaces = ap (λ t. t ++ (first.text ++ run_texts written indent more)) lone
-        same breaks = ap (λ t. t ++ (run_text written false indent breaks first.text ++ run_texts written indent more)) lone
-        same others =
-            ap (λ t. t ++ run_texts written indent more) (writes.more c first.text) ∙ append_assoc (one c) (written first.text) (run_texts written indent more)
+run_joined written one writes indent c all h = grind (arith, append-nil, append_assoc)
 
 -- a value without a break is rendered as it is written
 written_alone : (written : Text → Text) (one : ℕ → Text) (writes : Writes written one) (indent : ℕ) (value : Text) → list_any is_break value ≡ false
@@ -171,9 +145,7 @@ unbroken_letter (entry ∷ more) c h letter e =
 -- nor are digits
 unbroken_digits : (count n : ℕ) → list_any is_break (hex_digits count n) ≡ false
 unbroken_digits zero n = refl
-unbroken_digits (suc count) n =
-    unbroken_both (hex_digits count (n / 16)) (hex_digit (n % 16) ∷ []) (unbroken_digits count (n / 16))
-    (ap (λ x. x || false) (agree_below_at (λ d. is_break (hex_digit d)) (λ d. false) 16 (n % 16) refl (omega arith)))
+unbroken_digits (suc count) n = grind (arith, unbroken_both, agree_below_at, unbroken_digits count (n / 16))
 
 unbroken_number : (c : ℕ) (two four : Bool)
     → list_any is_break (if two then 120 ∷ hex_digits 2 c else (if four then 117 ∷ hex_digits 4 c else 85 ∷ hex_digits 8 c)) ≡ false
@@ -194,11 +166,7 @@ unbroken_character unicode c h = by (needs_escape unicode c)
     by false = ap (λ x. x || false) h
 
 unbroken_quote : (c : ℕ) → is_break c ≡ false → list_any is_break (quote_doubled c) ≡ false
-unbroken_quote c h = by (c == 39)
-  where
-    by : (x : Bool) → list_any is_break (if x then 39 ∷ 39 ∷ [] else c ∷ []) ≡ false
-    by true = refl
-    by false = ap (λ x. x || false) h
+unbroken_quote c h = grind (arith)
 
 doubled_each : (value : Text) → quotes_doubled value ≡ flat_map quote_doubled value
 doubled_each [] = refl

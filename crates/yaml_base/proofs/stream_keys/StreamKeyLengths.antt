@@ -1,12 +1,12 @@
 -- The text of a simple key isn't longer than a reader allows: a byte of its names, its tag and its value makes four characters at
 -- most.
-use Rattle.yaml_base.proofs.Common.{suc, ℕ, ◌*◌, ◌+◌, ◌≤◌, if◌then◌else◌, ◌==◌, Option, None, Some, nat_le, length, encode_utf8, Bool, false, true, List, []}
+use Rattle.yaml_base.proofs.Common.{suc, ℕ, ◌*◌, ◌+◌, ◌≤◌, if◌then◌else◌, Option, None, Some, nat_le, length, encode_utf8, Bool, false, true, List, []}
 use Rattle.yaml_base.proofs.Common.{◌++◌, ◌∷◌, refl, ◌≡◌, length-append, subst, sym, arith, nat_tests, length-encode, len_utf8_bounds, length-le-encodes}
 use Rattle.yaml_base.proofs.Common.{len_utf8, flat_map, Text, hex_digits, ScalarStyle, any_style, plain, single_quoted, double_quoted, literal, folded}
 use Rattle.yaml_base.proofs.Common.{TagDirective, byte_count, name_count, tag_count, is_tag_character, byte_escaped, character_written, percent_escaped}
-use Rattle.yaml_base.proofs.Common.{is_suffix_character, suffix_escaped, Spelling, shorthand, verbatim, spelling, spelled, short_escapes, letter_among}
+use Rattle.yaml_base.proofs.Common.{is_suffix_character, suffix_escaped, Spelling, shorthand, verbatim, spelled, short_escapes, letter_among}
 use Rattle.yaml_base.proofs.Common.{escape_after_backslash, escape_text, needs_escape, character_text, quotes_doubled}
-use Rattle.yaml_base.{proofs.stream_flow.StreamPropertyWords.lead, proofs.stream_keys.StreamKeyBodies.quote_doubled}
+use Rattle.yaml_base.{proofs.stream_flow.StreamPropertyWords.lead}
 use Rattle.yaml_base.{proofs.stream_keys.StreamKeyBodies.key_body, proofs.stream_nodes.StreamStands.tag_written, specs.Layout.spelling_count}
 
 -- Bytes of characters
@@ -42,30 +42,12 @@ character_length unicode c = by (needs_escape unicode c)
 
 characters_length : (unicode : Bool) (value : Text) → length (flat_map (character_text unicode) value) ≤ 4 * byte_count value
 characters_length unicode [] = omega arith
-characters_length unicode (c ∷ value) =
-    let one = character_length unicode c in
-    let more = characters_length unicode value in
-    let both = length-append (character_text unicode c) (flat_map (character_text unicode) value) in
-    let bytes : byte_count (c ∷ value) ≡ length (encode_utf8 c) + byte_count value = length-append (encode_utf8 c) _ in
-    omega arith
+characters_length unicode (c ∷ value) = grind (arith, character_length, length-append, characters_length unicode value)
 
 -- in single quotes it has at most two
 doubled_length : (value : Text) → length (quotes_doubled value) ≤ 4 * byte_count value
 doubled_length [] = omega arith
-doubled_length (c ∷ value) =
-    let one = quote_length c in
-    let some = some_byte c in
-    let more = doubled_length value in
-    let both = length-append (quote_doubled c) (quotes_doubled value) in
-    let bytes : byte_count (c ∷ value) ≡ length (encode_utf8 c) + byte_count value = length-append (encode_utf8 c) _ in
-    omega arith
-  where
-    quote_length : (c : ℕ) → length (quote_doubled c) ≤ 2
-    quote_length c = by (c == 39)
-      where
-        by : (x : Bool) → length (if x then 39 ∷ 39 ∷ [] else c ∷ []) ≤ 2
-        by true = omega arith
-        by false = omega arith
+doubled_length (c ∷ value) = grind (arith, some_byte, length-append, doubled_length value)
 
 -- with its quotes
 quoted_length : (quote : ℕ) (inside : Text) (bytes : ℕ) → length inside ≤ 4 * bytes → length (quote ∷ (inside ++ (quote ∷ []))) ≤ 4 * bytes + 2
@@ -99,12 +81,7 @@ written_length false c = let forms = forms_length (encode_utf8 c) in omega arith
 -- so has a text in such forms, at most
 escaped_length : (stands : ℕ → Bool) (text : Text) → length (flat_map (λ c. character_written (stands c) c) text) ≤ 3 * byte_count text
 escaped_length stands [] = omega arith
-escaped_length stands (c ∷ text) =
-    let one = written_length (stands c) c in
-    let more = escaped_length stands text in
-    let both = length-append (character_written (stands c) c) (flat_map (λ c. character_written (stands c) c) text) in
-    let bytes : byte_count (c ∷ text) ≡ length (encode_utf8 c) + byte_count text = length-append (encode_utf8 c) _ in
-    omega arith
+escaped_length stands (c ∷ text) = grind (arith, written_length, length-append, escaped_length stands text)
 
 -- a tag as it is spelled
 spelled_length : (portable : Bool) (s : Spelling) → length (spelled portable s) ≤ 3 * spelling_count s + 3
@@ -118,29 +95,7 @@ spelled_length portable (verbatim tag) =
     let both = length-append (percent_escaped tag) (0x3E ∷ []) in
     omega arith
 
--- the length of a written tag, if there is one
-abbrev text_length : Option Text → ℕ
-text_length None = 0
-text_length (Some text) = length text
-
 -- an anchor and a tag, and the space after them
 pub lead_length : (portable : Bool) (directives : List TagDirective) (anchor tag : Option Text) (bare : Bool)
     → length (lead anchor (tag_written portable directives tag bare)) ≤ name_count anchor + 3 * tag_count directives tag + 6
-lead_length portable directives anchor tag bare = by anchor (tag_written portable directives tag bare) (written tag bare)
-  where
-    written : (tag : Option Text) (bare : Bool) → text_length (tag_written portable directives tag bare) ≤ 3 * tag_count directives tag + 3
-    written None true = omega arith
-    written None false = omega arith
-    written (Some tag) bare = spelled_length portable (spelling directives tag)
-
-    by : (anchor text : Option Text) → text_length text ≤ 3 * tag_count directives tag + 3 → length
-        (lead anchor text) ≤ name_count anchor + 3 * tag_count directives tag + 6
-    by None None h = omega arith
-    by None (Some text) h = let both = length-append text (0x20 ∷ []) in omega arith
-    by (Some name) None h =
-        let less : length name ≤ byte_count name = length-le-encodes name in let both = length-append name (0x20 ∷ []) in omega arith
-    by (Some name) (Some text) h =
-        let less : length name ≤ byte_count name = length-le-encodes name in
-        let one = length-append name (0x20 ∷ text) in
-        let both = length-append (0x26 ∷ (name ++ (0x20 ∷ text))) (0x20 ∷ []) in
-        omega arith
+lead_length portable directives anchor tag bare = grind (arith, spelled_length, length-append, length-le-encodes)

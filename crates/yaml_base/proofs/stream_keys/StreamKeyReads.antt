@@ -1,13 +1,12 @@
 -- A simple key after its anchor and its tag is read as its tree, and no `:` inside it ends a key earlier.
-use Rattle.yaml_base.proofs.Common.{ℕ, if◌then◌else◌, ◌==◌, option_map, option_and_then, Option, None, Some, nat_le, length, Bool, false, not, true, ◌&&◌, []}
-use Rattle.yaml_base.proofs.Common.{◌++◌, ◌∷◌, refl, ◌≡◌, eqb-true, true≢false, append_assoc, ap, subst, sym, ◌∙◌, and_parts, false≢true, Text, space, plain}
+use Rattle.yaml_base.proofs.Common.{arith, ℕ, if◌then◌else◌, ◌==◌, option_map, option_and_then, Option, None, Some, nat_le, length, Bool, false, true, [], ◌++◌}
+use Rattle.yaml_base.proofs.Common.{◌∷◌, refl, ◌≡◌, eqb-true, true≢false, append_assoc, ap, subst, sym, ◌∙◌, and_parts, false≢true, Text, space, plain}
 use Rattle.yaml_base.proofs.Common.{single_quoted, double_quoted, read_double, read_plain, read_single, ParsedTag, is_tidy, stood_quoted, Tree, sequence_tree}
 use Rattle.yaml_base.proofs.Common.{mapping_tree, no_trees, no_tree_pairs, is_alias, longest_key, ends_indicator, without_last_space, word_of_alias}
-use Rattle.yaml_base.proofs.Common.{key_of_text, Rules, Properties, scalar_parsed, scalar_of_style, an_alias, empty_sequence, empty_mapping, a_scalar}
-use Rattle.yaml_base.proofs.Common.{kind_of_word, word_by_kind, word_after, word_read}
-use Rattle.yaml_base.proofs.{stream_flow.StreamPropertyWords.lead, stream_keys.StreamKeys.NoKey, stream_keys.StreamKeys.no_alias_before}
-use Rattle.yaml_base.proofs.{stream_keys.StreamKeys.key_by_word, stream_lines.StreamCuts.double_quoted_whole, stream_lines.StreamCuts.single_quoted_whole}
+use Rattle.yaml_base.proofs.Common.{key_of_text, Rules, Properties, scalar_parsed, scalar_of_style, an_alias, kind_of_word, word_by_kind, word_after}
+use Rattle.yaml_base.proofs.{stream_flow.StreamPropertyWords.lead, stream_lines.StreamCuts.double_quoted_whole, stream_lines.StreamCuts.single_quoted_whole}
 use Rattle.yaml_base.proofs.{stream_lines.StreamTidyLaws.tidy_at_root, stream_nodes.StreamProperties.begins_content, stream_nodes.StreamStands.tag_meant}
+use Rattle.yaml_base.proofs.stream_keys.StreamKeys.{NoKey, no_alias_before, key_by_word}
 use Rattle.yaml_base.proofs.stream_flow.StreamFlowWords.{Given, given_reads, scalar_in, scalar_meant, double_kind, single_kind, tag_of_collection}
 use Rattle.yaml_base.proofs.stream_keys.StreamNoKeys.{nowhere_then, reads_alias, alias_left, other_kept, kind_other, tag_no_alias, anchor_no_alias}
 use Rattle.yaml_base.proofs.stream_keys.StreamNoKeys.{lead_nowhere}
@@ -17,24 +16,9 @@ use Rattle.yaml_base.proofs.stream_keys.StreamPlainKeys.{Begins, plain_kind, pla
 
 -- a text that doesn't begin with `*` is no alias
 not_star : (c : ℕ) (t : Text) → (c == 0x2A) ≡ false → kind_of_word (c ∷ t) ≡ an_alias → ⊥
-not_star c [] h e = by (c == 0x2A) h e
-  where
-    by : (x : Bool) → x ≡ false → (if x then an_alias else a_scalar) ≡ an_alias → ⊥
-    by true h e = true≢false h
-    by false h e = cc
-not_star c (d ∷ []) h e = by (c == 0x2A) (c == 0x5B && d == 0x5D) (c == 0x7B && d == 0x7D) h e
-  where
-    by : (x y z : Bool) → x ≡ false
-        → (if x then an_alias else (if y then empty_sequence else (if z then empty_mapping else a_scalar))) ≡ an_alias → ⊥
-    by true y z h e = true≢false h
-    by false true z h e = cc
-    by false false true h e = cc
-    by false false false h e = cc
-not_star c (d ∷ f ∷ t) h e = by (c == 0x2A) h e
-  where
-    by : (x : Bool) → x ≡ false → (if x then an_alias else a_scalar) ≡ an_alias → ⊥
-    by true h e = true≢false h
-    by false h e = cc
+not_star c [] h e = grind (arith, true≢false)
+not_star c (d ∷ []) h e = grind (arith, true≢false)
+not_star c (d ∷ f ∷ t) h e = grind (arith, true≢false)
 
 -- so it is none after properties
 content_other : (rules : Rules) (properties : Properties) (c : ℕ) (t : Text) → (c == 0x2A) ≡ false
@@ -44,21 +28,12 @@ content_other rules properties c t star = kind_other (kind_of_word (c ∷ t)) ru
 -- no alias stands before the last space
 lead_no_alias : (rules : Rules) (anchor tag : Option Text) (parsed : Option ParsedTag) (c : ℕ) (t : Text) → Given rules anchor tag parsed
     → begins_content (c ∷ t) ≡ true → (c == 0x2A) ≡ false → option_and_then (word_of_alias rules) (without_last_space (lead anchor tag ++ (c ∷ t))) ≡ None
-lead_no_alias rules None None None c t given own star =
-    no_alias_before rules c t (no_space (c == space) (and_parts (not (c == space)) (not (c == 0x26) && not (c == 0x21)) own).0)
-    (λ u. alias_left (word_read rules false (c ∷ u))
-    (ap reads_alias (given_reads rules false None None None (c ∷ u) given own) ∙ content_other rules (record { anchor = None; tag = None }) c u star))
-  where
-    no_space : (x : Bool) → not x ≡ true → x ≡ false
-    no_space true h = absurd (false≢true h)
-    no_space false h = refl
+lead_no_alias rules None None None c t given own star = grind (arith, no_alias_before, and_parts, alias_left, given_reads, content_other, false≢true)
 lead_no_alias rules (Some name) None parsed c t given own star =
     no_alias_before rules 0x26 ((name ++ (space ∷ [])) ++ (c ∷ t)) refl (anchor_no_alias rules)
 lead_no_alias rules (Some name) (Some tag) parsed c t given own star =
     no_alias_before rules 0x26 (((name ++ (space ∷ tag)) ++ (space ∷ [])) ++ (c ∷ t)) refl (anchor_no_alias rules)
-lead_no_alias rules None (Some tag) (Some parsed) c t given own star =
-    subst (λ b. option_and_then (word_of_alias rules) (without_last_space ((b ++ (space ∷ [])) ++ (c ∷ t))) ≡ None) (sym given.tagged.begins)
-    (no_alias_before rules 0x21 ((given.tagged.rest ++ (space ∷ [])) ++ (c ∷ t)) refl (tag_no_alias rules))
+lead_no_alias rules None (Some tag) (Some parsed) c t given own star = grind (arith, no_alias_before, tag_no_alias)
 lead_no_alias rules None (Some tag) None c t given own star = absurd given.tagged
 lead_no_alias rules None None (Some parsed) c t given own star = absurd given.tagged
 
@@ -106,12 +81,7 @@ nothing_parsed_quoted properties false = refl
 
 double_no_text : (rules : Rules) (anchor tag : Option Text) (parsed : Option ParsedTag) (b : Text) → Given rules anchor tag parsed
     → read_double rules.breaks12 (0x22 ∷ b) ≡ None → key_of_text rules (lead anchor tag ++ (0x22 ∷ b)) ≡ None
-double_no_text rules anchor tag parsed b given none =
-    lead_no_text rules anchor tag parsed 0x22 b given refl refl
-    (ap (λ kind. word_by_kind kind rules false None (record { anchor = anchor; tag = parsed }) (0x22 ∷ b)) (double_kind b)
-    ∙ ap (λ v. scalar_parsed (record { anchor = anchor; tag = parsed }) stood_quoted (if is_tidy double_quoted rules.breaks12 None
-    (0x22 ∷ b) then v else None)) none
-    ∙ nothing_parsed_quoted (record { anchor = anchor; tag = parsed }) (is_tidy double_quoted rules.breaks12 None (0x22 ∷ b)))
+double_no_text rules anchor tag parsed b given none = grind (arith, lead_no_text, double_kind, nothing_parsed_quoted)
 
 double_no_key : (rules : Rules) (anchor tag : Option Text) (parsed : Option ParsedTag) (b t after v : Text) → Given rules anchor tag parsed
     → read_double rules.breaks12 ((0x22 ∷ b) ++ t) ≡ Some v → NoKey rules (lead anchor tag ++ (0x22 ∷ b)) t after
@@ -124,12 +94,7 @@ double_no_key rules anchor tag parsed b (c ∷ t) after v given read = (
 
 single_no_text : (rules : Rules) (anchor tag : Option Text) (parsed : Option ParsedTag) (b : Text) → Given rules anchor tag parsed
     → read_single rules.breaks12 (0x27 ∷ b) ≡ None → key_of_text rules (lead anchor tag ++ (0x27 ∷ b)) ≡ None
-single_no_text rules anchor tag parsed b given none =
-    lead_no_text rules anchor tag parsed 0x27 b given refl refl
-    (ap (λ kind. word_by_kind kind rules false None (record { anchor = anchor; tag = parsed }) (0x27 ∷ b)) (single_kind b)
-    ∙ ap (λ v. scalar_parsed (record { anchor = anchor; tag = parsed }) stood_quoted (if is_tidy single_quoted rules.breaks12 None
-    (0x27 ∷ b) then v else None)) none
-    ∙ nothing_parsed_quoted (record { anchor = anchor; tag = parsed }) (is_tidy single_quoted rules.breaks12 None (0x27 ∷ b)))
+single_no_text rules anchor tag parsed b given none = grind (arith, lead_no_text, single_kind, nothing_parsed_quoted)
 
 single_no_key : (rules : Rules) (anchor tag : Option Text) (parsed : Option ParsedTag) (b t after v : Text) → Given rules anchor tag parsed
     → read_single rules.breaks12 ((0x27 ∷ b) ++ t) ≡ Some v → NoKey rules (lead anchor tag ++ (0x27 ∷ b)) t after

@@ -1,9 +1,8 @@
 -- A simple key in quotes is found where its text ends, before the `:` that follows it.
-use Rattle.yaml_base.proofs.Common.{ℕ, if◌then◌else◌, ◌==◌, option_map, option_and_then, Option, None, Some, nat_le, length, Bool, false, true, ◌&&◌, []}
-use Rattle.yaml_base.proofs.Common.{◌++◌, ◌∷◌, refl, ◌≡◌, append_assoc, ap, sym, ◌∙◌, option_or, Text, space, single_quoted}
-use Rattle.yaml_base.proofs.Common.{double_quoted, read_double, read_single, is_tidy, Stood, stood_quoted, Tagging, Tree, scalar_tree, is_alias, longest_key}
-use Rattle.yaml_base.proofs.Common.{ends_indicator, SimpleKey, without_last_space, word_but_alias, word_of_alias, key_of_text, key_ends, key_from, Rules}
-use Rattle.yaml_base.proofs.Common.{Properties, no_properties, tagging_parsed, scalar_parsed, scalar_of_style, word_read}
+use Rattle.yaml_base.proofs.Common.{arith, ℕ, if◌then◌else◌, ◌==◌, option_map, option_and_then, Option, None, Some, nat_le, length, Bool, false, true, ◌&&◌, []}
+use Rattle.yaml_base.proofs.Common.{◌++◌, ◌∷◌, refl, ◌≡◌, append_assoc, ap, sym, ◌∙◌, option_or, Text, space, single_quoted, double_quoted, Stood, Tree}
+use Rattle.yaml_base.proofs.Common.{is_alias, longest_key, ends_indicator, SimpleKey, without_last_space, word_but_alias, word_of_alias, key_of_text, key_ends}
+use Rattle.yaml_base.proofs.Common.{key_from, Rules, Properties, no_properties, scalar_parsed, scalar_of_style, word_read}
 
 -- no `:` inside a text ends a key, where so much stands before it and a `:` after it
 abbrev pub NoKey : Rules → Text → Text → Text → Type 0
@@ -45,13 +44,7 @@ key_found rules before (c ∷ t) after key clear read h =
 pub scalar_no_alias : (properties : Properties) (standing : Stood) (value : Option Text)
     → option_and_then (λ tree. if is_alias tree then Some tree else None) (scalar_parsed properties standing value) ≡ None
 scalar_no_alias properties standing None = refl
-scalar_no_alias properties standing (Some text) = by (tagging_parsed properties.tag standing)
-  where
-    by : (tagging : Option Tagging)
-        → option_and_then (λ tree. if is_alias tree then Some tree else None) (option_map (λ tagging. scalar_tree properties.anchor tagging text) tagging)
-        ≡ None
-    by None = refl
-    by (Some tagging) = refl
+scalar_no_alias properties standing (Some text) = grind (arith)
 
 -- a word that begins with a double quote is a scalar in such quotes
 word_of_double : (rules : Rules) (flow : Bool) (t : Text)
@@ -78,24 +71,13 @@ no_alias_before rules q (d ∷ t) other none = by (without_last_space (d ∷ t))
     by (Some u) = none u
 
 pub double_no_alias : (rules : Rules) (u : Text) → word_of_alias rules (0x22 ∷ u) ≡ None
-double_no_alias rules u =
-    ap (option_and_then (λ tree. if is_alias tree then Some tree else None)) (word_of_double rules false u)
-    ∙ scalar_no_alias no_properties stood_quoted (if is_tidy double_quoted rules.breaks12 None (0x22 ∷ u) then read_double rules.breaks12 (0x22 ∷ u) else None)
+double_no_alias rules u = grind (arith, word_of_double, scalar_no_alias)
 
 pub single_no_alias : (rules : Rules) (u : Text) → word_of_alias rules (0x27 ∷ u) ≡ None
-single_no_alias rules u =
-    ap (option_and_then (λ tree. if is_alias tree then Some tree else None)) (word_of_single rules false u)
-    ∙ scalar_no_alias no_properties stood_quoted (if is_tidy single_quoted rules.breaks12 None (0x27 ∷ u) then read_single rules.breaks12 (0x27 ∷ u) else None)
+single_no_alias rules u = grind (arith, word_of_single, scalar_no_alias)
 
 -- a text is a key where the word is, if no alias stands before its last space
 pub key_by_word : (rules : Rules) (text : Text) (word : Option Tree) → word_but_alias rules text ≡ word
     → option_and_then (word_of_alias rules) (without_last_space text) ≡ None
     → key_of_text rules text ≡ (if nat_le (length text) longest_key then word else None)
-key_by_word rules text word e none =
-    ap (λ x. if nat_le (length text) longest_key then option_or x (option_and_then (word_of_alias rules) (without_last_space text)) else None) e
-    ∙ ap (λ x. if nat_le (length text) longest_key then option_or word x else None) none
-    ∙ ap (λ x. if nat_le (length text) longest_key then x else None) (alone word)
-  where
-    alone : (word : Option Tree) → option_or word None ≡ word
-    alone None = refl
-    alone (Some tree) = refl
+key_by_word rules text word e none = grind (arith)

@@ -1,15 +1,15 @@
 -- Simple keys in flow: the text of each is on one line and isn't too long.
-use Rattle.yaml_base.proofs.Common.{suc, ℕ, ◌+◌, ◌≤◌, if◌then◌else◌, is_some, None, Some, nat_le, length, Bool, false, not, true, ◌&&◌, ◌||◌, List, [], ◌++◌}
+use Rattle.yaml_base.proofs.Common.{suc, ℕ, ◌+◌, ◌≤◌, None, Some, length, Bool, false, not, true, ◌&&◌, List, [], ◌++◌}
 use Rattle.yaml_base.proofs.Common.{◌∷◌, refl, ◌≡◌, le-leb, leb-true, length-append, append-nil, append_assoc, ap, subst, sym, ◌∙◌, arith, and_parts}
-use Rattle.yaml_base.proofs.Common.{and_from, false≢true, length-le-encodes, list_any, Text, space, is_break, Cursor, space_if, ScalarStyle, any_style, plain}
-use Rattle.yaml_base.proofs.Common.{single_quoted, double_quoted, literal, folded, TagDirective, Scalar, Collection, scalar_tag, collection_tag, alias_node}
+use Rattle.yaml_base.proofs.Common.{and_from, false≢true, length-le-encodes, list_any, Text, space, is_break, Cursor, space_if, ScalarStyle}
+use Rattle.yaml_base.proofs.Common.{TagDirective, Scalar, Collection, scalar_tag, collection_tag, alias_node}
 use Rattle.yaml_base.proofs.Common.{scalar_node, sequence_node, mapping_node, no_nodes, nodes_and, no_pairs, pairs_and, render_properties, render_alias}
-use Rattle.yaml_base.proofs.Common.{render_separation, render_body, charset_of, choice_of, entry_place, Role, is_key, deeper, byte_count, name_count}
-use Rattle.yaml_base.proofs.Common.{tag_count, is_short, is_simple, is_read_break, most_key_bytes, Effective, Allowances, is_empty, allowances}
-use Rattle.yaml_base.proofs.Common.{requested_style, fitting_style, fits_plain, Tree, is_alias, longest_key, is_key_text, name_read}
+use Rattle.yaml_base.proofs.Common.{render_separation, render_body, choice_of, entry_place, Role, is_key, deeper, byte_count, name_count}
+use Rattle.yaml_base.proofs.Common.{tag_count, is_short, is_simple, most_key_bytes, Effective, Allowances}
+use Rattle.yaml_base.proofs.Common.{fitting_style, Tree, longest_key, is_key_text, name_read}
 use Rattle.std.proofs.lemmas.List.{append_cancel_left, append_cancel_right}
 use Rattle.yaml_base.{proofs.stream_keys.StreamKeyLengths.body_length, proofs.stream_keys.StreamKeyLengths.lead_length}
-use Rattle.yaml_base.{proofs.stream_lines.StreamLineLaws.OneLine, proofs.stream_lines.StreamLineLaws.one_line_both, specs.streams.StreamFlow.key_length}
+use Rattle.yaml_base.{proofs.stream_lines.StreamLineLaws.OneLine, proofs.stream_lines.StreamLineLaws.one_line_both}
 use Rattle.yaml_base.proofs.stream_flow.{StreamFlowKinds.KeysFit, StreamFlowKinds.empty_whole, StreamFlowScalars.rules_of, StreamFlowScalars.is_flow_style}
 use Rattle.yaml_base.proofs.stream_flow.{StreamFlowScalars.scalar_whole, StreamPropertyWords.lead}
 use Rattle.yaml_base.proofs.stream_keys.StreamKeyBodies.{key_body, body_alone, unbroken_line, key_unbroken}
@@ -24,43 +24,18 @@ pub record KeyText (breaks12 : Bool) (text : Text) : Type 0 where
 
 -- such a text may be a key's in flow
 pub key_text_fits : (breaks12 : Bool) (tree : Tree) (text : Text) → KeyText breaks12 text → is_key_text breaks12 tree text ≡ true
-key_text_fits breaks12 tree text of = and_from (nat_le (key_length tree text) longest_key) (not (list_any (is_read_break breaks12) text))
-    (by (is_alias tree)) (ap not of.line)
-  where
-    by : (x : Bool) → nat_le (if x then suc (length text) else length text) longest_key ≡ true
-    by true = le-leb (suc (length text)) longest_key of.short
-    by false = let short = of.short in le-leb (length text) longest_key (omega arith)
+key_text_fits breaks12 tree text of = grind (arith, and_from, le-leb)
 
 -- Styles
 
 -- in which no block style fits
 style_of_key : (allowed : Allowances) (fits block : Bool) (asked : ScalarStyle) → block ≡ false → is_flow_style (fitting_style allowed fits block asked) ≡ true
-style_of_key allowed fits block asked h = ap (λ x. is_flow_style (fitting_style allowed fits x asked)) h ∙ by fits asked
-  where
-    quotes : (x : Bool) → is_flow_style (if x then single_quoted else double_quoted) ≡ true
-    quotes true = refl
-    quotes false = refl
-
-    by : (fits : Bool) (asked : ScalarStyle) → is_flow_style (fitting_style allowed fits false asked) ≡ true
-    by true plain = refl
-    by false plain = quotes allowed.single_quoted
-    by fits single_quoted = quotes allowed.single_quoted
-    by fits literal = refl
-    by fits folded = refl
-    by fits any_style = refl
-    by fits double_quoted = refl
+style_of_key allowed fits block asked h = grind (arith)
 
 -- the style of a simple key
 pub key_style : (s : Effective) (in_flow : Bool) (role : Role) (column : ℕ) (content : Scalar)
     → is_flow_style (choice_of s (entry_place in_flow role column) true content).style ≡ true
-key_style s in_flow role column content =
-    let allowed = allowances (charset_of s) content.value in
-    style_of_key allowed (fits_plain allowed (is_empty content.value) (is_some (scalar_tag s.canonical content)) content.plain_implicit in_flow true)
-    (allowed.block && not in_flow && false) (requested_style (s.canonical || (true && allowed.multiline)) content.style) (never (allowed.block && not in_flow))
-  where
-    never : (x : Bool) → (x && false) ≡ false
-    never true = refl
-    never false = refl
+key_style s in_flow role column content = grind (arith, style_of_key)
 
 -- Scalars
 
@@ -71,15 +46,7 @@ pub record SimpleScalar (directives : List TagDirective) (canonical : Bool) (con
 
 pub simple_scalar : (canonical : Bool) (directives : List TagDirective) (content : Scalar) → is_simple canonical directives (scalar_node content) ≡ true
     → SimpleScalar directives canonical content
-simple_scalar canonical directives content h =
-    let count = byte_count content.value + name_count content.anchor + tag_count directives (scalar_tag canonical content) in
-    let parts = and_parts (not (list_any is_break content.value)) (is_short count)
-    (and_parts (not canonical) (not (list_any is_break content.value) && is_short count) h).1 in
-    record { whole = no_break (list_any is_break content.value) parts.0; short = leb-true count most_key_bytes parts.1 }
-  where
-    no_break : (x : Bool) → not x ≡ true → x ≡ false
-    no_break true h = absurd (false≢true h)
-    no_break false h = refl
+simple_scalar canonical directives content h = grind (arith, and_parts, leb-true, false≢true)
 
 -- its text, after its anchor and tag
 pub scalar_key_text : (s : Effective) (own directives : List TagDirective) (content : Scalar) (style : ScalarStyle) (bare : Bool)
@@ -107,16 +74,7 @@ scalar_key_text s own directives content style bare named stands simple =
 
 -- the text of an alias
 pub alias_key_text : (breaks12 : Bool) (name : Text) → name_read name ≡ Some name → byte_count name ≤ most_key_bytes → KeyText breaks12 (0x2A ∷ name)
-alias_key_text breaks12 name named short =
-    let less : length name ≤ byte_count name = length-le-encodes name in
-    record {
-      short = omega arith;
-      line = one_line_both breaks12 (0x2A ∷ []) name (star breaks12) (name_line breaks12 name (name_letters name named));
-    }
-  where
-    star : (breaks12 : Bool) → OneLine breaks12 (0x2A ∷ [])
-    star true = refl
-    star false = refl
+alias_key_text breaks12 name named short = grind (arith, length-le-encodes, one_line_both, name_line, name_letters)
 
 -- the text of an empty collection, after its anchor and tag
 pub empty_key_text : (s : Effective) (own directives : List TagDirective) (start : Collection) (a b : ℕ)

@@ -1,17 +1,15 @@
 -- No `:` in an anchor or a tag ends a key: what stands before it is no word, and no alias.
-use Rattle.yaml_base.proofs.Common.{suc, ℕ, ◌+◌, if◌then◌else◌, ◌==◌, is_some, option_map, option_and_then, Option, None, Some, nat_le, length, Bool, false}
-use Rattle.yaml_base.proofs.Common.{not, true, ◌&&◌, ◌||◌, [], ◌++◌, ◌∷◌, refl, ◌≡◌, eqb-true, true≢false, append-nil, append_assoc, ap, subst, sym, ◌∙◌}
-use Rattle.yaml_base.proofs.Common.{and_parts, and_from, false≢true, list_all, option_or, Text, space, is_alpha, ParsedTag, tag_parsed, is_tidy, Stood}
-use Rattle.yaml_base.proofs.Common.{Tagging, Tree, scalar_tree, sequence_tree, mapping_tree, no_trees, no_tree_pairs, is_alias, longest_key, ends_indicator}
-use Rattle.yaml_base.proofs.Common.{Indented, indented, spaces, without_last_space, word_of_alias, key_of_text, key_ends, key_from, Rules, Properties}
-use Rattle.yaml_base.proofs.Common.{PropertiesRead, cut_before_space, name_read, tag_of_word, tag_first, collection_tag_parsed, tagging_parsed}
-use Rattle.yaml_base.proofs.Common.{style_of_first_character, standing_of, scalar_parsed, an_alias, empty_sequence, empty_mapping, a_scalar, kind_of_word}
-use Rattle.yaml_base.proofs.Common.{word_by_kind, word_after, word_read}
-use Rattle.yaml_base.proofs.{stream_flow.StreamPropertyWords.lead, stream_keys.StreamKeys.NoKey, stream_keys.StreamKeys.no_alias_before}
-use Rattle.yaml_base.proofs.{stream_keys.StreamKeys.key_by_word, stream_lines.StreamInside.indented_spaces}
+use Rattle.yaml_base.proofs.Common.{arith, ℕ, ◌+◌, if◌then◌else◌, ◌==◌, is_some, option_map, option_and_then, Option, None, Some, length, Bool, false, not}
+use Rattle.yaml_base.proofs.Common.{true, ◌&&◌, ◌||◌, [], ◌++◌, ◌∷◌, refl, ◌≡◌, eqb-true, true≢false, append-nil, append_assoc, ap, subst, sym, ◌∙◌, and_parts}
+use Rattle.yaml_base.proofs.Common.{and_from, false≢true, list_all, option_or, Text, space, is_alpha, ParsedTag, tag_parsed, Stood, Tree, sequence_tree}
+use Rattle.yaml_base.proofs.Common.{mapping_tree, no_trees, no_tree_pairs, is_alias, ends_indicator, Indented, indented, spaces, without_last_space}
+use Rattle.yaml_base.proofs.Common.{word_of_alias, key_of_text, key_ends, key_from, Rules, Properties, PropertiesRead, cut_before_space, tag_of_word, tag_first}
+use Rattle.yaml_base.proofs.Common.{collection_tag_parsed, scalar_parsed, an_alias, empty_sequence, empty_mapping, a_scalar, word_by_kind, word_after}
+use Rattle.yaml_base.proofs.Common.{word_read}
+use Rattle.yaml_base.{proofs.stream_flow.StreamPropertyWords.lead, proofs.stream_lines.StreamInside.indented_spaces, specs.streams.StreamScalars.WordKind}
+use Rattle.yaml_base.proofs.stream_keys.StreamKeys.{NoKey, no_alias_before, key_by_word}
 use Rattle.yaml_base.proofs.stream_nodes.StreamProperties.{WrittenTag, IsTagged, IsNamed, properties_text, has_no_space, word_whole, name_letters}
 use Rattle.yaml_base.proofs.stream_nodes.StreamProperties.{no_white_no_space, space_after, content_indented, with_anchor}
-use Rattle.yaml_base.specs.streams.StreamScalars.{value_read, alias_parsed, WordKind}
 
 -- Texts in which no key ends
 
@@ -65,11 +63,7 @@ other_kept (Some tree) h = ap (λ x. if x then None else Some tree) h
 -- a scalar is none
 scalar_other : (properties : Properties) (standing : Stood) (value : Option Text) → reads_alias (scalar_parsed properties standing value) ≡ false
 scalar_other properties standing None = refl
-scalar_other properties standing (Some text) = by (tagging_parsed properties.tag standing)
-  where
-    by : (tagging : Option Tagging) → reads_alias (option_map (λ tagging. scalar_tree properties.anchor tagging text) tagging) ≡ false
-    by None = refl
-    by (Some tagging) = refl
+scalar_other properties standing (Some text) = grind (arith)
 
 -- a collection is none
 collection_other : (tag : Option (Option Text)) (make : Option Text → Tree) → ((tag : Option Text) → is_alias (make tag) ≡ false)
@@ -86,28 +80,12 @@ kind_other empty_sequence rules flow properties text other = collection_other (c
 kind_other empty_mapping rules flow properties text other = collection_other (collection_tag_parsed properties.tag)
     (λ tag. mapping_tree properties.anchor tag no_tree_pairs) (λ tag. refl)
 kind_other a_scalar rules flow properties [] other = refl
-kind_other a_scalar rules flow properties (c ∷ rest) other =
-    scalar_other properties (standing_of (style_of_first_character (c ∷ rest)))
-    (if is_tidy (style_of_first_character (c ∷ rest)) rules.breaks12 None (c ∷ rest) then value_read
-    (style_of_first_character (c ∷ rest)) rules.breaks12 flow None (c ∷ rest) else None)
+kind_other a_scalar rules flow properties (c ∷ rest) other = grind (arith, scalar_other)
 
 -- a node with an anchor or a tag is none
 pub properties_other : (rules : Rules) (flow : Bool) (properties : Properties) (text : Text) → (is_some properties.anchor || is_some properties.tag) ≡ true
     → reads_alias (word_after rules flow None properties text) ≡ false
-properties_other rules flow properties text h = by (kind_of_word text) text
-  where
-    parsed : (anchor : Option Text) (tag : Option ParsedTag) (name : Option Text) → (is_some anchor || is_some tag) ≡ true → reads_alias
-        (alias_parsed anchor tag name) ≡ false
-    parsed None None name h = absurd (false≢true h)
-    parsed None (Some tag) name h = refl
-    parsed (Some anchor) tag name h = refl
-
-    by : (kind : WordKind) (text : Text) → reads_alias (word_by_kind kind rules flow None properties text) ≡ false
-    by an_alias [] = refl
-    by an_alias (c ∷ name) = parsed properties.anchor properties.tag (name_read name) h
-    by empty_sequence text = kind_other empty_sequence rules flow properties text (λ e. cc)
-    by empty_mapping text = kind_other empty_mapping rules flow properties text (λ e. cc)
-    by a_scalar text = kind_other a_scalar rules flow properties text (λ e. cc)
+properties_other rules flow properties text h = grind (arith, false≢true, kind_other)
 
 -- Properties alone
 
@@ -148,83 +126,30 @@ anchored (Some name) = 0x26 ∷ (name ++ (space ∷ []))
 tag_no_word : (rules : Rules) (flow : Bool) (anchor : Option Text) (b : Text) → IsNamed anchor → has_no_space b ≡ true
     → word_read rules flow (anchored anchor ++ (0x21 ∷ b)) ≡ None
 tag_no_word rules flow None b named h = tag_alone rules flow None 0 b h
-tag_no_word rules flow (Some name) b named h =
-    ap (λ t. word_read rules flow (0x26 ∷ t)) (append_assoc name (space ∷ []) (0x21 ∷ b))
-    ∙ ap (λ found. after_read rules flow
-    (option_and_then (λ read. let after : Indented = indented read.text in tag_first rules.directives read.properties.anchor after.column after.text)
-    found))
-    (with_anchor name (space ∷ 0x21 ∷ b) named refl)
-    ∙ ap (λ t. let after : Indented = indented t in after_read rules flow (tag_first rules.directives (Some name) after.column after.text))
-    (space_after (suc (length name)) (0x21 ∷ b))
-    ∙ ap (λ (after : Indented). after_read rules flow (tag_first rules.directives (Some name) after.column after.text))
-    (indented_spaces (suc (suc (length name))) 0x21 b refl)
-    ∙ tag_alone rules flow (Some name) (suc (suc (length name))) b h
+tag_no_word rules flow (Some name) b named h = grind (arith, append_assoc, with_anchor, space_after, indented_spaces, tag_alone)
 
 -- a text that begins with an anchor or a tag is no alias
 tag_other : (rules : Rules) (anchor : Option Text) (column : ℕ) (u : Text) → reads_alias
     (after_read rules false (tag_first rules.directives anchor column (0x21 ∷ u))) ≡ false
-tag_other rules anchor column u = by (tag_parsed rules.directives (cut_before_space (0x21 ∷ u)).prefix)
-  where
-    by : (parsed : Option ParsedTag)
-        → reads_alias (after_read rules false (option_map (λ parsed. record {
-          properties = record { anchor = anchor; tag = Some parsed };
-          text = spaces
-              (column + length (cut_before_space (0x21 ∷ u)).prefix) ++ (cut_before_space (0x21 ∷ u)).rest;
-        }) parsed)) ≡ false
-    by None = refl
-    by (Some parsed) =
-        properties_other rules false (record { anchor = anchor; tag = Some parsed })
-        (indented (spaces (column + length (cut_before_space (0x21 ∷ u)).prefix) ++ (cut_before_space (0x21 ∷ u)).rest)).text (or_some anchor)
-      where
-        or_some : (anchor : Option Text) → (is_some anchor || true) ≡ true
-        or_some None = refl
-        or_some (Some name) = refl
+tag_other rules anchor column u = grind (arith, properties_other)
 
 anchor_other : (rules : Rules) (name : Text) (column : ℕ) (t : Text) → reads_alias (after_read rules false (tag_first rules.directives (Some name) column t))
     ≡ false
 anchor_other rules name column [] = properties_other rules false (record { anchor = Some name; tag = None }) (indented (spaces column)).text refl
-anchor_other rules name column (c ∷ t) = by (c == 0x21) refl
-  where
-    by : (x : Bool) → (c == 0x21) ≡ x
-        → reads_alias (after_read rules false (if x then tag_of_word rules.directives (Some name) column (cut_before_space (c ∷ t))
-        else Some (record { properties = record { anchor = Some name; tag = None }; text = spaces column ++ c ∷ t }))) ≡ false
-    by true e =
-        ap (λ d. reads_alias (after_read rules false (tag_of_word rules.directives (Some name) column (cut_before_space (d ∷ t))))) (eqb-true c 0x21 e)
-        ∙ tag_other rules (Some name) column t
-    by false e = properties_other rules false (record { anchor = Some name; tag = None }) (indented (spaces column ++ c ∷ t)).text refl
+anchor_other rules name column (c ∷ t) = grind (arith, eqb-true, tag_other, properties_other)
 
 pub tag_no_alias : (rules : Rules) (u : Text) → word_of_alias rules (0x21 ∷ u) ≡ None
 tag_no_alias rules u = alias_left (word_read rules false (0x21 ∷ u)) (tag_other rules None 0 u)
 
 pub anchor_no_alias : (rules : Rules) (u : Text) → word_of_alias rules (0x26 ∷ u) ≡ None
-anchor_no_alias rules u = alias_left (word_read rules false (0x26 ∷ u)) (by (name_read (cut_before_space u).prefix))
-  where
-    by : (name : Option Text)
-        → reads_alias (after_read rules false
-        (option_and_then (λ (read : PropertiesRead). let after : Indented = indented read.text in
-        tag_first rules.directives read.properties.anchor after.column after.text)
-        (option_map (λ name. record {
-          properties = record { anchor = Some name; tag = None };
-          text = spaces (suc (length (cut_before_space u).prefix)) ++
-              (cut_before_space u).rest;
-        }) name))) ≡ false
-    by None = refl
-    by (Some name) =
-        let after : Indented = indented (spaces (suc (length (cut_before_space u).prefix)) ++
-        (cut_before_space u).rest) in anchor_other rules name after.column after.text
+anchor_no_alias rules u = grind (arith, alias_left, anchor_other)
 
 -- No key
 
 -- a text that is no word and no alias before its last space is no key
 pub no_key_text : (rules : Rules) (text : Text) → word_read rules false text ≡ None → option_and_then (word_of_alias rules) (without_last_space text) ≡ None
     → key_of_text rules text ≡ None
-no_key_text rules text no_word none =
-    key_by_word rules text None (ap (option_and_then (λ tree. if is_alias tree then None else Some tree)) no_word) none
-    ∙ neither (nat_le (length text) longest_key)
-  where
-    neither : (x : Bool) → ◌≡◌ {A = Option Tree} (if x then None else None) None
-    neither true = refl
-    neither false = refl
+no_key_text rules text no_word none = grind (arith, key_by_word)
 
 -- the beginning of a tag after an anchor or not is no key
 tag_no_key : (rules : Rules) (anchor : Option Text) (b : Text) → IsNamed anchor → has_no_space b ≡ true → key_of_text rules (anchored anchor ++ (0x21 ∷ b))
@@ -255,11 +180,7 @@ tag_rest_nowhere rules anchor b (c ∷ t) named h k =
 -- nor in the tag
 tag_nowhere : (rules : Rules) (anchor : Option Text) (tag : Text) (parsed : ParsedTag) → IsNamed anchor → WrittenTag rules.directives tag parsed
     → KeyNowhere rules (anchored anchor) tag
-tag_nowhere rules anchor tag parsed named written =
-    subst (KeyNowhere rules (anchored anchor)) (sym written.begins) (
-      (λ e. absurd (false≢true e)),
-      tag_rest_nowhere rules anchor [] written.rest named refl (ap has_no_space (sym written.begins) ∙ no_white_no_space tag written.no_white),
-    )
+tag_nowhere rules anchor tag parsed named written = grind (arith, false≢true, tag_rest_nowhere, no_white_no_space)
 
 -- nor in an anchor's name
 name_nowhere : (rules : Rules) (before name : Text) → list_all is_alpha name ≡ true → KeyNowhere rules before name
@@ -271,11 +192,7 @@ name_nowhere rules before (c ∷ name) h =
 -- nor in an anchor and the space after it
 anchored_nowhere : (rules : Rules) (anchor : Option Text) → IsNamed anchor → KeyNowhere rules [] (anchored anchor)
 anchored_nowhere rules None named = tt
-anchored_nowhere rules (Some name) named = (
-  (λ e. absurd (false≢true e)),
-  nowhere_both rules (0x26 ∷ []) name (space ∷ []) (name_nowhere rules (0x26 ∷ []) name (name_letters name named))
-      ((λ e. absurd (false≢true e)), tt),
-)
+anchored_nowhere rules (Some name) named = grind (arith, false≢true, nowhere_both, name_nowhere, name_letters)
 
 -- no key ends in properties
 pub properties_nowhere : (rules : Rules) (anchor tag : Option Text) (parsed : Option ParsedTag) → IsNamed anchor → IsTagged rules.directives tag parsed

@@ -1,18 +1,13 @@
 -- A plain simple key is found where its text ends, before the `:` that follows it.
-use Rattle.yaml_base.proofs.Common.{ℕ, if◌then◌else◌, ◌==◌, None, Some, codes, Bool, false, not, true, ◌&&◌, ◌||◌, [], map, ◌++◌, ◌∷◌, refl, ◌≡◌, eqb-true}
-use Rattle.yaml_base.proofs.Common.{true≢false, ap, sym, ◌∙◌, and_parts, or_parts, false≢true, list_all, Text, is_among, space, is_printable, plain, unit_of}
-use Rattle.yaml_base.proofs.Common.{folding_read, is_read_white, begins_white, begins_with_three, begins_no_plain, begins_with_hash, holds_no_plain, read_plain}
-use Rattle.yaml_base.proofs.Common.{has_deep_lines, has_no_space_before_break, ends_white, has_clean_edges, is_tidy, ends_indicator, Rules}
+use Rattle.yaml_base.proofs.Common.{arith, nat_tests, ℕ, if◌then◌else◌, ◌==◌, None, Some, codes, Bool, false, true, ◌&&◌, ◌||◌, [], map, ◌++◌, ◌∷◌, refl, ◌≡◌}
+use Rattle.yaml_base.proofs.Common.{eqb-true, true≢false, ap, sym, ◌∙◌, and_parts, or_parts, false≢true, Text, is_among, space, plain, unit_of, folding_read}
+use Rattle.yaml_base.proofs.Common.{is_read_white, begins_white, begins_no_plain, begins_with_hash, holds_no_plain, read_plain, is_tidy, ends_indicator, Rules}
 use Rattle.yaml_base.proofs.Common.{style_of_first_character, an_alias, a_scalar, kind_of_word}
 use Rattle.yaml_base.proofs.{stream_keys.StreamKeys.NoKey, stream_lines.StreamCuts.none_not_some}
 
 -- a character outside a set is none of the set's
 pub not_among : (set : Text) (c n : ℕ) → is_among set n ≡ true → is_among set c ≡ false → (c == n) ≡ false
-not_among set c n member h = by (c == n) refl
-  where
-    by : (x : Bool) → (c == n) ≡ x → x ≡ false
-    by true e = absurd (true≢false (sym member ∙ ap (is_among set) (sym (eqb-true c n e)) ∙ h))
-    by false e = refl
+not_among set c n member h = grind (arith, true≢false, eqb-true)
 
 -- what a first character of plain text isn't
 pub record Begins (c : ℕ) : Type 0 where
@@ -31,26 +26,7 @@ abbrev indicators : Text
 indicators = codes "#,[]{}&*!|>'\"%@`"
 
 pub begins : (breaks12 : Bool) (c : ℕ) (t : Text) → begins_no_plain breaks12 (c ∷ t) ≡ false → is_read_white breaks12 c ≡ false → Begins c
-begins breaks12 c t h white =
-    let outer = or_parts (begins_with_three 45 (c ∷ t) || begins_with_three 46 (c ∷ t) || is_among indicators c)
-    (is_among (codes "?:-") c && begins_white breaks12 t) h in
-    let inner = or_parts (begins_with_three 45 (c ∷ t) || begins_with_three 46 (c ∷ t)) (is_among indicators c) outer.0 in
-    record {
-      anchor = not_among indicators c 0x26 refl inner.1;
-      blank = no_space (c == space) refl;
-      tag = not_among indicators c 0x21 refl inner.1;
-      star = not_among indicators c 0x2A refl inner.1;
-      square = not_among indicators c 0x5B refl inner.1;
-      curly = not_among indicators c 0x7B refl inner.1;
-      single = not_among indicators c 0x27 refl inner.1;
-      double = not_among indicators c 0x22 refl inner.1;
-      literal = not_among indicators c 0x7C refl inner.1;
-      folded = not_among indicators c 0x3E refl inner.1;
-    }
-  where
-    no_space : (x : Bool) → (c == space) ≡ x → x ≡ false
-    no_space true e = absurd (true≢false (ap (is_read_white breaks12) (sym (eqb-true c space e)) ∙ white))
-    no_space false e = refl
+begins breaks12 c t h white = grind (arith, or_parts, not_among, true≢false, eqb-true)
 
 pub plain_kind : (c : ℕ) (t : Text) → Begins c → kind_of_word (c ∷ t) ≡ a_scalar
 plain_kind c [] b = ap (λ x. if x then an_alias else a_scalar) b.star
@@ -91,12 +67,4 @@ reads_plain breaks12 flow c t v read = by (begins_no_plain breaks12 (c ∷ t)) (
 
 -- a tidy plain text doesn't begin with white space
 pub tidy_begins : (breaks12 : Bool) (c : ℕ) (t : Text) → is_tidy plain breaks12 None (c ∷ t) ≡ true → is_read_white breaks12 c ≡ false
-tidy_begins breaks12 c t tidy =
-    let style = (and_parts (list_all is_printable (c ∷ t) && has_deep_lines breaks12 1 (c ∷ t))
-    (has_no_space_before_break breaks12 (c ∷ t) && has_clean_edges breaks12 (c ∷ t)) tidy).1 in
-    let clean = (and_parts (has_no_space_before_break breaks12 (c ∷ t)) (has_clean_edges breaks12 (c ∷ t)) style).1 in
-    by (is_read_white breaks12 c) (and_parts (not (is_read_white breaks12 c)) (not (ends_white breaks12 (c ∷ t))) clean).0
-  where
-    by : (x : Bool) → not x ≡ true → x ≡ false
-    by true h = absurd (false≢true h)
-    by false h = refl
+tidy_begins breaks12 c t tidy = grind (arith, nat_tests, and_parts, false≢true)

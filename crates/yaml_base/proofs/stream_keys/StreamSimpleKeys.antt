@@ -1,13 +1,13 @@
 -- Each simple key of the layout in a block is cut off before its `:`, where its names and its body stand.
-use Rattle.yaml_base.proofs.Common.{suc, ℕ, ◌+◌, ◌≤◌, if◌then◌else◌, is_some, Option, None, Some, nat_le, length, Bool, false, not, true, ◌&&◌, ◌||◌, List}
+use Rattle.yaml_base.proofs.Common.{suc, ℕ, ◌+◌, ◌≤◌, if◌then◌else◌, is_some, Option, None, Some, nat_le, length, Bool, false, not, true, List}
 use Rattle.yaml_base.proofs.Common.{[], ◌++◌, ◌∷◌, refl, ◌≡◌, le-leb, leb-true, length-append, true≢false, ap, subst, sym, ◌∙◌, arith, and_parts, false≢true}
 use Rattle.yaml_base.proofs.Common.{flat_map, list_all, Text, space, is_alpha, Cursor, Rendered, render_nothing, space_if, ScalarStyle, any_style, plain}
 use Rattle.yaml_base.proofs.Common.{single_quoted, double_quoted, literal, folded, TagDirective, Scalar, Collection, scalar_tag, collection_tag, alias_node}
 use Rattle.yaml_base.proofs.Common.{scalar_node, sequence_node, Pairs, mapping_node, no_nodes, nodes_and, no_pairs, pairs_and, Body, render_properties}
-use Rattle.yaml_base.proofs.Common.{render_alias, render_separation, render_body, charset_of, choice_of, body_at, asks_flow, is_written_in_flow, Brackets}
+use Rattle.yaml_base.proofs.Common.{render_alias, render_separation, render_body, choice_of, body_at, is_written_in_flow, Brackets}
 use Rattle.yaml_base.proofs.Common.{square, curly, render_end, entry_place, Role, as_key, Place, deeper, byte_count, name_count, tag_count, is_short}
-use Rattle.yaml_base.proofs.Common.{has_no_pairs, read_in_style, most_key_bytes, Effective, is_tidy, Allowances, is_empty, allowances, character_text}
-use Rattle.yaml_base.proofs.Common.{quotes_doubled, is_plain, requested_style, fitting_style, fits_plain, Tree, alias_tree, scalar_tree, longest_key, Rules}
+use Rattle.yaml_base.proofs.Common.{has_no_pairs, read_in_style, most_key_bytes, Effective, is_tidy, Allowances, is_empty, character_text}
+use Rattle.yaml_base.proofs.Common.{quotes_doubled, is_plain, fitting_style, Tree, alias_tree, scalar_tree, longest_key, Rules}
 use Rattle.yaml_base.proofs.{stream_flow.StreamFlowKinds.empty_whole, stream_flow.StreamFlowScalars.rules_of, stream_flow.StreamFlowScalars.is_flow_style}
 use Rattle.yaml_base.proofs.{stream_flow.StreamFlowScalars.bare_not_plain, stream_flow.StreamFlowWords.Given, stream_flow.StreamFlowWords.scalar_in}
 use Rattle.yaml_base.proofs.{stream_flow.StreamPropertyWords.lead, stream_keys.StreamAliasKeys.alias_key, stream_keys.StreamKeyBodies.key_body}
@@ -30,39 +30,12 @@ use Rattle.yaml_base.proofs.stream_nodes.StreamTexts.{scalar_own, collection_own
 -- where plain is chosen it fits
 plain_where : (allowed : Allowances) (fits block : Bool) (asked : ScalarStyle) → is_plain (fitting_style allowed fits block asked) ≡ true → fits ≡ true
 plain_where allowed true block asked h = refl
-plain_where allowed false block asked h = absurd (false≢true (sym (by block asked) ∙ h))
-  where
-    quotes : (x : Bool) → is_plain (if x then single_quoted else double_quoted) ≡ false
-    quotes true = refl
-    quotes false = refl
-
-    by : (block : Bool) (asked : ScalarStyle) → is_plain (fitting_style allowed false block asked) ≡ false
-    by block plain = quotes allowed.single_quoted
-    by block single_quoted = quotes allowed.single_quoted
-    by true literal = refl
-    by false literal = refl
-    by true folded = refl
-    by false folded = refl
-    by block any_style = refl
-    by block double_quoted = refl
+plain_where allowed false block asked h = grind (arith, false≢true)
 
 -- a plain simple key isn't empty
 plain_not_empty : (s : Effective) (in_flow : Bool) (role : Role) (column : ℕ) (content : Scalar)
     → is_plain (choice_of s (entry_place in_flow role column) true content).style ≡ true → is_empty content.value ≡ false
-plain_not_empty s in_flow role column content h =
-    let allowed = allowances (charset_of s) content.value in
-    let tagged = is_some (scalar_tag s.canonical content) in
-    let fits = fits_plain allowed (is_empty content.value) tagged content.plain_implicit in_flow true in
-    let parts = and_parts ((if in_flow then allowed.flow_plain else allowed.block_plain) && not (is_empty content.value && (in_flow || true)))
-    (tagged || content.plain_implicit)
-    (plain_where allowed fits (allowed.block && not in_flow && not true) (requested_style (s.canonical || (true && allowed.multiline)) content.style) h) in
-    by (is_empty content.value) in_flow
-    (and_parts (if in_flow then allowed.flow_plain else allowed.block_plain) (not (is_empty content.value && (in_flow || true))) parts.0).1
-  where
-    by : (x y : Bool) → not (x && (y || true)) ≡ true → x ≡ false
-    by true true h = absurd (false≢true h)
-    by true false h = absurd (false≢true h)
-    by false y h = refl
+plain_not_empty s in_flow role column content h = grind (arith, and_parts, plain_where, false≢true)
 
 -- Scalars
 
@@ -166,30 +139,13 @@ scalar_key_placed s own directives content pairs e simple names body =
 alias_key_fits : (rules : Rules) (n : ℕ) (name : Text) → list_all is_alpha (n ∷ name) ≡ true → suc (length (0x2A ∷ n ∷ name)) ≤ longest_key
     → KeyText rules.breaks12 (0x2A ∷ n ∷ name) → KeyFits rules (0x2A ∷ n ∷ (name ++ (space ∷ []))) (alias_tree (n ∷ name))
 alias_key_fits rules n name letters short of =
-    let text = 0x2A ∷ n ∷ (name ++ (space ∷ [])) in
-    let prefix = other_prefix 0x2A (n ∷ (name ++ (space ∷ []))) refl refl in
-    let both = length-append name (space ∷ []) in
-    record {
-      first = 0x2A;
-      tail = n ∷ (name ++ (space ∷ []));
-      is = refl;
-      shows = refl;
-      one_line = one_line_both rules.breaks12 (0x2A ∷ n ∷ name) (space ∷ []) of.line (spaces_line rules.breaks12 1);
-      no_dash = λ after h. refl;
-      simple = λ after h. refl;
-      unmarked = λ after h. beginning_unmarked text prefix after;
-      cut = λ after h. alias_key rules n name after letters (le-leb (length text) longest_key (omega arith)) h;
-    }
+    grind (arith, other_prefix, length-append, one_line_both, spaces_line, beginning_unmarked, alias_key, le-leb)
 
 -- Collections
 
 -- an empty collection is written in flow
 empty_in_flow : (s : Effective) (place : Place) (start : Collection) → is_written_in_flow s place start true ≡ true
-empty_in_flow s place start = by (place.in_flow || s.canonical || asks_flow start.style)
-  where
-    by : (x : Bool) → (x || true) ≡ true
-    by true = refl
-    by false = refl
+empty_in_flow s place start = grind (arith)
 
 -- an empty collection that is a simple key
 empty_key_fits : (s : Effective) (own directives : List TagDirective) (start : Collection) (brackets : Brackets) (a b : ℕ) (tree : Tree) (e : ℕ)

@@ -1,14 +1,13 @@
 -- How a block scalar leaves off: at a line's start where its value ends in a break, and elsewhere after an indicator that strips.
-use Rattle.yaml_base.proofs.Common.{ℕ, ◌+◌, ◌≤◌, if◌then◌else◌, ◌==◌, Option, replicate, Bool, false, not, true, ◌&&◌, ◌||◌, List, [], ◌++◌, ◌∷◌, refl, ◌≡◌}
-use Rattle.yaml_base.proofs.Common.{true≢false, append_assoc, ap, sym, ◌∙◌, arith, or_parts, false≢true, nat_tests, Text, is_between, line_feed}
-use Rattle.yaml_base.proofs.Common.{line_separator, paragraph_separator, space, is_ascii, is_space, is_break, is_printable, Cursor, column_after, ScalarStyle}
-use Rattle.yaml_base.proofs.Common.{any_style, plain, single_quoted, double_quoted, literal, folded, is_read_break, strip, after_digit, chomping_first}
-use Rattle.yaml_base.proofs.Common.{Charset, Allowances, somewhere, is_empty, is_special, bars_block, allows_block, ending, indentation_hint, ending_hint}
-use Rattle.yaml_base.proofs.Common.{render_hint, ends_in_break, folded_parts, parts, fitting_style}
-use Rattle.yaml_base.specs.Cursor.{next_column}
-use Rattle.yaml_base.specs.scalars.{Analysis.begins_with, Analysis.is_trailing_space, Folded.cut_line, Folded.next_line_unindented, Literal.indented}
-use Rattle.yaml_base.specs.scalars.BlockHeader.{Ending, without_break, one_break, more_breaks, begins_blank}
-use Rattle.yaml_base.specs.scalars.Lines.{Part, line, line_break, begun}
+use Rattle.yaml_base.proofs.Common.{ℕ, ◌+◌, ◌≤◌, if◌then◌else◌, ◌==◌, Option, Bool, false, not, true, ◌&&◌, ◌||◌, List, [], ◌++◌, ◌∷◌, refl, ◌≡◌, true≢false}
+use Rattle.yaml_base.proofs.Common.{append_assoc, ap, sym, ◌∙◌, arith, or_parts, false≢true, nat_tests, Text, line_feed, line_separator, paragraph_separator}
+use Rattle.yaml_base.proofs.Common.{is_ascii, is_space, is_break, is_printable, Cursor, column_after, ScalarStyle, any_style, plain, single_quoted}
+use Rattle.yaml_base.proofs.Common.{double_quoted, literal, folded, is_read_break, strip, after_digit, chomping_first, Charset, Allowances, somewhere, is_empty}
+use Rattle.yaml_base.proofs.Common.{is_special, bars_block, allows_block, ending, indentation_hint, ending_hint, render_hint, ends_in_break, folded_parts}
+use Rattle.yaml_base.proofs.Common.{parts, fitting_style}
+use Rattle.yaml_base.specs.{Cursor.next_column, scalars.Analysis.begins_with, scalars.Analysis.is_trailing_space, scalars.BlockHeader.without_break}
+use Rattle.yaml_base.specs.{scalars.BlockHeader.one_break, scalars.BlockHeader.more_breaks, scalars.Folded.cut_line, scalars.Folded.next_line_unindented}
+use Rattle.yaml_base.specs.{scalars.Lines.Part, scalars.Lines.line, scalars.Lines.line_break, scalars.Lines.begun, scalars.Literal.indented}
 
 -- Values that end in a break
 
@@ -59,11 +58,7 @@ parts_end (c ∷ prefix) b h = by (is_break c) (parts_end prefix b h)
 -- and when long lines are cut
 folded_end : (limit : Option ℕ) (indent : ℕ) (even : Bool) (prefix : List Part) (b : ℕ)
     → EndsPart (folded_parts limit indent even (prefix ++ (line_break b ∷ []))) b
-folded_end limit indent even [] b = by (even && b == line_feed && next_line_unindented [])
-  where
-    by : (x : Bool) → EndsPart ((if x then line_break b ∷ line_break b ∷ [] else line_break b ∷ []) ++ []) b
-    by true = record { prefix = line_break b ∷ []; is = refl }
-    by false = record { prefix = []; is = refl }
+folded_end limit indent even [] b = grind (arith)
 folded_end limit indent even (line text ∷ prefix) b =
     let more = folded_end limit indent (not (begins_with is_space text)) prefix b in
     record {
@@ -79,9 +74,7 @@ folded_end limit indent even (line_break d ∷ prefix) b =
 -- such parts are written with that break last
 indented_end : (indent : ℕ) (prefix : List Part) (b : ℕ) → indented indent (prefix ++ (line_break b ∷ [])) ≡ indented indent prefix ++ (b ∷ [])
 indented_end indent [] b = refl
-indented_end indent (line text ∷ prefix) b =
-    ap (λ t. (replicate indent space ++ text) ++ t) (indented_end indent prefix b)
-    ∙ sym (append_assoc (replicate indent space ++ text) (indented indent prefix) (b ∷ []))
+indented_end indent (line text ∷ prefix) b = grind (arith, append_assoc, indented_end indent prefix b)
 indented_end indent (line_break d ∷ prefix) b = ap (λ t. d ∷ t) (indented_end indent prefix b)
 
 -- lines that end with this break
@@ -164,17 +157,7 @@ hint_text (c ∷ rest) cursor = refl
 -- where a value ends in no break the header strips
 pub strips : (best_indent : ℕ) (value rest : Text) → 2 ≤ best_indent → best_indent ≤ 9 → ends_in_break (ending value) ≡ false
     → chomping_first (after_digit ((indentation_hint best_indent value ++ ending_hint (ending value)) ++ rest)) ≡ strip
-strips best_indent value rest low high h = by (begins_blank value) (ending value) h
-  where
-    digit : is_between 49 57 (48 + best_indent) ≡ true
-    digit = grind (arith, nat_tests, low, high)
-
-    by : (x : Bool) (e : Ending) → ends_in_break e ≡ false
-        → chomping_first (after_digit (((if x then (48 + best_indent) ∷ [] else []) ++ ending_hint e) ++ rest)) ≡ strip
-    by x one_break h = absurd (true≢false h)
-    by x more_breaks h = absurd (true≢false h)
-    by false without_break h = refl
-    by true without_break h = ap (λ x. chomping_first (if x then 45 ∷ rest else (48 + best_indent) ∷ 45 ∷ rest)) digit
+strips best_indent value rest low high h = grind (arith, true≢false)
 
 -- Styles
 
@@ -187,17 +170,8 @@ is_block _ = false
 -- one is chosen only where it fits
 pub block_fitting : (allowed : Allowances) (plain_fits block_fits : Bool) (asked : ScalarStyle)
     → is_block (fitting_style allowed plain_fits block_fits asked) ≡ true → block_fits ≡ true
-block_fitting allowed plain_fits block_fits plain h = absurd (false≢true (sym (quoted plain_fits allowed.single_quoted) ∙ h))
-  where
-    quoted : (x y : Bool) → is_block (if x then plain else if y then single_quoted else double_quoted) ≡ false
-    quoted true y = refl
-    quoted false true = refl
-    quoted false false = refl
-block_fitting allowed plain_fits block_fits single_quoted h = absurd (false≢true (sym (quoted allowed.single_quoted) ∙ h))
-  where
-    quoted : (y : Bool) → is_block (if y then single_quoted else double_quoted) ≡ false
-    quoted true = refl
-    quoted false = refl
+block_fitting allowed plain_fits block_fits plain h = grind (arith, false≢true)
+block_fitting allowed plain_fits block_fits single_quoted h = grind (arith, false≢true)
 block_fitting allowed plain_fits true literal h = refl
 block_fitting allowed plain_fits false literal h = absurd (false≢true h)
 block_fitting allowed plain_fits true folded h = refl

@@ -1,17 +1,13 @@
 -- A printable text, however its line breaks are written, is read as its documents.
-use Rattle.yaml_base.proofs.Common.{ℕ, if◌then◌else◌, ◌==◌, option_and_then, None, Some, Bool, false, not, true, ◌&&◌, ◌||◌, List, [], ◌∷◌, refl, ◌≡◌}
-use Rattle.yaml_base.proofs.Common.{eqb-true, ap, sym, ◌∙◌, and_parts, and_from, or_right, false≢true, list_all-append, list_all, Text, line_feed}
-use Rattle.yaml_base.proofs.Common.{carriage_return, next_line, is_printable, break_text, with_breaks_written, with_line_breaks_read, is_rendered_text}
-use Rattle.yaml_base.proofs.Common.{LineBreak, carriage_return_break, line_feed_break, both_break, characters_read, documents_of, stream_trees}
+use Rattle.yaml_base.proofs.Common.{arith, ℕ, if◌then◌else◌, ◌==◌, option_and_then, Some, Bool, false, not, true, ◌&&◌, ◌||◌, List, [], ◌∷◌, refl, ◌≡◌}
+use Rattle.yaml_base.proofs.Common.{eqb-true, ap, ◌∙◌, and_parts, and_from, or_right, false≢true, list_all-append, list_all, Text, line_feed, carriage_return}
+use Rattle.yaml_base.proofs.Common.{next_line, is_printable, break_text, with_breaks_written, is_rendered_text, LineBreak, carriage_return_break}
+use Rattle.yaml_base.proofs.Common.{line_feed_break, both_break, characters_read, documents_of, stream_trees}
 use Rattle.yaml_base.{proofs.BreakLaws.breaks-round, specs.streams.StreamReader.may_stand_raw, specs.streams.StreamReader.text_trees}
 
 -- a character that isn't printable is none of a printable text
 other_than : (c n : ℕ) → is_printable n ≡ false → is_printable c ≡ true → (c == n) ≡ false
-other_than c n none h = by (c == n) refl
-  where
-    by : (x : Bool) → (c == n) ≡ x → x ≡ false
-    by true e = absurd (false≢true (sym none ∙ ap is_printable (sym (eqb-true c n e)) ∙ h))
-    by false e = refl
+other_than c n none h = grind (arith, false≢true, eqb-true)
 
 -- a printable text has no CR and no U+0085
 pub printable_rendered : (text : Text) → list_all is_printable text ≡ true → is_rendered_text text ≡ true
@@ -43,9 +39,7 @@ printable_raw setting (c ∷ rest) h =
 -- a printable text with its breaks written reads as the documents of the text
 pub trees_of_text : (breaks12 : Bool) (setting : LineBreak) (text : Text) → list_all is_printable text ≡ true
     → text_trees breaks12 (with_breaks_written setting text) ≡ documents_of breaks12 text
-trees_of_text breaks12 setting text h =
-    ap (λ x. if x then documents_of breaks12 (with_line_breaks_read (with_breaks_written setting text)) else None) (printable_raw setting text h)
-    ∙ ap (documents_of breaks12) (breaks-round setting text (printable_rendered text h))
+trees_of_text breaks12 setting text h = grind (arith, printable_raw, breaks-round, printable_rendered)
 
 -- so do its bytes, from which its characters are read
 pub trees_of_bytes : (breaks12 : Bool) (setting : LineBreak) (text : Text) (bytes : List ℕ) → list_all is_printable text ≡ true

@@ -1,10 +1,9 @@
 -- How a node's text leaves off: at a line's start, or before the break that the next new line begins with.
-use Rattle.yaml_base.proofs.Common.{suc, zero, ℕ, ◌+◌, ◌-◌, ◌≤◌, if◌then◌else◌, ◌==◌, nat_lt, Bool, false, not, true, ◌&&◌, ◌||◌, List, [], ◌++◌, ◌∷◌, refl}
-use Rattle.yaml_base.proofs.Common.{◌≡◌, le-ltb, append-nil, ap, sym, ◌∙◌, arith, and_parts, and_from, or_parts, list_all, list_any, Text, line_feed, space}
-use Rattle.yaml_base.proofs.Common.{Cursor, Rendered, new_line, is_read_break, Line, prepend_to_first_line, prepend_character, lines_of, ends_indicator}
-use Rattle.yaml_base.proofs.Common.{belongs_to_entry, spaces}
-use Rattle.yaml_base.proofs.stream_lines.{StreamInside.inside_deeper, StreamInside.AllInside, StreamLineLaws.is_closed, StreamLineLaws.OneLine}
-use Rattle.yaml_base.proofs.stream_lines.{StreamTidyLaws.lines_after_first}
+use Rattle.yaml_base.proofs.Common.{suc, zero, ℕ, ◌+◌, ◌≤◌, if◌then◌else◌, Bool, false, true, ◌||◌, List, [], ◌++◌, ◌∷◌, refl, ◌≡◌, le-ltb, append-nil, ap, sym}
+use Rattle.yaml_base.proofs.Common.{◌∙◌, arith, and_parts, and_from, or_parts, list_all, list_any, Text, line_feed, space, Cursor, Rendered, new_line}
+use Rattle.yaml_base.proofs.Common.{is_read_break, Line, prepend_to_first_line, prepend_character, lines_of, ends_indicator, belongs_to_entry, spaces}
+use Rattle.yaml_base.proofs.stream_lines.{StreamLineLaws.is_closed, StreamLineLaws.OneLine, StreamTidyLaws.lines_after_first}
+use Rattle.yaml_base.proofs.stream_lines.StreamInside.{inside_deeper, AllInside}
 
 -- Cursors
 
@@ -22,29 +21,7 @@ Settled cursor = cursor.indention ≡ true → (cursor.column ≡ 0) × (cursor.
 
 -- a new line closes the line before it and begins with its spaces
 pub new_line_closes : (e : ℕ) (cursor : Cursor) → Settled cursor → (new_line e cursor).text ≡ closing cursor ++ spaces e
-new_line_closes e cursor settled = by cursor.indention refl
-  where
-    at_margin : (e : ℕ) → (if nat_lt e 0 || ((0 == e) && false) then line_feed ∷ spaces e else spaces (e - 0)) ≡ spaces e
-    at_margin e =
-        ap (λ x. if x || ((0 == e) && false) then line_feed ∷ spaces e else spaces (e - 0)) (le-ltb e 0 (omega arith))
-        ∙ ap (λ x. if x then line_feed ∷ spaces e else spaces (e - 0)) (and_false (0 == e))
-        ∙ ap spaces minus_zero
-      where
-        and_false : (x : Bool) → x && false ≡ false
-        and_false true = refl
-        and_false false = refl
-
-        minus_zero : e - 0 ≡ e
-        minus_zero = omega arith
-
-    by : (x : Bool) → cursor.indention ≡ x
-        → (if not x || nat_lt e cursor.column || ((cursor.column == e) && not cursor.whitespace) then line_feed ∷ spaces e else spaces (e - cursor.column))
-        ≡ (if x then [] else line_feed ∷ []) ++ spaces e
-    by false h = refl
-    by true h =
-        ap (λ c. if nat_lt e c || ((c == e) && not cursor.whitespace) then line_feed ∷ spaces e else spaces (e - c)) (settled h).0
-        ∙ ap (λ w. if nat_lt e 0 || ((0 == e) && not w) then line_feed ∷ spaces e else spaces (e - 0)) (settled h).1
-        ∙ at_margin e
+new_line_closes e cursor settled = grind (arith, le-ltb)
 
 -- the cursor behind the indicator of an entry at a column
 abbrev pub indicator_cursor : ℕ → Cursor

@@ -1,4 +1,5 @@
 -- What reads is what is cut off: no proper prefix of a quoted text is one, and a longer text begins with it.
+use Rattle.yaml_base.proofs.Common.{arith, nat_tests}
 use Rattle.yaml_base.proofs.Common.{ℕ, if◌then◌else◌, ◌==◌, option_map, Option, None, Some, Bool, false, true, [], map, ◌++◌, ◌∷◌, refl, ◌≡◌, true≢false, ap}
 use Rattle.yaml_base.proofs.Common.{sym, ◌∙◌, Text, QuotePlace, between, goes_on, gives, ends_quotes, has_no_reading, Quoted, with_unit, after_step}
 use Rattle.yaml_base.proofs.Common.{quoted_from, quoted_reading, value_before, value_alone, read_double, FoldUnit, unit_of, folding_read, unquoted, read_single}
@@ -6,11 +7,7 @@ use Rattle.yaml_base.specs.reading.ReadDouble.{QuoteStep, quote_step, QuotedRead
 
 -- nothing is not something
 pub none_not_some : {A : Type 0} {v : A} → ◌≡◌ {A = Option A} None (Some v) → ⊥
-none_not_some {A} {v} e = true≢false (ap lacks e)
-  where
-    lacks : Option A → Bool
-    lacks None = true
-    lacks (Some t) = false
+none_not_some {A} {v} e = grind (arith, nat_tests, true≢false)
 
 -- Double quotes
 
@@ -68,15 +65,7 @@ double_quoted_whole breaks12 t c rest v read = by (double_quoted_prefix breaks12
 -- no proper prefix of what a quote closes is such a text, where no quote follows it
 pub unquoted_whole : (t : Text) (c : ℕ) (rest : Text) → (c == 39) ≡ false → (unquoted (t ++ (c ∷ rest)) ≡ None → ⊥) → unquoted t ≡ None
 unquoted_whole [] c rest other h = refl
-unquoted_whole (a ∷ []) c rest other h =
-    by (a == 39)
-    (λ e. h (ap (λ y. if a == 39 then (if y then option_map (λ t. 39 ∷ t) (unquoted rest) else None) else option_map (λ t. a ∷ t) (unquoted (c ∷ rest))) other
-    ∙ e))
-  where
-    by : (x : Bool) → ((if x then None else option_map (λ t. a ∷ t) (unquoted (c ∷ rest))) ≡ None → ⊥)
-        → ◌≡◌ {A = Option Text} (if x then Some [] else None) None
-    by true h = absurd (h refl)
-    by false h = refl
+unquoted_whole (a ∷ []) c rest other h = grind (arith)
 unquoted_whole (a ∷ b ∷ t) c rest other h = by (a == 39) (b == 39) (unquoted_whole t c rest other) (unquoted_whole (b ∷ t) c rest other) h
   where
     by : (x y : Bool) → ((unquoted (t ++ (c ∷ rest)) ≡ None → ⊥) → unquoted t ≡ None)

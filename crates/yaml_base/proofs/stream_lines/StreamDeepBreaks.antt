@@ -1,11 +1,11 @@
 -- Texts after each of whose breaks something stands: another break, or spaces enough to stand deeper than a column.
-use Rattle.yaml_base.proofs.Common.{suc, zero, ℕ, ◌-◌, ◌≤◌, if◌then◌else◌, ◌==◌, Bool, false, not, true, ◌&&◌, ◌||◌, List, [], ◌++◌, ◌∷◌, refl, ◌≡◌, ap, ◌∙◌}
-use Rattle.yaml_base.proofs.Common.{arith, and_parts, and_from, or_parts, false≢true, list_all, list_any, Text, line_feed, space, is_blank, Cursor}
-use Rattle.yaml_base.proofs.Common.{breaks_line, new_line, space_if, is_read_break, is_read_white, begins_with_spaces, begins_with_blank_line}
-use Rattle.yaml_base.proofs.Common.{begins_with_deep_line, has_deep_lines, ends_white, Line, prepend_character, lines_of, belongs_to_entry, spaces}
-use Rattle.yaml_base.proofs.stream_lines.{StreamClosed.spaces_line, StreamInside.AllInside, StreamLineLaws.OneLine}
+use Rattle.yaml_base.proofs.Common.{nat_tests, suc, zero, ℕ, ◌≤◌, ◌==◌, Bool, false, not, true, ◌&&◌, ◌||◌, List, [], ◌++◌, ◌∷◌, refl, ◌≡◌, ap, ◌∙◌, arith}
+use Rattle.yaml_base.proofs.Common.{and_parts, and_from, or_parts, false≢true, list_all, list_any, Text, line_feed, space, is_blank, Cursor, new_line, space_if}
+use Rattle.yaml_base.proofs.Common.{is_read_break, is_read_white, begins_with_spaces, begins_with_blank_line, begins_with_deep_line, has_deep_lines, ends_white}
+use Rattle.yaml_base.proofs.Common.{Line, prepend_character, lines_of, belongs_to_entry, spaces}
+use Rattle.yaml_base.{proofs.stream_lines.StreamInside.AllInside, proofs.stream_lines.StreamLineLaws.OneLine, specs.reading.TidyText.begins_with_break}
+use Rattle.yaml_base.proofs.stream_lines.StreamClosed.{spaces_line}
 use Rattle.yaml_base.proofs.stream_lines.StreamTidyLaws.{first_text, lines_after_first, after_extended, spaces_inside}
-use Rattle.yaml_base.specs.reading.TidyText.{begins_with_break}
 
 -- what stands after each break of a text passes a test
 abbrev pub after_breaks : Bool → (Text → Bool) → Text → Bool
@@ -74,11 +74,7 @@ spaces_keep (suc count) (c ∷ a) b h =
 
 -- more text doesn't change how a text begins
 pub deep_keeps : (breaks12 : Bool) (count : ℕ) → Keeps (begins_deep breaks12 count)
-deep_keeps breaks12 zero [] b h = by (begins_with_break breaks12 b)
-  where
-    by : (x : Bool) → (x || true) ≡ true
-    by true = refl
-    by false = refl
+deep_keeps breaks12 zero [] b h = grind (arith)
 deep_keeps breaks12 (suc count) [] b h = absurd (false≢true h)
 deep_keeps breaks12 count (c ∷ a) b h = by (is_read_break breaks12 c) h
   where
@@ -101,22 +97,7 @@ spaces_begin (suc count) (suc at) le = spaces_begin count at (omega arith)
 
 -- a new line at such a column
 pub deep_new_line : (breaks12 : Bool) (count at : ℕ) (cursor : Cursor) → count ≤ at → Deep breaks12 count (new_line at cursor).text
-deep_new_line breaks12 count at cursor le = by (breaks_line at cursor)
-  where
-    fed : (x : Bool) → begins_deep breaks12 count (spaces at) ≡ x → x ≡ true → Deep breaks12 count (line_feed ∷ spaces at)
-    fed true e h =
-        and_from (not (is_read_break breaks12 line_feed) || begins_deep breaks12 count (spaces at))
-        (after_breaks breaks12 (begins_deep breaks12 count) (spaces at)) e
-        (deep_line breaks12 count (spaces at) (spaces_line breaks12 at))
-    fed false e h = absurd (false≢true h)
-
-    begins : (x : Bool) → (x || begins_with_spaces count (spaces at)) ≡ true
-    begins true = refl
-    begins false = spaces_begin count at le
-
-    by : (x : Bool) → Deep breaks12 count (if x then line_feed ∷ spaces at else spaces (at - cursor.column))
-    by true = fed (begins_deep breaks12 count (spaces at)) refl (begins (begins_with_break breaks12 (spaces at)))
-    by false = deep_line breaks12 count (spaces (at - cursor.column)) (spaces_line breaks12 (at - cursor.column))
+deep_new_line breaks12 count at cursor le = grind (arith, nat_tests, and_from, deep_line, spaces_line, false≢true, spaces_begin)
 
 -- Tidy texts
 
@@ -154,11 +135,7 @@ line_prefix breaks12 (c ∷ a) b one =
 
 -- the space before a word
 pub space_line : (breaks12 need : Bool) (cursor : Cursor) → OneLine breaks12 (space_if need cursor)
-space_line breaks12 need cursor = by (need && not cursor.whitespace)
-  where
-    by : (x : Bool) → OneLine breaks12 (if x then space ∷ [] else [])
-    by true = spaces_line breaks12 1
-    by false = refl
+space_line breaks12 need cursor = grind (arith, spaces_line)
 
 -- Lines
 

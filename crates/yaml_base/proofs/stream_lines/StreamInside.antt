@@ -18,13 +18,7 @@ begins_entry s (c ∷ t) = not (c == space) && (s || not (begins_with_indicator 
 -- an entry's first line is not inside its column
 pub outside : (s : Bool) (e : ℕ) (t : Text) → begins_entry s t ≡ true → belongs_to_entry s e (spaces e ++ t) ≡ false
 outside s e [] h = absurd (false≢true h)
-outside s zero (c ∷ t) h = by (c == space) s (begins_with_indicator 0x2D (c ∷ t)) h
-  where
-    by : (x s y : Bool) → (not x && (s || not y)) ≡ true → (x || (not s && y)) ≡ false
-    by true s y h = absurd (false≢true h)
-    by false true y h = refl
-    by false false true h = absurd (false≢true h)
-    by false false false h = refl
+outside s zero (c ∷ t) h = grind (arith, false≢true)
 outside s (suc e) (c ∷ t) h = outside s e (c ∷ t) h
 
 -- what stands at a column after spaces
@@ -54,11 +48,7 @@ AllInside s column lines = list_all (λ line. belongs_to_entry s column line.tex
 -- inside a column of a sequence is inside it for a mapping
 pub inside_mapping : (s : Bool) (d : ℕ) (t : Text) → belongs_to_entry true d t ≡ true → belongs_to_entry s d t ≡ true
 inside_mapping s d [] h = refl
-inside_mapping s zero (c ∷ t) h = by (c == space) h
-  where
-    by : (x : Bool) → (x || false) ≡ true → (x || (not s && begins_with_indicator 0x2D (c ∷ t))) ≡ true
-    by true h = refl
-    by false h = absurd (false≢true h)
+inside_mapping s zero (c ∷ t) h = grind (arith, false≢true)
 inside_mapping s (suc d) (c ∷ t) h =
     let parts = and_parts (c == space) (belongs_to_entry true d t) h in
     and_from (c == space) (belongs_to_entry s d t) parts.0 (inside_mapping s d t parts.1)
@@ -81,13 +71,7 @@ splits_none s e = record { splits = λ rest h. ap (λ b. record { before = b; en
 
 -- lines, and then others
 pub splits_both : (s : Bool) (e : ℕ) (a b : List Line) (x y : List (List Line)) → Splits s e a x → Splits s e b y → Splits s e (a ++ b) (x ++ y)
-splits_both s e a b x y one two = record {
-  splits = λ rest h.
-      let after = two.splits rest h in
-      ap (entries_at s e) (append_assoc a b rest) ∙ one.splits (b ++ rest) (ap (λ g. g.before) after)
-      ∙ ap (λ g. record { before = []; entries = x ++ g.entries }) after
-      ∙ ap (λ g. record { before = []; entries = g }) (sym (append_assoc x y (entries_at s e rest).entries));
-}
+splits_both s e a b x y one two = grind (arith, append_assoc)
 
 -- lines inside the column belong to the entry before them
 pub passes : (s : Bool) (e : ℕ) (rest lines : List Line) → AllInside s e rest
@@ -100,12 +84,7 @@ passes s e (line ∷ rest) lines h =
 -- one entry: a first line at the column, and lines inside it
 pub splits_one : (s : Bool) (e : ℕ) (line : Line) (rest : List Line) → belongs_to_entry s e line.text ≡ false → AllInside s e rest
     → Splits s e (line ∷ rest) ((line ∷ rest) ∷ [])
-splits_one s e line rest out inside = record {
-  splits = λ lines h.
-      ap (λ x. prepend_line x line (entries_at s e (rest ++ lines))) out ∙ ap (prepend_line false line) (passes s e rest lines inside)
-      ∙ ap (λ b. record { before = []; entries = (line ∷ (rest ++ b)) ∷ (entries_at s e lines).entries }) h
-      ∙ ap (λ r. record { before = []; entries = (line ∷ r) ∷ (entries_at s e lines).entries }) (append-nil rest);
-}
+splits_one s e line rest out inside = grind (arith, passes, append-nil)
 
 -- the entries of lines that split, and nothing after them
 pub splits_alone : (s : Bool) (e : ℕ) (lines : List Line) (entries : List (List Line)) → Splits s e lines entries

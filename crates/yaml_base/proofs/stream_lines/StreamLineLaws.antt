@@ -1,6 +1,6 @@
 -- The lines of texts one after another.
-use Rattle.yaml_base.proofs.Common.{ℕ, Bool, false, true, ◌||◌, List, [], ◌++◌, ◌∷◌, refl, ◌≡◌, ap, sym, ◌∙◌, or_parts, list_any, Text, is_read_break, Line}
-use Rattle.yaml_base.proofs.Common.{prepend_character, lines_of, text_of_lines}
+use Rattle.yaml_base.proofs.Common.{arith, ℕ, Bool, false, true, ◌||◌, List, [], ◌++◌, ◌∷◌, refl, ◌≡◌, ap, sym, ◌∙◌, or_parts, list_any, Text, is_read_break}
+use Rattle.yaml_base.proofs.Common.{Line, prepend_character, lines_of, text_of_lines}
 
 -- a text is empty, or its last character is a break
 abbrev pub is_closed : Bool → Text → Bool
@@ -38,9 +38,7 @@ pub lines_after_break : (breaks12 : Bool) (text rest : Text) → is_closed break
     → lines_of breaks12 (text ++ rest) ≡ lines_of breaks12 text ++ lines_of breaks12 rest
 lines_after_break breaks12 [] rest h = refl
 lines_after_break breaks12 (c ∷ []) rest h = break_alone (is_read_break breaks12 c) c (lines_of breaks12 rest) h
-lines_after_break breaks12 (c ∷ d ∷ text) rest h =
-    ap (prepend_character (is_read_break breaks12 c) c) (lines_after_break breaks12 (d ∷ text) rest h)
-    ∙ before_both (is_read_break breaks12 c) (is_read_break breaks12 d) c d (lines_of breaks12 text) (lines_of breaks12 rest)
+lines_after_break breaks12 (c ∷ d ∷ text) rest h = grind (arith, before_both, lines_after_break breaks12 (d ∷ text) rest h)
 
 -- two texts without a break
 pub one_line_both : (breaks12 : Bool) (a b : Text) → OneLine breaks12 a → OneLine breaks12 b → OneLine breaks12 (a ++ b)

@@ -1,6 +1,6 @@
 -- Lines that are these sections of a stream, whatever sections follow them.
-use Rattle.yaml_base.proofs.Common.{Bool, false, true, List, [], ◌++◌, ◌∷◌, refl, ◌≡◌, true≢false, append-nil, ap, ◌∙◌, and_parts, false≢true, list_all}
-use Rattle.yaml_base.proofs.Common.{start_marker, end_marker, no_exclamation, marker_of, Section, Sections, sections_of, Line}
+use Rattle.yaml_base.proofs.Common.{arith, Bool, false, true, List, [], ◌++◌, ◌∷◌, refl, ◌≡◌, true≢false, append-nil, ap, and_parts, false≢true, list_all}
+use Rattle.yaml_base.proofs.Common.{start_marker, end_marker, no_exclamation, marker_of, Section, sections_of, Line}
 use Rattle.yaml_base.specs.streams.StreamDocuments.{MarkerKind, prepend_section}
 
 -- a line is no marker
@@ -40,18 +40,4 @@ IsMark marker = is_unmarked marker ≡ false
 -- a line with a marker, and lines without one
 pub markers_one : (line : Line) (body : List Line) → IsMark (marker_of line.text) → AllUnmarked body
     → Marks (line ∷ body) (record { marker = marker_of line.text; line = line; rest = body } ∷ [])
-markers_one line body is h = record {
-  markers = λ rest none.
-      by (marker_of line.text) is (sections_of (body ++ rest))
-      ∙ ap (λ all. record { before = []; sections = record { marker = marker_of line.text; line = line; rest = all.before } ∷ all.sections })
-      (unmarked_before body rest h)
-      ∙ ap (λ b. record { before = []; sections = record { marker = marker_of line.text; line = line; rest = body ++ b } ∷ (sections_of rest).sections }) none
-      ∙ ap (λ b. record { before = []; sections = record { marker = marker_of line.text; line = line; rest = b } ∷ (sections_of rest).sections })
-      (append-nil body);
-}
-  where
-    by : (marker : MarkerKind) → is_unmarked marker ≡ false → (after : Sections)
-        → prepend_section marker line after ≡ record { before = []; sections = record { marker = marker; line = line; rest = after.before } ∷ after.sections }
-    by no_exclamation u after = absurd (true≢false u)
-    by start_marker u after = refl
-    by end_marker u after = refl
+markers_one line body is h = grind (arith, unmarked_before, append-nil, true≢false)

@@ -1,10 +1,10 @@
 -- A break more at the end of a block scalar that strips its final breaks doesn't change what it reads as.
-use Rattle.yaml_base.proofs.Common.{ℕ, if◌then◌else◌, ◌==◌, option_map, option_and_then, Option, None, Some, Bool, false, true, ◌||◌, List, [], ◌++◌, ◌∷◌}
-use Rattle.yaml_base.proofs.Common.{refl, ◌≡◌, true≢false, ap, sym, ◌∙◌, Text, is_between, line_feed, is_read_break, elements, strip, digit_first}
-use Rattle.yaml_base.proofs.Common.{after_digit, chomping_first, after_chomping, after_break, read_lines, read_block}
+use Rattle.yaml_base.proofs.Common.{arith, ℕ, if◌then◌else◌, option_map, option_and_then, Option, None, Some, Bool, false, true, List, [], ◌++◌, ◌∷◌, refl, ◌≡◌}
+use Rattle.yaml_base.proofs.Common.{true≢false, ap, ◌∙◌, Text, line_feed, is_read_break, elements, strip, digit_first, after_digit, chomping_first}
+use Rattle.yaml_base.proofs.Common.{after_chomping, after_break, read_lines, read_block}
 use Rattle.yaml_base.proofs.stream_lines.StreamCuts.{none_not_some}
 use Rattle.yaml_base.specs.reading.ReadBlock.{Element, content, line_end, prepend_to_elements, prepend_element, detected_indentation, read_indentation}
-use Rattle.yaml_base.specs.reading.ReadBlock.{element_unindented, all_unindented, has_content, kept_lines, joined, unfolded, Chomping, clip, lines_read}
+use Rattle.yaml_base.specs.reading.ReadBlock.{all_unindented, has_content, kept_lines, joined, unfolded, clip, lines_read}
 
 -- a break at the end, as text and as an element
 abbrev feed : Text
@@ -43,16 +43,7 @@ indentation_more (Some digit) (Some column) es = refl
 -- it needs none
 unindented_more : (n : ℕ) (es : List Element) → all_unindented n (es ++ last_end) ≡ option_map (λ t. t ++ last_end) (all_unindented n es)
 unindented_more n [] = refl
-unindented_more n (e ∷ rest) =
-    ap (λ others. option_and_then (λ first. option_map (λ t. first ∷ t) others) (element_unindented n e)) (unindented_more n rest)
-    ∙ by (element_unindented n e) (all_unindented n rest)
-  where
-    by : (first : Option Element) (others : Option (List Element))
-        → option_and_then (λ f. option_map (λ t. f ∷ t) (option_map (λ t. t ++ last_end) others)) first
-        ≡ option_map (λ t. t ++ last_end) (option_and_then (λ f. option_map (λ t. f ∷ t) others) first)
-    by None others = refl
-    by (Some f) None = refl
-    by (Some f) (Some t) = refl
+unindented_more n (e ∷ rest) = grind (arith, unindented_more n rest)
 
 -- it is no content, and what is kept ends before it
 content_more : (es : List Element) → has_content (es ++ last_end) ≡ has_content es
@@ -64,9 +55,7 @@ content_more (line_end b ∷ rest) = content_more rest
 kept_more : (es : List Element) → kept_lines (es ++ last_end) ≡ kept_lines es
 kept_more [] = refl
 kept_more (content text ∷ rest) = ap (λ t. content text ∷ t) (kept_more rest)
-kept_more (line_end b ∷ rest) =
-    ap (λ x. if x then line_end b ∷ kept_lines (rest ++ last_end) else []) (content_more rest)
-    ∙ ap (λ t. if has_content rest then line_end b ∷ t else []) (kept_more rest)
+kept_more (line_end b ∷ rest) = grind (arith, content_more, kept_more rest)
 
 -- and what they read as
 lines_more : (folded : Bool) (es : List Element) → lines_read folded strip (es ++ last_end) ≡ lines_read folded strip es
@@ -75,76 +64,29 @@ lines_more folded es = ap (λ t. (if folded then unfolded false t else joined t)
 -- so the lines after a header read the same
 read_more : (folded : Bool) (digit column : Option ℕ) (es : List Element)
     → read_lines folded strip digit column (es ++ last_end) ≡ read_lines folded strip digit column es
-read_more folded digit column es =
-    ap (λ n. option_map (lines_read folded strip) (all_unindented n (es ++ last_end))) (indentation_more digit column es)
-    ∙ ap (option_map (lines_read folded strip)) (unindented_more (read_indentation digit column es) es)
-    ∙ by (all_unindented (read_indentation digit column es) es)
-  where
-    by : (t : Option (List Element)) → option_map (lines_read folded strip) (option_map (λ t. t ++ last_end) t) ≡ option_map (lines_read folded strip) t
-    by None = refl
-    by (Some t) = ap Some (lines_more folded t)
+read_more folded digit column es = grind (arith, indentation_more, unindented_more, lines_more)
 
 -- no indicator clips
 clip_not_strip : clip ≡ strip → ⊥
-clip_not_strip e = true≢false (ap is_clip e)
-  where
-    is_clip : Chomping → Bool
-    is_clip clip = true
-    is_clip _ = false
+clip_not_strip e = grind (arith, true≢false)
 
 -- the header is what it was
 chomping_more : (t : Text) → chomping_first t ≡ strip → (chomping_first (t ++ feed) ≡ strip) × (after_chomping (t ++ feed) ≡ after_chomping t ++ feed)
 chomping_more [] h = absurd (clip_not_strip h)
-chomping_more (c ∷ t) h = (h, by (c == 45 || c == 43))
-  where
-    by : (x : Bool) → (if x then t ++ feed else c ∷ (t ++ feed)) ≡ (if x then t else c ∷ t) ++ feed
-    by true = refl
-    by false = refl
+chomping_more (c ∷ t) h = grind (arith)
 
 -- nor is its digit another
 digit_more : (t : Text) → chomping_first (after_digit t) ≡ strip → (after_digit (t ++ feed) ≡ after_digit t ++ feed) × (digit_first (t ++ feed) ≡ digit_first t)
 digit_more [] h = absurd (clip_not_strip h)
-digit_more (c ∷ t) h = (by (is_between 49 57 c), refl)
-  where
-    by : (x : Bool) → (if x then t ++ feed else c ∷ (t ++ feed)) ≡ (if x then t else c ∷ t) ++ feed
-    by true = refl
-    by false = refl
+digit_more (c ∷ t) h = grind (arith)
 
 -- where a break ends the header, the text after it has one more at its end
 body_more : (breaks12 : Bool) (t : Text) (f : Text → Option Text) (v : Text) → option_and_then f (after_break breaks12 t) ≡ Some v
     → ((body : Text) → f (body ++ feed) ≡ f body) → option_and_then f (after_break breaks12 (t ++ feed)) ≡ Some v
 body_more breaks12 [] f v h same = absurd (none_not_some h)
-body_more breaks12 (c ∷ t) f v h same = by (is_read_break breaks12 c) h
-  where
-    by : (x : Bool) → option_and_then f (if x then Some t else None) ≡ Some v → option_and_then f (if x then Some (t ++ feed) else None) ≡ Some v
-    by true h = same t ∙ h
-    by false h = absurd (none_not_some h)
+body_more breaks12 (c ∷ t) f v h same = grind (arith, none_not_some)
 
 -- a block scalar that strips reads the same with a break more at its end
 pub strip_more : (breaks12 : Bool) (column : Option ℕ) (symbol : ℕ) (rest v : Text) → chomping_first (after_digit rest) ≡ strip
     → read_block breaks12 column (symbol ∷ rest) ≡ Some v → read_block breaks12 column ((symbol ∷ rest) ++ (line_feed ∷ [])) ≡ Some v
-strip_more breaks12 column symbol rest v strips read = by (symbol == 124 || symbol == 62) read
-  where
-    reads : Chomping → Option ℕ → Text → Option Text
-    reads chomping digit body = read_lines (symbol == 62) chomping digit column (elements breaks12 body)
-
-    same : (body : Text) → reads strip (digit_first rest) (body ++ feed) ≡ reads strip (digit_first rest) body
-    same body =
-        ap (read_lines (symbol == 62) strip (digit_first rest) column) (elements_more breaks12 body)
-        ∙ read_more (symbol == 62) (digit_first rest) column (elements breaks12 body)
-
-    by : (x : Bool) → (if x then option_and_then (λ body. reads (chomping_first (after_digit rest)) (digit_first rest) body)
-        (after_break breaks12 (after_chomping (after_digit rest))) else None) ≡ Some v
-        → (if x then option_and_then (λ body. reads (chomping_first (after_digit (rest ++ feed))) (digit_first (rest ++ feed)) body)
-        (after_break breaks12 (after_chomping (after_digit (rest ++ feed)))) else None) ≡ Some v
-    by false h = absurd (none_not_some h)
-    by true h =
-        let digit = digit_more rest strips in
-        let chomping = chomping_more (after_digit rest) strips in
-        ap (λ d. option_and_then (λ body. reads (chomping_first (after_digit (rest ++ feed))) d body)
-        (after_break breaks12 (after_chomping (after_digit (rest ++ feed))))) digit.1
-        ∙ ap (λ t. option_and_then (λ body. reads (chomping_first t) (digit_first rest) body) (after_break breaks12 (after_chomping t))) digit.0
-        ∙ ap (λ c. option_and_then (λ body. reads c (digit_first rest) body) (after_break breaks12 (after_chomping (after_digit rest ++ feed)))) chomping.0
-        ∙ ap (λ t. option_and_then (λ body. reads strip (digit_first rest) body) (after_break breaks12 t)) chomping.1
-        ∙ body_more breaks12 (after_chomping (after_digit rest)) (λ body. reads strip (digit_first rest) body) v
-        (ap (λ c. option_and_then (λ body. reads c (digit_first rest) body) (after_break breaks12 (after_chomping (after_digit rest)))) (sym strips) ∙ h) same
+strip_more breaks12 column symbol rest v strips read = grind (arith, elements_more, read_more, none_not_some, digit_more, chomping_more, body_more)

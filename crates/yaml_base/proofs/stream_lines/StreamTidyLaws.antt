@@ -3,7 +3,7 @@ use Rattle.yaml_base.proofs.Common.{suc, zero, ℕ, ◌≤◌, ◌==◌, Option,
 use Rattle.yaml_base.proofs.Common.{◌∙◌, arith, and_parts, and_from, false≢true, list_all, Text, space, is_printable, ScalarStyle, is_read_break}
 use Rattle.yaml_base.proofs.Common.{begins_with_spaces, begins_with_blank_line, begins_with_deep_line, has_deep_lines, is_tidy_style, is_tidy, Line}
 use Rattle.yaml_base.proofs.Common.{prepend_to_first_line, prepend_character, lines_of, belongs_to_entry}
-use Rattle.yaml_base.{proofs.stream_lines.StreamInside.AllInside, specs.reading.TidyText.ends_line}
+use Rattle.yaml_base.{proofs.stream_lines.StreamInside.AllInside}
 
 -- Fewer spaces
 
@@ -17,14 +17,7 @@ spaces_fewer (suc m) (suc n) (c ∷ t) le h =
     and_from (c == space) (begins_with_spaces m t) parts.0 (spaces_fewer m n t (omega arith) parts.1)
 
 deep_line_fewer : (breaks12 : Bool) (m n : ℕ) (t : Text) → m ≤ n → begins_with_deep_line breaks12 n t ≡ true → begins_with_deep_line breaks12 m t ≡ true
-deep_line_fewer breaks12 m n t le h = by (ends_line breaks12 t) h
-  where
-    by : (x : Bool) → (x || (begins_with_spaces n t && not (begins_with_blank_line breaks12 t))) ≡ true
-        → (x || (begins_with_spaces m t && not (begins_with_blank_line breaks12 t))) ≡ true
-    by true h = refl
-    by false h =
-        let parts = and_parts (begins_with_spaces n t) (not (begins_with_blank_line breaks12 t)) h in
-        and_from (begins_with_spaces m t) (not (begins_with_blank_line breaks12 t)) (spaces_fewer m n t le parts.0) parts.1
+deep_line_fewer breaks12 m n t le h = grind (arith, and_parts, and_from, spaces_fewer)
 
 -- lines that are deep enough for a block are deep enough for one farther out
 pub deep_lines_fewer : (breaks12 : Bool) (m n : ℕ) (t : Text) → m ≤ n → has_deep_lines breaks12 n t ≡ true → has_deep_lines breaks12 m t ≡ true
@@ -71,11 +64,7 @@ after_extended c (line ∷ rest) = refl
 
 -- a space is no break
 no_break : (breaks12 : Bool) (c : ℕ) → (c == space) ≡ true → is_read_break breaks12 c ≡ false
-no_break breaks12 c e = ap (is_read_break breaks12) (eqb-true c space e) ∙ by breaks12
-  where
-    by : (x : Bool) → is_read_break x space ≡ false
-    by true = refl
-    by false = refl
+no_break breaks12 c e = grind (arith, eqb-true)
 
 -- a character that is a space begins the first line
 first_after_space : (breaks12 : Bool) (c : ℕ) (t : Text) → (c == space) ≡ true → first_text (lines_of breaks12 (c ∷ t)) ≡ c ∷ first_text (lines_of breaks12 t)
@@ -86,9 +75,7 @@ first_after_space breaks12 c t e =
 pub spaces_inside : (breaks12 : Bool) (column : ℕ) (t : Text) → begins_with_spaces (suc column) t ≡ true
     → belongs_to_entry true column (first_text (lines_of breaks12 t)) ≡ true
 spaces_inside breaks12 column [] h = absurd (false≢true h)
-spaces_inside breaks12 zero (c ∷ t) h =
-    let parts = and_parts (c == space) true h in
-    ap (belongs_to_entry true zero) (first_after_space breaks12 c t parts.0) ∙ ap (λ x. x || false) parts.0
+spaces_inside breaks12 zero (c ∷ t) h = grind (arith, and_parts, first_after_space)
 spaces_inside breaks12 (suc column) (c ∷ t) h =
     let parts = and_parts (c == space) (begins_with_spaces (suc column) t) h in
     ap (belongs_to_entry true (suc column)) (first_after_space breaks12 c t parts.0)

@@ -1,8 +1,8 @@
 -- No line of a block collection at the root is a document's marker.
-use Rattle.yaml_base.proofs.Common.{ℕ, ◌==◌, Bool, false, not, true, ◌&&◌, ◌||◌, List, [], ◌++◌, ◌∷◌, refl, ◌≡◌, eqb-true, ap, ◌∙◌, arith, and_parts}
+use Rattle.yaml_base.proofs.Common.{ℕ, Bool, false, true, List, [], ◌++◌, ◌∷◌, refl, ◌≡◌, eqb-true, ap, ◌∙◌, arith, and_parts}
 use Rattle.yaml_base.proofs.Common.{and_from, false≢true, list_all, Text, space, Rendered, TagDirective, Node, Nodes, Pairs, no_pairs, pairs_and, entry_place}
-use Rattle.yaml_base.proofs.Common.{Role, as_key, as_value, has_no_pairs, is_simple, Effective, Tree, marker_of, Line, lines_of, ends_indicator}
-use Rattle.yaml_base.proofs.Common.{begins_with_indicator, belongs_to_entry, spaces, Rules}
+use Rattle.yaml_base.proofs.Common.{Role, as_key, as_value, has_no_pairs, Effective, Tree, marker_of, Line, lines_of, ends_indicator}
+use Rattle.yaml_base.proofs.Common.{belongs_to_entry, spaces, Rules}
 use Rattle.yaml_base.proofs.stream_lines.{StreamClosed.closed, StreamClosed.indicator_cursor, StreamInside.AllInside, StreamLineLaws.OneLine}
 use Rattle.yaml_base.proofs.stream_lines.{StreamSections.is_unmarked, StreamSections.AllUnmarked}
 use Rattle.yaml_base.proofs.stream_nodes.{StreamAgrees.node_tree, StreamFits.size, StreamFits.Fits, StreamFits.indicated_lines, StreamItems.items_text}
@@ -20,11 +20,7 @@ space_unmarked (b ∷ c ∷ t) = refl
 -- nor is one that begins with a `-` and what an indicator opens
 dash_unmarked : (t : Text) → ends_indicator t ≡ true → is_unmarked (marker_of (0x2D ∷ t)) ≡ true
 dash_unmarked [] h = refl
-dash_unmarked (b ∷ t) h = ap (λ c. is_unmarked (marker_of (0x2D ∷ c ∷ t))) (eqb-true b space h) ∙ by t
-  where
-    by : (t : Text) → is_unmarked (marker_of (0x2D ∷ space ∷ t)) ≡ true
-    by [] = refl
-    by (c ∷ t) = refl
+dash_unmarked (b ∷ t) h = grind (arith, eqb-true)
 
 -- nor one that begins with `?`
 question_unmarked : (t : Text) → is_unmarked (marker_of (0x3F ∷ t)) ≡ true
@@ -41,14 +37,7 @@ colon_unmarked (b ∷ c ∷ t) = refl
 -- a line inside column 0 is no marker
 pub inside_unmarked : (s : Bool) (t : Text) → belongs_to_entry s 0 t ≡ true → is_unmarked (marker_of t) ≡ true
 inside_unmarked s [] h = refl
-inside_unmarked s (c ∷ t) h = by (c == space) refl s h
-  where
-    by : (x : Bool) → (c == space) ≡ x → (s : Bool) → x || (not s && begins_with_indicator 0x2D (c ∷ t)) ≡ true → is_unmarked (marker_of (c ∷ t)) ≡ true
-    by true e s h = ap (λ d. is_unmarked (marker_of (d ∷ t))) (eqb-true c space e) ∙ space_unmarked t
-    by false e true h = absurd (false≢true h)
-    by false e false h =
-        let parts = and_parts (c == 0x2D) (ends_indicator t) h in
-        ap (λ d. is_unmarked (marker_of (d ∷ t))) (eqb-true c 0x2D parts.0) ∙ dash_unmarked t parts.1
+inside_unmarked s (c ∷ t) h = grind (arith, eqb-true, space_unmarked, false≢true, and_parts, dash_unmarked)
 
 -- nor is any of some lines there
 pub all_unmarked : (s : Bool) (lines : List Line) → AllInside s 0 lines → AllUnmarked lines
@@ -76,11 +65,7 @@ indicated_unmarked : (rules : Rules) (n : ℕ) (own : Rendered) (tree : Tree) (r
     (fit : Fits rules n own tree (entry_place false role 0) (indicator_cursor 0))
     → OneLine rules.breaks12 (c ∷ []) → ((t : Text) → is_unmarked (marker_of (c ∷ t)) ≡ true)
     → AllUnmarked (lines_of rules.breaks12 (spaces 0 ++ (c ∷ closed own)))
-indicated_unmarked rules n own tree role c fit one none =
-    let o = fit.opens refl in
-    ap (λ ls. list_all (λ line. is_unmarked (marker_of line.text)) ls) (indicated_lines rules.breaks12 0 c (closed own) o one)
-    ∙ and_from (is_unmarked (marker_of (c ∷ o.head))) (list_all (λ line. is_unmarked (marker_of line.text)) o.rest) (none o.head)
-    (all_unmarked false o.rest (rest_inside rules n own tree role (indicator_cursor 0) 0 fit refl false 0 (omega arith)))
+indicated_unmarked rules n own tree role c fit one none = grind (arith, indicated_lines, and_from, all_unmarked, rest_inside)
 
 -- no line of a pair is one
 pair_unmarked : (x : Bool) (rules : Rules) (s : Effective) (directives : List TagDirective) (pairs : Pairs) (key value : Node)
@@ -111,7 +96,4 @@ pub pairs_unmarked : (rules : Rules) (s : Effective) (directives : List TagDirec
     → AllUnmarked (lines_of rules.breaks12 (pairs_text pairs s directives 0))
 pairs_unmarked rules s directives no_pairs fit = refl
 pairs_unmarked rules s directives (pairs_and pairs key value) fit =
-    let x = is_simple s.canonical directives key in
-    ap (λ ls. list_all (λ line. is_unmarked (marker_of line.text)) ls) (pairs_lines rules s directives pairs key value 0 fit.0)
-    ∙ unmarked_both (lines_of rules.breaks12 (pairs_text pairs s directives 0)) (lines_of rules.breaks12 (pair_text x pairs key value s directives 0))
-    (pairs_unmarked rules s directives pairs fit.0) (pair_unmarked x rules s directives pairs key value fit.1)
+    grind (arith, pairs_lines, unmarked_both, pair_unmarked, pairs_unmarked rules s directives pairs fit.0)

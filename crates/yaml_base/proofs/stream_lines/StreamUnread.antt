@@ -1,11 +1,10 @@
 -- No node is read of a line that begins with a directive's `%` or that is a document's marker: so what reads as a node is neither.
-use Rattle.yaml_base.proofs.Common.{suc, zero, ℕ, if◌then◌else◌, ◌==◌, is_some, option_map, option_and_then, Option, None, Some, codes, nat_le, length, Bool}
-use Rattle.yaml_base.proofs.Common.{false, true, ◌&&◌, ◌||◌, List, [], ◌++◌, ◌∷◌, refl, ◌≡◌, eqb-true, append_assoc, ap, sym, ◌∙◌, and_parts, false≢true}
-use Rattle.yaml_base.proofs.Common.{option_or, Text, plain, read_plain, is_tidy, stood_plain, Tree, begins_with_marker, start_marker, end_marker}
-use Rattle.yaml_base.proofs.Common.{no_exclamation, marker_of, begins_with_percent, is_alias, longest_key, Line, text_of_lines, ends_indicator, all_deeper}
-use Rattle.yaml_base.proofs.Common.{SimpleKey, without_last_space, word_but_alias, word_of_alias, key_of_text, key_ends, key_from, key_of_line, trimmed}
-use Rattle.yaml_base.proofs.Common.{word_text, kind_of_text, text_by_kind, text_read, begins_mapping, begins_text, kind_of_node, node_by_kind}
-use Rattle.yaml_base.proofs.Common.{begins_properties, text_or_properties, node_read, Rules, Properties, no_properties, scalar_parsed, word_after, word_read}
+use Rattle.yaml_base.proofs.Common.{arith, suc, zero, ℕ, if◌then◌else◌, ◌==◌, is_some, option_map, Option, None, Some, codes, length, Bool, false, true, ◌&&◌}
+use Rattle.yaml_base.proofs.Common.{◌||◌, List, [], ◌++◌, ◌∷◌, refl, ◌≡◌, eqb-true, append_assoc, ap, sym, ◌∙◌, and_parts, false≢true, option_or, Text, plain}
+use Rattle.yaml_base.proofs.Common.{read_plain, is_tidy, stood_plain, Tree, begins_with_marker, start_marker, end_marker, no_exclamation, marker_of}
+use Rattle.yaml_base.proofs.Common.{begins_with_percent, Line, ends_indicator, SimpleKey, without_last_space, key_of_text, key_ends, key_from, key_of_line}
+use Rattle.yaml_base.proofs.Common.{trimmed, word_text, kind_of_text, text_read, begins_mapping, begins_text, kind_of_node, node_by_kind, begins_properties}
+use Rattle.yaml_base.proofs.Common.{text_or_properties, node_read, Rules, Properties, no_properties, scalar_parsed, word_after, word_read}
 use Rattle.yaml_base.proofs.stream_lines.{StreamCuts.none_not_some, StreamSections.is_unmarked}
 
 -- what a document's text doesn't begin with
@@ -35,12 +34,8 @@ indicator_word : (symbol : Sign) (t : Text) (rules : Rules) (column : Option ℕ
     → word_after rules false column properties (indicator_text symbol ++ t) ≡ None
 indicator_word percent [] rules column properties =
     unsaid (is_tidy plain rules.breaks12 column (0x25 ∷ [])) properties (read_plain rules.breaks12 false (0x25 ∷ [])) refl
-indicator_word percent (a ∷ []) rules column properties =
-    unsaid (is_tidy plain rules.breaks12 column (0x25 ∷ a ∷ [])) properties (read_plain rules.breaks12 false (0x25 ∷ a ∷ []))
-    (percent_plain rules.breaks12 (a ∷ []))
-indicator_word percent (a ∷ b ∷ t) rules column properties =
-    unsaid (is_tidy plain rules.breaks12 column (0x25 ∷ a ∷ b ∷ t)) properties (read_plain rules.breaks12 false (0x25 ∷ a ∷ b ∷ t))
-    (percent_plain rules.breaks12 (a ∷ b ∷ t))
+indicator_word percent (a ∷ []) rules column properties = grind (arith, unsaid, percent_plain)
+indicator_word percent (a ∷ b ∷ t) rules column properties = grind (arith, unsaid, percent_plain)
 indicator_word dashes t rules column properties =
     unsaid (is_tidy plain rules.breaks12 column (codes "---" ++ t)) properties (read_plain rules.breaks12 false (codes "---" ++ t)) refl
 indicator_word dots t rules column properties =
@@ -58,38 +53,13 @@ space_after : (symbol : Sign) (t : Text) → without_last_space (indicator_text 
 space_after percent [] = refl
 space_after percent (c ∷ t) = refl
 space_after dashes [] = refl
-space_after dashes (c ∷ t) = by (without_last_space (c ∷ t))
-  where
-    by : (o : Option Text) → option_map (λ u. 0x2D ∷ u) (option_map (λ u. 0x2D ∷ u) (option_map (λ u. 0x2D ∷ u) o)) ≡ option_map (λ u. codes "---" ++ u) o
-    by None = refl
-    by (Some u) = refl
+space_after dashes (c ∷ t) = grind (arith)
 space_after dots [] = refl
-space_after dots (c ∷ t) = by (without_last_space (c ∷ t))
-  where
-    by : (o : Option Text) → option_map (λ u. 0x2E ∷ u) (option_map (λ u. 0x2E ∷ u) (option_map (λ u. 0x2E ∷ u) o)) ≡ option_map (λ u. codes "..." ++ u) o
-    by None = refl
-    by (Some u) = refl
+space_after dots (c ∷ t) = grind (arith)
 
 -- no such text is a key
 indicator_key : (symbol : Sign) (t : Text) (rules : Rules) → key_of_text rules (indicator_text symbol ++ t) ≡ None
-indicator_key symbol t rules = by (nat_le (length text) longest_key)
-  where
-    text : Text
-    text = indicator_text symbol ++ t
-
-    word_alone : (o : Option Tree) → o ≡ None → option_and_then (λ tree. if is_alias tree then None else Some tree) o ≡ None
-    word_alone o h = ap (option_and_then (λ tree. if is_alias tree then None else Some tree)) h
-
-    alias_alone : (o : Option Text) → option_and_then (word_of_alias rules) (option_map (λ u. indicator_text symbol ++ u) o) ≡ None
-    alias_alone None = refl
-    alias_alone (Some u) = ap (option_and_then (λ tree. if is_alias tree then Some tree else None)) (indicator_read symbol u rules)
-
-    by : (x : Bool) → (if x then option_or (word_but_alias rules text) (option_and_then (word_of_alias rules) (without_last_space text)) else None) ≡ None
-    by false = refl
-    by true =
-        ap (λ o. option_or o (option_and_then (word_of_alias rules) (without_last_space text)))
-        (word_alone (word_read rules false text) (indicator_read symbol t rules))
-        ∙ ap (option_and_then (word_of_alias rules)) (space_after symbol t) ∙ alias_alone (without_last_space t)
+indicator_key symbol t rules = grind (arith, indicator_read, space_after)
 
 -- nor does one stand before a `:` later on
 no_key_after : (symbol : Sign) (before t : Text) (rules : Rules) → key_from rules (indicator_text symbol ++ before) t ≡ None
@@ -134,19 +104,7 @@ indicator_text_kind dots t = refl
 -- no text is read of such a line
 indicator_text_read : (symbol : Sign) (t ending : Text) (rest : List Line) (rules : Rules) (column : Option ℕ) (properties : Properties)
     → text_read rules column properties (indicator_text symbol ++ t) ending rest ≡ None
-indicator_text_read symbol t ending rest rules column properties = by (all_deeper column rest)
-  where
-    more : Text
-    more = ending ++ text_of_lines rest
-
-    by : (x : Bool) → (if x then text_by_kind (kind_of_text (indicator_text symbol ++ t)) rules column properties
-        ((indicator_text symbol ++ t) ++ more) else None) ≡ None
-    by false = refl
-    by true =
-        ap (λ k. text_by_kind k rules column properties ((indicator_text symbol ++ t) ++ more)) (indicator_text_kind symbol t)
-        ∙ ap (λ u. word_after rules false column properties (trimmed rules.breaks12 u)) (append_assoc (indicator_text symbol) t more)
-        ∙ ap (word_after rules false column properties) (indicator_trimmed rules.breaks12 symbol (t ++ more))
-        ∙ indicator_word symbol (trimmed rules.breaks12 (t ++ more)) rules column properties
+indicator_text_read symbol t ending rest rules column properties = grind (arith, indicator_text_kind, append_assoc, indicator_trimmed, indicator_word)
 
 -- nor a node
 indicator_unread : (symbol : Sign) (t ending : Text) (rest : List Line) (depth : ℕ) (rules : Rules) (here : Bool) (column : Option ℕ)

@@ -1,13 +1,13 @@
 -- The trees that a layout's nodes are to be read as, and that they agree with the events.
-use Rattle.yaml_base.proofs.Common.{if◌then◌else◌, is_some, bytes_eq, Option, None, Some, Bool, false, not, true, ◌&&◌, ◌||◌, List, [], ◌∷◌, refl, ◌≡◌, ap}
-use Rattle.yaml_base.proofs.Common.{sym, ◌∙◌, and_parts, and_from, false≢true, Decides-int_eq, bytes_eq-Decides, Text, ScalarStyle, any_style, plain}
-use Rattle.yaml_base.proofs.Common.{single_quoted, double_quoted, literal, folded, Version, TagDirective, Scalar, scalar_tag, collection_tag, Node}
-use Rattle.yaml_base.proofs.Common.{alias_node, scalar_node, Nodes, sequence_node, Pairs, mapping_node, no_nodes, nodes_and, no_pairs, pairs_and, Document}
-use Rattle.yaml_base.proofs.Common.{root_place, charset_of, choice_of, is_written_in_flow, entry_place, as_item, as_key, as_value, Place, has_no_nodes}
-use Rattle.yaml_base.proofs.Common.{has_no_pairs, is_simple, is_simple_at, Effective, directives_in_force, Allowances, is_empty, allowances, Choice}
-use Rattle.yaml_base.proofs.Common.{lacks_tag_and_flags, is_plain, requested_style, quoted_style, fitting_style, fits_plain, Stood, stood_plain, stood_quoted}
-use Rattle.yaml_base.proofs.Common.{stood_bare, Tagging, with_tag, without_tag, Tree, alias_tree, scalar_tree, Trees, sequence_tree, TreePairs, mapping_tree}
-use Rattle.yaml_base.proofs.Common.{no_trees, trees_and, no_tree_pairs, tree_pairs_and, DocumentTree, document_agrees}
+use Rattle.yaml_base.proofs.Common.{arith, if◌then◌else◌, is_some, bytes_eq, Option, None, Some, Bool, false, not, true, ◌&&◌, ◌||◌, List, [], ◌∷◌, refl, ◌≡◌}
+use Rattle.yaml_base.proofs.Common.{ap, sym, ◌∙◌, and_parts, and_from, false≢true, Decides-int_eq, bytes_eq-Decides, Text, ScalarStyle, any_style, plain}
+use Rattle.yaml_base.proofs.Common.{single_quoted, double_quoted, literal, folded, Version, TagDirective, Scalar, scalar_tag, collection_tag, Node, alias_node}
+use Rattle.yaml_base.proofs.Common.{scalar_node, Nodes, sequence_node, Pairs, mapping_node, no_nodes, nodes_and, no_pairs, pairs_and, Document, root_place}
+use Rattle.yaml_base.proofs.Common.{charset_of, choice_of, is_written_in_flow, entry_place, as_item, as_key, as_value, Place, has_no_nodes, has_no_pairs}
+use Rattle.yaml_base.proofs.Common.{is_simple, is_simple_at, Effective, directives_in_force, Allowances, is_empty, allowances, Choice, lacks_tag_and_flags}
+use Rattle.yaml_base.proofs.Common.{is_plain, requested_style, quoted_style, fitting_style, fits_plain, Stood, stood_plain, stood_quoted, stood_bare, Tagging}
+use Rattle.yaml_base.proofs.Common.{with_tag, without_tag, Tree, alias_tree, scalar_tree, Trees, sequence_tree, TreePairs, mapping_tree, no_trees, trees_and}
+use Rattle.yaml_base.proofs.Common.{no_tree_pairs, tree_pairs_and, DocumentTree, document_agrees}
 use Rattle.std.specs.Ordering.{int_eq}
 use Rattle.yaml_base.specs.streams.StreamContent.{may_stand, is_same_text, tagging_agrees, tree_agrees, trees_agree, tree_pairs_agree, is_same_version}
 use Rattle.yaml_base.specs.streams.StreamContent.{are_same_directives}
@@ -85,11 +85,7 @@ same_option (Some text) = same_text text
 
 -- plain is chosen only where it fits
 quoted_not_plain : (allowed : Allowances) → is_plain (quoted_style allowed) ≡ false
-quoted_not_plain allowed = by allowed.single_quoted
-  where
-    by : (x : Bool) → is_plain (if x then single_quoted else double_quoted) ≡ false
-    by true = refl
-    by false = refl
+quoted_not_plain allowed = grind (arith)
 
 plain_fits : (allowed : Allowances) (fits block_fits : Bool) (style : ScalarStyle) → is_plain (fitting_style allowed fits block_fits style) ≡ true → fits ≡ true
 plain_fits allowed true block_fits style h = refl
@@ -106,16 +102,7 @@ plain_fits allowed false block_fits double_quoted h = absurd (false≢true h)
 stands : (content : Scalar) (style : ScalarStyle) → (is_plain style ≡ true → content.plain_implicit ≡ true)
     → not (lacks_tag_and_flags false content.plain_implicit content.quoted_implicit) ≡ true
     → may_stand content (standing_in style (not false && not content.quoted_implicit && not (is_plain style))) ≡ true
-stands content style fits flags = by (is_plain style) content.quoted_implicit content.plain_implicit refl refl (λ e. fits e) flags
-  where
-    by : (x q p : Bool) → content.quoted_implicit ≡ q → content.plain_implicit ≡ p → (x ≡ true → content.plain_implicit ≡ true)
-        → not (lacks_tag_and_flags false p q) ≡ true
-        → may_stand content (if not false && not q && not x then stood_bare else if x then stood_plain else stood_quoted) ≡ true
-    by true true p e f fits h = fits refl
-    by true false p e f fits h = fits refl
-    by false true p e f fits h = e
-    by false false true e f fits h = and_from content.plain_implicit (not content.quoted_implicit) f (ap not e)
-    by false false false e f fits h = absurd (false≢true h)
+stands content style fits flags = grind (arith, and_from, false≢true)
 
 tagging_is : (s : Effective) (place : Place) (simple : Bool) (content : Scalar) (tag : Option Text)
     → scalar_tag s.canonical content ≡ tag
@@ -202,17 +189,9 @@ same_version (Some v) = and_from (int_eq v.major v.major) (int_eq v.minor v.mino
 
 same_directives : (directives : List TagDirective) → are_same_directives directives directives ≡ true
 same_directives [] = refl
-same_directives (d ∷ rest) =
-    and_from (bytes_eq d.handle d.handle && bytes_eq d.prefix d.prefix) (are_same_directives rest rest)
-    (and_from (bytes_eq d.handle d.handle) (bytes_eq d.prefix d.prefix) (same_text d.handle) (same_text d.prefix)) (same_directives rest)
+same_directives (d ∷ rest) = grind (arith, and_from, same_text, same_directives rest)
 
 -- the tree of a document agrees with it
 pub document_tree_agrees : (s : Effective) (document : Document) → node_is_tagged s.canonical document.root ≡ true
     → document_agrees s.canonical document (document_tree s document) ≡ true
-document_tree_agrees s document h =
-    let directives = directives_in_force document.start.directives in
-    and_from (is_same_version document.start.version document.start.version && are_same_directives document.start.directives document.start.directives)
-    (tree_agrees s.canonical document.root (node_tree document.root s directives root_place))
-    (and_from (is_same_version document.start.version document.start.version) (are_same_directives document.start.directives document.start.directives)
-    (same_version document.start.version) (same_directives document.start.directives))
-    (node_agrees document.root s directives root_place h)
+document_tree_agrees s document h = grind (arith, and_from, node_tree, same_version, same_directives, node_agrees)

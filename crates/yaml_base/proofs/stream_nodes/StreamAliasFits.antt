@@ -1,40 +1,24 @@
 -- An alias that is no simple key fits where it stands in a block.
-use Rattle.yaml_base.proofs.Common.{ℕ, ◌<◌, if◌then◌else◌, ◌==◌, is_some, option_map, Option, None, Some, Bool, false, not, true, ◌&&◌, ◌||◌, List, [], ◌++◌}
-use Rattle.yaml_base.proofs.Common.{◌∷◌, refl, ◌≡◌, eqb-true, true≢false, append-nil, append_assoc, ap, subst, sym, ◌∙◌, arith, and_parts, false≢true}
-use Rattle.yaml_base.proofs.Common.{list_all, list_any, option_or, Text, line_feed, line_separator, paragraph_separator, space, tab, is_alpha, Cursor}
-use Rattle.yaml_base.proofs.Common.{TagDirective, alias_node, render_alias, Place, is_simple_at, is_read_break, Effective, is_read_white, alias_tree}
-use Rattle.yaml_base.proofs.Common.{ends_indicator, all_deeper, spaces, key_ends, key_from, prepend_to_trimmed, trimmed, begins_mapping, begins_text}
-use Rattle.yaml_base.proofs.Common.{kind_of_node, Rules, no_properties, word_after}
+use Rattle.yaml_base.proofs.Common.{ℕ, ◌<◌, if◌then◌else◌, ◌==◌, is_some, Option, None, Some, Bool, false, not, true, ◌&&◌, ◌||◌, List, [], ◌++◌, ◌∷◌, refl}
+use Rattle.yaml_base.proofs.Common.{◌≡◌, eqb-true, true≢false, append-nil, append_assoc, ap, subst, sym, ◌∙◌, arith, and_parts, false≢true, list_all, list_any}
+use Rattle.yaml_base.proofs.Common.{option_or, Text, line_feed, space, is_alpha, Cursor, TagDirective, alias_node, render_alias, Place, is_simple_at}
+use Rattle.yaml_base.proofs.Common.{is_read_break, Effective, is_read_white, alias_tree, ends_indicator, all_deeper, spaces, key_ends, key_from}
+use Rattle.yaml_base.proofs.Common.{prepend_to_trimmed, trimmed, begins_mapping, begins_text, kind_of_node, Rules, no_properties, word_after}
 use Rattle.yaml_base.proofs.{stream_lines.StreamClosed.closed, stream_lines.StreamClosed.lines_broken, stream_lines.StreamLineLaws.is_closed}
 use Rattle.yaml_base.proofs.{stream_lines.StreamLineLaws.OneLine, stream_nodes.StreamBlocks.below_ends, stream_nodes.StreamFits.Fits}
 use Rattle.yaml_base.proofs.{stream_nodes.StreamLeafFits.TextReads, stream_nodes.StreamLeafFits.text_fits, stream_nodes.StreamNodesFit.LeafFits}
 
 -- a letter of a name is none of what names don't hold
 other_letter : (c n : ℕ) → is_alpha n ≡ false → is_alpha c ≡ true → (c == n) ≡ false
-other_letter c n none h = by (c == n) refl
-  where
-    by : (x : Bool) → (c == n) ≡ x → x ≡ false
-    by true e = absurd (true≢false (sym h ∙ ap is_alpha (eqb-true c n e) ∙ none))
-    by false e = refl
+other_letter c n none h = grind (arith, true≢false, eqb-true)
 
 -- a letter breaks no line
 letter_line : (breaks12 : Bool) (c : ℕ) → is_alpha c ≡ true → is_read_break breaks12 c ≡ false
-letter_line breaks12 c h =
-    ap (λ x. x || (not breaks12 && (c == line_separator || c == paragraph_separator))) (other_letter c line_feed refl h)
-    ∙ ap (λ x. not breaks12 && (x || c == paragraph_separator)) (other_letter c line_separator refl h)
-    ∙ ap (λ x. not breaks12 && x) (other_letter c paragraph_separator refl h)
-    ∙ by breaks12
-  where
-    by : (x : Bool) → not x && false ≡ false
-    by true = refl
-    by false = refl
+letter_line breaks12 c h = grind (arith, other_letter)
 
 -- nor is it white
 letter_shows : (breaks12 : Bool) (c : ℕ) → is_alpha c ≡ true → is_read_white breaks12 c ≡ false
-letter_shows breaks12 c h =
-    ap (λ x. (x || c == tab) || is_read_break breaks12 c) (other_letter c space refl h)
-    ∙ ap (λ x. x || is_read_break breaks12 c) (other_letter c tab refl h)
-    ∙ letter_line breaks12 c h
+letter_shows breaks12 c h = grind (arith, other_letter, letter_line)
 
 -- a name is on one line
 pub name_line : (breaks12 : Bool) (name : Text) → list_all is_alpha name ≡ true → OneLine breaks12 name
@@ -77,12 +61,7 @@ star_trimmed false name h = ap (λ t. 0x2A ∷ t) (name_trimmed false name h)
 -- it reads as one
 alias_word : (rules : Rules) (column : Option ℕ) (n : ℕ) (t : Text) → list_all is_alpha (n ∷ t) ≡ true
     → word_after rules false column no_properties (0x2A ∷ n ∷ t) ≡ Some (alias_tree (n ∷ t))
-alias_word rules column n t h = by t ∙ ap (λ x. option_map alias_tree (if x then Some (n ∷ t) else None)) h
-  where
-    by : (u : Text) → word_after rules false column no_properties (0x2A ∷ n ∷ u)
-        ≡ option_map alias_tree (if list_all is_alpha (n ∷ u) then Some (n ∷ u) else None)
-    by [] = refl
-    by (c ∷ u) = refl
+alias_word rules column n t h = grind (arith)
 
 -- so does its line
 alias_read : (rules : Rules) (column : Option ℕ) (n : ℕ) (t : Text) → list_all is_alpha (n ∷ t) ≡ true
@@ -114,10 +93,7 @@ alias_reads rules column n t h = record {
 -- what is rendered for an alias, with the break after it
 alias_text : (n : ℕ) (t : Text) (cursor : Cursor) (count : ℕ) → (if true && not cursor.whitespace then space ∷ [] else []) ≡ spaces count
     → closed (render_alias (n ∷ t) false cursor) ≡ (spaces count ++ (0x2A ∷ n ∷ t)) ++ (line_feed ∷ [])
-alias_text n t cursor count h =
-    ap (λ u. u ++ (line_feed ∷ [])) (append-nil (((if true && not cursor.whitespace then space ∷ [] else []) ++ (0x2A ∷ [])) ++ (n ∷ t)))
-    ∙ ap (λ u. ((u ++ (0x2A ∷ [])) ++ (n ∷ t)) ++ (line_feed ∷ [])) h
-    ∙ ap (λ u. u ++ (line_feed ∷ [])) (append_assoc (spaces count) (0x2A ∷ []) (n ∷ t))
+alias_text n t cursor count h = grind (arith, append-nil, append_assoc)
 
 -- an alias behind some spaces fits
 named_fits : (rules : Rules) (n : ℕ) (t : Text) (place : Place) (cursor : Cursor) (count : ℕ) → list_all is_alpha (n ∷ t) ≡ true

@@ -40,9 +40,7 @@ properties_line rules (Some name) None parsed named tagged =
     one_line_both rules.breaks12 (0x26 ∷ []) name (marker_line rules.breaks12).0 (name_line rules.breaks12 name (name_letters name named))
 properties_line rules None (Some tag) (Some parsed) named tagged = shown_line rules.breaks12 tag tagged.no_white
 properties_line rules (Some name) (Some tag) (Some parsed) named tagged =
-    one_line_both rules.breaks12 (0x26 ∷ []) (name ++ (space ∷ tag)) (marker_line rules.breaks12).0
-    (one_line_both rules.breaks12 name (space ∷ tag) (name_line rules.breaks12 name (name_letters name named))
-    (one_line_both rules.breaks12 (space ∷ []) tag (marker_line rules.breaks12).1 (shown_line rules.breaks12 tag tagged.no_white)))
+    grind (arith, one_line_both, marker_line, name_line, name_letters, shown_line)
 properties_line rules None (Some tag) None named tagged = absurd tagged
 properties_line rules (Some name) (Some tag) None named tagged = absurd tagged
 
@@ -64,19 +62,7 @@ lead_line rules (Some name) (Some tag) parsed named tagged =
 pub properties_whole : (portable : Bool) (directives : List TagDirective) (anchor tag : Option Text) (cursor : Cursor) (c : ℕ) (t : Text)
     → properties_text anchor (tag_written portable directives tag false) ≡ c ∷ t
     → (render_properties portable directives anchor tag false cursor).text ≡ space_if true cursor ++ (c ∷ t)
-properties_whole portable directives anchor tag cursor c t e = by anchor tag e ∙ ap (λ u. space_if true cursor ++ u) e
-  where
-    by : (anchor tag : Option Text) → properties_text anchor (tag_written portable directives tag false) ≡ c ∷ t
-        → (render_properties portable directives anchor tag false cursor).text ≡ space_if true cursor ++ properties_text anchor
-        (tag_written portable directives tag false)
-    by None None e = cc
-    by (Some name) None e = append-nil ((space_if true cursor ++ (0x26 ∷ [])) ++ name) ∙ append_assoc (space_if true cursor) (0x26 ∷ []) name
-    by None (Some tag) e = spelling_text portable (spelling directives tag) cursor
-    by (Some name) (Some tag) e =
-        let after = (render_anchor (Some name) cursor).cursor in
-        ap (λ t. ((space_if true cursor ++ (0x26 ∷ [])) ++ name) ++ t) (spelling_text portable (spelling directives tag) after)
-        ∙ append_assoc (space_if true cursor ++ (0x26 ∷ [])) name (space ∷ spelled portable (spelling directives tag))
-        ∙ append_assoc (space_if true cursor) (0x26 ∷ []) (name ++ (space ∷ spelled portable (spelling directives tag)))
+properties_whole portable directives anchor tag cursor c t e = grind (arith, append-nil, append_assoc, spelling_text)
 
 -- after them white space has ended
 properties_ended : (portable : Bool) (directives : List TagDirective) (anchor tag : Option Text) (cursor : Cursor) (c : ℕ) (t : Text)

@@ -26,39 +26,19 @@ pub record Opened (rules : Rules) (e : ℕ) (lines : List Line) (kind : NodeKind
 
 -- more lines behind them
 pub opened_more : (rules : Rules) (e : ℕ) (lines more : List Line) (kind : NodeKind) → Opened rules e lines kind → Opened rules e (lines ++ more) kind
-opened_more rules e lines more kind o = record {
-  head = o.head;
-  tail = o.tail;
-  ending = o.ending;
-  rest = o.rest ++ more;
-  is = ap (λ t. t ++ more) o.is;
-  shows = o.shows;
-  begins = o.begins;
-}
+opened_more rules e lines more kind o = grind (arith)
 
 -- the node that such lines begin is read by its kind
 pub opened_reads : (rules : Rules) (reads : Reads) (reads_text : ReadsText) (properties : Properties) (here first : Bool) (e : ℕ) (lines : List Line)
     (kind : NodeKind) (o : Opened rules e lines kind)
     → node_at rules reads reads_text properties here first lines
     ≡ node_by_kind kind rules reads reads_text properties here first (record { column = e; text = o.head ∷ o.tail }) o.ending o.rest lines
-opened_reads rules reads reads_text properties here first e lines kind o =
-    let line : Line = record { text = spaces e ++ (o.head ∷ o.tail); ending = o.ending } in
-    let begun : Indented = record { column = e; text = o.head ∷ o.tail } in
-    ap (node_at rules reads reads_text properties here first) o.is
-    ∙ ap (λ (i : Indented). node_by_kind (kind_of_node rules i.text) rules reads reads_text properties here first i o.ending o.rest (line ∷ o.rest))
-    (indented_spaces e o.head o.tail o.shows)
-    ∙ ap (λ k. node_by_kind k rules reads reads_text properties here first begun o.ending o.rest (line ∷ o.rest)) o.begins
-    ∙ ap (node_by_kind kind rules reads reads_text properties here first begun o.ending o.rest) (sym o.is)
+opened_reads rules reads reads_text properties here first e lines kind o = grind (arith, indented_spaces)
 
 -- no line is blank there
 pub opened_shows : (rules : Rules) (e : ℕ) (lines : List Line) (kind : NodeKind) → Opened rules e lines kind → (begins_blank lines ≡ false)
     × (without_blank_lines lines ≡ lines)
-opened_shows rules e lines kind o =
-    let line : Line = record { text = spaces e ++ (o.head ∷ o.tail); ending = o.ending } in
-    let shown = not_blank e o.head o.tail o.shows in (
-      ap begins_blank o.is ∙ shown,
-      ap without_blank_lines o.is ∙ ap (λ x. if x then without_blank_lines o.rest else line ∷ o.rest) shown ∙ sym o.is,
-    )
+opened_shows rules e lines kind o = grind (arith, not_blank)
 
 -- the text of a collection's entries at a column reads as a tree of its properties, at every depth from a size on
 pub record Block (rules : Rules) (size e : ℕ) (text : Text) (make : Option Text → Option Text → Tree) : Type 0 where

@@ -1,6 +1,6 @@
 -- The central law: a node in a block fits where its leaves do, so its lines read as its tree.
-use Rattle.yaml_base.proofs.Common.{ℕ, if◌then◌else◌, is_some, option_map, option_and_then, Some, Bool, false, true, ◌||◌, List, [], ◌++◌, ◌∷◌, refl, ◌≡◌}
-use Rattle.yaml_base.proofs.Common.{true≢false, append-nil, ap, subst, sym, ◌∙◌, Text, TagDirective, Node, Nodes, Pairs, no_nodes, nodes_and, no_pairs}
+use Rattle.yaml_base.proofs.Common.{arith, ℕ, if◌then◌else◌, is_some, option_map, option_and_then, Some, Bool, false, true, ◌||◌, List, [], ◌++◌, ◌∷◌, refl}
+use Rattle.yaml_base.proofs.Common.{◌≡◌, true≢false, append-nil, ap, subst, sym, ◌∙◌, Text, TagDirective, Node, Nodes, Pairs, no_nodes, nodes_and, no_pairs}
 use Rattle.yaml_base.proofs.Common.{pairs_and, has_no_nodes, has_no_pairs, is_simple, Effective, sequence_tree, mapping_tree, lines_of, begins_with_indicator}
 use Rattle.yaml_base.proofs.Common.{spaces, key_of_line, begins_sequence, begins_mapping, begins_text, kind_of_node, node_read, Rules, collection_tag_parsed}
 use Rattle.yaml_base.{proofs.stream_lines.StreamClosed.closed, proofs.stream_lines.StreamInside.splits_alone, specs.streams.StreamLines.Entries as EntriesFound}
@@ -20,17 +20,7 @@ items_open : (rules : Rules) (s : Effective) (directives : List TagDirective) (i
     → has_no_nodes items ≡ false
     → Opened rules e (lines_of rules.breaks12 (items_text items s directives e)) begins_sequence
 items_open rules s directives no_nodes e fit h = absurd (true≢false h)
-items_open rules s directives (nodes_and no_nodes last) e fit h =
-    let o = fit.1.opens refl in
-    record {
-      head = 0x2D;
-      tail = o.head;
-      ending = o.ending;
-      rest = o.rest;
-      is = indicated_lines rules.breaks12 e 0x2D (item_text no_nodes last s directives e) o (dash_line rules.breaks12);
-      shows = refl;
-      begins = ap (λ x. if x then begins_sequence else (if is_some (key_of_line rules (0x2D ∷ o.head)) then begins_mapping else begins_text)) o.symbol;
-    }
+items_open rules s directives (nodes_and no_nodes last) e fit h = grind (arith, indicated_lines, dash_line)
 items_open rules s directives (nodes_and (nodes_and items one) last) e fit h =
     subst (λ ls. Opened rules e ls begins_sequence) (sym (items_lines rules s directives (nodes_and items one) last e fit.0))
     (opened_more rules e (lines_of rules.breaks12 (items_text (nodes_and items one) s directives e))

@@ -1,12 +1,12 @@
 -- What a node in a block is to the reader of lines, from its place and its cursor on; and the items of a sequence, where
 -- each of them is so: their lines split into one entry each, lie inside the columns around, and read as their trees.
-use Rattle.yaml_base.proofs.Common.{suc, ℕ, ◌+◌, ◌≤◌, Option, None, Some, Bool, false, true, ◌&&◌, List, [], ◌++◌, ◌∷◌, refl, ◌≡◌, true≢false, ap, Text}
+use Rattle.yaml_base.proofs.Common.{arith, suc, ℕ, ◌+◌, ◌≤◌, Option, None, Some, Bool, false, true, ◌&&◌, List, [], ◌++◌, ◌∷◌, refl, ◌≡◌, true≢false, Text}
 use Rattle.yaml_base.proofs.Common.{Cursor, Rendered, TagDirective, Node, alias_node, scalar_node, Nodes, sequence_node, Pairs, mapping_node, no_nodes}
 use Rattle.yaml_base.proofs.Common.{nodes_and, no_pairs, pairs_and, entry_place, Role, Place, is_in_mapping, Effective, Tree, Line, lines_of, ends_indicator}
 use Rattle.yaml_base.proofs.Common.{spaces, blanked, node_read, Rules}
-use Rattle.yaml_base.proofs.stream_lines.{StreamInside.AllInside, StreamLineLaws.is_closed, StreamLineLaws.OneLine, StreamTidyLaws.lines_after_first}
+use Rattle.yaml_base.proofs.{stream_lines.StreamInside.AllInside, stream_lines.StreamTidyLaws.lines_after_first, stream_nodes.StreamAgrees.node_tree}
+use Rattle.yaml_base.proofs.stream_lines.StreamLineLaws.{is_closed, OneLine}
 use Rattle.yaml_base.proofs.stream_lines.StreamClosed.{closed, Settled, spaces_line, lines_behind, closed_behind, rank}
-use Rattle.yaml_base.proofs.stream_nodes.StreamAgrees.{node_tree}
 
 -- Sizes
 
@@ -78,9 +78,5 @@ blanked_lines breaks12 k t o = lines_behind breaks12 (spaces k) t o.head o.endin
 
 -- what an indicator opens is closed where its text is
 pub indicated_ends : (breaks12 : Bool) (e c : ℕ) (t : Text) → Opens breaks12 t → is_closed breaks12 t ≡ true → is_closed breaks12 (spaces e ++ (c ∷ t)) ≡ true
-indicated_ends breaks12 e c [] o h = absurd (true≢false (ap empty o.is))
-  where
-    empty : List Line → Bool
-    empty [] = true
-    empty (line ∷ rest) = false
+indicated_ends breaks12 e c [] o h = grind (arith, true≢false)
 indicated_ends breaks12 e c (d ∷ t) o h = closed_behind breaks12 (spaces e) c (d ∷ t) h

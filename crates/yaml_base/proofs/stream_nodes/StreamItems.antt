@@ -1,14 +1,13 @@
 -- The items of a sequence in a block, where each of them fits: their lines split into one entry each, lie inside the columns
 -- around, and read as their trees.
-use Rattle.yaml_base.proofs.Common.{suc, ℕ, ◌+◌, ◌≤◌, if◌then◌else◌, fold, None, Some, Bool, false, true, ◌&&◌, List, [], ◌++◌, ◌∷◌, refl, ◌≡◌, true≢false}
+use Rattle.yaml_base.proofs.Common.{suc, ℕ, ◌+◌, ◌≤◌, if◌then◌else◌, fold, None, Some, Bool, false, true, List, [], ◌++◌, ◌∷◌, refl, ◌≡◌, true≢false}
 use Rattle.yaml_base.proofs.Common.{append_assoc, ap, subst, sym, ◌∙◌, arith, and_from, list_all, Text, Cursor, Rendered, new_line, TagDirective, Node, Nodes}
 use Rattle.yaml_base.proofs.Common.{no_nodes, nodes_and, entry_place, as_item, Place, has_no_nodes, Effective, no_trees, Line, lines_of, belongs_to_entry}
 use Rattle.yaml_base.proofs.Common.{spaces, blanked, node_read, Rules}
-use Rattle.yaml_base.proofs.{stream_lines.StreamTidyLaws.lines_after_first, stream_nodes.StreamTexts.node_own, stream_nodes.StreamTexts.items_own}
+use Rattle.yaml_base.proofs.stream_nodes.{StreamAgrees.node_tree, StreamAgrees.nodes_tree, StreamTexts.node_own, StreamTexts.items_own}
 use Rattle.yaml_base.proofs.stream_lines.StreamClosed.{closing, closed, Settled, new_line_closes, indicator_cursor, closed_both, rank, dash_inside, inside_both}
 use Rattle.yaml_base.proofs.stream_lines.StreamInside.{outside, past_spaces, AllInside, Splits, splits_none, splits_both, splits_one}
 use Rattle.yaml_base.proofs.stream_lines.StreamLineLaws.{is_closed, OneLine, lines_after_break}
-use Rattle.yaml_base.proofs.stream_nodes.StreamAgrees.{node_tree, nodes_tree}
 use Rattle.yaml_base.proofs.stream_nodes.StreamFits.{size, items_size, Fits, tree_anywhere, indicated_lines, blanked_lines, indicated_ends}
 use Rattle.yaml_base.specs.streams.StreamNodes.{item_by_indicator, item_read, with_item}
 
@@ -50,18 +49,13 @@ items_settled rules s directives (nodes_and items last) e cursor fit h = fit.1.s
 pub items_end : (rules : Rules) (s : Effective) (directives : List TagDirective) (items : Nodes) (e : ℕ) → ItemsFit rules s directives items e
     → is_closed rules.breaks12 (items_text items s directives e) ≡ true
 items_end rules s directives no_nodes e fit = refl
-items_end rules s directives (nodes_and items last) e fit =
-    closed_both rules.breaks12 (items_text items s directives e) (spaces e ++ (0x2D ∷ item_text items last s directives e))
-    (items_end rules s directives items e fit.0)
-    (indicated_ends rules.breaks12 e 0x2D (item_text items last s directives e) (fit.1.opens refl) fit.1.ends)
+items_end rules s directives (nodes_and items last) e fit = grind (arith, closed_both, indicated_ends, items_end rules s directives items e fit.0)
 
 -- the lines of items, and of one more
 pub items_lines : (rules : Rules) (s : Effective) (directives : List TagDirective) (items : Nodes) (last : Node) (e : ℕ) → ItemsFit rules s directives items e
     → lines_of rules.breaks12 (items_text (nodes_and items last) s directives e)
     ≡ lines_of rules.breaks12 (items_text items s directives e) ++ lines_of rules.breaks12 (spaces e ++ (0x2D ∷ item_text items last s directives e))
-items_lines rules s directives items last e fit =
-    lines_after_break rules.breaks12 (items_text items s directives e) (spaces e ++ (0x2D ∷ item_text items last s directives e))
-    (items_end rules s directives items e fit)
+items_lines rules s directives items last e fit = grind (arith, lines_after_break, items_end)
 
 -- a `-` breaks no line
 pub dash_line : (breaks12 : Bool) → OneLine breaks12 (0x2D ∷ [])
@@ -78,13 +72,7 @@ ItemFits rules s directives items last e =
 item_inside : (rules : Rules) (s : Effective) (directives : List TagDirective) (items : Nodes) (last : Node) (e : ℕ)
     (fit : ItemFits rules s directives items last e)
     (q : Bool) (d : ℕ) → d ≤ e → AllInside q d (fit.opens refl).rest
-item_inside rules s directives items last e fit q d h =
-    ap (λ ls. list_all (λ line. belongs_to_entry q d line.text) (lines_after_first ls)) (sym (fit.opens refl).is)
-    ∙ fit.inside q d (no_rank q)
-  where
-    no_rank : (q : Bool) → d + rank (q && false) ≤ e
-    no_rank true = omega arith
-    no_rank false = omega arith
+item_inside rules s directives items last e fit q d h = grind (arith)
 
 -- an item's lines are one entry
 item_splits : (rules : Rules) (s : Effective) (directives : List TagDirective) (items : Nodes) (last : Node) (e : ℕ) → ItemFits rules s directives items last e
@@ -101,10 +89,7 @@ pub items_split : (rules : Rules) (s : Effective) (directives : List TagDirectiv
     → Splits true e (lines_of rules.breaks12 (items_text items s directives e)) (item_entries rules.breaks12 items s directives e)
 items_split rules s directives no_nodes e fit = splits_none true e
 items_split rules s directives (nodes_and items last) e fit =
-    let one = lines_of rules.breaks12 (spaces e ++ (0x2D ∷ item_text items last s directives e)) in
-    subst (λ ls. Splits true e ls (item_entries rules.breaks12 items s directives e ++ one ∷ [])) (sym (items_lines rules s directives items last e fit.0))
-    (splits_both true e (lines_of rules.breaks12 (items_text items s directives e)) one (item_entries rules.breaks12 items s directives e) (one ∷ [])
-    (items_split rules s directives items e fit.0) (item_splits rules s directives items last e fit.1))
+    grind (arith, items_lines, splits_both, item_splits, items_split rules s directives items e fit.0)
 
 -- all lines of a sequence are inside a column of a mapping, and deeper than one of a sequence
 pub items_inside : (rules : Rules) (s : Effective) (directives : List TagDirective) (items : Nodes) (e : ℕ) → ItemsFit rules s directives items e

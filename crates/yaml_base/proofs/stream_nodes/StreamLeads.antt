@@ -1,7 +1,7 @@
 -- The text of a node's anchor and tag as the layout puts it: a space where one is needed, and then each with a space after it.
-use Rattle.yaml_base.proofs.Common.{ℕ, if◌then◌else◌, Option, None, Some, codes, Bool, false, not, true, ◌&&◌, List, [], ◌++◌, ◌∷◌, refl, ◌≡◌, append-nil}
-use Rattle.yaml_base.proofs.Common.{append_assoc, ap, sym, ◌∙◌, Text, space, Cursor, Rendered, space_if, TagDirective, render_anchor, render_properties}
-use Rattle.yaml_base.proofs.Common.{percent_escaped, suffix_escaped, Spelling, shorthand, verbatim, spelling, spelled, spaces}
+use Rattle.yaml_base.proofs.Common.{arith, ℕ, if◌then◌else◌, Option, None, Some, Bool, false, not, true, ◌&&◌, List, [], ◌++◌, ◌∷◌, refl, ◌≡◌, append-nil}
+use Rattle.yaml_base.proofs.Common.{append_assoc, ap, sym, Text, space, Cursor, Rendered, space_if, TagDirective, render_properties, suffix_escaped, Spelling}
+use Rattle.yaml_base.proofs.Common.{shorthand, verbatim, spelled, spaces}
 use Rattle.yaml_base.{proofs.stream_flow.StreamPropertyWords.lead, specs.Layout.render_spelling}
 use Rattle.yaml_base.proofs.stream_nodes.StreamProperties.{IsTagged, properties_text, has_properties}
 use Rattle.yaml_base.proofs.stream_nodes.StreamStands.{tag_written, tag_meant, TagStands}
@@ -14,9 +14,7 @@ pub record EndedCollection (cursor : Cursor) : Type 0 where
 -- a tag as it is rendered, after a space where one is needed
 pub spelling_text : (portable : Bool) (s : Spelling) (cursor : Cursor) → (render_spelling portable s cursor).text ≡ space_if true cursor ++ spelled portable s
 spelling_text portable (shorthand handle suffix) cursor = append_assoc (space_if true cursor) handle (suffix_escaped portable suffix)
-spelling_text portable (verbatim tag) cursor =
-    append_assoc (space_if true cursor ++ codes "!<") (percent_escaped tag) (codes ">")
-    ∙ append_assoc (space_if true cursor) (codes "!<") (percent_escaped tag ++ codes ">")
+spelling_text portable (verbatim tag) cursor = grind (arith, append_assoc)
 
 pub spelling_ended : (portable : Bool) (s : Spelling) (cursor : Cursor) → EndedCollection (render_spelling portable s cursor).cursor
 spelling_ended portable (shorthand handle suffix) cursor = record { white = refl; indention = refl }
@@ -32,27 +30,10 @@ pub lead_rendered : (portable : Bool) (directives : List TagDirective) (anchor t
     ≡ space_if true cursor ++ lead anchor (tag_written portable directives tag bare)
 lead_rendered portable directives None None false cursor = sym (append-nil (space_if true cursor))
 lead_rendered portable directives None None true cursor = append_assoc (space_if true cursor) (0x21 ∷ []) (space ∷ [])
-lead_rendered portable directives None (Some tag) bare cursor =
-    ap (λ t. t ++ space_if true (render_spelling portable (spelling directives tag) cursor).cursor) (spelling_text portable (spelling directives tag) cursor)
-    ∙ ap (λ t. (space_if true cursor ++ spelled portable (spelling directives tag)) ++ t)
-    (space_after_text (render_spelling portable (spelling directives tag) cursor).cursor (spelling_ended portable (spelling directives tag) cursor))
-    ∙ append_assoc (space_if true cursor) (spelled portable (spelling directives tag)) (space ∷ [])
-lead_rendered portable directives (Some name) None false cursor =
-    ap (λ t. t ++ (space ∷ [])) (append-nil ((space_if true cursor ++ (0x26 ∷ [])) ++ name) ∙ append_assoc (space_if true cursor) (0x26 ∷ []) name)
-    ∙ append_assoc (space_if true cursor) (0x26 ∷ name) (space ∷ [])
-lead_rendered portable directives (Some name) None true cursor =
-    ap (λ t. (t ++ (space ∷ 0x21 ∷ [])) ++ (space ∷ [])) (append_assoc (space_if true cursor) (0x26 ∷ []) name)
-    ∙ ap (λ t. t ++ (space ∷ [])) (append_assoc (space_if true cursor) (0x26 ∷ name) (space ∷ 0x21 ∷ []))
-    ∙ append_assoc (space_if true cursor) ((0x26 ∷ name) ++ (space ∷ 0x21 ∷ [])) (space ∷ [])
-lead_rendered portable directives (Some name) (Some tag) bare cursor =
-    let after = (render_anchor (Some name) cursor).cursor in
-    ap (λ t. (((space_if true cursor ++ (0x26 ∷ [])) ++ name) ++ t) ++ space_if true (render_spelling portable (spelling directives tag) after).cursor)
-    (spelling_text portable (spelling directives tag) after)
-    ∙ ap (λ t. (((space_if true cursor ++ (0x26 ∷ [])) ++ name) ++ (space ∷ spelled portable (spelling directives tag))) ++ t)
-    (space_after_text (render_spelling portable (spelling directives tag) after).cursor (spelling_ended portable (spelling directives tag) after))
-    ∙ ap (λ t. (t ++ (space ∷ spelled portable (spelling directives tag))) ++ (space ∷ [])) (append_assoc (space_if true cursor) (0x26 ∷ []) name)
-    ∙ ap (λ t. t ++ (space ∷ [])) (append_assoc (space_if true cursor) (0x26 ∷ name) (space ∷ spelled portable (spelling directives tag)))
-    ∙ append_assoc (space_if true cursor) ((0x26 ∷ name) ++ (space ∷ spelled portable (spelling directives tag))) (space ∷ [])
+lead_rendered portable directives None (Some tag) bare cursor = grind (arith, spelling_text, space_after_text, spelling_ended, append_assoc)
+lead_rendered portable directives (Some name) None false cursor = grind (arith, append-nil, append_assoc)
+lead_rendered portable directives (Some name) None true cursor = grind (arith, append_assoc)
+lead_rendered portable directives (Some name) (Some tag) bare cursor = grind (arith, spelling_text, space_after_text, spelling_ended, append_assoc)
 
 -- what follows them, after one space if they are there
 abbrev pub lead_spaces : Option Text → Option Text → ℕ

@@ -1,13 +1,13 @@
 -- The parts of a node in a block are read, where its names and bodies stand: what is asked of scalars and of flow collections
 -- by themselves, and from it what the central law asks of the whole tree.
-use Rattle.yaml_base.proofs.Common.{ℕ, Option, None, Some, Bool, false, true, ◌&&◌, ◌||◌, List, [], ◌∷◌, refl, ◌≡◌, sym, ◌∙◌, or_parts, false≢true, Text}
+use Rattle.yaml_base.proofs.Common.{arith, ℕ, Option, None, Some, Bool, false, true, ◌&&◌, ◌||◌, List, [], ◌∷◌, refl, ◌≡◌, sym, ◌∙◌, or_parts, false≢true, Text}
 use Rattle.yaml_base.proofs.Common.{Cursor, Rendered, TagDirective, Scalar, Collection, Node, alias_node, scalar_node, Nodes, sequence_node, Pairs}
 use Rattle.yaml_base.proofs.Common.{mapping_node, no_nodes, nodes_and, no_pairs, pairs_and, asks_flow, is_written_in_flow, Role, as_item, as_key, as_value}
 use Rattle.yaml_base.proofs.Common.{Place, is_key, is_undented, entries_column, has_no_nodes, has_no_pairs, is_simple, render_place, Effective, name_read}
-use Rattle.yaml_base.proofs.{stream_flow.StreamFlowScalars.rules_of, stream_lines.StreamClosed.indicator_cursor, stream_lines.StreamClosed.margin_cursor}
-use Rattle.yaml_base.proofs.{stream_lines.StreamCuts.none_not_some, stream_nodes.StreamAgrees.node_tree, stream_nodes.StreamAliasFits.alias_fits}
-use Rattle.yaml_base.proofs.{stream_nodes.StreamBegun.begun_reads, stream_nodes.StreamPairReads.colon_ends, stream_nodes.StreamProperties.name_letters}
-use Rattle.yaml_base.proofs.{stream_nodes.StreamTexts.node_own, stream_nodes.StreamTexts.pairs_own}
+use Rattle.yaml_base.proofs.{stream_flow.StreamFlowScalars.rules_of, stream_lines.StreamCuts.none_not_some, stream_nodes.StreamAgrees.node_tree}
+use Rattle.yaml_base.proofs.{stream_nodes.StreamAliasFits.alias_fits, stream_nodes.StreamBegun.begun_reads, stream_nodes.StreamPairReads.colon_ends}
+use Rattle.yaml_base.proofs.{stream_nodes.StreamProperties.name_letters, stream_nodes.StreamTexts.node_own, stream_nodes.StreamTexts.pairs_own}
+use Rattle.yaml_base.proofs.stream_lines.StreamClosed.{indicator_cursor, margin_cursor}
 use Rattle.yaml_base.proofs.stream_nodes.StreamNodesFit.{EitherType, LeafFits, render_begun, BegunReads, Leaves, ItemLeaves, PairLeaves, Stands}
 use Rattle.yaml_base.proofs.stream_nodes.StreamPairs.{KeyFits, key_place, value_place, colon_cursor, simple_key}
 use Rattle.yaml_base.proofs.stream_nodes.StreamStands.{NamesStand, AllNamesStand, PairsNamesStand, BodyStands, body_from, BodiesHold, ItemsHold, PairsHold}
@@ -83,11 +83,7 @@ pair_leaves : (s : Effective) (own directives : List TagDirective) (keys : Simpl
     × Leaves value (rules_of s own) s directives (value_place true e) (colon_cursor (simple_key pairs key s directives e).cursor))
     (Leaves key (rules_of s own) s directives (key_place pairs e) (indicator_cursor e)
     × Leaves value (rules_of s own) s directives (value_place false e) (indicator_cursor e))
-pair_leaves s own directives keys pairs key value e before names true h bodies of_key of_value =
-    let after = (simple_key pairs key s directives e).cursor in (
-      keys key pairs e h names bodies.0,
-      of_value true (colon_cursor after) (refl, λ i. absurd (false≢true (sym (colon_ends after) ∙ i))) bodies.1,
-    )
+pair_leaves s own directives keys pairs key value e before names true h bodies of_key of_value = grind (arith, false≢true, colon_ends)
 pair_leaves s own directives keys pairs key value e before names false h bodies of_key of_value =
     (of_key h bodies.0, of_value false (indicator_cursor e) (refl, λ i. refl) bodies.1)
 

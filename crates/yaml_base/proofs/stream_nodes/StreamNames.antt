@@ -1,15 +1,15 @@
 -- The names and tags of an accepted list read as they were given, in each of its documents.
-use Rattle.yaml_base.proofs.Common.{if◌then◌else◌, unwrap_or, option_map, option_and_then, Option, None, Some, Bool, false, not, true, ◌&&◌, ◌||◌, List, []}
-use Rattle.yaml_base.proofs.Common.{◌++◌, ◌∷◌, refl, ◌≡◌, ap, sym, ◌∙◌, and_parts, and_from, false≢true, list_all, list_any, option_or, all_scalars, Text}
-use Rattle.yaml_base.proofs.Common.{is_alpha, TagDirective, Event, stream_start, stream_end, document_start, document_end, alias, scalar, sequence_start}
-use Rattle.yaml_base.proofs.Common.{sequence_end, mapping_start, mapping_end, scalar_tag, collection_tag, Node, alias_node, scalar_node, Nodes, sequence_node}
-use Rattle.yaml_base.proofs.Common.{Pairs, mapping_node, no_nodes, nodes_and, no_pairs, pairs_and, Document, Stream, node_events, nodes_events, pairs_events}
-use Rattle.yaml_base.proofs.Common.{document_events, documents_events, stream_events, tree_of, directive_scalars, has_scalar_texts, name_or_tag_fault}
-use Rattle.yaml_base.proofs.Common.{content_fault, is_sound, IsAccepted, Settings, loses_document, document_has_flow_indicator, are_portable, reads_alike}
-use Rattle.yaml_base.proofs.Common.{name_fault, anchor_fault, tag_fault, version_fault, directives_fault, directives_in_force, documents_in_order, name_read}
-use Rattle.yaml_base.{proofs.NoFaults.neither, proofs.NoFaults.is_none_none, proofs.Trees.tree_of-stream_events, proofs.stream_nodes.StreamProperties.IsNamed}
-use Rattle.yaml_base.{proofs.stream_nodes.StreamTags.written_tag, specs.Meaning.option_scalars, specs.Refusal.properties_fault}
-use Rattle.yaml_base.{specs.declared.errors.yaml_error_t.yaml_error_t}
+use Rattle.yaml_base.proofs.Common.{arith, if◌then◌else◌, option_and_then, Option, None, Some, Bool, false, not, true, ◌&&◌, ◌||◌, List, [], ◌++◌, ◌∷◌, refl}
+use Rattle.yaml_base.proofs.Common.{◌≡◌, ap, sym, ◌∙◌, and_parts, and_from, false≢true, list_all, list_any, all_scalars, Text, TagDirective, Event}
+use Rattle.yaml_base.proofs.Common.{stream_start, stream_end, alias, scalar, sequence_start, sequence_end, mapping_start, mapping_end, scalar_tag}
+use Rattle.yaml_base.proofs.Common.{collection_tag, Node, alias_node, scalar_node, Nodes, sequence_node, Pairs, mapping_node, no_nodes, nodes_and, no_pairs}
+use Rattle.yaml_base.proofs.Common.{pairs_and, Document, Stream, node_events, nodes_events, pairs_events, document_events, documents_events, stream_events}
+use Rattle.yaml_base.proofs.Common.{tree_of, directive_scalars, has_scalar_texts, name_or_tag_fault, content_fault, is_sound, IsAccepted, Settings}
+use Rattle.yaml_base.proofs.Common.{loses_document, document_has_flow_indicator, reads_alike, name_fault, anchor_fault, tag_fault, version_fault}
+use Rattle.yaml_base.proofs.Common.{directives_fault, directives_in_force, documents_in_order, name_read}
+use Rattle.yaml_base.{proofs.Trees.tree_of-stream_events, proofs.stream_nodes.StreamProperties.IsNamed, proofs.stream_nodes.StreamTags.written_tag}
+use Rattle.yaml_base.{specs.Meaning.option_scalars, specs.Refusal.properties_fault, specs.declared.errors.yaml_error_t.yaml_error_t}
+use Rattle.yaml_base.proofs.NoFaults.{neither, is_none_none}
 use Rattle.yaml_base.proofs.stream_documents.StreamEachDocument.{AllDocuments, all_of_both, each_document, documents_given}
 use Rattle.yaml_base.proofs.stream_nodes.StreamStands.{TagStands, NamesStand, AllNamesStand, PairsNamesStand}
 use Rattle.yaml_base.specs.StreamLaw.{tag_has_flow_indicator, node_has_flow_indicator, nodes_have_flow_indicator, pairs_have_flow_indicator}
@@ -34,24 +34,14 @@ all_good canonical (event ∷ rest) h k =
 -- no fault of such an event is returned
 pub no_faults : (canonical : Bool) (event : Event) → is_good canonical event ≡ true
     → (name_or_tag_fault canonical event ≡ None) × (content_fault canonical event ≡ None) × (has_scalar_texts event ≡ true)
-no_faults canonical event h =
-    let parts = and_parts (is_sound canonical event) (has_scalar_texts event) h in
-    let names = name_or_tag_fault canonical event in
-    let content = content_fault canonical event in
-    let none = neither names content (is_none_none (option_or names content) parts.0) in
-    (none.0, none.1, parts.1)
+no_faults canonical event h = grind (arith, and_parts, neither, is_none_none)
 
 -- Names
 
 -- a name without a fault is read as it is
 name_reads : (if_empty if_other : yaml_error_t) (name : Text) → name_fault if_empty if_other name ≡ None → name_read name ≡ Some name
 name_reads if_empty if_other [] h = absurd (cc)
-name_reads if_empty if_other (c ∷ rest) h = by (list_all is_alpha (c ∷ rest)) h
-  where
-    by : (x : Bool) → ◌≡◌ {A = Option yaml_error_t} (if x then None else Some if_other) None
-        → ◌≡◌ {A = Option Text} (if x then Some (c ∷ rest) else None) (Some (c ∷ rest))
-    by true h = refl
-    by false h = absurd (cc)
+name_reads if_empty if_other (c ∷ rest) h = grind (arith)
 
 -- so is an anchor
 anchor_named : (anchor tag : Option Text) → properties_fault anchor tag ≡ None → IsNamed anchor
@@ -152,18 +142,7 @@ pub record IsSoundDocument (portable canonical : Bool) (document : Document) : T
 -- a document of such events is sound, in portable mode or where no tag has a flow indicator
 document_is_sound : (portable canonical : Bool) (document : Document) → list_all (is_good canonical) (document_events document) ≡ true
     → (portable || not (document_has_flow_indicator canonical document)) ≡ true → IsSoundDocument portable canonical document
-document_is_sound portable canonical document good allowed =
-    let rest : List Event = node_events document.root ++ document_end document.end_implicit ∷ [] in
-    let parts = and_parts (is_good canonical (document_start document.start)) (list_all (is_good canonical) rest) good in
-    let facts = no_faults canonical (document_start document.start) parts.0 in
-    let none = neither (option_and_then version_fault document.start.version) (directives_fault document.start.directives) facts.1 in
-    let root = all_of_both (is_good canonical) (node_events document.root) (document_end document.end_implicit ∷ []) parts.1 in
-    record {
-      version = none.0;
-      directives = none.1;
-      prefixes = facts.2;
-      names = names_stand portable canonical document.start.directives none.1 document.root root.0 allowed;
-    }
+document_is_sound portable canonical document good allowed = grind (arith, and_parts, no_faults, neither, all_of_both, names_stand)
 
 -- portable mode, or no tag of any document has such an indicator
 all_allowed : (portable canonical : Bool) (documents : List Document) → (portable || not (list_any (document_has_flow_indicator canonical) documents)) ≡ true
@@ -178,19 +157,7 @@ pub accepted_allowed : (portable canonical : Bool) (events : List Event) (stream
     → reads_alike portable canonical events ≡ true
     → ((portable || not (loses_document canonical (documents_in_order stream.documents))) ≡ true)
     × ((portable || not (list_any (document_has_flow_indicator canonical) (documents_in_order stream.documents))) ≡ true)
-accepted_allowed portable canonical events stream tree h =
-    by portable (sym (ap (λ (t : Option Stream). portable || unwrap_or (option_map tells t) false) tree) ∙ h)
-  where
-    documents : List Document
-    documents = documents_in_order stream.documents
-
-    tells : Stream → Bool
-    tells stream = are_portable canonical (documents_in_order stream.documents)
-
-    by : (x : Bool) → (x || are_portable canonical documents) ≡ true
-        → ((x || not (loses_document canonical documents)) ≡ true) × ((x || not (list_any (document_has_flow_indicator canonical) documents)) ≡ true)
-    by true h = (refl, refl)
-    by false h = and_parts (not (loses_document canonical documents)) (not (list_any (document_has_flow_indicator canonical) documents)) h
+accepted_allowed portable canonical events stream tree h = grind (arith, and_parts)
 
 -- so is each document of an accepted list
 pub accepted_names_stand : (given : Settings) (events : List Event) (stream : Stream) → IsAccepted given.canonical events

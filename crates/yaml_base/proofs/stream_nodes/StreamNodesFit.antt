@@ -1,9 +1,9 @@
 -- The central law: a node in a block fits where its leaves, its simple keys and the properties of its collections do.
 use Rattle.yaml_base.proofs.Common.{suc, zero, ℕ, ◌+◌, ◌-◌, ◌<◌, ◌≤◌, if◌then◌else◌, ◌==◌, Option, None, Some, nat_lt, Bool, false, not, true, ◌&&◌, ◌||◌}
-use Rattle.yaml_base.proofs.Common.{List, [], ◌++◌, ◌∷◌, refl, ◌≡◌, eqb-true, le-ltb, true≢false, ap, subst, sym, ◌∙◌, arith, or_parts, false≢true, Text}
+use Rattle.yaml_base.proofs.Common.{List, ◌∷◌, refl, ◌≡◌, eqb-true, le-ltb, true≢false, ap, subst, sym, ◌∙◌, arith, or_parts, false≢true, Text}
 use Rattle.yaml_base.proofs.Common.{line_feed, Cursor, Rendered, TagDirective, Collection, collection_tag, Node, alias_node, scalar_node, Nodes}
 use Rattle.yaml_base.proofs.Common.{sequence_node, Pairs, mapping_node, no_nodes, nodes_and, no_pairs, pairs_and, render_properties, asks_flow}
-use Rattle.yaml_base.proofs.Common.{is_written_in_flow, square, curly, Role, Place, is_in_mapping, is_undented, entries_column, has_no_nodes, has_no_pairs}
+use Rattle.yaml_base.proofs.Common.{is_written_in_flow, square, curly, Role, Place, is_undented, entries_column, has_no_nodes, has_no_pairs}
 use Rattle.yaml_base.proofs.Common.{is_simple, Effective, Tree, sequence_tree, mapping_tree, spaces, Rules}
 use Rattle.yaml_base.proofs.stream_lines.StreamClosed.{Settled, new_line_closes, indicator_cursor, rank}
 use Rattle.yaml_base.proofs.stream_nodes.{StreamAgrees.node_tree, StreamAgrees.nodes_tree, StreamAgrees.pairs_tree, StreamCentral.items_block}
@@ -76,11 +76,7 @@ Stands (Some c) cursor = (cursor.whitespace ≡ false) × (cursor.indention ≡ 
 
 -- a number is none that is less
 less_not : (a b : ℕ) → a < b → (a == b) ≡ false
-less_not a b h = by (a == b) refl
-  where
-    by : (x : Bool) → (a == b) ≡ x → x ≡ false
-    by true e = let same = eqb-true a b e in absurd (omega arith)
-    by false e = refl
+less_not a b h = grind (arith, eqb-true)
 
 -- behind an indicator a new line one indent further in is spaces
 compact_behind : (c k : ℕ) (cursor : Cursor) → 1 ≤ k → cursor.column ≡ c + 1 → cursor.indention ≡ true → Compact (c + suc k) cursor
@@ -103,75 +99,40 @@ compact_behind c k cursor deep at h =
 
 -- where the root begins it is nothing
 compact_root : (cursor : Cursor) → Settled cursor → cursor.indention ≡ true → Compact 0 cursor
-compact_root cursor settled h =
-    let at = (settled h).0 in
-    record {
-      count = 0;
-      sum = omega arith;
-      text = new_line_closes 0 cursor settled ∙ ap (λ x. (if x then [] else line_feed ∷ []) ++ []) h;
-      some = λ w. absurd (true≢false (sym (settled h).1 ∙ w));
-    }
+compact_root cursor settled h = grind (arith, new_line_closes, true≢false)
 
 -- the column of a collection's entries where indentation goes on
 compact_at : (column : Option ℕ) (undented : Bool) (indent : ℕ) (cursor : Cursor) → 2 ≤ indent → Stands column cursor → cursor.indention ≡ true
     → Compact (entries_column false undented indent column cursor) cursor
 compact_at None undented indent cursor deep stands h = compact_root cursor stands h
 compact_at (Some c) undented zero cursor deep stands h = absurd (omega arith)
-compact_at (Some c) undented (suc k) cursor deep stands h =
-    subst (λ e. Compact e cursor) (sym (ap (λ x. if undented && not x then c else c + suc k) h ∙ ap (λ x. if x then c else c + suc k) (and_no undented)))
-    (compact_behind c k cursor (omega arith) (stands.1 h) h)
-  where
-    and_no : (x : Bool) → x && false ≡ false
-    and_no true = refl
-    and_no false = refl
+compact_at (Some c) undented (suc k) cursor deep stands h = grind (arith, compact_behind)
 
 -- behind properties or without them
 compact_begun : (rules : Rules) (anchor tag : Option Text) (column : Option ℕ) (undented : Bool) (indent : ℕ) (cursor : Cursor) (begun : Rendered) → 2 ≤ indent
     → Stands column cursor
     → BegunKind rules anchor tag cursor begun → begun.cursor.indention ≡ true → Compact (entries_column false undented indent column begun.cursor) begun.cursor
 compact_begun rules anchor tag column undented indent cursor begun deep stands (is_parsed is) h = absurd (false≢true (sym is.ends ∙ h))
-compact_begun rules anchor tag column undented indent cursor begun deep stands (unsaid no_anchor no_tag nothing) h =
-    subst (λ (b : Rendered). Compact (entries_column false undented indent column b.cursor) b.cursor) (sym nothing)
-    (compact_at column undented indent cursor deep stands (ap (λ (b : Rendered). b.cursor.indention) (sym nothing) ∙ h))
+compact_begun rules anchor tag column undented indent cursor begun deep stands (unsaid no_anchor no_tag nothing) h = grind (arith, compact_at)
 
 -- the items of a sequence in a block stand within the columns around
 items_within : (s : Effective) (q : Bool) (d : ℕ) (role : Role) (column : Option ℕ) (cursor : Cursor) → 2 ≤ s.indent → WithinColumn q d role column
     → d + rank q ≤ entries_column false (is_undented s role) s.indent column cursor
 items_within s q d role None cursor deep within = absurd within
-items_within s q d role (Some c) cursor deep within = by s.indent deep q (is_in_mapping role) (not s.indented_sequences) (not cursor.indention) within
-  where
-    by : (indent : ℕ) → 2 ≤ indent → (q m u x : Bool) → d + rank (q && m) ≤ c → d + rank q ≤ (if (m && u) && x then c else c + indent)
-    by indent deep true true true true h = h
-    by indent deep true true true false h = omega arith
-    by indent deep true true false x h = omega arith
-    by indent deep true false u x h = omega arith
-    by indent deep false true true true h = h
-    by indent deep false true true false h = omega arith
-    by indent deep false true false x h = omega arith
-    by indent deep false false u x h = omega arith
+items_within s q d role (Some c) cursor deep within = grind (arith)
 
 -- the pairs of a mapping in a block stand deeper than the columns around
 pairs_within : (q : Bool) (d : ℕ) (role : Role) (column : Option ℕ) (indent : ℕ) (cursor : Cursor) → 2 ≤ indent → WithinColumn q d role column
     → d < entries_column false false indent column cursor
 pairs_within q d role None indent cursor deep within = absurd within
-pairs_within q d role (Some c) indent cursor deep within = by (q && is_in_mapping role) within
-  where
-    by : (x : Bool) → d + rank x ≤ c → d < c + indent
-    by true h = omega arith
-    by false h = omega arith
+pairs_within q d role (Some c) indent cursor deep within = grind (arith)
 
 -- The law
 
 -- what fits for a size fits for a greater one
 fits_deeper : (rules : Rules) (m n : ℕ) (own : Rendered) (tree : Tree) (place : Place) (cursor : Cursor) → m ≤ n → Fits rules m own tree place cursor
     → Fits rules n own tree place cursor
-fits_deeper rules m n own tree place cursor le fit = record {
-  settled = fit.settled;
-  ends = fit.ends;
-  opens = fit.opens;
-  inside = fit.inside;
-  reads = λ depth deep here k begins. fit.reads depth (omega arith) here k begins;
-}
+fits_deeper rules m n own tree place cursor le fit = grind (arith)
 
 -- what isn't written in flow isn't empty
 not_empty : (s : Effective) (place : Place) (start : Collection) (empty : Bool) → is_written_in_flow s place start empty ≡ false → empty ≡ false
@@ -275,9 +236,7 @@ pair_fits : (x : Bool) (pairs : Pairs) (key value : Node) (rules : Rules) (s : E
     (key_place pairs e)
     (indicator_cursor e))
     → PairFits x rules s directives pairs key value e
-pair_fits true pairs key value rules s directives e leaves value_fits key_fits =
-    let own = (simple_key pairs key s directives e).cursor in
-    (leaves.0, value_fits true (colon_cursor own) (refl, λ h. absurd (false≢true (sym (colon_ends own) ∙ h))) leaves.1)
+pair_fits true pairs key value rules s directives e leaves value_fits key_fits = grind (arith, false≢true, colon_ends)
 pair_fits false pairs key value rules s directives e leaves value_fits
     key_fits = (key_fits leaves.0, value_fits false (indicator_cursor e) (refl, λ h. refl) leaves.1)
 

@@ -1,14 +1,12 @@
 -- A literal or folded scalar as its own text on the lines of a block.
-use Rattle.yaml_base.proofs.Common.{suc, ℕ, if◌then◌else◌, ◌==◌, unwrap_or, option_and_then, Option, None, Some, Bool, false, true, ◌&&◌, ◌||◌, List, []}
-use Rattle.yaml_base.proofs.Common.{◌++◌, ◌∷◌, refl, ◌≡◌, append_assoc, ap, subst, sym, ◌∙◌, and_parts, and_from, or_parts, list_all-append, list_all}
-use Rattle.yaml_base.proofs.Common.{list_any, Text, is_between, is_printable, ScalarStyle, literal, folded, is_read_break, elements, digit_first, after_digit}
-use Rattle.yaml_base.proofs.Common.{chomping_first, after_chomping, after_break, read_lines, read_block, ParsedTag, has_deep_lines, is_tidy, stood_quoted}
-use Rattle.yaml_base.proofs.Common.{Line, prepend_to_first_line, prepend_character, lines_of, word_of_alias, key_of_text, Rules, Properties, no_properties}
-use Rattle.yaml_base.proofs.Common.{scalar_parsed, a_scalar, kind_of_word, word_by_kind}
+use Rattle.yaml_base.proofs.Common.{arith, ℕ, if◌then◌else◌, option_and_then, Option, None, Some, Bool, false, true, ◌||◌, List, [], ◌++◌, ◌∷◌, refl, ◌≡◌}
+use Rattle.yaml_base.proofs.Common.{append_assoc, ap, subst, sym, ◌∙◌, and_parts, and_from, or_parts, list_all-append, Text, ScalarStyle, literal, folded}
+use Rattle.yaml_base.proofs.Common.{is_read_break, elements, digit_first, after_digit, chomping_first, after_chomping, after_break, read_lines, read_block}
+use Rattle.yaml_base.proofs.Common.{ParsedTag, is_tidy, stood_quoted, Line, prepend_to_first_line, prepend_character, lines_of, word_of_alias, key_of_text}
+use Rattle.yaml_base.proofs.Common.{Rules, no_properties, scalar_parsed, a_scalar, kind_of_word}
 use Rattle.yaml_base.proofs.{stream_flow.StreamFlowWords.Given, stream_flow.StreamPropertyWords.lead, stream_keys.StreamKeys.scalar_no_alias}
 use Rattle.yaml_base.proofs.{stream_keys.StreamNoKeys.KeyNowhere, stream_keys.StreamNoKeys.nowhere_alone, stream_lines.StreamLineLaws.OneLine}
 use Rattle.yaml_base.proofs.{stream_lines.StreamLineLaws.one_line_both, stream_lines.StreamTidyLaws.first_text, stream_nodes.StreamOwnTexts.OwnText}
-use Rattle.yaml_base.proofs.{stream_nodes.StreamProperties.begins_content}
 use Rattle.yaml_base.proofs.stream_nodes.StreamOwnWords.{feed, deep_more, lines_deeper, tidy_deep, behind_no_key, none_parsed, first_passes}
 
 -- the indicator of a block style, and the style
@@ -24,27 +22,7 @@ block_style false = folded
 
 -- a line has no break after a header's digit and indicator
 header_alone : (breaks12 : Bool) (b : Text) → OneLine breaks12 b → after_break breaks12 (after_chomping (after_digit b)) ≡ None
-header_alone breaks12 b one = unbroken (after_chomping (after_digit b)) (chomped (after_digit b) (digits b one))
-  where
-    digits : (b : Text) → OneLine breaks12 b → OneLine breaks12 (after_digit b)
-    digits [] one = refl
-    digits (c ∷ b) one = by (is_between 49 57 c)
-      where
-        by : (x : Bool) → OneLine breaks12 (if x then b else c ∷ b)
-        by true = (or_parts (is_read_break breaks12 c) (list_any (is_read_break breaks12) b) one).1
-        by false = one
-
-    chomped : (b : Text) → OneLine breaks12 b → OneLine breaks12 (after_chomping b)
-    chomped [] one = refl
-    chomped (c ∷ b) one = by (c == 45 || c == 43)
-      where
-        by : (x : Bool) → OneLine breaks12 (if x then b else c ∷ b)
-        by true = (or_parts (is_read_break breaks12 c) (list_any (is_read_break breaks12) b) one).1
-        by false = one
-
-    unbroken : (b : Text) → OneLine breaks12 b → after_break breaks12 b ≡ None
-    unbroken [] one = refl
-    unbroken (c ∷ b) one = ap (λ x. if x then Some b else None) (or_parts (is_read_break breaks12 c) (list_any (is_read_break breaks12) b) one).0
+header_alone breaks12 b one = grind (arith, or_parts)
 
 -- so one line alone is no block scalar
 no_block : (breaks12 l : Bool) (b : Text) → OneLine breaks12 b → read_block breaks12 None (block_indicator l ∷ b) ≡ None
@@ -66,44 +44,18 @@ block_kind false (c ∷ d ∷ t) = refl
 block_no_alias : (rules : Rules) (l : Bool) (u : Text) → word_of_alias rules (block_indicator l ∷ u) ≡ None
 block_no_alias rules true [] =
     scalar_no_alias no_properties stood_quoted (if is_tidy literal rules.breaks12 None (0x7C ∷ []) then read_block rules.breaks12 None (0x7C ∷ []) else None)
-block_no_alias rules true (c ∷ []) =
-    scalar_no_alias no_properties stood_quoted
-    (if is_tidy literal rules.breaks12 None (0x7C ∷ c ∷ []) then read_block rules.breaks12 None (0x7C ∷ c ∷ []) else None)
-block_no_alias rules true (c ∷ d ∷ u) =
-    scalar_no_alias no_properties stood_quoted
-    (if is_tidy literal rules.breaks12 None (0x7C ∷ c ∷ d ∷ u) then read_block rules.breaks12 None (0x7C ∷ c ∷ d ∷ u) else None)
+block_no_alias rules true (c ∷ []) = grind (arith, scalar_no_alias)
+block_no_alias rules true (c ∷ d ∷ u) = grind (arith, scalar_no_alias)
 block_no_alias rules false [] =
     scalar_no_alias no_properties stood_quoted (if is_tidy folded rules.breaks12 None (0x3E ∷ []) then read_block rules.breaks12 None (0x3E ∷ []) else None)
-block_no_alias rules false (c ∷ []) =
-    scalar_no_alias no_properties stood_quoted
-    (if is_tidy folded rules.breaks12 None (0x3E ∷ c ∷ []) then read_block rules.breaks12 None (0x3E ∷ c ∷ []) else None)
-block_no_alias rules false (c ∷ d ∷ u) =
-    scalar_no_alias no_properties stood_quoted
-    (if is_tidy folded rules.breaks12 None (0x3E ∷ c ∷ d ∷ u) then read_block rules.breaks12 None (0x3E ∷ c ∷ d ∷ u) else None)
+block_no_alias rules false (c ∷ []) = grind (arith, scalar_no_alias)
+block_no_alias rules false (c ∷ d ∷ u) = grind (arith, scalar_no_alias)
 
 -- the beginning of a header is no key
 header_part : (rules : Rules) (l : Bool) (anchor tag : Option Text) (parsed : Option ParsedTag) (b : Text) → Given rules anchor tag parsed
     → OneLine rules.breaks12 b
     → key_of_text rules (lead anchor tag ++ (block_indicator l ∷ b)) ≡ None
-header_part rules l anchor tag parsed b given one =
-    let properties : Properties = record { anchor = anchor; tag = parsed } in
-    behind_no_key rules anchor tag parsed (block_indicator l) b given (content l)
-    (ap (λ k. word_by_kind k rules false None properties (block_indicator l ∷ b)) (block_kind l b) ∙ by l)
-    (block_no_alias rules l)
-  where
-    content : (l : Bool) → begins_content (block_indicator l ∷ b) ≡ true
-    content true = refl
-    content false = refl
-
-    by : (l : Bool) → word_by_kind a_scalar rules false None (record { anchor = anchor; tag = parsed }) (block_indicator l ∷ b) ≡ None
-    by true =
-        ap (λ v. scalar_parsed (record { anchor = anchor; tag = parsed }) stood_quoted (if is_tidy literal rules.breaks12 None (0x7C ∷ b) then v else None))
-        (no_block rules.breaks12 true b one)
-        ∙ none_parsed (record { anchor = anchor; tag = parsed }) stood_quoted (is_tidy literal rules.breaks12 None (0x7C ∷ b))
-    by false =
-        ap (λ v. scalar_parsed (record { anchor = anchor; tag = parsed }) stood_quoted (if is_tidy folded rules.breaks12 None (0x3E ∷ b) then v else None))
-        (no_block rules.breaks12 false b one)
-        ∙ none_parsed (record { anchor = anchor; tag = parsed }) stood_quoted (is_tidy folded rules.breaks12 None (0x3E ∷ b))
+header_part rules l anchor tag parsed b given one = grind (arith, behind_no_key, block_kind, block_no_alias, no_block, none_parsed)
 
 -- so no key ends in the first line
 header_nowhere : (rules : Rules) (l : Bool) (anchor tag : Option Text) (parsed : Option ParsedTag) (b u : Text) → Given rules anchor tag parsed
@@ -182,19 +134,4 @@ own_block rules column false u v tidy read = record {
 -- it stays tidy with a break more
 pub block_tidy_more : (l breaks12 : Bool) (column : Option ℕ) (t : Text) → is_tidy (block_style l) breaks12 column t ≡ true
     → is_tidy (block_style l) breaks12 column (t ++ feed) ≡ true
-block_tidy_more l breaks12 column t tidy = by l tidy
-  where
-    n : ℕ
-    n = suc (unwrap_or column 0)
-
-    deep : (x : Bool) → ((list_all is_printable t && has_deep_lines breaks12 n t) && x) ≡ true
-        → (list_all is_printable (t ++ feed) && has_deep_lines breaks12 n (t ++ feed)) ≡ true
-    deep x tidy =
-        let both =
-        and_parts (list_all is_printable t) (has_deep_lines breaks12 n t) (and_parts (list_all is_printable t && has_deep_lines breaks12 n t) x tidy).0 in
-        and_from (list_all is_printable (t ++ feed)) (has_deep_lines breaks12 n (t ++ feed))
-        (list_all-append is_printable t feed ∙ ap (λ x. x && true) both.0) (deep_more breaks12 n t both.1)
-
-    by : (l : Bool) → is_tidy (block_style l) breaks12 column t ≡ true → is_tidy (block_style l) breaks12 column (t ++ feed) ≡ true
-    by true tidy = and_from (list_all is_printable (t ++ feed) && has_deep_lines breaks12 n (t ++ feed)) true (deep true tidy) refl
-    by false tidy = and_from (list_all is_printable (t ++ feed) && has_deep_lines breaks12 n (t ++ feed)) true (deep true tidy) refl
+block_tidy_more l breaks12 column t tidy = grind (arith, and_parts, and_from, list_all-append, deep_more)

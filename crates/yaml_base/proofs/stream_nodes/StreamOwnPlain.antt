@@ -1,10 +1,10 @@
 -- A plain scalar as its own text on the lines of a block.
-use Rattle.yaml_base.proofs.Common.{suc, ℕ, if◌then◌else◌, ◌==◌, Option, None, Some, codes, Bool, false, not, true, ◌&&◌, ◌||◌, List, [], ◌++◌, ◌∷◌, refl, ◌≡◌}
-use Rattle.yaml_base.proofs.Common.{eqb-true, true≢false, ap, sym, ◌∙◌, and_parts, or_parts, false≢true, list_all, option_or, Text, is_among, tab, is_blank}
-use Rattle.yaml_base.proofs.Common.{is_printable, plain, is_read_break, is_read_white, begins_white, begins_with_three, begins_no_plain, begins_with_hash}
-use Rattle.yaml_base.proofs.Common.{holds_no_plain, read_plain, has_deep_lines, has_no_space_before_break, ends_white, has_clean_edges, is_tidy, stood_plain}
-use Rattle.yaml_base.proofs.Common.{Line, prepend_to_first_line, prepend_character, lines_of, ends_indicator, begins_with_indicator, key_ends, key_from}
-use Rattle.yaml_base.proofs.Common.{word_text, kind_of_text, text_by_kind, Rules, scalar_parsed, scalar_of_style, word_by_kind, word_after}
+use Rattle.yaml_base.proofs.Common.{arith, suc, ℕ, if◌then◌else◌, ◌==◌, Option, None, Some, codes, Bool, false, not, true, ◌&&◌, ◌||◌, [], ◌++◌, ◌∷◌, refl, ◌≡◌}
+use Rattle.yaml_base.proofs.Common.{eqb-true, true≢false, ap, sym, ◌∙◌, and_parts, or_parts, false≢true, list_all, option_or, Text, is_among, is_blank}
+use Rattle.yaml_base.proofs.Common.{is_printable, plain, is_read_break, is_read_white, begins_white, begins_no_plain, begins_with_hash, holds_no_plain}
+use Rattle.yaml_base.proofs.Common.{read_plain, has_deep_lines, has_no_space_before_break, ends_white, has_clean_edges, is_tidy, stood_plain, prepend_character}
+use Rattle.yaml_base.proofs.Common.{lines_of, ends_indicator, begins_with_indicator, key_ends, key_from, word_text, kind_of_text, text_by_kind, Rules}
+use Rattle.yaml_base.proofs.Common.{scalar_parsed, scalar_of_style, word_by_kind, word_after}
 use Rattle.yaml_base.proofs.{stream_flow.StreamPropertyWords.lead, stream_nodes.StreamOwnTexts.OwnText}
 use Rattle.yaml_base.proofs.stream_lines.StreamTidyLaws.{tidy_at_root, first_text}
 use Rattle.yaml_base.proofs.stream_keys.StreamPlainKeys.{Begins, begins, plain_kind, plain_style, reads_plain, tidy_begins}
@@ -13,24 +13,12 @@ use Rattle.yaml_base.proofs.stream_nodes.StreamOwnWords.{feed, deep_more, lines_
 -- the first line after a character that breaks none
 first_after : (breaks12 : Bool) (c : ℕ) (t : Text) → is_read_break breaks12 c ≡ false
     → first_text (lines_of breaks12 (c ∷ t)) ≡ c ∷ first_text (lines_of breaks12 t)
-first_after breaks12 c t h = ap (λ x. first_text (prepend_character x c (lines_of breaks12 t))) h ∙ by (lines_of breaks12 t)
-  where
-    by : (lines : List Line) → first_text (prepend_to_first_line c lines) ≡ c ∷ first_text lines
-    by [] = refl
-    by (line ∷ rest) = refl
+first_after breaks12 c t h = grind (arith)
 
 -- where a line ends or goes on with a space, so does its text
 ends_begins : (breaks12 : Bool) (t : Text) → ends_indicator (first_text (lines_of breaks12 (t ++ feed))) ≡ true → begins_white breaks12 t ≡ true
 ends_begins breaks12 [] h = refl
-ends_begins breaks12 (c ∷ t) h = by (is_read_break breaks12 c) refl
-  where
-    by : (x : Bool) → is_read_break breaks12 c ≡ x → is_read_white breaks12 c ≡ true
-    by true e = ap (λ x. is_blank c || x) e ∙ or_true (is_blank c)
-      where
-        or_true : (x : Bool) → (x || true) ≡ true
-        or_true true = refl
-        or_true false = refl
-    by false e = ap (λ x. (x || c == tab) || is_read_break breaks12 c) (sym (ap ends_indicator (first_after breaks12 c (t ++ feed) e)) ∙ h)
+ends_begins breaks12 (c ∷ t) h = grind (arith, first_after)
 
 -- no key ends in the first line of plain text
 plain_keyless : (rules : Rules) (before t : Text) → holds_no_plain rules.breaks12 false t ≡ false
@@ -67,16 +55,7 @@ plain_keyless rules before (c ∷ t) h = by (is_read_break rules.breaks12 c) ref
 -- no indicator begins plain text
 plain_without_indicator : (breaks12 : Bool) (n c : ℕ) (t : Text) → is_among (codes "?:-") n ≡ true → begins_no_plain breaks12 (c ∷ t) ≡ false
     → begins_with_indicator n (c ∷ first_text (lines_of breaks12 (t ++ feed))) ≡ false
-plain_without_indicator breaks12 n c t symbol h = by (c == n) refl (ends_indicator (first_text (lines_of breaks12 (t ++ feed)))) refl
-  where
-    by : (x : Bool) → (c == n) ≡ x → (y : Bool) → ends_indicator (first_text (lines_of breaks12 (t ++ feed))) ≡ y → (x && y) ≡ false
-    by false e y k = refl
-    by true e false k = refl
-    by true e true k =
-        absurd (true≢false
-        (sym (ap (λ x. x && begins_white breaks12 t) (ap (is_among (codes "?:-")) (eqb-true c n e) ∙ symbol) ∙ ends_begins breaks12 t k)
-        ∙ (or_parts (begins_with_three 45 (c ∷ t) || begins_with_three 46 (c ∷ t) || is_among (codes "#,[]{}&*!|>'\"%@`") c)
-        (is_among (codes "?:-") c && begins_white breaks12 t) h).1))
+plain_without_indicator breaks12 n c t symbol h = grind (arith, true≢false, eqb-true, ends_begins, or_parts)
 
 -- a tidy plain text ends with nothing white
 plain_ends_shown : (breaks12 : Bool) (c : ℕ) (t : Text) → is_tidy plain breaks12 None (c ∷ t) ≡ true → ends_white breaks12 (c ∷ t) ≡ false

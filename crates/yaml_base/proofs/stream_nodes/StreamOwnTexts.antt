@@ -1,17 +1,16 @@
 -- A node's own text that reads on its lines does so behind its anchor and its tag.
-use Rattle.yaml_base.proofs.Common.{ℕ, ◌+◌, if◌then◌else◌, ◌==◌, is_some, option_map, Option, None, Some, length, Bool, false, not, true, ◌&&◌, ◌||◌, List}
-use Rattle.yaml_base.proofs.Common.{[], ◌++◌, ◌∷◌, refl, ◌≡◌, append-nil, append_assoc, ap, sym, ◌∙◌, and_parts, false≢true, option_or, Text, space}
-use Rattle.yaml_base.proofs.Common.{ScalarStyle, is_read_break, ParsedTag, is_plain, scalar_tree, Line, prepend_to_first_line, prepend_character, lines_of}
-use Rattle.yaml_base.proofs.Common.{text_of_lines, without_blank_lines, ends_indicator, begins_with_indicator, all_deeper, Indented, spaces, key_of_text}
-use Rattle.yaml_base.proofs.Common.{key_ends, key_from, Reads, kind_of_text, text_by_kind, text_read, begins_sequence, begins_mapping, begins_text}
-use Rattle.yaml_base.proofs.Common.{kind_of_node, ReadsText, node_by_kind, node_at, node_lines, begins_properties, after_properties, text_or_properties}
-use Rattle.yaml_base.proofs.Common.{Rules, Properties, properties_read, standing_of, scalar_parsed}
-use Rattle.yaml_base.proofs.{stream_flow.StreamFlowWords.Given, stream_flow.StreamFlowWords.tagging_meant, stream_flow.StreamFlowWords.scalar_in}
-use Rattle.yaml_base.proofs.{stream_flow.StreamPropertyWords.lead, stream_keys.StreamNoKeys.KeyNowhere, stream_keys.StreamNoKeys.lead_nowhere}
-use Rattle.yaml_base.proofs.{stream_lines.StreamClosed.lines_behind, stream_lines.StreamLineLaws.text_of_lines_of, stream_lines.StreamTidyLaws.first_text}
-use Rattle.yaml_base.proofs.{stream_lines.StreamTidyLaws.lines_after_first, stream_nodes.StreamBegun.lead_line, stream_nodes.StreamBlocks.spaces_both}
-use Rattle.yaml_base.proofs.{stream_nodes.StreamLeads.lead_spaces, stream_nodes.StreamLeads.lead_then, stream_nodes.StreamLeafFits.TextReads}
-use Rattle.yaml_base.proofs.{stream_nodes.StreamStands.tag_meant}
+use Rattle.yaml_base.proofs.Common.{arith, ℕ, ◌+◌, if◌then◌else◌, ◌==◌, option_map, Option, None, Some, length, Bool, false, not, true, ◌&&◌, ◌||◌, List, []}
+use Rattle.yaml_base.proofs.Common.{◌++◌, ◌∷◌, refl, ◌≡◌, append-nil, append_assoc, ap, sym, ◌∙◌, and_parts, false≢true, option_or, Text, space, ScalarStyle}
+use Rattle.yaml_base.proofs.Common.{is_read_break, ParsedTag, is_plain, scalar_tree, Line, lines_of, text_of_lines, ends_indicator, begins_with_indicator}
+use Rattle.yaml_base.proofs.Common.{all_deeper, spaces, key_of_text, key_ends, key_from, Reads, kind_of_text, text_by_kind, text_read, begins_text}
+use Rattle.yaml_base.proofs.Common.{kind_of_node, node_lines, begins_properties, after_properties, text_or_properties, Rules, Properties, properties_read}
+use Rattle.yaml_base.proofs.Common.{standing_of, scalar_parsed}
+use Rattle.yaml_base.proofs.{stream_flow.StreamPropertyWords.lead, stream_lines.StreamClosed.lines_behind, stream_lines.StreamLineLaws.text_of_lines_of}
+use Rattle.yaml_base.proofs.{stream_nodes.StreamBegun.lead_line, stream_nodes.StreamBlocks.spaces_both, stream_nodes.StreamLeads.lead_spaces}
+use Rattle.yaml_base.proofs.{stream_nodes.StreamLeads.lead_then, stream_nodes.StreamLeafFits.TextReads, stream_nodes.StreamStands.tag_meant}
+use Rattle.yaml_base.proofs.stream_flow.StreamFlowWords.{Given, tagging_meant, scalar_in}
+use Rattle.yaml_base.proofs.stream_keys.StreamNoKeys.{KeyNowhere, lead_nowhere}
+use Rattle.yaml_base.proofs.stream_lines.StreamTidyLaws.{first_text, lines_after_first}
 use Rattle.yaml_base.proofs.stream_lines.StreamInside.{indented_spaces, not_blank, AllInside, deeper_inside}
 use Rattle.yaml_base.proofs.stream_nodes.StreamProperties.{properties_text, has_properties, begins_content, properties_parsed}
 
@@ -26,11 +25,7 @@ first_ending (line ∷ rest) = line.ending
 pub lines_shown : (breaks12 : Bool) (c : ℕ) (t : Text) → is_read_break breaks12 c ≡ false
     → lines_of breaks12 (c ∷ t)
     ≡ record { text = c ∷ first_text (lines_of breaks12 t); ending = first_ending (lines_of breaks12 t) } ∷ lines_after_first (lines_of breaks12 t)
-lines_shown breaks12 c t h = ap (λ x. prepend_character x c (lines_of breaks12 t)) h ∙ by (lines_of breaks12 t)
-  where
-    by : (lines : List Line) → prepend_to_first_line c lines ≡ record { text = c ∷ first_text lines; ending = first_ending lines } ∷ lines_after_first lines
-    by [] = refl
-    by (line ∷ rest) = refl
+lines_shown breaks12 c t h = grind (arith)
 
 -- lines inside a column, if there is one
 pub deeper_all : (column : Option ℕ) (lines : List Line) → ((c : ℕ) → column ≡ Some c → AllInside true c lines) → all_deeper column lines ≡ true
@@ -89,29 +84,7 @@ pub record OwnText (rules : Rules) (column : Option ℕ) (text : Text) (style : 
 pub own_kind : (rules : Rules) (anchor tag : Option Text) (parsed : Option ParsedTag) (c : ℕ) (f : Text) → Given rules anchor tag parsed
     → begins_with_indicator 0x2D (c ∷ f) ≡ false → begins_with_indicator 0x3F (c ∷ f) ≡ false → key_from rules (lead anchor tag) (c ∷ f) ≡ None
     → kind_of_node rules (lead anchor tag ++ (c ∷ f)) ≡ begins_text
-own_kind rules anchor tag parsed c f given no_item no_key keyless =
-    ap (λ x. if x then begins_sequence else (if begins_with_indicator 0x3F line || is_some (key_from rules [] line) then begins_mapping else begins_text))
-    (without_indicator 0x2D refl refl no_item)
-    ∙ ap (λ x. if x || is_some (key_from rules [] line) then begins_mapping else begins_text) (without_indicator 0x3F refl refl no_key)
-    ∙ ap (λ x. if is_some x then begins_mapping else begins_text)
-    (nowhere_skips rules [] (lead anchor tag) (c ∷ f) (lead_nowhere rules anchor tag parsed given.named given.tagged) ∙ keyless)
-  where
-    line : Text
-    line = lead anchor tag ++ (c ∷ f)
-
-    without_indicator : (n : ℕ) → (0x26 == n) ≡ false → (0x21 == n) ≡ false → begins_with_indicator n (c ∷ f) ≡ false
-        → begins_with_indicator n (lead anchor tag ++ (c ∷ f)) ≡ false
-    without_indicator n no_anchor no_tag own = by anchor tag parsed given
-      where
-        by : (anchor tag : Option Text) (parsed : Option ParsedTag) → Given rules anchor tag parsed
-            → begins_with_indicator n (lead anchor tag ++ (c ∷ f)) ≡ false
-        by None None parsed given = own
-        by (Some name) None parsed given = ap (λ x. x && ends_indicator ((name ++ (space ∷ [])) ++ (c ∷ f))) no_anchor
-        by (Some name) (Some tag) parsed given = ap (λ x. x && ends_indicator (((name ++ (space ∷ tag)) ++ (space ∷ [])) ++ (c ∷ f))) no_anchor
-        by None (Some tag) (Some parsed) given =
-            ap (λ t. begins_with_indicator n ((t ++ (space ∷ [])) ++ (c ∷ f))) given.tagged.begins
-            ∙ ap (λ x. x && ends_indicator ((given.tagged.rest ++ (space ∷ [])) ++ (c ∷ f))) no_tag
-        by None (Some tag) None given = absurd given.tagged
+own_kind rules anchor tag parsed c f given no_item no_key keyless = grind (arith, nowhere_skips, lead_nowhere)
 
 -- Properties
 
@@ -121,14 +94,7 @@ behind_reads : (rules : Rules) (reads : Reads) (column : Option ℕ) (properties
     → kind_of_node rules (c ∷ f) ≡ begins_text
     → node_lines rules reads (λ at. text_read rules column properties) properties false (record { text = spaces k ++ (c ∷ f); ending = ending } ∷ rest)
     ≡ text_read rules column properties (c ∷ f) ending rest
-behind_reads rules reads column properties k c f ending rest shows kind =
-    let line : Line = record { text = spaces k ++ (c ∷ f); ending = ending } in
-    let by : ReadsText = λ at. text_read rules column properties in
-    let begun : Indented = record { column = k; text = c ∷ f } in
-    ap (λ x. node_at rules reads by properties (false || x) (not x) (if x then without_blank_lines rest else line ∷ rest)) (not_blank k c f shows)
-    ∙ ap (λ (i : Indented). node_by_kind (kind_of_node rules i.text) rules reads by properties false true i ending rest (line ∷ rest))
-    (indented_spaces k c f shows)
-    ∙ ap (λ x. node_by_kind x rules reads by properties false true begun ending rest (line ∷ rest)) kind
+behind_reads rules reads column properties k c f ending rest shows kind = grind (arith, not_blank, indented_spaces)
 
 -- a text behind properties or without them is read with these
 pub parsed_reads : (rules : Rules) (reads : Reads) (column : Option ℕ) (at : ℕ) (anchor tag : Option Text) (parsed : Option ParsedTag) (c : ℕ) (f ending : Text)
@@ -187,12 +153,7 @@ headed rules None None parsed c f given h = record { head = c; tail = f; is = re
 headed rules (Some name) None parsed c f given h = record { head = 0x26; tail = (name ++ (space ∷ [])) ++ (c ∷ f); is = refl; shows = refl }
 headed rules (Some name) (Some tag) parsed c f given h =
     record { head = 0x26; tail = ((name ++ (space ∷ tag)) ++ (space ∷ [])) ++ (c ∷ f); is = refl; shows = refl }
-headed rules None (Some tag) (Some parsed) c f given h = record {
-  head = 0x21;
-  tail = (given.tagged.rest ++ (space ∷ [])) ++ (c ∷ f);
-  is = ap (λ t. (t ++ (space ∷ [])) ++ (c ∷ f)) given.tagged.begins;
-  shows = refl;
-}
+headed rules None (Some tag) (Some parsed) c f given h = grind (arith)
 headed rules None (Some tag) None c f given h = absurd given.tagged
 
 -- such a text reads on its lines behind its properties

@@ -1,16 +1,15 @@
 -- Quoted and plain scalars as their own text on the lines of a block.
-use Rattle.yaml_base.proofs.Common.{suc, zero, ℕ, if◌then◌else◌, ◌==◌, unwrap_or, option_and_then, Option, None, Some, Bool, false, not, true, ◌&&◌, ◌||◌}
-use Rattle.yaml_base.proofs.Common.{List, [], ◌++◌, ◌∷◌, refl, ◌≡◌, eqb-true, append_assoc, ap, subst, sym, ◌∙◌, and_parts, and_from, false≢true, list_all}
-use Rattle.yaml_base.proofs.Common.{option_or, Text, line_feed, space, is_printable, ScalarStyle, single_quoted, double_quoted, is_read_break, read_double}
-use Rattle.yaml_base.proofs.Common.{is_read_white, read_single, ParsedTag, begins_with_spaces, begins_with_blank_line, begins_with_deep_line, has_deep_lines}
-use Rattle.yaml_base.proofs.Common.{ends_white, is_tidy_style, is_tidy, Stood, stood_quoted, Line, prepend_to_first_line, prepend_character, lines_of}
-use Rattle.yaml_base.proofs.Common.{ends_indicator, belongs_to_entry, without_last_space, word_of_alias, key_of_text, key_ends, key_from, prepend_to_trimmed}
-use Rattle.yaml_base.proofs.Common.{trimmed, Rules, Properties, scalar_parsed, word_by_kind, word_after}
-use Rattle.yaml_base.proofs.{stream_flow.StreamPropertyWords.lead, stream_keys.StreamKeys.no_alias_before, stream_keys.StreamKeys.double_no_alias}
-use Rattle.yaml_base.proofs.{stream_keys.StreamKeys.single_no_alias, stream_lines.StreamCuts.double_quoted_whole, stream_lines.StreamCuts.single_quoted_whole}
-use Rattle.yaml_base.proofs.{stream_lines.StreamInside.AllInside, stream_lines.StreamTidyLaws.first_text, stream_lines.StreamTidyLaws.lines_after_first}
-use Rattle.yaml_base.proofs.{stream_lines.StreamTidyLaws.deep_lines_inside, stream_nodes.StreamOwnTexts.lines_shown, stream_nodes.StreamOwnTexts.OwnText}
-use Rattle.yaml_base.proofs.{stream_nodes.StreamProperties.begins_content}
+use Rattle.yaml_base.proofs.Common.{arith, suc, zero, ℕ, if◌then◌else◌, ◌==◌, option_and_then, Option, None, Some, Bool, false, not, true, ◌&&◌, ◌||◌, List, []}
+use Rattle.yaml_base.proofs.Common.{◌++◌, ◌∷◌, refl, ◌≡◌, eqb-true, append_assoc, ap, subst, sym, ◌∙◌, and_parts, and_from, false≢true, option_or, Text}
+use Rattle.yaml_base.proofs.Common.{line_feed, space, ScalarStyle, single_quoted, double_quoted, is_read_break, read_double, is_read_white, read_single}
+use Rattle.yaml_base.proofs.Common.{ParsedTag, begins_with_spaces, begins_with_blank_line, begins_with_deep_line, has_deep_lines, ends_white, is_tidy, Stood}
+use Rattle.yaml_base.proofs.Common.{stood_quoted, Line, prepend_to_first_line, prepend_character, lines_of, ends_indicator, without_last_space, word_of_alias}
+use Rattle.yaml_base.proofs.Common.{key_of_text, key_ends, key_from, prepend_to_trimmed, trimmed, Rules, Properties, scalar_parsed, word_by_kind, word_after}
+use Rattle.yaml_base.proofs.{stream_flow.StreamPropertyWords.lead, stream_lines.StreamInside.AllInside, stream_nodes.StreamProperties.begins_content}
+use Rattle.yaml_base.proofs.stream_keys.StreamKeys.{no_alias_before, double_no_alias, single_no_alias}
+use Rattle.yaml_base.proofs.stream_lines.StreamCuts.{double_quoted_whole, single_quoted_whole}
+use Rattle.yaml_base.proofs.stream_lines.StreamTidyLaws.{first_text, lines_after_first, deep_lines_inside}
+use Rattle.yaml_base.proofs.stream_nodes.StreamOwnTexts.{lines_shown, OwnText}
 use Rattle.yaml_base.proofs.stream_flow.StreamFlowWords.{Given, given_reads, double_kind, single_kind}
 use Rattle.yaml_base.proofs.stream_keys.StreamNoKeys.{KeyNowhere, nowhere_alone, tag_no_alias, anchor_no_alias, no_key_text}
 
@@ -62,28 +61,19 @@ deep_more breaks12 n (c ∷ t) h =
 pub lines_deeper : (breaks12 : Bool) (column : Option ℕ) (h : ℕ) (t : Text) → is_read_break breaks12 h ≡ false
     → ((c : ℕ) → column ≡ Some c → has_deep_lines breaks12 (suc c) (h ∷ t) ≡ true)
     → (c : ℕ) → column ≡ Some c → AllInside true c (lines_after_first (lines_of breaks12 t))
-lines_deeper breaks12 column h t goes_on deep c e =
-    ap (λ ls. list_all (λ line. belongs_to_entry true c line.text) (lines_after_first ls)) (sym (lines_shown breaks12 h t goes_on))
-    ∙ deep_lines_inside breaks12 c (h ∷ t) (deep c e)
+lines_deeper breaks12 column h t goes_on deep c e = grind (arith, lines_shown, deep_lines_inside)
 
 -- the lines of a tidy text are deep
 pub tidy_deep : (style : ScalarStyle) (breaks12 : Bool) (column : Option ℕ) (text : Text) → is_tidy style breaks12 column text ≡ true
     → (c : ℕ) → column ≡ Some c → has_deep_lines breaks12 (suc c) text ≡ true
 tidy_deep style breaks12 None text tidy c e = cc
-tidy_deep style breaks12 (Some d) text tidy c e =
-    subst (λ o. has_deep_lines breaks12 (suc (unwrap_or o 0)) text ≡ true) e
-    (and_parts (list_all is_printable text) (has_deep_lines breaks12 (suc d) text)
-    (and_parts (list_all is_printable text && has_deep_lines breaks12 (suc d) text) (is_tidy_style style breaks12 text) tidy).0).1
+tidy_deep style breaks12 (Some d) text tidy c e = grind (arith, and_parts)
 
 -- it is cut off where nothing white stands before it
 pub shown_trimmed : (breaks12 : Bool) (c : ℕ) (t : Text) → ends_white breaks12 (c ∷ t) ≡ false → trimmed breaks12 (c ∷ (t ++ feed)) ≡ c ∷ t
 shown_trimmed true c [] h = ap (λ x. prepend_to_trimmed x c []) h
 shown_trimmed false c [] h = ap (λ x. prepend_to_trimmed x c []) h
-shown_trimmed breaks12 c (d ∷ t) h = ap (prepend_to_trimmed (is_read_white breaks12 c) c) (shown_trimmed breaks12 d t h) ∙ by (is_read_white breaks12 c)
-  where
-    by : (x : Bool) → prepend_to_trimmed x c (d ∷ t) ≡ c ∷ d ∷ t
-    by true = refl
-    by false = refl
+shown_trimmed breaks12 c (d ∷ t) h = grind (arith, shown_trimmed breaks12 d t h)
 
 -- the last character of a text shows
 last_shown : (breaks12 : Bool) (a : Text) (q : ℕ) → ends_white breaks12 (a ++ (q ∷ [])) ≡ is_read_white breaks12 q
@@ -140,24 +130,12 @@ none_parsed properties standing false = refl
 double_part : (rules : Rules) (anchor tag : Option Text) (parsed : Option ParsedTag) (t : Text) → Given rules anchor tag parsed
     → read_double rules.breaks12 (0x22 ∷ t) ≡ None
     → key_of_text rules (lead anchor tag ++ (0x22 ∷ t)) ≡ None
-double_part rules anchor tag parsed t given none =
-    let properties : Properties = record { anchor = anchor; tag = parsed } in
-    behind_no_key rules anchor tag parsed 0x22 t given refl
-    (ap (λ k. word_by_kind k rules false None properties (0x22 ∷ t)) (double_kind t)
-    ∙ ap (λ v. scalar_parsed properties stood_quoted (if is_tidy double_quoted rules.breaks12 None (0x22 ∷ t) then v else None)) none
-    ∙ none_parsed properties stood_quoted (is_tidy double_quoted rules.breaks12 None (0x22 ∷ t)))
-    (double_no_alias rules)
+double_part rules anchor tag parsed t given none = grind (arith, behind_no_key, double_kind, none_parsed, double_no_alias)
 
 single_part : (rules : Rules) (anchor tag : Option Text) (parsed : Option ParsedTag) (t : Text) → Given rules anchor tag parsed
     → read_single rules.breaks12 (0x27 ∷ t) ≡ None
     → key_of_text rules (lead anchor tag ++ (0x27 ∷ t)) ≡ None
-single_part rules anchor tag parsed t given none =
-    let properties : Properties = record { anchor = anchor; tag = parsed } in
-    behind_no_key rules anchor tag parsed 0x27 t given refl
-    (ap (λ k. word_by_kind k rules false None properties (0x27 ∷ t)) (single_kind t)
-    ∙ ap (λ v. scalar_parsed properties stood_quoted (if is_tidy single_quoted rules.breaks12 None (0x27 ∷ t) then v else None)) none
-    ∙ none_parsed properties stood_quoted (is_tidy single_quoted rules.breaks12 None (0x27 ∷ t)))
-    (single_no_alias rules)
+single_part rules anchor tag parsed t given none = grind (arith, behind_no_key, single_kind, none_parsed, single_no_alias)
 
 -- so no key ends in what reads whole
 double_nowhere : (rules : Rules) (anchor tag : Option Text) (parsed : Option ParsedTag) (b t v : Text) → Given rules anchor tag parsed

@@ -1,5 +1,5 @@
 -- The entries of a mapping read as its pairs, where each of them fits; and how a mapping's text is rendered.
-use Rattle.yaml_base.proofs.Common.{suc, ℕ, ◌+◌, ◌≤◌, if◌then◌else◌, fold, option_and_then, Option, None, Some, length, Bool, false, true, ◌&&◌, List, []}
+use Rattle.yaml_base.proofs.Common.{suc, ℕ, ◌+◌, ◌≤◌, if◌then◌else◌, fold, option_and_then, Option, None, Some, length, Bool, false, true, List, []}
 use Rattle.yaml_base.proofs.Common.{◌++◌, ◌∷◌, refl, ◌≡◌, true≢false, append-nil, append_assoc, ap, sym, ◌∙◌, arith, false≢true, Text, Cursor, Rendered}
 use Rattle.yaml_base.proofs.Common.{render_then, new_line, TagDirective, Node, Pairs, no_pairs, pairs_and, entry_place, Role, as_key, as_value, has_no_pairs}
 use Rattle.yaml_base.proofs.Common.{is_simple, render_place, Effective, Tree, TreePairs, tree_pairs_and, Line, lines_of, spaces, SimpleKey, key_entry}
@@ -71,11 +71,7 @@ keyed rules text key_tree n own tree role e cursor key fit w i depth deep pairs 
 
 -- no cursor stands in indentation behind the `:` of a simple key
 pub colon_ends : (cursor : Cursor) → (colon_cursor cursor).indention ≡ false
-colon_ends cursor = by cursor.indention
-  where
-    by : (x : Bool) → x && false ≡ false
-    by true = refl
-    by false = refl
+colon_ends cursor = grind (arith)
 
 -- the entries of one pair
 pair_reads : (x : Bool) (rules : Rules) (s : Effective) (directives : List TagDirective) (pairs : Pairs) (key value : Node) (e : ℕ)
@@ -142,47 +138,19 @@ pub record PairLays (text before : Text) (own : Rendered) (line : Text) (e : ℕ
 
 -- regrouped: a key, its `:` and what that opens
 keyed_regrouped : (a n k v c : Text) → ((a ++ ((n ++ []) ++ k)) ++ ((0x3A ∷ []) ++ v)) ++ c ≡ a ++ (n ++ (k ++ (0x3A ∷ (v ++ c))))
-keyed_regrouped a n k v c =
-    append_assoc (a ++ ((n ++ []) ++ k)) (0x3A ∷ v) c ∙ append_assoc a ((n ++ []) ++ k) (0x3A ∷ (v ++ c))
-    ∙ ap (λ t. a ++ ((t ++ k) ++ (0x3A ∷ (v ++ c)))) (append-nil n) ∙ ap (λ t. a ++ t) (append_assoc n k (0x3A ∷ (v ++ c)))
+keyed_regrouped a n k v c = grind (arith, append_assoc, append-nil)
 
 -- regrouped: a key with its indicator, and a value with its own
 indicated_regrouped : (a n k m v c : Text)
     → ((a ++ ((n ++ (0x3F ∷ [])) ++ k)) ++ ((m ++ (0x3A ∷ [])) ++ v)) ++ c ≡ a ++ (n ++ (0x3F ∷ (k ++ (m ++ (0x3A ∷ (v ++ c))))))
-indicated_regrouped a n k m v c =
-    append_assoc (a ++ ((n ++ (0x3F ∷ [])) ++ k)) ((m ++ (0x3A ∷ [])) ++ v) c
-    ∙ ap (λ t. (a ++ ((n ++ (0x3F ∷ [])) ++ k)) ++ t) (append_assoc (m ++ (0x3A ∷ [])) v c ∙ append_assoc m (0x3A ∷ []) (v ++ c))
-    ∙ regrouped a n k (m ++ (0x3A ∷ (v ++ c))) 0x3F
+indicated_regrouped a n k m v c = grind (arith, append_assoc, regrouped)
 
 -- so it is for a pair of either kind
 pair_lays : (x : Bool) (rules : Rules) (s : Effective) (directives : List TagDirective) (pairs : Pairs) (key value : Node) (e : ℕ) (before : Rendered)
     → PairFits x rules s directives pairs key value e
     → PairLays (pair_text x pairs key value s directives e) before.text (pair_own x pairs key value s directives e before) (new_line e before.cursor).text e
-pair_lays true rules s directives pairs key value e before fit =
-    let k = simple_key pairs key s directives e in
-    let v = simple_value pairs key value s directives e in
-    record {
-      head = fit.0.first;
-      tail = fit.0.tail ++ (0x3A ∷ closed v);
-      is = ap (λ t. spaces e ++ (t ++ (0x3A ∷ closed v))) fit.0.is;
-      lays =
-          keyed_regrouped before.text (new_line e before.cursor).text k.text v.text (closing v.cursor)
-          ∙ ap (λ t. before.text ++ ((new_line e before.cursor).text ++ (t ++ (0x3A ∷ closed v)))) fit.0.is;
-    }
-pair_lays false rules s directives pairs key value e before fit =
-    let k = indicated_key pairs key s directives e in
-    let v = indicated_value value s directives e in
-    record {
-      head = 0x3F;
-      tail = closed k ++ (spaces e ++ (0x3A ∷ closed v));
-      is = append_assoc (spaces e) (0x3F ∷ closed k) (spaces e ++ (0x3A ∷ closed v));
-      lays =
-          indicated_regrouped before.text (new_line e before.cursor).text k.text (new_line e k.cursor).text v.text (closing v.cursor)
-          ∙ ap (λ t. before.text ++ ((new_line e before.cursor).text ++ (0x3F ∷ t)))
-          (ap (λ m. k.text ++ (m ++ (0x3A ∷ closed v))) (new_line_closes e k.cursor fit.0.settled)
-          ∙ ap (λ m. k.text ++ m) (append_assoc (closing k.cursor) (spaces e) (0x3A ∷ closed v))
-          ∙ sym (append_assoc k.text (closing k.cursor) (spaces e ++ (0x3A ∷ closed v))));
-    }
+pair_lays true rules s directives pairs key value e before fit = grind (arith, keyed_regrouped)
+pair_lays false rules s directives pairs key value e before fit = grind (arith, append_assoc, indicated_regrouped, new_line_closes)
 
 -- the pairs of a mapping leave off settled
 pub pairs_settled : (rules : Rules) (s : Effective) (directives : List TagDirective) (pairs : Pairs) (e : ℕ) (cursor : Cursor)

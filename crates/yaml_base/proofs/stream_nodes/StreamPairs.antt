@@ -2,9 +2,9 @@
 -- and two for another, lie inside the columns around, and read as their trees.
 use Rattle.yaml_base.proofs.Common.{ℕ, ◌+◌, ◌<◌, ◌≤◌, ◌==◌, Some, codes, length, Bool, false, not, true, ◌&&◌, List, [], ◌++◌, ◌∷◌, refl, ◌≡◌, append_assoc, ap}
 use Rattle.yaml_base.proofs.Common.{subst, sym, ◌∙◌, arith, and_from, list_all, Text, space, Cursor, Rendered, indicator, TagDirective, Node, Pairs, no_pairs}
-use Rattle.yaml_base.proofs.Common.{pairs_and, entry_place, Role, as_key, as_value, Place, is_in_mapping, has_no_pairs, is_simple, Effective, Tree, marker_of}
+use Rattle.yaml_base.proofs.Common.{pairs_and, entry_place, Role, as_key, as_value, Place, has_no_pairs, is_simple, Effective, Tree, marker_of}
 use Rattle.yaml_base.proofs.Common.{Line, lines_of, ends_indicator, begins_with_indicator, belongs_to_entry, spaces, key_of_line, simple_entry, Rules}
-use Rattle.yaml_base.{proofs.stream_lines.StreamSections.is_unmarked, proofs.stream_lines.StreamTidyLaws.lines_after_first}
+use Rattle.yaml_base.{proofs.stream_lines.StreamSections.is_unmarked}
 use Rattle.yaml_base.{proofs.stream_nodes.StreamAgrees.node_tree, proofs.stream_nodes.StreamTexts.node_own, specs.streams.StreamNodes.kind_of_entry}
 use Rattle.yaml_base.proofs.stream_lines.StreamLineLaws.{is_closed, OneLine, lines_after_break}
 use Rattle.yaml_base.proofs.stream_lines.StreamClosed.{closed, indicator_cursor, margin_cursor, spaces_line, lines_behind, closed_behind, closed_both, rank}
@@ -131,9 +131,7 @@ within_less false d e x h = h
 pub rest_inside : (rules : Rules) (n : ℕ) (own : Rendered) (tree : Tree) (role : Role) (cursor : Cursor) (e : ℕ)
     (fit : Fits rules n own tree (entry_place false role e) cursor) (w : cursor.whitespace ≡ false)
     (q : Bool) (d : ℕ) → d + rank q ≤ e → AllInside q d (fit.opens w).rest
-rest_inside rules n own tree role cursor e fit w q d h =
-    ap (λ ls. list_all (λ line. belongs_to_entry q d line.text) (lines_after_first ls)) (sym (fit.opens w).is)
-    ∙ fit.inside q d (within_less q d e (is_in_mapping role) h)
+rest_inside rules n own tree role cursor e fit w q d h = grind (arith, within_less)
 
 -- all lines of an indicator and what it opens are deeper than a column farther out
 indicated_inside : (rules : Rules) (n : ℕ) (own : Rendered) (tree : Tree) (role : Role) (cursor : Cursor) (e c : ℕ)
@@ -171,11 +169,7 @@ pair_ends true rules s directives pairs key value e fit =
     let v = closed (simple_value pairs key value s directives e) in
     ap (is_closed rules.breaks12) (sym (append_assoc (spaces e) k (0x3A ∷ v)))
     ∙ closed_behind rules.breaks12 (spaces e ++ k) 0x3A v (indicated_ends rules.breaks12 0 0x3A v (fit.1.opens refl) fit.1.ends)
-pair_ends false rules s directives pairs key value e fit =
-    let k = closed (indicated_key pairs key s directives e) in
-    let v = closed (indicated_value value s directives e) in
-    closed_both rules.breaks12 (spaces e ++ (0x3F ∷ k)) (spaces e ++ (0x3A ∷ v)) (indicated_ends rules.breaks12 e 0x3F k (fit.0.opens refl) fit.0.ends)
-    (indicated_ends rules.breaks12 e 0x3A v (fit.1.opens refl) fit.1.ends)
+pair_ends false rules s directives pairs key value e fit = grind (arith, closed_both, indicated_ends)
 
 -- a pair with `?` has the lines of both
 pub indicated_pair_lines : (rules : Rules) (s : Effective) (directives : List TagDirective) (pairs : Pairs) (key value : Node) (e : ℕ)
@@ -183,10 +177,7 @@ pub indicated_pair_lines : (rules : Rules) (s : Effective) (directives : List Ta
     → lines_of rules.breaks12 (pair_text false pairs key value s directives e)
     ≡ lines_of rules.breaks12 (spaces e ++ (0x3F ∷ closed (indicated_key pairs key s directives e)))
     ++ lines_of rules.breaks12 (spaces e ++ (0x3A ∷ closed (indicated_value value s directives e)))
-indicated_pair_lines rules s directives pairs key value e fit =
-    lines_after_break rules.breaks12 (spaces e ++ (0x3F ∷ closed (indicated_key pairs key s directives e)))
-    (spaces e ++ (0x3A ∷ closed (indicated_value value s directives e)))
-    (indicated_ends rules.breaks12 e 0x3F (closed (indicated_key pairs key s directives e)) (fit.0.opens refl) fit.0.ends)
+indicated_pair_lines rules s directives pairs key value e fit = grind (arith, lines_after_break, indicated_ends)
 
 -- a pair's lines split into its entries
 pair_splits : (x : Bool) (rules : Rules) (s : Effective) (directives : List TagDirective) (pairs : Pairs) (key value : Node) (e : ℕ)
@@ -244,10 +235,7 @@ pair_inside false rules s directives pairs key value e fit q d h =
 pub pairs_end : (rules : Rules) (s : Effective) (directives : List TagDirective) (pairs : Pairs) (e : ℕ) → PairsFit rules s directives pairs e
     → is_closed rules.breaks12 (pairs_text pairs s directives e) ≡ true
 pairs_end rules s directives no_pairs e fit = refl
-pairs_end rules s directives (pairs_and pairs key value) e fit =
-    let x = is_simple s.canonical directives key in
-    closed_both rules.breaks12 (pairs_text pairs s directives e) (pair_text x pairs key value s directives e) (pairs_end rules s directives pairs e fit.0)
-    (pair_ends x rules s directives pairs key value e fit.1)
+pairs_end rules s directives (pairs_and pairs key value) e fit = grind (arith, closed_both, pair_ends, pairs_end rules s directives pairs e fit.0)
 
 -- the lines of pairs, and of one more
 pub pairs_lines : (rules : Rules) (s : Effective) (directives : List TagDirective) (pairs : Pairs) (key value : Node) (e : ℕ)
@@ -255,28 +243,18 @@ pub pairs_lines : (rules : Rules) (s : Effective) (directives : List TagDirectiv
     → lines_of rules.breaks12 (pairs_text (pairs_and pairs key value) s directives e)
     ≡ lines_of rules.breaks12 (pairs_text pairs s directives e)
     ++ lines_of rules.breaks12 (pair_text (is_simple s.canonical directives key) pairs key value s directives e)
-pairs_lines rules s directives pairs key value e fit =
-    lines_after_break rules.breaks12 (pairs_text pairs s directives e) (pair_text (is_simple s.canonical directives key) pairs key value s directives e)
-    (pairs_end rules s directives pairs e fit)
+pairs_lines rules s directives pairs key value e fit = grind (arith, lines_after_break, pairs_end)
 
 -- the lines of a mapping split into the entries of its pairs
 pub pairs_split : (rules : Rules) (s : Effective) (directives : List TagDirective) (pairs : Pairs) (e : ℕ) → PairsFit rules s directives pairs e
     → Splits false e (lines_of rules.breaks12 (pairs_text pairs s directives e)) (pair_entries rules.breaks12 pairs s directives e)
 pairs_split rules s directives no_pairs e fit = splits_none false e
 pairs_split rules s directives (pairs_and pairs key value) e fit =
-    let x = is_simple s.canonical directives key in
-    let own = entries_of_pair rules.breaks12 x pairs key value s directives e in
-    subst (λ ls. Splits false e ls (pair_entries rules.breaks12 pairs s directives e ++ own)) (sym (pairs_lines rules s directives pairs key value e fit.0))
-    (splits_both false e (lines_of rules.breaks12 (pairs_text pairs s directives e)) (lines_of rules.breaks12 (pair_text x pairs key value s directives e))
-    (pair_entries rules.breaks12 pairs s directives e) own
-    (pairs_split rules s directives pairs e fit.0) (pair_splits x rules s directives pairs key value e fit.1))
+    grind (arith, pairs_lines, splits_both, pair_splits, pairs_split rules s directives pairs e fit.0)
 
 -- all lines of a mapping are deeper than a column farther out
 pub pairs_inside : (rules : Rules) (s : Effective) (directives : List TagDirective) (pairs : Pairs) (e : ℕ) → PairsFit rules s directives pairs e
     → (q : Bool) (d : ℕ) → d < e → AllInside q d (lines_of rules.breaks12 (pairs_text pairs s directives e))
 pairs_inside rules s directives no_pairs e fit q d h = refl
 pairs_inside rules s directives (pairs_and pairs key value) e fit q d h =
-    let x = is_simple s.canonical directives key in
-    ap (λ ls. list_all (λ line. belongs_to_entry q d line.text) ls) (pairs_lines rules s directives pairs key value e fit.0)
-    ∙ inside_both q d (lines_of rules.breaks12 (pairs_text pairs s directives e)) (lines_of rules.breaks12 (pair_text x pairs key value s directives e))
-    (pairs_inside rules s directives pairs e fit.0 q d h) (pair_inside x rules s directives pairs key value e fit.1 q d h)
+    grind (arith, pairs_lines, inside_both, pair_inside, pairs_inside rules s directives pairs e fit.0 q d h)

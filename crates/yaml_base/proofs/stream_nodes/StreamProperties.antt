@@ -1,9 +1,9 @@
 -- The anchor and the tag before a node, as they are written, are read as they were given, and spaces of their length stay.
-use Rattle.yaml_base.proofs.Common.{suc, zero, ℕ, ◌+◌, if◌then◌else◌, ◌==◌, option_map, option_and_then, Option, None, Some, length, Bool, false, not, true}
+use Rattle.yaml_base.proofs.Common.{suc, zero, ℕ, ◌+◌, ◌==◌, option_and_then, Option, None, Some, length, Bool, false, not, true}
 use Rattle.yaml_base.proofs.Common.{◌&&◌, ◌||◌, List, [], ◌++◌, ◌∷◌, refl, ◌≡◌, eqb-true, length-append, append-nil, append_assoc, ap, sym, ◌∙◌, arith}
 use Rattle.yaml_base.proofs.Common.{and_parts, or_parts, false≢true, list_all, list_any, Text, space, is_alpha, is_blank, is_break, TagDirective, ParsedTag}
 use Rattle.yaml_base.proofs.Common.{CutText, tag_parsed, ends_indicator, Indented, indented_step, indented, spaces, Rules, no_properties, PropertiesRead}
-use Rattle.yaml_base.proofs.Common.{cut_before_space, name_read, anchor_of_word, tag_of_word, tag_first, properties_read, word_after, word_read}
+use Rattle.yaml_base.proofs.Common.{cut_before_space, name_read, anchor_of_word, tag_first, properties_read, word_after, word_read}
 use Rattle.yaml_base.{proofs.stream_lines.StreamCuts.none_not_some, specs.streams.StreamScalars.word_step, specs.streams.StreamScalars.anchor_first}
 
 -- a text holds a blank or a break
@@ -67,11 +67,7 @@ word_whole (c ∷ word) rest h ends =
 
 -- a letter is no space
 letter_no_space : (c : ℕ) → is_alpha c ≡ true → not (c == space) ≡ true
-letter_no_space c h = by (c == space) refl
-  where
-    by : (x : Bool) → (c == space) ≡ x → not x ≡ true
-    by true e = absurd (false≢true (ap is_alpha (sym (eqb-true c space e)) ∙ h))
-    by false e = refl
+letter_no_space c h = grind (arith, false≢true, eqb-true)
 
 pub letters_no_space : (name : Text) → list_all is_alpha name ≡ true → has_no_space name ≡ true
 letters_no_space [] h = refl
@@ -82,11 +78,7 @@ letters_no_space (c ∷ name) h =
 -- what is a name consists of letters
 pub name_letters : (name : Text) → name_read name ≡ Some name → list_all is_alpha name ≡ true
 name_letters [] h = refl
-name_letters (c ∷ name) h = by (list_all is_alpha (c ∷ name)) h
-  where
-    by : (x : Bool) → (if x then Some (c ∷ name) else None) ≡ Some (c ∷ name) → x ≡ true
-    by true e = refl
-    by false e = absurd (none_not_some e)
+name_letters (c ∷ name) h = grind (arith, none_not_some)
 
 -- where nothing is white no space is
 pub no_white_no_space : (text : Text) → holds_white text ≡ false → has_no_space text ≡ true
@@ -126,54 +118,25 @@ read_as anchor parsed count rest =
 -- without a tag
 no_tag : (directives : List TagDirective) (anchor : Option Text) (column : ℕ) (rest : Text) → begins_content rest ≡ true
     → tag_first directives anchor column rest ≡ read_as anchor None column rest
-no_tag directives anchor column [] h =
-    ap (λ t. let made : Option PropertiesRead = Some (record { properties = record { anchor = anchor; tag = None }; text = t }) in made)
-    (sym (append-nil (spaces column)))
-no_tag directives anchor column (c ∷ rest) h =
-    let parts = and_parts (not (c == space)) (not (c == 0x26) && not (c == 0x21)) h in
-    ap (λ x. if x then tag_of_word directives anchor column (cut_before_space (c ∷ rest)) else read_as anchor None column (c ∷ rest))
-    (not_true (c == 0x21) (and_parts (not (c == 0x26)) (not (c == 0x21)) parts.1).1)
+no_tag directives anchor column [] h = grind (arith, append-nil)
+no_tag directives anchor column (c ∷ rest) h = grind (arith, and_parts, not_true)
 
 -- a tag, before a space or the end
 with_tag : (directives : List TagDirective) (anchor : Option Text) (column : ℕ) (tag rest : Text) (parsed : ParsedTag) → WrittenTag directives tag parsed
     → ends_indicator rest ≡ true → tag_first directives anchor column (tag ++ rest) ≡ read_as anchor (Some parsed) (column + length tag) rest
-with_tag directives anchor column [] rest parsed written h = absurd (begins_nothing written.begins)
-  where
-    begins_nothing : {t : Text} → ◌≡◌ {A = Text} [] (0x21 ∷ t) → ⊥
-    begins_nothing e = cc
-with_tag directives anchor column (c ∷ tag) rest parsed written h =
-    ap (λ x. if x then tag_of_word directives anchor column (cut_before_space ((c ∷ tag) ++ rest)) else read_as anchor None column ((c ∷ tag) ++ rest)) marker
-    ∙ ap (tag_of_word directives anchor column) (word_whole (c ∷ tag) rest (no_white_no_space (c ∷ tag) written.no_white) h)
-    ∙ ap (option_map (λ parsed. let made : PropertiesRead = record {
-      properties = record { anchor = anchor; tag = Some parsed };
-      text = spaces (column + length (c ∷ tag)) ++ rest;
-    } in made)) written.says
-  where
-    first : ℕ → Text → ℕ
-    first d [] = d
-    first d (x ∷ t) = x
-
-    marker : (c == 0x21) ≡ true
-    marker = ap (λ t. first 0 t == 0x21) written.begins
+with_tag directives anchor column [] rest parsed written h = grind (arith)
+with_tag directives anchor column (c ∷ tag) rest parsed written h = grind (arith, word_whole, no_white_no_space)
 
 -- an anchor, before a space or the end
 pub with_anchor : (name rest : Text) → name_read name ≡ Some name → ends_indicator rest ≡ true
     → anchor_of_word (cut_before_space (name ++ rest)) ≡ read_as (Some name) None (suc (length name)) rest
-with_anchor name rest h ends =
-    ap anchor_of_word (word_whole name rest (letters_no_space name (name_letters name h)) ends)
-    ∙ ap (option_map (λ name_read. let made : PropertiesRead = record {
-      properties = record { anchor = Some name_read; tag = None };
-      text = spaces (suc (length name)) ++ rest;
-    } in made)) h
+with_anchor name rest h ends = grind (arith, word_whole, letters_no_space, name_letters)
 
 -- no anchor begins a text
 no_anchor : (n : ℕ) (rest : Text) → begins_content rest ≡ true
     → anchor_first (spaces n ++ rest) ≡ Some (record { properties = no_properties; text = spaces n ++ rest })
 no_anchor zero [] own = refl
-no_anchor zero (c ∷ rest) own =
-    let parts = and_parts (not (c == space)) (not (c == 0x26) && not (c == 0x21)) own in
-    ap (λ x. if x then anchor_of_word (cut_before_space rest) else Some (record { properties = no_properties; text = c ∷ rest }))
-    (not_true (c == 0x26) (and_parts (not (c == 0x26)) (not (c == 0x21)) parts.1).0)
+no_anchor zero (c ∷ rest) own = grind (arith, and_parts, not_true)
 no_anchor (suc n) rest own = refl
 
 -- what follows the reading of an anchor
@@ -198,11 +161,7 @@ pub properties_parsed : (directives : List TagDirective) (anchor tag : Option Te
     → IsNamed anchor → IsTagged directives tag parsed → begins_content rest ≡ true
     → (has_properties anchor tag ≡ true → ends_indicator (spaces n ++ rest) ≡ true)
     → properties_read directives (properties_text anchor tag ++ (spaces n ++ rest)) ≡ read_as anchor parsed (length (properties_text anchor tag) + n) rest
-properties_parsed directives None None None n rest named tagged own ends =
-    ap (then_tag directives) (no_anchor n rest own)
-    ∙ ap (λ (after : Indented). tag_first directives None after.column after.text) (content_indented n rest own)
-    ∙ no_tag directives None n rest own
-    ∙ (let e : n ≡ zero + n = omega arith in ap (λ k. read_as None None k rest) e)
+properties_parsed directives None None None n rest named tagged own ends = grind (arith, no_anchor, content_indented, no_tag)
 properties_parsed directives (Some name) None None n rest named tagged own ends =
     ap (then_tag directives) (with_anchor name (spaces n ++ rest) named (ends refl))
     ∙ ap (λ t. let after : Indented = indented t in tag_first directives (Some name) after.column after.text) (spaces_both (suc (length name)) n rest)
@@ -243,8 +202,4 @@ pub word_with_properties : (rules : Rules) (flow : Bool) (anchor tag : Option Te
     → IsNamed anchor → IsTagged rules.directives tag parsed → begins_content rest ≡ true
     → (has_properties anchor tag ≡ true → ends_indicator (spaces n ++ rest) ≡ true)
     → word_read rules flow (properties_text anchor tag ++ (spaces n ++ rest)) ≡ word_after rules flow None (record { anchor = anchor; tag = parsed }) rest
-word_with_properties rules flow anchor tag parsed n rest named tagged own ends =
-    ap (option_and_then (λ read. word_after rules flow None read.properties (indented read.text).text))
-    (properties_parsed rules.directives anchor tag parsed n rest named tagged own ends)
-    ∙ ap (λ (after : Indented). word_after rules flow None (record { anchor = anchor; tag = parsed }) after.text)
-    (content_indented (length (properties_text anchor tag) + n) rest own)
+word_with_properties rules flow anchor tag parsed n rest named tagged own ends = grind (arith, properties_parsed, content_indented)

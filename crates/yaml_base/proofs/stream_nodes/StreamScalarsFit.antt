@@ -1,9 +1,9 @@
 -- Scalars that stand in blocks fit: in each style, behind an anchor and a tag or without them, and where nothing is written.
 use Rattle.yaml_base.proofs.Common.{ℕ, ◌<◌, ◌≤◌, if◌then◌else◌, Option, None, Some, Bool, false, not, true, ◌&&◌, List, [], ◌++◌, ◌∷◌, refl, ◌≡◌, true≢false}
 use Rattle.yaml_base.proofs.Common.{append-nil, append_assoc, ap, subst, sym, ◌∙◌, arith, false≢true, Text, space, Cursor, Rendered, render_then}
-use Rattle.yaml_base.proofs.Common.{column_after, space_if, indicator, ScalarStyle, any_style, plain, single_quoted, double_quoted, literal, folded}
+use Rattle.yaml_base.proofs.Common.{column_after, space_if, ScalarStyle, any_style, plain, single_quoted, double_quoted, literal, folded}
 use Rattle.yaml_base.proofs.Common.{TagDirective, render_properties, render_separation, render_body, Place, read_in_style, Effective, read_block, is_tidy}
-use Rattle.yaml_base.proofs.Common.{is_empty, allows_block, ending, indentation_hint, ending_hint, render_hint, ends_in_break, double_inside, render_quote}
+use Rattle.yaml_base.proofs.Common.{is_empty, allows_block, ending, indentation_hint, ending_hint, ends_in_break, double_inside, render_quote}
 use Rattle.yaml_base.proofs.Common.{folded_parts, parts, runs, render_runs, quotes_doubled, single_quote, is_plain, spaces, Rules}
 use Rattle.yaml_base.proofs.{stream_flow.StreamFlowScalars.rules_of, stream_flow.StreamFlowScalars.is_flow_style, stream_flow.StreamFlowScalars.body_ended}
 use Rattle.yaml_base.proofs.{stream_flow.StreamFlowWords.Given, stream_flow.StreamFlowWords.scalar_in, stream_flow.StreamPropertyWords.lead}
@@ -15,7 +15,7 @@ use Rattle.yaml_base.proofs.{stream_nodes.StreamOwnWords.own_double, stream_node
 use Rattle.yaml_base.proofs.{stream_nodes.StreamStands.tag_written, stream_nodes.StreamStands.tag_meant, stream_nodes.StreamStands.TagStands}
 use Rattle.yaml_base.proofs.stream_lines.StreamBlockEnds.{EndsBreak, ending_breaks, EndsLines, literal_end, folded_lines_end, column_ended, last_is_read}
 use Rattle.yaml_base.proofs.stream_lines.StreamBlockEnds.{hint_text, strips, is_block}
-use Rattle.yaml_base.proofs.stream_lines.StreamClosed.{closing, closed, Settled, closed_behind}
+use Rattle.yaml_base.proofs.stream_lines.StreamClosed.{closed, Settled, closed_behind}
 use Rattle.yaml_base.proofs.stream_nodes.StreamOwnBlocks.{block_indicator, block_style, own_block, block_tidy_more}
 use Rattle.yaml_base.specs.scalars.{BlockHeader.render_header, BlockHeader.block_body, Literal.indented}
 
@@ -30,13 +30,7 @@ pub record BodyFits (rules : Rules) (column : Option ℕ) (style : ScalarStyle) 
 -- one after which a new line begins with a break
 broken_body : (rules : Rules) (column : Option ℕ) (style : ScalarStyle) (value : Text) (body : Rendered) → body.cursor.indention ≡ false
     → OwnText rules column (body.text ++ feed) style value → BodyFits rules column style value body
-broken_body rules column style value body h own =
-    let same : closed body ≡ body.text ++ feed = ap (λ x. body.text ++ (if x then [] else feed)) h in
-    record {
-      settled = λ w. absurd (false≢true (sym h ∙ w));
-      ends = ap (is_closed rules.breaks12) same ∙ below_ends rules.breaks12 body.text [] refl;
-      own = subst (λ t. OwnText rules column t style value) (sym same) own;
-    }
+broken_body rules column style value body h own = grind (arith, false≢true, below_ends)
 
 -- a body that isn't empty in a style of flow
 flow_body : (s : Effective) (own : List TagDirective) (column : Option ℕ) (style : ScalarStyle) (limit : Option ℕ) (indent : ℕ) (value : Text) (cursor : Cursor)
@@ -75,17 +69,7 @@ header_rest best_indent value lines = (indentation_hint best_indent value ++ end
 -- a block scalar's text is its indicator and that
 block_text : (symbol best_indent : ℕ) (value lines : Text) (cursor : Cursor)
     → (block_body symbol best_indent value lines cursor).text ≡ symbol ∷ header_rest best_indent value lines
-block_text symbol best_indent value lines cursor =
-    ap (λ t. symbol ∷ (((t ++ (render_hint (ending_hint (ending value)) first.cursor).text) ++ feed) ++ lines))
-    (hint_text (indentation_hint best_indent value) indicated)
-    ∙ ap (λ t. symbol ∷ (((indentation_hint best_indent value ++ t) ++ feed) ++ lines)) (hint_text (ending_hint (ending value)) first.cursor)
-    ∙ ap (λ t. symbol ∷ t) (append_assoc (indentation_hint best_indent value ++ ending_hint (ending value)) feed lines)
-  where
-    indicated : Cursor
-    indicated = (indicator (symbol ∷ []) false false false cursor).cursor
-
-    first : Rendered
-    first = render_hint (indentation_hint best_indent value) indicated
+block_text symbol best_indent value lines cursor = grind (arith, hint_text, append_assoc)
 
 -- where the value ends in a break, so do its lines
 block_kept : (s : Effective) (own : List TagDirective) (column : Option ℕ) (l : Bool) (value lines : Text) (cursor : Cursor)
@@ -197,14 +181,7 @@ styled_closed : (s : Effective) (directives : List TagDirective) (anchor tag : O
     → closed (render_styled s directives anchor tag bare style limit indent value cursor)
     ≡ space_if true cursor ++ (lead anchor (tag_written s.portable directives tag bare)
     ++ closed (render_body style s limit indent value (body_cursor s directives anchor tag bare style value cursor)))
-styled_closed s directives anchor tag bare style limit indent value cursor some =
-    let properties = render_properties s.portable directives anchor tag bare cursor in
-    let body = render_body style s limit indent value (body_cursor s directives anchor tag bare style value cursor) in
-    let before = lead anchor (tag_written s.portable directives tag bare) in
-    append_assoc (properties.text ++ (render_separation style false value properties.cursor).text) body.text (closing body.cursor)
-    ∙ ap (λ t. (properties.text ++ t) ++ closed body) (separation_text style value properties.cursor some)
-    ∙ ap (λ t. t ++ closed body) (lead_rendered s.portable directives anchor tag bare cursor)
-    ∙ append_assoc (space_if true cursor) before (closed body)
+styled_closed s directives anchor tag bare style limit indent value cursor some = grind (arith, append_assoc, separation_text, lead_rendered)
 
 -- a scalar whose body fits does
 pub styled_fits : (s : Effective) (own directives : List TagDirective) (anchor tag : Option Text) (bare : Bool) (style : ScalarStyle) (limit : Option ℕ)

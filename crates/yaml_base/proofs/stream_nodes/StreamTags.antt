@@ -1,13 +1,12 @@
 -- A tag as it is written in a stream is read as the tag.
-use Rattle.yaml_base.proofs.Common.{ℕ, if◌then◌else◌, ◌==◌, option_map, None, codes, Bool, false, not, true, ◌||◌, List, [], ◌++◌, ◌∷◌, refl, ◌≡◌, inl, inr}
-use Rattle.yaml_base.proofs.Common.{ap, sym, ◌∙◌, arith, and_parts, and_from, or_parts, or_from, not-true, nat_tests, list_any-append, list_all, list_any}
-use Rattle.yaml_base.proofs.Common.{all_scalars, Text, is_among, is_alpha, TagDirective, is_tag_character, character_written, percent_escaped, suffix_escaped}
-use Rattle.yaml_base.proofs.Common.{exclamation_mark, directives_fault, directives_in_force, Spelling, verbatim, spelling, spelled, shorthand_read}
-use Rattle.yaml_base.proofs.Common.{verbatim_read, tag_read, is_uri_character, percent_read, name_parsed, CutText, prefix_among, directives_assumed}
-use Rattle.yaml_base.proofs.Common.{cut_after_exclamation, name_joined, without_closing_angle, tag_parsed}
-use Rattle.yaml_base.{proofs.TagReads.stands_no_exclamation, proofs.TagReads.cut_at_handle, proofs.TagReads.written_tag_reads}
-use Rattle.yaml_base.{proofs.TagWords.written_tag_ends_no_word, proofs.stream_nodes.StreamProperties.WrittenTag, specs.StreamLaw.has_flow_indicator}
-use Rattle.yaml_base.{specs.reading.ReadTags.may_follow_handle, specs.reading.ReadTags.shorthand_parsed, specs.reading.ReadTags.verbatim_parsed}
+use Rattle.yaml_base.proofs.Common.{ℕ, ◌==◌, None, codes, Bool, false, not, true, ◌||◌, List, [], ◌++◌, ◌∷◌, refl, ◌≡◌, inl, inr, ap, sym, ◌∙◌, arith}
+use Rattle.yaml_base.proofs.Common.{and_parts, and_from, or_parts, or_from, not-true, nat_tests, list_any-append, list_all, list_any, all_scalars, Text}
+use Rattle.yaml_base.proofs.Common.{is_among, is_alpha, TagDirective, is_tag_character, character_written, percent_escaped, suffix_escaped, exclamation_mark}
+use Rattle.yaml_base.proofs.Common.{directives_fault, directives_in_force, Spelling, verbatim, spelling, spelled, tag_read, is_uri_character, name_parsed}
+use Rattle.yaml_base.proofs.Common.{cut_after_exclamation, tag_parsed}
+use Rattle.yaml_base.{proofs.TagWords.written_tag_ends_no_word, specs.StreamLaw.has_flow_indicator, specs.reading.ReadTags.may_follow_handle}
+use Rattle.yaml_base.proofs.TagReads.{stands_no_exclamation, cut_at_handle, written_tag_reads}
+use Rattle.yaml_base.proofs.stream_nodes.StreamProperties.{WrittenTag}
 use Rattle.yaml_base.proofs.PercentLaws.{stands_written, escaped_stands, suffix_stands, character_is_no_flow_indicator, portable_suffix_has_no_flow_indicator}
 use Rattle.yaml_base.proofs.PercentLaws.{written_is_no_less, alpha_is_no_less, escaped_begins, suffix_begins}
 use Rattle.yaml_base.proofs.TagForms.{closing_angle_dropped, IsHandle, handle_form, spelling_is, in_force_found}
@@ -54,31 +53,20 @@ suffix_text (c ∷ text) h k =
 -- what is written after a handle may stand there
 pub suffix_reads : (portable : Bool) (text : Text) → (portable || not (list_any is_flow_indicator text)) ≡ true
     → list_all may_follow_handle (suffix_escaped portable text) ≡ true
-suffix_reads portable text h =
-    suffix_text (suffix_escaped portable text) (uri_text (suffix_escaped portable text) (suffix_stands portable text))
-    (suffix_has_no_flow_indicator portable text h)
+suffix_reads portable text h = grind (arith, suffix_text, uri_text, suffix_stands, suffix_has_no_flow_indicator)
 
 -- Tags
 
 -- where what stands in a tag may stand there, a stream's tag says what a canonical one says
 verbatim_as_read : (own : List TagDirective) (c : ℕ) (name : Text) → list_all is_uri_character (c ∷ name) ≡ true
     → tag_parsed own (codes "!<" ++ ((c ∷ name) ++ codes ">")) ≡ tag_read own (codes "!<" ++ ((c ∷ name) ++ codes ">"))
-verbatim_as_read own c name h =
-    ap verbatim_parsed (closing_angle_dropped (c ∷ name))
-    ∙ ap (λ x. if x then option_map name_parsed (percent_read (c ∷ name)) else None) h
-    ∙ sym (ap verbatim_read (closing_angle_dropped (c ∷ name)))
+verbatim_as_read own c name h = grind (arith, closing_angle_dropped)
 
 -- a text that begins with `!` and goes on with another character than `<`
 by_handle : (own : List TagDirective) (d : ℕ) (rest handle : Text) (c : ℕ) (suffix : Text) → (d == 0x3C) ≡ false
     → cut_after_exclamation (exclamation_mark ∷ d ∷ rest) ≡ record { prefix = handle; rest = c ∷ suffix } → list_all may_follow_handle (c ∷ suffix) ≡ true
     → tag_parsed own (exclamation_mark ∷ d ∷ rest) ≡ tag_read own (exclamation_mark ∷ d ∷ rest)
-by_handle own d rest handle c suffix less cut h =
-    let made : CutText = cut_after_exclamation (exclamation_mark ∷ d ∷ rest) in
-    ap (λ x. if x then verbatim_parsed (without_closing_angle rest) else shorthand_parsed own made.prefix made.rest) less
-    ∙ ap (λ (cut : CutText). shorthand_parsed own cut.prefix cut.rest) cut
-    ∙ ap (λ x. if x then name_joined (prefix_among (own ++ directives_assumed) handle) (percent_read (c ∷ suffix)) else None) h
-    ∙ sym (ap (shorthand_read own) cut)
-    ∙ sym (ap (λ x. if x then verbatim_read (without_closing_angle rest) else shorthand_read own made) less)
+by_handle own d rest handle c suffix less cut h = grind (arith)
 
 -- a handle and what stands after it go on so
 second_indicator : (handle : Text) (c : ℕ) (suffix : Text) → IsHandle handle → stands_written c ≡ true

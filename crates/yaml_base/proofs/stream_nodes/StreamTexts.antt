@@ -1,11 +1,11 @@
 -- A node's text by itself: what is rendered for it after the indicators of its place, as one text in place of pieces.
-use Rattle.yaml_base.proofs.Common.{ℕ, if◌then◌else◌, Option, None, Bool, false, List, [], ◌++◌, ◌∷◌, refl, ◌≡◌, append-nil, append_assoc, ap, ◌∙◌}
+use Rattle.yaml_base.proofs.Common.{arith, ℕ, if◌then◌else◌, Option, None, Bool, false, List, [], ◌++◌, ◌∷◌, refl, ◌≡◌, append-nil, append_assoc, ap, ◌∙◌}
 use Rattle.yaml_base.proofs.Common.{flat_map-append, Text, Cursor, Rendered, render_nothing, render_then, TagDirective, Scalar, scalar_tag, collection_tag}
 use Rattle.yaml_base.proofs.Common.{Node, alias_node, scalar_node, Nodes, sequence_node, Pairs, mapping_node, no_nodes, nodes_and, no_pairs, pairs_and, Piece}
-use Rattle.yaml_base.proofs.Common.{piece_text, text_of, Standing, RenderedPieces, then_pieces, render_properties, render_alias, render_separation}
-use Rattle.yaml_base.proofs.Common.{render_body, choice_of, is_written_in_flow, Brackets, square, curly, render_end, entry_place, render_node, render_nodes}
-use Rattle.yaml_base.proofs.Common.{render_pairs, as_item, as_key, as_value, Place, is_undented, deeper, entries_column, has_no_nodes, has_no_pairs}
-use Rattle.yaml_base.proofs.Common.{is_simple, is_simple_at, render_place, Effective}
+use Rattle.yaml_base.proofs.Common.{piece_text, text_of, Standing, RenderedPieces, then_pieces, render_properties, render_alias, render_separation, render_body}
+use Rattle.yaml_base.proofs.Common.{choice_of, is_written_in_flow, Brackets, square, curly, render_end, entry_place, render_node, render_nodes, render_pairs}
+use Rattle.yaml_base.proofs.Common.{as_item, as_key, as_value, Place, is_undented, deeper, entries_column, has_no_nodes, has_no_pairs, is_simple, is_simple_at}
+use Rattle.yaml_base.proofs.Common.{render_place, Effective}
 
 -- a scalar's anchor, tag, space and body
 abbrev pub scalar_own : Effective → List TagDirective → Place → (simple : Bool) → Scalar → Cursor → Rendered
@@ -69,12 +69,7 @@ text_both a b = flat_map-append piece_text a b
 -- pieces and those after them are a text and that after it
 joined_both : (first : RenderedPieces) (next : Standing → RenderedPieces) (a : Rendered) (b : Cursor → Rendered) → Joined first a
     → ((standing : Standing) → Joined (next standing) (b standing.cursor)) → Joined (then_pieces first next) (render_then a b)
-joined_both first next a b one two = (
-  text_both first.pieces (next first.standing).pieces
-      ∙ ap (λ t. t ++ text_of (next first.standing).pieces) one.0
-      ∙ ap (λ t. a.text ++ t) ((two first.standing).0 ∙ ap (λ c. (b c).text) one.1),
-  (two first.standing).1 ∙ ap (λ c. (b c).cursor) one.1,
-)
+joined_both first next a b one two = grind (arith, text_both)
 
 -- regrouped: indicators, properties, a space and a body
 assoc_three : (a b c d : Text) → (((a ++ b) ++ c) ++ d) ++ [] ≡ a ++ ((b ++ c) ++ d)
@@ -83,9 +78,7 @@ assoc_three a b c d =
 
 -- a collection's pieces, after its place's indicators
 collection_joined : (a b e f : Text) (x y z : Text) → x ≡ (a ++ b) ++ [] → y ≡ e → z ≡ f ++ [] → (x ++ y) ++ z ≡ a ++ ((b ++ e) ++ f)
-collection_joined a b e f x y z h k l =
-    ap (λ t. (t ++ y) ++ z) (h ∙ append-nil (a ++ b)) ∙ ap (λ t. ((a ++ b) ++ t) ++ z) k ∙ ap (λ t. ((a ++ b) ++ e) ++ t) (l ∙ append-nil f)
-    ∙ ap (λ t. t ++ f) (append_assoc a b e) ∙ append_assoc a (b ++ e) f
+collection_joined a b e f x y z h k l = grind (arith, append-nil, append_assoc)
 
 -- a collection's pieces and the cursor after them, from those of its entries
 collection_parts : (symbols begun : Rendered) (entries : RenderedPieces) (own : Rendered) (ending : Cursor → Rendered) → Joined entries own
