@@ -1,3 +1,4 @@
+pub mod Cases
 pub mod RowsPieces
 pub mod RowsMeaning
 pub mod RowEvents

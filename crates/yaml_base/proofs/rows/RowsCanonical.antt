@@ -3,7 +3,7 @@ use Rattle.yaml_base.proofs.Common.{None, Some, codes, pos, false, true, [], ◌
 use Rattle.yaml_base.proofs.Common.{scalar_content, sequence_content, mapping_content, no_contents, contents_and, no_content_pairs, content_pairs_and}
 use Rattle.yaml_base.proofs.Common.{DocumentContent}
 use Rattle.std.specs.{Char.encode_utf8, Str.chars, Str.is_utf8}
-use Rattle.yaml_base.specs.reading.Content.{alias_content}
+use Rattle.yaml_base.{proofs.rows.Cases.Gives, specs.reading.Content.alias_content}
 
 -- a document without version and directives
 abbrev root : Content → DocumentContent
@@ -13,23 +13,11 @@ root content = record { version = None; directives = []; root = content }
 abbrev scalar_of : Text → Content
 scalar_of value = scalar_content None (untagged true) value
 
-a_scalar : canonical_content false (codes "---\n\"a\"\n") ≡ Some (root (scalar_of (codes "a")) ∷ [])
-unfolding chars is_utf8 encode_utf8
-a_scalar = refl
-
-no_documents_at_all : canonical_content false [] ≡ Some []
-unfolding chars is_utf8 encode_utf8
-no_documents_at_all = refl
-
 two_documents : canonical_content false (codes "---\n\"a\"\n...\n%YAML 1.1\n---\n\"b\"\n")
     ≡ Some (root (scalar_of (codes "a")) ∷ record { version = Some (record { major = pos 1; minor = pos 1 }); directives = []; root = scalar_of (codes "b") }
     ∷ [])
 unfolding chars is_utf8 encode_utf8
 two_documents = refl
-
-a_folded_text : canonical_content false (codes "---\n\"aaaaaa\n  \\ b\"\n") ≡ Some (root (scalar_of (codes "aaaaaa  b")) ∷ [])
-unfolding chars is_utf8 encode_utf8
-a_folded_text = refl
 
 a_mapping : canonical_content false (codes "---\n!!map {\n  ? &a !!str \"k\"\n  : *a,\n}\n")
     ≡ Some (root (mapping_content None (Some (codes "tag:yaml.org,2002:map"))
@@ -44,14 +32,6 @@ nested_collections : canonical_content false (codes "---\n[\n  {},\n  \"a\",\n]\
 unfolding chars is_utf8 encode_utf8
 nested_collections = refl
 
-the_bare_tag : canonical_content false (codes "---\n! \"a\"\n") ≡ Some (root (scalar_content None (untagged false) (codes "a")) ∷ [])
-unfolding chars is_utf8 encode_utf8
-the_bare_tag = refl
-
-a_verbatim_tag : canonical_content false (codes "---\n!<%21> \"x\"\n") ≡ Some (root (scalar_content None (tagged (codes "!")) (codes "x")) ∷ [])
-unfolding chars is_utf8 encode_utf8
-a_verbatim_tag = refl
-
 own_directive : canonical_content false (codes "%TAG !e! %21x\n---\n!e!y \"x\"\n")
     ≡ Some (record {
       version = None;
@@ -61,25 +41,29 @@ own_directive : canonical_content false (codes "%TAG !e! %21x\n---\n!e!y \"x\"\n
 unfolding chars is_utf8 encode_utf8
 own_directive = refl
 
-percent_forms : canonical_content false (codes "---\n!%C3%A9 \"x\"\n") ≡ Some (root (scalar_content None (tagged (0x21 ∷ 0xE9 ∷ [])) (codes "x")) ∷ [])
-unfolding chars is_utf8 encode_utf8
-percent_forms = refl
-
-utf16_upper_first : canonical_content false (0xFE ∷ 0xFF ∷ 0 ∷ 0x2D ∷ 0 ∷ 0x2D ∷ 0 ∷ 0x2D ∷ 0 ∷ 0x0A ∷ 0 ∷ 0x22 ∷ 0 ∷ 0x61 ∷ 0 ∷ 0x22 ∷ 0 ∷ 0x0A ∷ [])
-    ≡ Some (root (scalar_of (codes "a")) ∷ [])
-utf16_upper_first = refl
-
-utf16_lower_first : canonical_content false
-    (0xFF ∷ 0xFE ∷ 0x2D ∷ 0 ∷ 0x2D ∷ 0 ∷ 0x2D ∷ 0 ∷ 0x0A ∷ 0 ∷ 0x22 ∷ 0 ∷ 0x3D ∷ 0xD8 ∷ 0 ∷ 0xDE ∷ 0x22 ∷ 0 ∷ 0x0A ∷ 0 ∷ [])
-    ≡ Some (root (scalar_of (0x1F600 ∷ [])) ∷ [])
-utf16_lower_first = refl
-
 -- what the emitter never writes: blanks and breaks anywhere between tokens, and none where none is needed
 written_otherwise : canonical_content false (codes " \t\n---\"a\"---[*a,[],]...")
     ≡ Some (root (scalar_of (codes "a"))
     ∷ root (sequence_content None None (contents_and (contents_and no_contents (alias_content (codes "a"))) (sequence_content None None no_contents))) ∷ [])
 unfolding chars is_utf8 encode_utf8
 written_otherwise = refl
+
+contents : Gives (canonical_content false) (
+    (codes "---\n\"a\"\n", Some (root (scalar_of (codes "a")) ∷ []))  -- a scalar
+    ∷ ([], Some [])  -- no documents at all
+    ∷ (codes "---\n\"aaaaaa\n  \\ b\"\n", Some (root (scalar_of (codes "aaaaaa  b")) ∷ []))  -- a folded text
+    ∷ (codes "---\n! \"a\"\n", Some (root (scalar_content None (untagged false) (codes "a")) ∷ []))  -- the bare tag
+    ∷ (codes "---\n!<%21> \"x\"\n", Some (root (scalar_content None (tagged (codes "!")) (codes "x")) ∷ []))  -- a verbatim tag
+    ∷ (codes "---\n!%C3%A9 \"x\"\n", Some (root (scalar_content None (tagged (0x21 ∷ 0xE9 ∷ [])) (codes "x")) ∷ []))  -- percent forms
+    -- utf16 upper first
+    ∷ (0xFE ∷ 0xFF ∷ 0 ∷ 0x2D ∷ 0 ∷ 0x2D ∷ 0 ∷ 0x2D ∷ 0 ∷ 0x0A ∷ 0 ∷ 0x22 ∷ 0 ∷ 0x61 ∷ 0 ∷ 0x22 ∷ 0 ∷ 0x0A ∷ [], Some (root (scalar_of (codes "a")) ∷ []))
+    ∷ (
+      0xFF ∷ 0xFE ∷ 0x2D ∷ 0 ∷ 0x2D ∷ 0 ∷ 0x2D ∷ 0 ∷ 0x0A ∷ 0 ∷ 0x22 ∷ 0 ∷ 0x3D ∷ 0xD8 ∷ 0 ∷ 0xDE ∷ 0x22 ∷ 0 ∷ 0x0A ∷ 0 ∷ [],
+      Some (root (scalar_of (0x1F600 ∷ [])) ∷ []),
+    )  -- utf16 lower first
+    ∷ [])
+unfolding chars is_utf8 encode_utf8
+contents = refl
 
 -- U+2028 is a break, and under the rules of YAML 1.2 it isn't
 line_separators : (canonical_content false (codes "---" ++ 0xE2 ∷ 0x80 ∷ 0xA8 ∷ codes "\"a\"") ≡ Some (root (scalar_of (codes "a")) ∷ []))

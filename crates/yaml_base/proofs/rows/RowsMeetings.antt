@@ -1,11 +1,11 @@
 -- Documents of nodes, computed: their meetings and their events.
 use Rattle.yaml_base.proofs.Common.{suc, zero, ℕ, Option, None, Some, codes, length, false, true, List, [], ◌++◌, ◌∷◌, refl, ◌≡◌, Text, any_style, block}
-use Rattle.yaml_base.proofs.Common.{DocumentStart, Event, document_start, document_end, alias, scalar, sequence_start, sequence_end, mapping_start}
-use Rattle.yaml_base.proofs.Common.{mapping_end, Settings, NumberPair, scalar_held, sequence_held, mapping_held, GraphNode, Graph, string_tag, sequence_tag}
-use Rattle.yaml_base.proofs.Common.{mapping_tag, document_event_list}
+use Rattle.yaml_base.proofs.Common.{DocumentStart, Event, document_start, document_end, alias, scalar, sequence_start, sequence_end, mapping_start, mapping_end}
+use Rattle.yaml_base.proofs.Common.{Settings, NumberPair, scalar_held, sequence_held, mapping_held, GraphNode, Graph, string_tag, sequence_tag, mapping_tag}
+use Rattle.yaml_base.proofs.Common.{document_event_list}
 use Rattle.std.specs.{Char.encode_utf8, Prelude.slice_get, Prelude.filter_map, Prelude.flat_map}
+use Rattle.yaml_base.{proofs.rows.Cases.Gives, specs.graphs.Meetings.meetings, specs.graphs.Meetings.decimal_digits}
 use Rattle.yaml_base.proofs.rows.RowEvents.{plain_settings, canonical_settings, stream_of, rendered_under}
-use Rattle.yaml_base.specs.graphs.Meetings.{meetings, decimal_digits}
 
 -- nodes with the tags of their kinds, in a document without directives whose markers are implicit
 abbrev string_of : Text → GraphNode
@@ -123,34 +123,18 @@ dumped settings documents = rendered_under settings (stream_of (flat_map (λ nod
 abbrev dumped_alone : List GraphNode → Text
 dumped_alone nodes = dumped plain_settings (nodes ∷ [])
 
-shared_items : dumped_alone (sequence_of (2 ∷ 2 ∷ []) ∷ string_of (codes "a") ∷ []) ≡ codes "- &id001 a\n- *id001\n"
+texts_of_documents : Gives dumped_alone (
+    (sequence_of (2 ∷ 2 ∷ []) ∷ string_of (codes "a") ∷ [], codes "- &id001 a\n- *id001\n")  -- shared items
+    ∷ (sequence_of (2 ∷ []) ∷ sequence_of (3 ∷ 3 ∷ []) ∷ string_of (codes "a") ∷ [], codes "- - &id001 a\n  - *id001\n")  -- shared below text
+    ∷ (sequence_of (1 ∷ []) ∷ [], codes "&id001\n- *id001\n")  -- holds itself text
+    -- shared twice text
+    ∷ (sequence_of (2 ∷ 2 ∷ []) ∷ sequence_of (3 ∷ 3 ∷ []) ∷ string_of (codes "a") ∷ [], codes "- &id002\n  - &id001 a\n  - *id001\n- *id002\n")
+    ∷ (mapping_of (record { key = 2; value = 1 } ∷ []) ∷ string_of (codes "k") ∷ [], codes "&id001\nk: *id001\n")  -- mapping within itself text
+    ∷ (string_of (codes "a") ∷ string_of (codes "b") ∷ [], codes "a\n")  -- unreached text
+    ∷ (record { tag = codes "tag:yaml.org,2002:int"; held = scalar_held (codes "5") any_style } ∷ [], codes "!!int 5\n")  -- other tag text
+    ∷ [])
 unfolding decimal_digits encode_utf8
-shared_items = refl
-
-shared_below_text : dumped_alone (sequence_of (2 ∷ []) ∷ sequence_of (3 ∷ 3 ∷ []) ∷ string_of (codes "a") ∷ []) ≡ codes "- - &id001 a\n  - *id001\n"
-unfolding decimal_digits encode_utf8
-shared_below_text = refl
-
-holds_itself_text : dumped_alone (sequence_of (1 ∷ []) ∷ []) ≡ codes "&id001\n- *id001\n"
-unfolding decimal_digits encode_utf8
-holds_itself_text = refl
-
-shared_twice_text : dumped_alone (sequence_of (2 ∷ 2 ∷ []) ∷ sequence_of (3 ∷ 3 ∷ []) ∷ string_of (codes "a") ∷ [])
-    ≡ codes "- &id002\n  - &id001 a\n  - *id001\n- *id002\n"
-unfolding decimal_digits encode_utf8
-shared_twice_text = refl
-
-mapping_within_itself_text : dumped_alone (mapping_of (record { key = 2; value = 1 } ∷ []) ∷ string_of (codes "k") ∷ []) ≡ codes "&id001\nk: *id001\n"
-unfolding decimal_digits encode_utf8
-mapping_within_itself_text = refl
-
-unreached_text : dumped_alone (string_of (codes "a") ∷ string_of (codes "b") ∷ []) ≡ codes "a\n"
-unfolding decimal_digits encode_utf8
-unreached_text = refl
-
-other_tag_text : dumped_alone (record { tag = codes "tag:yaml.org,2002:int"; held = scalar_held (codes "5") any_style } ∷ []) ≡ codes "!!int 5\n"
-unfolding decimal_digits encode_utf8
-other_tag_text = refl
+texts_of_documents = refl
 
 -- numbers begin anew in each document
 dumped_twice : (let nodes = sequence_of (2 ∷ 2 ∷ []) ∷ string_of (codes "a") ∷ [] in dumped plain_settings (nodes ∷ nodes ∷ []))
@@ -158,13 +142,14 @@ dumped_twice : (let nodes = sequence_of (2 ∷ 2 ∷ []) ∷ string_of (codes "a
 unfolding decimal_digits encode_utf8
 dumped_twice = refl
 
-mapping_within_itself_canonical : dumped canonical_settings ((mapping_of (record { key = 2; value = 1 } ∷ []) ∷ string_of (codes "k") ∷ []) ∷ [])
-    ≡ codes "---\n&id001 !!map {\n  ? !!str \"k\"\n  : *id001,\n}\n"
+canonical_texts : Gives (dumped canonical_settings) (
+    -- mapping within itself canonical
+    ((mapping_of (record { key = 2; value = 1 } ∷ []) ∷ string_of (codes "k") ∷ []) ∷ [], codes "---\n&id001 !!map {\n  ? !!str \"k\"\n  : *id001,\n}\n")
+    -- the numbers of nodes don't show: nodes 2 and 3 exchanged
+    ∷ (
+      (sequence_of (2 ∷ 2 ∷ []) ∷ sequence_of (3 ∷ 3 ∷ []) ∷ string_of (codes "a") ∷ []) ∷ [],
+      dumped canonical_settings ((sequence_of (3 ∷ 3 ∷ []) ∷ string_of (codes "a") ∷ sequence_of (2 ∷ 2 ∷ []) ∷ []) ∷ []),
+    )  -- exchanged
+    ∷ [])
 unfolding decimal_digits encode_utf8
-mapping_within_itself_canonical = refl
-
--- the numbers of nodes don't show: nodes 2 and 3 exchanged
-exchanged : dumped canonical_settings ((sequence_of (2 ∷ 2 ∷ []) ∷ sequence_of (3 ∷ 3 ∷ []) ∷ string_of (codes "a") ∷ []) ∷ [])
-    ≡ dumped canonical_settings ((sequence_of (3 ∷ 3 ∷ []) ∷ string_of (codes "a") ∷ sequence_of (2 ∷ 2 ∷ []) ∷ []) ∷ [])
-unfolding decimal_digits encode_utf8
-exchanged = refl
+canonical_texts = refl

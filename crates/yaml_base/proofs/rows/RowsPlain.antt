@@ -1,7 +1,7 @@
 -- Plain and single-quoted scalars, computed: what is rendered, and that it reads back.
 use Rattle.yaml_base.proofs.Common.{ℕ, Option, None, Some, codes, replicate, false, [], ◌++◌, ◌∷◌, refl, ◌≡◌, Text, Cursor, first_cursor, read_plain}
 use Rattle.yaml_base.proofs.Common.{read_single}
-use Rattle.yaml_base.specs.scalars.{Plain.render_plain, SingleQuoted.render_single_quoted}
+use Rattle.yaml_base.{proofs.rows.Cases.Gives, proofs.rows.Cases.GivesOfTwo, specs.scalars.Plain.render_plain, specs.scalars.SingleQuoted.render_single_quoted}
 
 -- a root in a block, indented by 2
 abbrev plain_root : Option ℕ → Text → Text
@@ -37,52 +37,31 @@ pub cursor_after_single :
     record { column = 6; whitespace = false; indention = false }
 cursor_after_single = refl
 
-pub fold : plain_root (Some 5) (codes "aaaaaa b") ≡ codes "aaaaaa\n  b"
-fold = refl
+plain_roots : GivesOfTwo plain_root (
+    (Some 5, codes "aaaaaa b", codes "aaaaaa\n  b")  -- fold
+    -- a space at the width is not past it
+    ∷ (Some 5, codes "aaaaa b", codes "aaaaa b")  -- no fold at the width
+    ∷ (None, codes "aaaaaa b", codes "aaaaaa b")  -- no width
+    ∷ (Some 5, codes "aaaaaa  b c", codes "aaaaaa  b\n  c")  -- no fold among spaces
+    -- columns are counted in characters
+    ∷ (Some 5, replicate 4 0xE9 ++ codes " b c", replicate 4 0xE9 ++ codes " b\n  c")  -- fold counts characters
+    ∷ [])
+plain_roots = refl
 
--- a space at the width is not past it
-pub no_fold_at_the_width : plain_root (Some 5) (codes "aaaaa b") ≡ codes "aaaaa b"
-no_fold_at_the_width = refl
-
-pub no_width : plain_root None (codes "aaaaaa b") ≡ codes "aaaaaa b"
-no_width = refl
-
-pub no_fold_among_spaces : plain_root (Some 5) (codes "aaaaaa  b c") ≡ codes "aaaaaa  b\n  c"
-no_fold_among_spaces = refl
-
--- columns are counted in characters
-pub fold_counts_characters :
-    plain_root (Some 5) (replicate 4 0xE9 ++ codes " b c") ≡ replicate 4 0xE9 ++ codes " b\n  c"
-fold_counts_characters = refl
-
-pub one_break : single_root (Some 80) (codes "a\nb") ≡ codes "'a\n\n  b'"
-one_break = refl
-
-pub break_alone : single_root (Some 80) (codes "\n") ≡ codes "'\n\n  '"
-break_alone = refl
-
-pub space_alone : single_root (Some 0) (codes " ") ≡ codes "' '"
-space_alone = refl
-
--- no fold at either end
-pub no_fold_at_the_ends : single_root (Some 0) (codes " a b ") ≡ codes "' a\n  b '"
-no_fold_at_the_ends = refl
-
-pub quote_alone : single_root (Some 80) (codes "'") ≡ codes "''''"
-quote_alone = refl
-
--- a doubled quote takes two columns
-pub quotes_take_columns : single_root (Some 5) (codes "a''' b c") ≡ codes "'a''''''\n  b c'"
-quotes_take_columns = refl
-
-pub key_indicator : single_root (Some 80) (codes "a:") ≡ codes "'a:'"
-key_indicator = refl
-
-pub entry_indicator : single_root (Some 80) (codes "- x") ≡ codes "'- x'"
-entry_indicator = refl
-
-pub nothing_quoted : single_root (Some 80) [] ≡ codes "''"
-nothing_quoted = refl
+single_quoted_roots : GivesOfTwo single_root (
+    (Some 80, codes "a\nb", codes "'a\n\n  b'")  -- one break
+    ∷ (Some 80, codes "\n", codes "'\n\n  '")  -- break alone
+    ∷ (Some 0, codes " ", codes "' '")  -- space alone
+    -- no fold at either end
+    ∷ (Some 0, codes " a b ", codes "' a\n  b '")  -- no fold at the ends
+    ∷ (Some 80, codes "'", codes "''''")  -- quote alone
+    -- a doubled quote takes two columns
+    ∷ (Some 5, codes "a''' b c", codes "'a''''''\n  b c'")  -- quotes take columns
+    ∷ (Some 80, codes "a:", codes "'a:'")  -- key indicator
+    ∷ (Some 80, codes "- x", codes "'- x'")  -- entry indicator
+    ∷ (Some 80, [], codes "''")  -- nothing quoted
+    ∷ [])
+single_quoted_roots = refl
 
 abbrev separated : Text
 separated = 97 ∷ 0x2028 ∷ 98 ∷ []
@@ -108,28 +87,14 @@ separator_before_break = refl
 pub fold_reads : read_plain false false (codes "aaaaaa\n  b") ≡ Some (codes "aaaaaa b")
 fold_reads = refl
 
-pub one_break_reads : read_single false (codes "'a\n\n  b'") ≡ Some (codes "a\nb")
-one_break_reads = refl
-
-pub break_alone_reads : read_single false (codes "'\n\n  '") ≡ Some (codes "\n")
-break_alone_reads = refl
-
-pub no_fold_at_the_ends_reads : read_single false (codes "' a\n  b '") ≡ Some (codes " a b ")
-no_fold_at_the_ends_reads = refl
-
-pub quote_alone_reads : read_single false (codes "''''") ≡ Some (codes "'")
-quote_alone_reads = refl
-
-pub separator_reads : read_single false (codes "'a" ++ 0x2028 ∷ codes "  b'") ≡ Some separated
-separator_reads = refl
-
-pub separator_after_break_reads :
-    read_single false (codes "'a\n\n" ++ 0x2028 ∷ codes "  b'") ≡ Some separated_after_break
-separator_after_break_reads = refl
-
-pub separator_before_break_reads :
-    read_single false (codes "'a" ++ 0x2028 ∷ codes "\n  b'") ≡ Some separated_before_break
-separator_before_break_reads = refl
-
-pub space_alone_reads : read_single false (codes "' '") ≡ Some (codes " ")
-space_alone_reads = refl
+single_quoted_roots_read : Gives (read_single false) (
+    (codes "'a\n\n  b'", Some (codes "a\nb"))  -- one break
+    ∷ (codes "'\n\n  '", Some (codes "\n"))  -- break alone
+    ∷ (codes "' a\n  b '", Some (codes " a b "))  -- no fold at the ends
+    ∷ (codes "''''", Some (codes "'"))  -- quote alone
+    ∷ (codes "'a" ++ 0x2028 ∷ codes "  b'", Some separated)  -- separator
+    ∷ (codes "'a\n\n" ++ 0x2028 ∷ codes "  b'", Some separated_after_break)  -- separator after break
+    ∷ (codes "'a" ++ 0x2028 ∷ codes "\n  b'", Some separated_before_break)  -- separator before break
+    ∷ (codes "' '", Some (codes " "))  -- space alone
+    ∷ [])
+single_quoted_roots_read = refl

@@ -2,20 +2,11 @@
 use Rattle.yaml_base.proofs.Common.{None, Some, codes, pos, false, true, [], ◌++◌, ◌∷◌, refl, ◌≡◌, stream_trees}
 use Rattle.std.specs.{Char.encode_utf8, Str.chars, Str.is_utf8}
 use Rattle.yaml_base.proofs.rows.StreamTrees.{document, only, bare_word, in_quotes, of_tag, items, pair, pairs}
+use Rattle.yaml_base.proofs.rows.Cases.{Gives}
 
 no_documents : (stream_trees false [] ≡ Some []) × (stream_trees false (codes "\n\n") ≡ Some [])
 unfolding chars is_utf8 encode_utf8
 no_documents = (refl, refl)
-
-three_documents : stream_trees false (codes "a\n--- b\n---\n- c\n")
-    ≡ Some (document (bare_word (codes "a")) ∷ document (bare_word (codes "b")) ∷ document (items (bare_word (codes "c") ∷ [])) ∷ [])
-unfolding chars is_utf8 encode_utf8
-three_documents = refl
-
-empty_documents : stream_trees false (codes "---\n---\n...\n---\n...\n")
-    ≡ Some (document (bare_word []) ∷ document (bare_word []) ∷ document (bare_word []) ∷ [])
-unfolding chars is_utf8 encode_utf8
-empty_documents = refl
 
 directives_before_documents : stream_trees false (codes "%YAML 1.1\n%TAG !e! tag:e.com,2000:\n--- !e!t x\n...\n%TAG ! !a%20\n---\n!b y\n...\n")
     ≡ Some (record {
@@ -33,23 +24,19 @@ blank_lines_after_an_end : stream_trees false (codes "--- |+\n  a\n\n...\n\n\n%Y
 unfolding chars is_utf8 encode_utf8
 blank_lines_after_an_end = refl
 
-handles_of_one_document_alone : stream_trees false (codes "%TAG !e! x\n--- !e!y z\n--- !e!y z\n") ≡ None
+streams : Gives (stream_trees false) ((
+  codes "a\n--- b\n---\n- c\n",
+  Some (document (bare_word (codes "a")) ∷ document (bare_word (codes "b")) ∷ document (items (bare_word (codes "c") ∷ [])) ∷ []),
+)  -- three documents
+    ∷ (codes "---\n---\n...\n---\n...\n", Some (document (bare_word []) ∷ document (bare_word []) ∷ document (bare_word []) ∷ []))  -- empty documents
+    ∷ (codes "%TAG !e! x\n--- !e!y z\n--- !e!y z\n", None)  -- handles of one document alone
+    ∷ (codes "- a\r\n- |\r\n  b\r\n  c\r\n", only (items (bare_word (codes "a") ∷ in_quotes (codes "b\nc\n") ∷ [])))  -- both breaks
+    ∷ (codes "a:\r- b\r", only (pairs (pair (bare_word (codes "a")) (items (bare_word (codes "b") ∷ [])) ∷ [])))  -- carriage returns
+    ∷ (0xFE ∷ 0xFF ∷ 0 ∷ 0x2D ∷ 0 ∷ 0x20 ∷ 0 ∷ 0x61 ∷ 0 ∷ 0x0D ∷ 0 ∷ 0x0A ∷ [], only (items (bare_word (codes "a") ∷ [])))  -- utf16 upper first
+    ∷ (0xFF ∷ 0xFE ∷ 0x22 ∷ 0 ∷ 0x3D ∷ 0xD8 ∷ 0 ∷ 0xDE ∷ 0x22 ∷ 0 ∷ 0x0A ∷ 0 ∷ [], only (in_quotes (0x1F600 ∷ [])))  -- utf16 lower first
+    ∷ [])
 unfolding chars is_utf8 encode_utf8
-handles_of_one_document_alone = refl
-
-both_breaks : stream_trees false (codes "- a\r\n- |\r\n  b\r\n  c\r\n") ≡ only (items (bare_word (codes "a") ∷ in_quotes (codes "b\nc\n") ∷ []))
-unfolding chars is_utf8 encode_utf8
-both_breaks = refl
-
-carriage_returns : stream_trees false (codes "a:\r- b\r") ≡ only (pairs (pair (bare_word (codes "a")) (items (bare_word (codes "b") ∷ [])) ∷ []))
-unfolding chars is_utf8 encode_utf8
-carriage_returns = refl
-
-utf16_upper_first : stream_trees false (0xFE ∷ 0xFF ∷ 0 ∷ 0x2D ∷ 0 ∷ 0x20 ∷ 0 ∷ 0x61 ∷ 0 ∷ 0x0D ∷ 0 ∷ 0x0A ∷ []) ≡ only (items (bare_word (codes "a") ∷ []))
-utf16_upper_first = refl
-
-utf16_lower_first : stream_trees false (0xFF ∷ 0xFE ∷ 0x22 ∷ 0 ∷ 0x3D ∷ 0xD8 ∷ 0 ∷ 0xDE ∷ 0x22 ∷ 0 ∷ 0x0A ∷ 0 ∷ []) ≡ only (in_quotes (0x1F600 ∷ []))
-utf16_lower_first = refl
+streams = refl
 
 -- U+2028 breaks a line, and under the rules of YAML 1.2 it doesn't
 line_separators : (stream_trees false (codes "- a" ++ 0xE2 ∷ 0x80 ∷ 0xA8 ∷ codes "- b\n") ≡ only (items (bare_word (codes "a") ∷ bare_word (codes "b") ∷ [])))
@@ -57,10 +44,9 @@ line_separators : (stream_trees false (codes "- a" ++ 0xE2 ∷ 0x80 ∷ 0xA8 ∷
 unfolding chars is_utf8 encode_utf8
 line_separators = (refl, refl)
 
-marks_inside_texts : stream_trees false (codes "---a\n  --- b\n") ≡ None
+streams_with_marks_inside : Gives (stream_trees false) (
+    (codes "---a\n  --- b\n", None)  -- marks inside texts
+    ∷ (codes "a\n  --- b\n  ...\n", only (bare_word (codes "a --- b ...")))  -- lines like marks
+    ∷ [])
 unfolding chars is_utf8 encode_utf8
-marks_inside_texts = refl
-
-lines_like_marks : stream_trees false (codes "a\n  --- b\n  ...\n") ≡ only (bare_word (codes "a --- b ..."))
-unfolding chars is_utf8 encode_utf8
-lines_like_marks = refl
+streams_with_marks_inside = refl

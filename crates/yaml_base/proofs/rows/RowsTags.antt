@@ -1,10 +1,10 @@
 -- Worked rows of tags, names and directives, computed.
-use Rattle.yaml_base.proofs.Common.{ℕ, Option, None, Some, codes, pos, false, List, [], ◌++◌, ◌∷◌, refl, ◌≡◌, Text, TagDirective, percent_escaped}
-use Rattle.yaml_base.proofs.Common.{anchor_fault, alias_fault, tag_fault, version_fault, directives_fault, directives_in_force, spelling, spelled, tag_read}
-use Rattle.yaml_base.proofs.Common.{percent_read, bare_parsed, name_parsed}
+use Rattle.yaml_base.proofs.Common.{ℕ, Option, None, Some, codes, pos, false, List, [], ◌++◌, ◌∷◌, refl, ◌≡◌, Text, TagDirective, percent_escaped, anchor_fault}
+use Rattle.yaml_base.proofs.Common.{alias_fault, tag_fault, version_fault, directives_fault, directives_in_force, spelling, spelled, tag_read, percent_read}
+use Rattle.yaml_base.proofs.Common.{bare_parsed, name_parsed}
 use Rattle.std.specs.Str.{chars, is_utf8}
 use lib.Utf8.{encode}
-use Rattle.yaml_base.specs.declared.errors.yaml_error_t.{yaml_error_t}
+use Rattle.yaml_base.{proofs.rows.Cases.Gives, proofs.rows.Cases.GivesOfTwo, specs.declared.errors.yaml_error_t.yaml_error_t}
 use Rattle.yaml_base.specs.declared.errors.yaml_error_t.TheVariants.{AliasAlphabet, AliasEmpty, AnchorAlphabet, AnchorEmpty, DuplicateDirective}
 use Rattle.yaml_base.specs.declared.errors.yaml_error_t.TheVariants.{IncompatibleVersion, TagEmpty, TagHandleAlphabet, TagHandleEmpty, TagHandleEnd}
 use Rattle.yaml_base.specs.declared.errors.yaml_error_t.TheVariants.{TagHandleStart, TagPrefixEmpty}
@@ -15,82 +15,49 @@ directive handle prefix = record { handle = handle; prefix = prefix }
 abbrev defaults : List TagDirective
 defaults = directives_in_force []
 
-escapes_signs : percent_escaped (codes "a!b%c,[]<> ") ≡ codes "a%21b%25c,[]%3C%3E%20"
+percent_forms_written : Gives percent_escaped (
+    (codes "a!b%c,[]<> ", codes "a%21b%25c,[]%3C%3E%20")  -- escapes signs
+    ∷ (0 ∷ 0xE9 ∷ 0x1F600 ∷ [], codes "%00%C3%A9%F0%9F%98%80")  -- escapes utf8
+    ∷ [])
 unfolding encode
-escapes_signs = refl
+percent_forms_written = refl
 
-escapes_utf8 : percent_escaped (0 ∷ 0xE9 ∷ 0x1F600 ∷ []) ≡ codes "%00%C3%A9%F0%9F%98%80"
+percent_forms_read : Gives percent_read (
+    (codes "a%21b%C3%a9%00c", Some (codes "a!b" ++ 0xE9 ∷ 0 ∷ codes "c"))  -- reads percent forms
+    ∷ (codes "a%2", None)  -- reads no broken form
+    ∷ (codes "%%34%31", None)  -- reads no sign in a form
+    ∷ (codes "%C3", None)  -- reads no lone byte
+    ∷ [])
+unfolding is_utf8 chars encode
+percent_forms_read = refl
+
+spellings : Gives (spelled false) (
+    (spelling defaults (codes "tag:yaml.org,2002:int"), codes "!!int")  -- own type
+    ∷ (spelling defaults (codes "!foo"), codes "!foo")  -- local tag
+    ∷ (spelling defaults (codes "!"), codes "!<%21>")  -- only the sign
+    ∷ (spelling defaults (codes "!a!b"), codes "!a%21b")  -- sign within
+    ∷ (spelling defaults (codes "tag:yaml.org,2002:"), codes "!<tag:yaml.org,2002:>")  -- as long as the prefix
+    ∷ (spelling (directives_in_force (directive (codes "!e!") (codes "!x") ∷ [])) (codes "!xy"), codes "!e!y")  -- own handle
+    ∷ (
+      spelling (directives_in_force (directive (codes "!!") (codes "tag:e.com,2000:") ∷ [])) (codes "tag:yaml.org,2002:str"),
+      codes "!<tag:yaml.org,2002:str>",
+    )  -- other types
+    ∷ (spelling defaults (codes "!" ++ 0xE9 ∷ 0 ∷ []), codes "!%C3%A9%00")  -- null and accent
+    ∷ [])
 unfolding encode
-escapes_utf8 = refl
+spellings = refl
 
-reads_percent_forms : percent_read (codes "a%21b%C3%a9%00c") ≡ Some (codes "a!b" ++ 0xE9 ∷ 0 ∷ codes "c")
+tags_read : GivesOfTwo tag_read (
+    ([], codes "!", Some bare_parsed)  -- reads bare
+    ∷ (directive (codes "!e!") (codes "!x") ∷ [], codes "!e!y%21", Some (name_parsed (codes "!xy!")))  -- reads shorthand
+    ∷ ([], codes "!!int", Some (name_parsed (codes "tag:yaml.org,2002:int")))  -- reads default
+    ∷ ([], codes "!<%21>", Some (name_parsed (codes "!")))  -- reads verbatim
+    ∷ ([], codes "!<a", None)  -- reads no open verbatim
+    -- a space ends a tag in a canonical stream, so it may hold the flow indicators
+    ∷ ([], codes "!a,[b]", Some (name_parsed (codes "!a,[b]")))  -- reads flow indicators
+    ∷ [])
 unfolding is_utf8 chars encode
-reads_percent_forms = refl
-
-reads_no_broken_form : percent_read (codes "a%2") ≡ None
-unfolding is_utf8 chars encode
-reads_no_broken_form = refl
-
-reads_no_sign_in_a_form : percent_read (codes "%%34%31") ≡ None
-unfolding is_utf8 chars encode
-reads_no_sign_in_a_form = refl
-
-reads_no_lone_byte : percent_read (codes "%C3") ≡ None
-unfolding is_utf8 chars encode
-reads_no_lone_byte = refl
-
-own_type : spelled false (spelling defaults (codes "tag:yaml.org,2002:int")) ≡ codes "!!int"
-own_type = refl
-
-local_tag : spelled false (spelling defaults (codes "!foo")) ≡ codes "!foo"
-local_tag = refl
-
-only_the_sign : spelled false (spelling defaults (codes "!")) ≡ codes "!<%21>"
-unfolding encode
-only_the_sign = refl
-
-sign_within : spelled false (spelling defaults (codes "!a!b")) ≡ codes "!a%21b"
-unfolding encode
-sign_within = refl
-
-as_long_as_the_prefix : spelled false (spelling defaults (codes "tag:yaml.org,2002:")) ≡ codes "!<tag:yaml.org,2002:>"
-as_long_as_the_prefix = refl
-
-own_handle :
-    spelled false (spelling (directives_in_force (directive (codes "!e!") (codes "!x") ∷ [])) (codes "!xy")) ≡ codes "!e!y"
-own_handle = refl
-
-other_types :
-    spelled false (spelling (directives_in_force (directive (codes "!!") (codes "tag:e.com,2000:") ∷ [])) (codes "tag:yaml.org,2002:str"))
-    ≡ codes "!<tag:yaml.org,2002:str>"
-other_types = refl
-
-null_and_accent : spelled false (spelling defaults (codes "!" ++ 0xE9 ∷ 0 ∷ [])) ≡ codes "!%C3%A9%00"
-unfolding encode
-null_and_accent = refl
-
-reads_bare : tag_read [] (codes "!") ≡ Some bare_parsed
-reads_bare = refl
-
-reads_shorthand : tag_read (directive (codes "!e!") (codes "!x") ∷ []) (codes "!e!y%21") ≡ Some (name_parsed (codes "!xy!"))
-unfolding is_utf8 chars encode
-reads_shorthand = refl
-
-reads_default : tag_read [] (codes "!!int") ≡ Some (name_parsed (codes "tag:yaml.org,2002:int"))
-unfolding is_utf8 chars encode
-reads_default = refl
-
-reads_verbatim : tag_read [] (codes "!<%21>") ≡ Some (name_parsed (codes "!"))
-unfolding is_utf8 chars encode
-reads_verbatim = refl
-
-reads_no_open_verbatim : tag_read [] (codes "!<a") ≡ None
-reads_no_open_verbatim = refl
-
--- a space ends a tag in a canonical stream, so it may hold the flow indicators
-reads_flow_indicators : tag_read [] (codes "!a,[b]") ≡ Some (name_parsed (codes "!a,[b]"))
-unfolding is_utf8 chars encode
-reads_flow_indicators = refl
+tags_read = refl
 
 -- outputs of wrong writers: a sign that isn't escaped, a handle that the document doesn't give, `%` left as it was
 reads_other_tags :
@@ -136,11 +103,11 @@ handles :
     × (fault_of (codes "!") (codes "x") ≡ None) × (fault_of (codes "!!") (codes "x") ≡ None)
 handles = (refl, refl, refl, refl, refl, refl, refl, refl)
 
-given_twice : directives_fault (directive (codes "!!") (codes "a") ∷ directive (codes "!!") (codes "b") ∷ []) ≡ Some DuplicateDirective
-given_twice = refl
-
-first_fault : directives_fault (directive (codes "!a!") [] ∷ directive [] (codes "b") ∷ []) ≡ Some TagPrefixEmpty
-first_fault = refl
+directives_given : Gives directives_fault (
+    (directive (codes "!!") (codes "a") ∷ directive (codes "!!") (codes "b") ∷ [], Some DuplicateDirective)  -- given twice
+    ∷ (directive (codes "!a!") [] ∷ directive [] (codes "b") ∷ [], Some TagPrefixEmpty)  -- first fault
+    ∷ [])
+directives_given = refl
 
 no_tag : tag_fault [] ≡ Some TagEmpty
 no_tag = refl
