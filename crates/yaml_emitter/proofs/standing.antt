@@ -19,4 +19,5 @@ pub mod Growing
 pub mod StandingFlagged
 pub mod Taking
 pub mod KeptDocuments
+pub mod EmittingEvents
 pub mod EmitterKept

@@ -20,4 +20,5 @@ pub mod StandsAfter
 pub mod Uncut
 pub mod EncodedAlike
 pub mod Promises
+pub mod EmitsEvent
 pub mod NodeEvents

@@ -1,12 +1,14 @@
 //! What is refused in an event's own content: names, tags, flags, directives.
 
-ghost use Rattle.std.specs.Prelude.{◌≡◌, None, chars, option_map, option_and_then, if◌then◌else◌};
+ghost use Rattle.std.specs.Prelude.{◌≡◌, None, chars, option_and_then, if◌then◌else◌};
 ghost use Rattle.yaml_base.specs.Errors.{refused};
+ghost use Rattle.yaml_base.specs.Event.{scalar};
 ghost use Rattle.yaml_base.specs.Refusal.{name_or_tag_fault, properties_fault};
-ghost use Rattle.yaml_base.specs.Seen.{seen_event, seen_text};
+ghost use Rattle.yaml_base.specs.Seen.{seen_event};
 ghost use Rattle.yaml_base.specs.Tags.{alias_fault, anchor_fault, tag_fault};
+ghost use Rattle.yaml_emitter.specs.BorrowedTexts.{seen_name, seen_scalar};
 
-use crate::writing::{writes_collection_tag, writes_scalar_tag};
+use crate::writing::{ScalarContent, borrowed_text, writes_collection_tag, writes_scalar_tag};
 use std::alloc::Allocator;
 use yaml_base::{
     YAML_ALIAS_EVENT, YAML_MAPPING_START_EVENT, YAML_SCALAR_EVENT, YAML_SEQUENCE_START_EVENT,
@@ -32,7 +34,7 @@ pub(crate) fn check_names<A: Allocator>(
             ..
         } => {
             let written = writes_scalar_tag(canonical, *plain_implicit, *quoted_implicit);
-            check_properties(anchor, tag, written)
+            check_properties(borrowed_text(anchor), borrowed_text(tag), written)
         }
         YAML_SEQUENCE_START_EVENT {
             anchor,
@@ -45,30 +47,44 @@ pub(crate) fn check_names<A: Allocator>(
             tag,
             implicit,
             ..
-        } => check_properties(anchor, tag, writes_collection_tag(canonical, *implicit)),
+        } => {
+            let written = writes_collection_tag(canonical, *implicit);
+            check_properties(borrowed_text(anchor), borrowed_text(tag), written)
+        }
         _ => Ok(()),
     }
 }
 
+/// Refuses a scalar's faulty anchor, and an empty tag where the tag is written.
 #[inline(always)]
-fn check_properties<A: Allocator>(
-    anchor: &Option<String<A>>,
-    tag: &Option<String<A>>,
+pub(crate) fn check_scalar_names(
+    canonical: bool,
+    content: &ScalarContent,
+) -> Result<(), yaml_error_t>
+    ensures { refused result ≡ name_or_tag_fault canonical (scalar (seen_scalar content.now)) }
+{
+    let written = writes_scalar_tag(canonical, content.plain_implicit, content.quoted_implicit);
+    check_properties(content.anchor, content.tag, written)
+}
+
+#[inline(always)]
+fn check_properties(
+    anchor: Option<&str>,
+    tag: Option<&str>,
     tag_written: bool,
 ) -> Result<(), yaml_error_t>
-    ensures { refused result
-        ≡ properties_fault (option_map seen_text anchor.now) (if tag_written then option_map seen_text tag.now else None) }
+    ensures { refused result ≡ properties_fault (seen_name anchor.entry) (if tag_written then seen_name tag.entry else None) }
 {
     check_anchor(anchor)?;
     if tag_written { check_tag(tag) } else { Ok(()) }
 }
 
 #[inline(always)]
-fn check_anchor<A: Allocator>(anchor: &Option<String<A>>) -> Result<(), yaml_error_t>
-    ensures { refused result ≡ option_and_then anchor_fault (option_map seen_text anchor.now) }
+fn check_anchor(anchor: Option<&str>) -> Result<(), yaml_error_t>
+    ensures { refused result ≡ option_and_then anchor_fault (seen_name anchor.entry) }
 {
     match anchor {
-        Some(name) => check_anchor_name(name.as_str()),
+        Some(name) => check_anchor_name(name),
         None => Ok(()),
     }
 }
@@ -89,11 +105,11 @@ fn check_alias(name: &str) -> Result<(), yaml_error_t>
     analyze_anchor(name, alias)
 }
 
-fn check_tag<A: Allocator>(tag: &Option<String<A>>) -> Result<(), yaml_error_t>
-    ensures { refused result ≡ option_and_then tag_fault (option_map seen_text tag.now) }
+fn check_tag(tag: Option<&str>) -> Result<(), yaml_error_t>
+    ensures { refused result ≡ option_and_then tag_fault (seen_name tag.entry) }
 {
     match tag {
-        Some(tag) => check_tag_text(tag.as_str()),
+        Some(tag) => check_tag_text(tag),
         None => Ok(()),
     }
 }

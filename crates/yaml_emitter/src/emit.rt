@@ -10,7 +10,8 @@ ghost use Rattle.yaml_pen.specs.Wrote.{Grows};
 ghost use Rattle.yaml_emitter.specs.Promises.{FitsLimit, HasAllBytes, Promised};
 ghost use Rattle.yaml_emitter.specs.Queue.{is_head_ready};
 ghost use Rattle.yaml_emitter.specs.State.{KeepsGiven, KeepsSet, with_all_taken};
-ghost use Rattle.yaml_emitter.specs.StandsAfter.{FailedReady, Reached, StandsAfter, MachineStands, ProcessedFirst, WroteReady};
+ghost use Rattle.yaml_emitter.specs.EmitsEvent.{WroteAlone, kept_error};
+ghost use Rattle.yaml_emitter.specs.StandsAfter.{FailedReady, StandsAfter, ProcessedFirst, WroteReady};
 
 use crate::emitter::yaml_emitter_t;
 use crate::machine::Machine;
@@ -120,21 +121,26 @@ impl<A: Allocator + Copy> Machine<A> {
     fn write_alone(&mut self, event: &yaml_event_t<A>) -> Result<(), yaml_error_t>
         requires no_error { self.old.error ≡ None }
         requires ready { is_head_ready (seen_event event.now ∷ []) ≡ true }
-        ensures stands { (given : Settings) (all prefix : List Event)
-            → Reached given all prefix (seen_event event.now ∷ []) self.old
-            → MachineStands given all self.new.error [] self.new }
-        ensures grows { Grows self.old.page self.new.page }
-        ensures set { KeepsGiven self.old self.new }
-        ensures answered { result ≡ result_of_error self.new.error }
+        ensures { WroteAlone self.old (seen_event event.now) result self.new }
     {
         let empty = false;
-        match self.process(event, empty) {
-            Ok(()) => Ok(()),
-            Err(error) => {
-                self.fail(error);
-                Err(error)
-            }
+        let answer = self.process(event, empty);
+        self.keep_error(answer)
+    }
+
+    /// Keeps the error of a call, where it has one, for good. Returns what the call returned.
+    #[inline(always)]
+    pub(crate) fn keep_error(
+        &mut self,
+        answer: Result<(), yaml_error_t>,
+    ) -> Result<(), yaml_error_t>
+        ensures kept { self.new ≡ kept_error answer self.old }
+        ensures answered { result ≡ answer }
+    {
+        if let Err(error) = answer {
+            self.fail(error);
         }
+        answer
     }
 }
 

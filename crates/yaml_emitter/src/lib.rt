@@ -1,6 +1,7 @@
 //! The emitter: settings, queue, states.
 #![tactic(auto)]
 
+mod borrowed;
 mod check;
 mod directives;
 mod effective;
@@ -18,6 +19,7 @@ mod settings;
 mod stage;
 mod writing;
 
+pub use borrowed::yaml_emitter_emit_scalar;
 pub use emit::yaml_emitter_emit;
 pub use emit::yaml_emitter_flush;
 pub use emit::yaml_emitter_take_output;
@@ -45,6 +47,7 @@ pub use setters::yaml_emitter_set_output_string;
 pub use setters::yaml_emitter_set_portable;
 pub use setters::yaml_emitter_set_unicode;
 pub use setters::yaml_emitter_set_width;
+pub use writing::ScalarContent;
 pub use yaml_base::NodeNumber;
 pub use yaml_base::YAML_ALIAS_EVENT;
 pub use yaml_base::YAML_ANY_BREAK;

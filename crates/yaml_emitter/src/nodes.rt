@@ -109,8 +109,9 @@ impl<A: Allocator + Copy> Machine<A> {
         Ok(())
     }
 
+    /// A scalar, where a node may stand.
     #[inline(always)]
-    fn put_scalar(&mut self, content: &ScalarContent) -> Result<(), yaml_error_t>
+    pub(crate) fn put_scalar(&mut self, content: &ScalarContent) -> Result<(), yaml_error_t>
         requires stage { is_at_node self.old.stage ≡ true }
         requires names { name_or_tag_fault self.old.given.canonical (scalar (seen_scalar content.now)) ≡ None }
         ensures { (empty : Bool) → Processed (scalar (seen_scalar content.now)) empty self.old self.new result }

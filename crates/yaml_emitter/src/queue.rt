@@ -1,6 +1,6 @@
 //! Which events can be written: the head of the queue waits for those that decide how it is written.
 
-ghost use Rattle.std.specs.Prelude.{◌≡◌, ◌≤◌, ◌==◌, ◌∷◌, [], true, drop, vec_len, vec_capacity, if◌then◌else◌};
+ghost use Rattle.std.specs.Prelude.{◌≡◌, ◌≤◌, ◌==◌, ◌∷◌, [], true, drop, length, vec_len, vec_capacity, if◌then◌else◌};
 ghost use Rattle.std.specs.List.{list_any};
 ghost use Rattle.yaml_base.specs.Ready.{is_start, is_end, awaited, is_balanced, nonempty_prefixes, is_ready};
 ghost use Rattle.yaml_base.specs.Seen.{seen_event, seen_events};
@@ -89,6 +89,14 @@ pub(crate) fn is_next_ready<A: Allocator>(events: &[yaml_event_t<A>]) -> bool
     events.len() > 1 && closes(events)
 }
 
+/// Whether no event waits.
+#[inline(always)]
+pub(crate) fn nothing_waits<A: Allocator>(queue: &WaitingEvents<A>) -> bool
+    ensures { result ≡ (length queue.now.items == 0) }
+{
+    queue.as_slice().is_empty()
+}
+
 /// Whether no event waits, and this one can be written whatever follows it.
 pub(crate) fn is_ready_alone<A: Allocator>(
     queue: &WaitingEvents<A>,
@@ -97,7 +105,7 @@ pub(crate) fn is_ready_alone<A: Allocator>(
     ensures alone { result ≡ true → queue.now.items ≡ [] }
     ensures ready { result ≡ true → is_head_ready (seen_event event.now ∷ []) ≡ true }
 {
-    queue.as_slice().is_empty() && awaits_nothing(event)
+    nothing_waits(queue) && awaits_nothing(event)
 }
 
 fn awaits_nothing<A: Allocator>(event: &yaml_event_t<A>) -> bool

@@ -15,8 +15,9 @@ mod spelling;
 mod styles;
 mod usual;
 
+pub use contents::ScalarContent;
 pub(crate) use contents::{
-    CollectionContent, ScalarContent, borrowed_text, writes_collection_tag, writes_scalar_tag,
+    CollectionContent, borrowed_text, writes_collection_tag, writes_scalar_tag,
     written_collection_tag, written_scalar_tag,
 };
 pub(crate) use directives::{StartContent, write_document_start};

@@ -9,14 +9,20 @@ ghost use Rattle.yaml_emitter.specs.BorrowedTexts.{seen_name, seen_collection, s
 use std::alloc::Allocator;
 use yaml_base::yaml_scalar_style_t;
 
-/// What a scalar's event holds.
+/// What a scalar's event holds, its texts borrowed.
 #[derive(Clone, Copy)]
-pub(crate) struct ScalarContent<'a> {
+pub struct ScalarContent<'a> {
+    /// Its name.
     pub anchor: Option<&'a str>,
+    /// Its tag.
     pub tag: Option<&'a str>,
+    /// Its text.
     pub value: &'a str,
+    /// The tag may be left out where the scalar is plain.
     pub plain_implicit: bool,
+    /// The tag may be left out in any other style.
     pub quoted_implicit: bool,
+    /// How it is to be written.
     pub style: yaml_scalar_style_t,
 }
 

@@ -1,10 +1,13 @@
-use Rattle.yaml_emitter.proofs.Common.{◌≤◌, Some, Err, drop, false, true, List, [], ◌++◌, ◌∷◌, refl, ◌≡◌, ap, subst, sym, ◌∙◌, false≢true, Event, seen_event}
+use Rattle.yaml_emitter.proofs.Common.{◌≤◌, Some, Result, Err, drop, false, true, List, [], ◌++◌, ◌∷◌, refl, ap, subst, sym, ◌∙◌, false≢true, Event, seen_event}
 use Rattle.yaml_emitter.proofs.Common.{seen_events, state_of, is_head_ready, MachineStands, StandsAfter, failed_by, State, MachineState, machine_of}
 use Rattle.yaml_emitter.proofs.Common.{KeepsGiven, KeepsSet, result_of_error, Grows}
-use Rattle.yaml_emitter.proofs.standing.{Growing.grows_page, KeepsSet.emitting_keeps, Promising.promised, Promising.stands_with, PromisingRoom.memory_only}
-use Rattle.yaml_emitter.proofs.standing.{StandingMore.failed_more}
+use Rattle.yaml_emitter.proofs.standing.{KeepsSet.emitting_keeps, Promising.promised, Promising.stands_with, PromisingRoom.memory_only}
+use Rattle.yaml_emitter.proofs.{events_done.SeenTexts.seen_scalars}
+use Rattle.yaml_emitter.proofs.standing.EmittingEvents.{with_machine, emits_failed, emits_alone}
 use Rattle.yaml_emitter.proofs.standing.EmitterKept.{room_left, seen_more, within_count, has_output_inside, kept_emitting}
-use Rattle.yaml_emitter.proofs.standing.Emitting.{none_became_ready, stands_written, stands_failing, stands_alone}
+use Rattle.yaml_emitter.proofs.standing.Emitting.{none_became_ready, stands_written, stands_failing}
+use Rattle.yaml_base.specs.declared.errors.{yaml_error_t.yaml_error_t}
+use Rattle.yaml_emitter.specs.EmitsEvent.{EmitsEvent}
 use Rattle.yaml_emitter.proofs.emit.yaml_emitter_emit.Goals as goal
 
 pub push_reserved-requires : goal.push_reserved-requires
@@ -28,23 +31,26 @@ invariant_of-emitter-in-Err g c =
     (subst (λ n. 4 ≤ n) (sym (c.clear.ensures.capacity ∙ c.push_reserved.ensures.capacity)) c.emitter.invariant.room)
     (ap (λ q. is_head_ready (seen_events q)) c.clear.ensures.items)
 
-pub returns-in-Some-clause-stands : goal.returns-in-Some-clause-stands
-returns-in-Some-clause-stands g c given all stands =
-    let h = subst (λ s. StandsAfter given all s) (sym c.emitter.view_is) stands in
-    stands_with given all c.args.event _ (failed_more given all (seen_event c.args.event) (state_of c.emitter.inside) c.in-Some.error h.so
-    (sym c.error.ensures ∙ c.in-Some.is)) h.texts
-
-pub returns-in-Some-clause-promised : goal.returns-in-Some-clause-promised
-returns-in-Some-clause-promised g c given all stands =
-    promised given (all ++ seen_event c.args.event ∷ []) _ (returns-in-Some-clause-stands g c given all stands)
-
-pub returns-in-Some-clause-fits : goal.returns-in-Some-clause-fits
-returns-in-Some-clause-fits g c given all stands fits =
-    memory_only (state_of c.emitter.inside).error given (all ++ seen_event c.args.event ∷ []) (returns-in-Some-clause-promised g c given all stands).fits fits
-    (Err c.in-Some.error) (sym (ap result_of_error (sym c.error.ensures ∙ c.in-Some.is)))
-
-pub returns-in-Some-clause-grows : goal.returns-in-Some-clause-grows
-returns-in-Some-clause-grows g c = grows_page c.args.emitter.now.page c.emitter.inside.machine.page (ap (λ (s : State). s.page) c.emitter.view_is)
+pub returns-in-Some : goal.returns-in-Some
+returns-in-Some g c =
+    let before : State = state_of c.emitter.inside in
+    let event = seen_event c.args.event in
+    let answer : Result (Unit {0}) yaml_error_t = Err c.in-Some.error in
+    let emitted =
+    subst (λ (s : State). EmitsEvent s event answer (record before { started = true })) c.emitter.view_is
+    (emits_failed event before c.in-Some.error (seen_scalars c.args.event) (sym c.error.ensures ∙ c.in-Some.is)
+    (has_output_inside c.emitter.inside c.emitter.view_is c.requires)) in
+    record {
+      stands = emitted.stands;
+      promised = emitted.promised;
+      fits = emitted.fits;
+      grows = emitted.grows;
+      waits = emitted.waits;
+      kept = emitted.kept;
+      set = emitted.set;
+      answered = emitted.answered;
+      output = emitted.output;
+    }
 
 pub write_alone-requires-clause-no_error : goal.write_alone-requires-clause-no_error
 write_alone-requires-clause-no_error g c = sym c.error.ensures ∙ c.in_default.is
@@ -52,40 +58,26 @@ write_alone-requires-clause-no_error g c = sym c.error.ensures ∙ c.in_default.
 pub write_alone-requires-clause-ready : goal.write_alone-requires-clause-ready
 write_alone-requires-clause-ready g c = c.is_ready_alone.ensures.ready c.if-is_ready_alone.true
 
-pub returns-then-is_ready_alone-clause-stands : goal.returns-then-is_ready_alone-clause-stands
-returns-then-is_ready_alone-clause-stands g c given all stands =
+pub returns-then-is_ready_alone : goal.returns-then-is_ready_alone
+returns-then-is_ready_alone g c =
     let before : State = state_of c.emitter.inside in
-    let h = subst (λ s. StandsAfter given all s) (sym c.emitter.view_is) stands in
-    let alone : before.held ≡ [] = ap seen_events (c.is_ready_alone.ensures.alone c.if-is_ready_alone.true) in
-    stands_with given all c.args.event _
-    (subst (λ (l : List Event). MachineStands given (all ++ seen_event c.args.event ∷ []) c.write_alone.new.self.error l c.write_alone.new.self) (sym alone)
-    (stands_alone given all (seen_event c.args.event) before c.write_alone.new.self h.so (sym c.error.ensures ∙ c.in_default.is) alone
-    c.write_alone.ensures.stands))
-    h.texts
-
-pub returns-then-is_ready_alone-clause-promised : goal.returns-then-is_ready_alone-clause-promised
-returns-then-is_ready_alone-clause-promised g c given all stands =
-    promised given (all ++ seen_event c.args.event ∷ []) _ (returns-then-is_ready_alone-clause-stands g c given all stands)
-
-pub returns-then-is_ready_alone-clause-fits : goal.returns-then-is_ready_alone-clause-fits
-returns-then-is_ready_alone-clause-fits g c given all stands fits =
-    memory_only c.write_alone.new.self.error given (all ++ seen_event c.args.event ∷ [])
-    (returns-then-is_ready_alone-clause-promised g c given all stands).fits fits c.write_alone.result c.write_alone.ensures.answered
-
-pub returns-then-is_ready_alone-clause-grows : goal.returns-then-is_ready_alone-clause-grows
-returns-then-is_ready_alone-clause-grows g c =
-    subst (λ (s : State). Grows s.page c.write_alone.new.self.page) c.emitter.view_is c.write_alone.ensures.grows
-
-pub returns-then-is_ready_alone-clause-waits : goal.returns-then-is_ready_alone-clause-waits
-returns-then-is_ready_alone-clause-waits g c given all stands none same =
     let event = seen_event c.args.event in
-    let before : State = state_of c.emitter.inside in
-    let h = subst (λ s. StandsAfter given all s) (sym c.emitter.view_is) stands in
-    let alone : before.held ≡ [] = ap seen_events (c.is_ready_alone.ensures.alone c.if-is_ready_alone.true) in
-    let unready : is_head_ready (event ∷ []) ≡ false =
-    subst (λ l. is_head_ready (l ++ event ∷ []) ≡ false) alone
-    (none_became_ready given all event before h.so (sym c.error.ensures ∙ c.in_default.is) same) in
-    absurd (false≢true (sym unready ∙ c.is_ready_alone.ensures.ready c.if-is_ready_alone.true))
+    let emitted =
+    subst (λ (s : State). EmitsEvent s event c.write_alone.result (with_machine before c.write_alone.new.self)) c.emitter.view_is
+    (emits_alone event before c.write_alone.new.self c.write_alone.result (seen_scalars c.args.event) (sym c.error.ensures ∙ c.in_default.is)
+    (ap seen_events (c.is_ready_alone.ensures.alone c.if-is_ready_alone.true)) (has_output_inside c.emitter.inside c.emitter.view_is c.requires)
+    (c.is_ready_alone.ensures.ready c.if-is_ready_alone.true) c.write_alone.ensures) in
+    record {
+      stands = emitted.stands;
+      promised = emitted.promised;
+      fits = emitted.fits;
+      grows = emitted.grows;
+      waits = emitted.waits;
+      kept = emitted.kept;
+      set = emitted.set;
+      answered = emitted.answered;
+      output = emitted.output;
+    }
 
 pub write_ready-requires : goal.write_ready-requires
 write_ready-requires g c = sym c.error.ensures ∙ c.in_default.is
@@ -169,9 +161,3 @@ returns-in-Err-clause-set g c =
 
 pub returns-in-Err-clause-answered : goal.returns-in-Err-clause-answered
 returns-in-Err-clause-answered g c = ap result_of_error (sym (ap (λ (m : MachineState). m.error) c.fail.ensures))
-
-pub returns-then-is_ready_alone-clause-set : goal.returns-then-is_ready_alone-clause-set
-returns-then-is_ready_alone-clause-set g c =
-    subst (λ (s : State). KeepsSet (record s { started = true })
-    (state_of (record c.emitter.inside { started = true; machine = c.write_alone.new.self }))) c.emitter.view_is
-    (emitting_keeps (state_of c.emitter.inside) (seen_events c.emitter.inside.queue.items) c.write_alone.new.self c.write_alone.ensures.set)

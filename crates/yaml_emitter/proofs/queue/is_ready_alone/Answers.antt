@@ -8,9 +8,9 @@ ready_alone : (event : Event) → (awaited event == 0) ≡ true → is_head_read
 ready_alone event none =
     ap (λ (b : Bool). b || nat_lt (awaited event) (length (event ∷ [])) || list_any is_balanced (nonempty_prefixes (event ∷ []))) none
 
-pub returns-then-is_empty-clause-alone : goal.returns-then-is_empty-clause-alone
-returns-then-is_empty-clause-alone g c told =
-    sym c.as_slice.ensures.value ∙ nil_from_length c.as_slice.result.now (eqb-true _ 0 (sym c.is_empty.ensures ∙ c.if-is_empty.true))
+pub returns-then-nothing_waits-clause-alone : goal.returns-then-nothing_waits-clause-alone
+returns-then-nothing_waits-clause-alone g c told =
+    nil_from_length c.args.queue.now.items (eqb-true _ 0 (sym c.nothing_waits.ensures ∙ c.if-nothing_waits.true))
 
-pub returns-then-is_empty-clause-ready : goal.returns-then-is_empty-clause-ready
-returns-then-is_empty-clause-ready g c told = ready_alone (seen_event c.args.event.now) (sym c.awaits_nothing.ensures ∙ told)
+pub returns-then-nothing_waits-clause-ready : goal.returns-then-nothing_waits-clause-ready
+returns-then-nothing_waits-clause-ready g c told = ready_alone (seen_event c.args.event.now) (sym c.awaits_nothing.ensures ∙ told)

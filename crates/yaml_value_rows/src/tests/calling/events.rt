@@ -5,10 +5,11 @@ use crate::tests::{equal, same};
 use std::alloc::{AllocError, Global};
 use std::process::Abort;
 use yaml_dump::{
-    YAML_ANY_ENCODING, YAML_ANY_SCALAR_STYLE, YAML_DOCUMENT_END_EVENT, YAML_DOCUMENT_START_EVENT,
-    YAML_EMITTER_ERROR, YAML_FLOW_SEQUENCE_STYLE, YAML_SCALAR_EVENT, YAML_SEQUENCE_END_EVENT,
-    YAML_SEQUENCE_START_EVENT, YAML_STREAM_END_EVENT, YAML_STREAM_START_EVENT, yaml_emitter_emit,
-    yaml_emitter_flush, yaml_emitter_initialize, yaml_emitter_set_output_string, yaml_emitter_t,
+    ScalarContent, YAML_ANY_ENCODING, YAML_ANY_SCALAR_STYLE, YAML_DOCUMENT_END_EVENT,
+    YAML_DOCUMENT_START_EVENT, YAML_EMITTER_ERROR, YAML_FLOW_SEQUENCE_STYLE, YAML_SCALAR_EVENT,
+    YAML_SEQUENCE_END_EVENT, YAML_SEQUENCE_START_EVENT, YAML_STREAM_END_EVENT,
+    YAML_STREAM_START_EVENT, yaml_emitter_emit, yaml_emitter_emit_scalar, yaml_emitter_flush,
+    yaml_emitter_initialize, yaml_emitter_set_output_string, yaml_emitter_t,
     yaml_emitter_take_output, yaml_error_t, yaml_event_t,
 };
 
@@ -145,6 +146,38 @@ fn give_in_parts(rt: &impl Abort, alloc: Global, emitter: &mut yaml_emitter_t<Gl
 fn bytes_appear_at_a_documents_end(rt: HostRuntime) {
     let mut emitter = emitter_with_output(&rt, rt.alloc());
     give_in_parts(&rt, rt.alloc(), &mut emitter);
+}
+
+/// Emits a scalar without anchor and tag, whose text is only borrowed.
+fn emit_text(emitter: &mut yaml_emitter_t<Global>, value: &str) -> Result<(), yaml_error_t>
+    requires { emitter.old.has_output ≡ true }
+    ensures { emitter.new.has_output ≡ true }
+{
+    let content = ScalarContent {
+        anchor: None,
+        tag: None,
+        value,
+        plain_implicit: true,
+        quoted_implicit: true,
+        style: YAML_ANY_SCALAR_STYLE,
+    };
+    yaml_emitter_emit_scalar(emitter, &content)
+}
+
+fn give_texts(rt: &impl Abort, alloc: Global, emitter: &mut yaml_emitter_t<Global>)
+    requires { emitter.old.has_output ≡ true }
+{
+    equal(rt, &emit_all(emitter, started(rt, alloc)), &Ok(()));
+    equal(rt, &emit_text(emitter, "second"), &Ok(()));
+    equal(rt, &emit_text(emitter, "no: 3"), &Ok(()));
+    equal(rt, &emit_all(emitter, rest(rt, alloc)), &Ok(()));
+    check_output(rt, emitter, 0, b"[a, second, 'no: 3', b]\n");
+}
+
+#[test]
+fn borrowed_texts_stand_between_events(rt: HostRuntime) {
+    let mut emitter = emitter_with_output(&rt, rt.alloc());
+    give_texts(&rt, rt.alloc(), &mut emitter);
 }
 
 /// Flushes all text so far. Returns how many events still wait for those that follow.

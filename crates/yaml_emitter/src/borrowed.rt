@@ -1,0 +1,133 @@
+//! Scalars whose texts are borrowed: one that needn't wait is written from where its texts lie.
+
+ghost use Rattle.std.specs.Prelude.{◌≡◌, ◌⊎◌, None, IfOk, IfErr, false, true, chars, option_map};
+ghost use Rattle.std.specs.Str.{all_scalars};
+ghost use Rattle.yaml_base.specs.Event.{scalar};
+ghost use Rattle.yaml_base.specs.Meaning.{has_scalar_texts};
+ghost use Rattle.yaml_base.specs.Seen.{seen_event, seen_text};
+ghost use Rattle.yaml_emitter.specs.BorrowedTexts.{seen_name, seen_scalar};
+ghost use Rattle.yaml_emitter.specs.EmitsEvent.{CopyFailed, EmitsEvent, WroteAlone};
+ghost use Rattle.yaml_emitter.specs.Processing.{Processed};
+
+use crate::check::check_scalar_names;
+use crate::emit::yaml_emitter_emit;
+use crate::emitter::yaml_emitter_t;
+use crate::machine::Machine;
+use crate::queue::nothing_waits;
+use crate::stage::Stage;
+use crate::writing::ScalarContent;
+use std::alloc::Allocator;
+use yaml_base::{YAML_SCALAR_EVENT, yaml_error_t, yaml_event_t};
+
+/// Takes a scalar whose texts are borrowed, as `yaml_emitter_emit` takes its event. Where no event waits, it is written
+/// at once, and nothing is copied. Else it is copied and waits behind them.
+///
+/// Returns the first error, of this call or an earlier one, or `Memory` if the copy can't be allocated: then nothing
+/// changed, the emitter has no error, and the call may be made again.
+#[inline(never)]
+pub fn yaml_emitter_emit_scalar<A: Allocator + Copy>(
+    emitter: &mut yaml_emitter_t<A>,
+    content: &ScalarContent<'_>,
+) -> Result<(), yaml_error_t>
+    requires { emitter.old.has_output ≡ true }
+    ensures emits { EmitsEvent emitter.old (scalar (seen_scalar content.now)) result emitter.new ⊎ CopyFailed emitter.old result emitter.new }
+    ensures output { emitter.new.has_output ≡ true }
+{
+    texts_are_scalars(content);
+    if let Some(error) = emitter.machine.error() {
+        emitter.started = true;
+        return Err(error);
+    }
+    if nothing_waits(&emitter.queue) {
+        emitter.started = true;
+        return emitter.machine.write_scalar_alone(content);
+    }
+    let event = copied_scalar(emitter.machine.allocator(), content)?;
+    yaml_emitter_emit(emitter, event)
+}
+
+impl<A: Allocator + Copy> Machine<A> {
+    fn allocator(&self) -> A {
+        self.alloc
+    }
+
+    /// Writes a scalar where no event waits.
+    #[inline(always)]
+    fn write_scalar_alone(&mut self, content: &ScalarContent) -> Result<(), yaml_error_t>
+        requires no_error { self.old.error ≡ None }
+        ensures { WroteAlone self.old (scalar (seen_scalar content.now)) result self.new }
+    {
+        let answer = self.process_scalar(content);
+        self.keep_error(answer)
+    }
+
+    /// A scalar: its anchor and tag are looked at before its place.
+    #[inline(always)]
+    fn process_scalar(&mut self, content: &ScalarContent) -> Result<(), yaml_error_t>
+        ensures { Processed (scalar (seen_scalar content.now)) false self.old self.new result }
+    {
+        check_scalar_names(self.given.canonical, content)?;
+        match self.stage {
+            Stage::Node => self.put_scalar(content),
+            Stage::Stream => Err(yaml_error_t::ExpectedStreamStart),
+            Stage::Document { .. } => Err(yaml_error_t::ExpectedDocumentStart),
+            Stage::DocumentEnd => Err(yaml_error_t::ExpectedDocumentEnd),
+            Stage::Nothing => Err(yaml_error_t::ExpectedNothing),
+        }
+    }
+}
+
+/// The characters of borrowed texts are Unicode scalar values.
+#[inline(always)]
+fn texts_are_scalars(content: &ScalarContent)
+    ensures { has_scalar_texts (scalar (seen_scalar content.now)) ≡ true }
+{
+    text_is_scalars(content.value);
+    if let Some(tag) = content.tag {
+        text_is_scalars(tag);
+    }
+}
+
+#[inline(always)]
+fn text_is_scalars(text: &str)
+    ensures { all_scalars (chars text.now) ≡ true }
+{}
+
+/// An event of its own, with a copy of each text.
+#[inline(never)]
+fn copied_scalar<A: Allocator + Copy>(
+    alloc: A,
+    content: &ScalarContent,
+) -> Result<yaml_event_t<A>, yaml_error_t>
+    ensures event { IfOk result (λ event. seen_event event ≡ scalar (seen_scalar content.now)) }
+    ensures memory { IfErr result (λ error. error ≡ yaml_error_t.Memory) }
+{
+    Ok(YAML_SCALAR_EVENT {
+        anchor: copied_choice(alloc, content.anchor)?,
+        tag: copied_choice(alloc, content.tag)?,
+        value: copied_text(alloc, content.value)?,
+        plain_implicit: content.plain_implicit,
+        quoted_implicit: content.quoted_implicit,
+        style: content.style,
+    })
+}
+
+fn copied_choice<A: Allocator>(
+    alloc: A,
+    text: Option<&str>,
+) -> Result<Option<String<A>>, yaml_error_t>
+    ensures text { IfOk result (λ copy. option_map seen_text copy ≡ seen_name text.entry) }
+    ensures memory { IfErr result (λ error. error ≡ yaml_error_t.Memory) }
+{
+    match text {
+        Some(text) => Ok(Some(copied_text(alloc, text)?)),
+        None => Ok(None),
+    }
+}
+
+fn copied_text<A: Allocator>(alloc: A, text: &str) -> Result<String<A>, yaml_error_t>
+    ensures text { IfOk result (λ copy. seen_text copy ≡ chars text.now) }
+    ensures memory { IfErr result (λ error. error ≡ yaml_error_t.Memory) }
+{
+    String::from_str(alloc, text).map_err(|_| yaml_error_t::Memory)
+}
