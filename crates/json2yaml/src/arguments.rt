@@ -33,12 +33,8 @@ fn settings_of(matches: &ArgMatches<'_>) -> JsonSettings
     settings.writer.canonical = matches.get_flag("canonical");
     settings.writer.portable = !matches.get_flag("no-portable");
     settings.writer.indented_sequences = !matches.get_flag("no-indented-sequences");
-    if let Some(columns) = matches.get_one::<i32>("indent") {
-        settings.writer.indent = columns;
-    }
-    if let Some(column) = matches.get_one::<i32>("width") {
-        settings.writer.width = column;
-    }
+    settings.writer.indent = matches.get_one::<i32>("indent");
+    settings.writer.width = matches.get_one::<i32>("width");
     if let Some(levels) = matches.get_one::<usize>("depth") {
         settings.depth = levels;
     }

@@ -7,4 +7,4 @@ pub use Rattle.std.proofs.Common.{of_z, rules, to_z, w32}
 pub use Rattle.std.proofs.lemmas.List.{at_drop_more}
 pub use Rattle.yaml_base.specs.Seen.{seen_directive}
 pub use Rattle.yaml_c.specs.{EventRecords.directives_of, EventRecords.event_of, EventRecords.events_from, JsonAnswers.IsAnswer, JsonAnswers.answer_of}
-pub use Rattle.yaml_writer.specs.Given.{seen_settings}
+pub use Rattle.yaml_emitter.specs.Given.{seen_settings}

@@ -8,7 +8,7 @@ ghost use Rattle.yaml_c.specs.EventRecords.{events_from};
 
 use crate::records::{DirectiveRecord, EventRecord, event_of};
 use crate::results::{CallResult, copy_to_caller};
-use crate::settings::{EmitterSettings, emitter_by, settings_from};
+use crate::settings::{EmitterSettings, settings_from};
 use crate::statuses::{BAD_EVENT, BAD_SETTINGS, NO_MEMORY, REFUSED};
 use std::alloc::{Allocator, Global};
 use yaml_base::yaml_error_t;
@@ -127,7 +127,7 @@ pub extern "C" fn yaml_emit(
     let Some(given) = settings_from(settings) else {
         return BAD_SETTINGS;
     };
-    let Ok(mut emitter) = emitter_by(alloc, &given) else {
+    let Ok(mut emitter) = yaml_emitter_t::with_settings(alloc, given) else {
         return NO_MEMORY;
     };
     let emission = emit_records(alloc, &mut emitter, texts, directives, events);

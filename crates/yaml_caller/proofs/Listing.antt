@@ -4,7 +4,7 @@ use Rattle.yaml_caller.proofs.Common.{inr, ap, subst, sym, ◌∙◌, Text, bloc
 use Rattle.yaml_base.proofs.Common.{ScalarStyle, plain, single_quoted, sequence_start, sequence_end}
 use Rattle.std.{proofs.Common.ap₂, specs.Char.encode_utf8}
 use Rattle.yaml_base.specs.values.TypedValues.{null_tag}
-use Rattle.yaml_writer.specs.Given.{default_settings}
+use Rattle.yaml_writer.specs.Given.{given_for_values}
 use Rattle.yaml_writer.specs.Writing.{WriterState, opening, closing, tag_or_default, null_event, text_style, text_event, sequence_event, end_event}
 use Rattle.yaml_writer.specs.Writing.{with_collection, StandsTaken, AddsEvents, GaveEvent, EndsInnermost, Finishes}
 use Rattle.yaml_writer.specs.declared.kinds.{CollectionKind.CollectionKind, CollectionKind.TheVariants.Mapping, CollectionKind.TheVariants.Sequence}
@@ -32,7 +32,7 @@ abbrev listed : List Event
 listed = after_null ++ sequence_end ∷ []
 
 -- by the definitions, without any writer
-row : output_of default_settings (listed ++ closing) ≡ codes "---\n- 'no'\n- null\n"
+row : output_of given_for_values (listed ++ closing) ≡ codes "---\n- 'no'\n- null\n"
 unfolding encode_utf8
 row = refl
 
@@ -88,7 +88,7 @@ ended_sequence before after levels (inr ended) = λ given all sent stands.
 
 -- ---- all
 
-pub list_bytes : (given : Settings) (first begun parsed noted ended : WriterState) (text : Text) (bytes : List ℕ) → given ≡ default_settings → text ≡ codes "no"
+pub list_bytes : (given : Settings) (first begun parsed noted ended : WriterState) (text : Text) (bytes : List ℕ) → given ≡ given_for_values → text ≡ codes "no"
     → StandsTaken given opening [] first.emitter → first.canonical ≡ false → first.levels ≡ [] → (first.anchor ≡ None) × (first.tag ≡ None)
     → GaveEvent (with_collection first Sequence) (sequence_event first block) None begun
     → GaveEvent begun (text_event begun text) None parsed → GaveEvent parsed (null_event parsed) None noted → EndsInnermost noted (Ok tt) ended
@@ -96,19 +96,19 @@ pub list_bytes : (given : Settings) (first begun parsed noted ended : WriterStat
 list_bytes given first begun parsed noted ended text bytes is_default is_no stands canonical levels bare begins says notes ends finishes =
     let stands_first = subst (λ (g : Settings). StandsTaken g opening [] first.emitter) is_default stands in
     let stands_begun =
-    subst (λ (event : Event). StandsTaken default_settings (opening ++ event ∷ []) [] begun.emitter) (sequence_is first bare.0 bare.1)
-    (begins.adds default_settings opening [] stands_first) in
+    subst (λ (event : Event). StandsTaken given_for_values (opening ++ event ∷ []) [] begun.emitter) (sequence_is first bare.0 bare.1)
+    (begins.adds given_for_values opening [] stands_first) in
     let stands_parsed =
-    subst (λ (event : Event). StandsTaken default_settings (after_begin ++ event ∷ []) [] parsed.emitter)
+    subst (λ (event : Event). StandsTaken given_for_values (after_begin ++ event ∷ []) [] parsed.emitter)
     (text_is begun text is_no begins.no_anchor begins.no_tag)
-    (says.adds default_settings after_begin [] stands_begun) in
+    (says.adds given_for_values after_begin [] stands_begun) in
     let stands_noted =
-    subst (λ (event : Event). StandsTaken default_settings (after_text ++ event ∷ []) [] noted.emitter)
-    (null_is parsed says.no_anchor says.no_tag (says.canonical ∙ begins.canonical ∙ canonical)) (notes.adds default_settings after_text [] stands_parsed) in
+    subst (λ (event : Event). StandsTaken given_for_values (after_text ++ event ∷ []) [] noted.emitter)
+    (null_is parsed says.no_anchor says.no_tag (says.canonical ∙ begins.canonical ∙ canonical)) (notes.adds given_for_values after_text [] stands_parsed) in
     let one : noted.levels ≡ Sequence ∷ [] = notes.levels ∙ says.levels ∙ begins.levels ∙ ap (λ (kinds : List CollectionKind). kinds ++ Sequence ∷ []) levels in
-    let stands_ended : StandsTaken default_settings listed [] ended.emitter =
-    ended_sequence noted ended one ends default_settings after_null [] stands_noted in
-    let stream = finishes default_settings listed [] stands_ended in
+    let stands_ended : StandsTaken given_for_values listed [] ended.emitter =
+    ended_sequence noted ended one ends given_for_values after_null [] stands_noted in
+    let stream = finishes given_for_values listed [] stands_ended in
     stream.output ∙ stream.written.output ∙ row
 
 -- where all calls succeeded

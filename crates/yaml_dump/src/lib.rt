@@ -28,6 +28,7 @@ pub use yaml_emitter::Name;
 pub use yaml_emitter::NodeNumber;
 pub use yaml_emitter::Pen;
 pub use yaml_emitter::ScalarContent;
+pub use yaml_emitter::Settings;
 pub use yaml_emitter::YAML_ALIAS_EVENT;
 pub use yaml_emitter::YAML_ANY_BREAK;
 pub use yaml_emitter::YAML_ANY_ENCODING;

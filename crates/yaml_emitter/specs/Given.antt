@@ -1,24 +1,25 @@
 -- The settings of an emitter, as the definitions see them.
 use Rattle.std.specs.Prelude.{ℕ, ℤ, pos, negsuc, false, Option, None, Some, ◌==◌, if◌then◌else◌, unwrap_or}
-use Rattle.yaml_base.specs.Settings.{largest_i32, largest_usize, Settings, Effective, utf8, line_feed_break}
+use Rattle.yaml_base.specs.Settings as base
+use Rattle.yaml_base.specs.Settings.{largest_i32, largest_usize, Effective, utf8, line_feed_break}
 use Rattle.yaml_base.specs.Seen.{seen_encoding, seen_break}
-use Rattle.yaml_emitter.specs.declared.settings.GivenSettings.{GivenSettings}
+use Rattle.yaml_emitter.specs.declared.settings.Settings.{Settings}
 use Rattle.yaml_emitter.specs.declared.effective.EffectiveSettings.{EffectiveSettings}
 
--- what the setters were given
-abbrev pub seen_given : GivenSettings → Settings
-seen_given given =
+-- what was given to each setter
+abbrev pub seen_settings : Settings → base.Settings
+seen_settings settings =
     record {
-      encoding = seen_encoding given.encoding;
-      canonical = given.canonical;
-      unicode = given.unicode;
-      indent = given.indent;
-      width = given.width;
-      line_break = seen_break given.line_break;
-      breaks12 = given.breaks12;
-      portable = given.portable;
-      indented_sequences = given.indented_sequences;
-      limit = given.limit;
+      encoding = seen_encoding settings.encoding;
+      canonical = settings.canonical;
+      unicode = settings.unicode;
+      indent = settings.indent;
+      width = settings.width;
+      line_break = seen_break settings.line_break;
+      breaks12 = settings.line_breaks_1_2;
+      portable = settings.portable;
+      indented_sequences = settings.indented_sequences;
+      limit = settings.limit;
     }
 
 -- a width of the largest `i32` is no limit
@@ -43,7 +44,7 @@ seen_effective settings =
     }
 
 -- before any setter
-abbrev pub nothing_given : Settings
+abbrev pub nothing_given : base.Settings
 nothing_given =
     record {
       encoding = None;

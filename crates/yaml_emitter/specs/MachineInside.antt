@@ -1,6 +1,6 @@
 -- What a machine holds, and what contracts see of it.
 use Rattle.std.specs.Prelude.{◌≡◌, false}
-use Rattle.yaml_emitter.specs.Given.{seen_given, seen_effective}
+use Rattle.yaml_emitter.specs.Given.{seen_settings, seen_effective}
 use Rattle.yaml_emitter.specs.Stages.{seen_stage}
 use Rattle.yaml_emitter.specs.Atoms.{some_handle_breaks}
 use Rattle.yaml_emitter.specs.State.{MachineState, FitsPage}
@@ -11,7 +11,7 @@ use Rattle.yaml_emitter.specs.declared.machine.Machine.TheInside.{Inside}
 abbrev pub machine_state : {A : Type 0} → Inside A → MachineState
 machine_state m =
     record {
-      given = seen_given m.given;
+      given = seen_settings m.given;
       settings = seen_effective m.settings;
       stage = seen_stage m.stage m.directives m.frames;
       open_ended = seen_open_ended m.open_ended;

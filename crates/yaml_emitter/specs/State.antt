@@ -75,6 +75,16 @@ new_state =
       error = None;
     }
 
+-- a new emitter with these settings and an output: what the setters give, called one by one
+abbrev pub new_state_with : Settings → State
+new_state_with given =
+    record new_state {
+      given = given;
+      settings = record new_state.settings { canonical = given.canonical };
+      has_output = true;
+      page = new_page given.limit;
+    }
+
 -- where writing stands
 abbrev pub standing_of : MachineState → Standing
 standing_of machine = record { cursor = machine.page.cursor; open_ended = machine.open_ended }

@@ -1,11 +1,12 @@
 //! The emitter: a queue of the events that wait, beside the machine that writes them.
 
-ghost use Rattle.std.specs.Prelude.{◌≡◌, ◌≤◌, IfOk, IfErr, [], vec_len, vec_capacity};
-ghost use Rattle.yaml_emitter.specs.Given.{nothing_given};
+ghost use Rattle.std.specs.Prelude.{◌≡◌, ◌≤◌, IfOk, IfErr, [], false, true, vec_len, vec_capacity};
+ghost use Rattle.yaml_emitter.specs.Given.{nothing_given, seen_settings};
 ghost use Rattle.yaml_emitter.specs.StandsAfter.{StandsAfter};
-ghost use Rattle.yaml_emitter.specs.State.{State, new_state};
+ghost use Rattle.yaml_emitter.specs.State.{State, new_state, new_state_with};
 
 use crate::machine::Machine;
+use crate::settings::Settings;
 use std::alloc::Allocator;
 use std::marker::Model;
 use yaml_base::{yaml_error_t, yaml_event_t};
@@ -56,6 +57,41 @@ pub fn yaml_emitter_initialize<A: Allocator + Copy>(
         queue,
         machine,
     })
+}
+
+impl<A: Allocator + Copy> yaml_emitter_t<A> {
+    /// A new emitter with these settings and an output, as the setters make it, called one by one.
+    ///
+    /// # Errors
+    ///
+    /// `Memory` if its buffer can't be allocated.
+    pub fn with_settings(alloc: A, settings: Settings) -> Result<yaml_emitter_t<A>, yaml_error_t>
+        ensures made { IfOk result (λ emitter. emitter ≡ new_state_with (seen_settings settings)) }
+        ensures stands { IfOk result (λ emitter. StandsAfter (seen_settings settings) [] emitter) }
+        ensures memory { IfErr result (λ error. error ≡ yaml_error_t.Memory) }
+    {
+        let mut emitter = yaml_emitter_initialize(alloc)?;
+        emitter.set_all(settings);
+        Ok(emitter)
+    }
+}
+
+impl<A: Allocator> yaml_emitter_t<A> {
+    /// Sets all settings, and an output.
+    fn set_all(&mut self, settings: Settings)
+        requires { self.old.has_output ≡ false }
+        ensures set { self.new
+            ≡ record self.old {
+              has_output = true;
+              given = seen_settings settings;
+              settings = record self.old.settings { canonical = settings.canonical };
+              page = record self.old.page { limit = settings.limit };
+            } }
+        ensures stands { StandsAfter self.old.given [] self.old → StandsAfter self.new.given [] self.new }
+    {
+        self.machine.set_all(settings);
+        self.has_output = true;
+    }
 }
 
 fn room_for_four<A: Allocator + Copy>(alloc: A) -> Result<WaitingEvents<A>, yaml_error_t>

@@ -47,6 +47,7 @@ pub use setters::yaml_emitter_set_output_string;
 pub use setters::yaml_emitter_set_portable;
 pub use setters::yaml_emitter_set_unicode;
 pub use setters::yaml_emitter_set_width;
+pub use settings::Settings;
 pub use writing::ScalarContent;
 pub use yaml_base::NodeNumber;
 pub use yaml_base::YAML_ALIAS_EVENT;

@@ -4,12 +4,13 @@ ghost use Rattle.std.specs.Prelude.{◌≡◌, ◌||◌, IfOk, IfErr, None, Some
 ghost use Rattle.yaml_base.specs.Seen.{seen_break, seen_encoding};
 ghost use Rattle.yaml_pen.specs.Page.{IsUntouched, all_taken, encoded, output_left};
 ghost use Rattle.yaml_pen.specs.Wrote.{Flushed};
+ghost use Rattle.yaml_emitter.specs.Given.{seen_settings};
 ghost use Rattle.yaml_emitter.specs.StandsAfter.{failed_by};
 ghost use Rattle.yaml_emitter.specs.State.{is_at_stream, new_machine};
 
 use crate::effective::EffectiveSettings;
 use crate::frames::Frames;
-use crate::settings::GivenSettings;
+use crate::settings::Settings;
 use crate::stage::Stage;
 use crate::writing::OpenEnded;
 use std::alloc::Allocator;
@@ -22,7 +23,7 @@ use yaml_pen::Pen;
 #[derive(Drop)]
 pub(crate) struct Machine<A: Allocator> {
     pub(crate) alloc: A,
-    pub(crate) given: GivenSettings,
+    pub(crate) given: Settings,
     pub(crate) settings: EffectiveSettings,
     pub(crate) stage: Stage,
     pub(crate) directives: Directives<A>,
@@ -53,7 +54,7 @@ impl<A: Allocator + Copy> Machine<A> {
         ensures made { IfOk result (λ machine. machine ≡ new_machine) }
         ensures memory { IfErr result (λ error. error ≡ yaml_error_t.Memory) }
     {
-        let given = GivenSettings::new();
+        let given = Settings::default();
         let pen = Pen::new(alloc)?;
         Ok(Machine {
             alloc,
@@ -146,6 +147,21 @@ impl<A: Allocator> Machine<A> {
 }
 
 impl<A: Allocator> Machine<A> {
+    /// Sets all settings.
+    pub(crate) fn set_all(&mut self, settings: Settings)
+        requires { IsUntouched self.old.page }
+        ensures { self.new
+            ≡ record self.old {
+              given = seen_settings settings;
+              settings = record self.old.settings { canonical = settings.canonical };
+              page = record self.old.page { limit = settings.limit };
+            } }
+    {
+        self.pen.set_limit(settings.limit);
+        self.settings.canonical = settings.canonical;
+        self.given = settings;
+    }
+
     /// Sets canonical mode.
     pub(crate) fn set_canonical(&mut self, canonical: bool)
         ensures { self.new
@@ -197,7 +213,7 @@ impl<A: Allocator> Machine<A> {
     pub(crate) fn set_line_breaks_1_2(&mut self, breaks12: bool)
         ensures { self.new ≡ record self.old { given = record self.old.given { breaks12 = breaks12 } } }
     {
-        self.given.breaks12 = breaks12;
+        self.given.line_breaks_1_2 = breaks12;
     }
 
     /// Sets portable mode.

@@ -3,7 +3,7 @@
 ghost use Rattle.std.specs.Prelude.{◌≡◌, ◌≤◌, pos, ◌≤ℤ◌, IsSome, Some, unwrap_or};
 ghost use Rattle.yaml_base.specs.Settings.{effective, effective_encoding, effective_indent, effective_width, line_feed_break};
 ghost use Rattle.yaml_base.specs.Seen.{seen_encoding, seen_break};
-ghost use Rattle.yaml_emitter.specs.Given.{nothing_given, seen_width, seen_given, seen_effective};
+ghost use Rattle.yaml_emitter.specs.Given.{nothing_given, seen_width, seen_settings, seen_effective};
 
 use crate::effective::EffectiveSettings;
 use yaml_base::{
@@ -11,19 +11,50 @@ use yaml_base::{
     yaml_encoding_t,
 };
 
-/// The last value given to each setter.
-#[derive(Clone, Copy)]
-pub(crate) struct GivenSettings {
+/// What an emitter is set to before its stream. The default is what a new emitter has, as in libyaml.
+#[derive(Clone, Copy, PartialEq, Eq, Debug)]
+pub struct Settings {
+    /// The encoding; ANY leaves it to the stream's start, and then to UTF-8.
     pub encoding: yaml_encoding_t,
+    /// One form for each content: flow collections, double quotes, all tags.
     pub canonical: bool,
+    /// Printable characters past ASCII stand as themselves.
     pub unicode: bool,
+    /// Columns a level, 2 to 9; any other number, and `None`, is taken for 2.
     pub indent: Option<i32>,
+    /// Lines are folded past this column, counted in characters; a negative one is no limit. Up to twice the indent it is
+    /// taken for 80, and so is `None`.
     pub width: Option<i32>,
+    /// How lines end; ANY is LF.
     pub line_break: yaml_break_t,
-    pub breaks12: bool,
+    /// U+2028 and U+2029 are escaped, since YAML 1.2 takes them for no line breaks.
+    pub line_breaks_1_2: bool,
+    /// What readers of YAML read differently is written so that all read it alike.
     pub portable: bool,
+    /// Block sequences in a mapping are indented, as other block collections are.
     pub indented_sequences: bool,
+    /// The maximum output size in bytes.
     pub limit: usize,
+}
+
+/// Nothing is set: no limit below the largest vector.
+impl Default for Settings {
+    ghost is_default = { λ settings. seen_settings settings ≡ nothing_given };
+
+    fn default() -> Self {
+        Settings {
+            encoding: YAML_ANY_ENCODING,
+            canonical: false,
+            unicode: false,
+            indent: None,
+            width: None,
+            line_break: YAML_ANY_BREAK,
+            line_breaks_1_2: false,
+            portable: false,
+            indented_sequences: false,
+            limit: usize::MAX,
+        }
+    }
 }
 
 /// An indent of 2 to 9 is kept, any other becomes 2.
@@ -76,28 +107,10 @@ fn encoding_of(own: yaml_encoding_t, of_stream: yaml_encoding_t) -> yaml_encodin
     }
 }
 
-impl GivenSettings {
-    /// Nothing is set: no limit below the largest vector.
-    pub(crate) fn new() -> Self
-        ensures { seen_given result ≡ nothing_given }
-    {
-        GivenSettings {
-            encoding: YAML_ANY_ENCODING,
-            canonical: false,
-            unicode: false,
-            indent: None,
-            width: None,
-            line_break: YAML_ANY_BREAK,
-            breaks12: false,
-            portable: false,
-            indented_sequences: false,
-            limit: usize::MAX,
-        }
-    }
-
+impl Settings {
     /// What the settings come to for a stream that begins with this encoding.
     pub(crate) fn effective(&self, of_stream: yaml_encoding_t) -> EffectiveSettings
-        ensures gives { seen_effective result ≡ effective (seen_given self.now) (seen_encoding of_stream) }
+        ensures gives { seen_effective result ≡ effective (seen_settings self.now) (seen_encoding of_stream) }
         ensures encoding { IsSome (seen_encoding result.encoding) }
         ensures line_break { IsSome (seen_break result.line_break) }
     {
@@ -109,7 +122,7 @@ impl GivenSettings {
             indent,
             width: width_of(self.width, indent),
             line_break: break_of(self.line_break),
-            breaks12: self.breaks12,
+            breaks12: self.line_breaks_1_2,
             portable: self.portable,
             indented_sequences: self.indented_sequences,
             limit: self.limit,

@@ -1,5 +1,5 @@
 //! How JSON is written as YAML.
-use yaml_writer::Settings;
+use yaml_writer::{Settings, value_settings};
 
 /// How JSON is written as YAML.
 #[derive(Clone, Copy, PartialEq, Eq, Debug)]
@@ -14,11 +14,11 @@ pub struct JsonSettings {
     pub unique_names: bool,
 }
 
-/// The default settings of the writer, blocks, a depth of 1,000, and each name once in its object.
+/// The settings for values, blocks, a depth of 1,000, and each name once in its object.
 impl Default for JsonSettings {
     fn default() -> Self {
         JsonSettings {
-            writer: Settings::default(),
+            writer: value_settings(),
             flow: false,
             depth: 1_000,
             unique_names: true,

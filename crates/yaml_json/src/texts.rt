@@ -1,6 +1,6 @@
 //! JSON texts as YAML.
 ghost use Rattle.std.specs.Prelude.{◌≡◌, [], true, OnOk, IfOk, IfErr, IfSome};
-ghost use Rattle.yaml_writer.specs.Given.{seen_settings};
+ghost use Rattle.yaml_emitter.specs.Given.{seen_settings};
 ghost use Rattle.yaml_json.specs.Failing.{FailedInText, FailsBy, failure, failure_of, writers_error};
 ghost use Rattle.json.specs.Lex.{tokens};
 ghost use Rattle.yaml_json.specs.Names.{NamesOnce};

@@ -1,7 +1,8 @@
 //! A value as YAML.
 ghost use Rattle.std.specs.Prelude.{◌≡◌, [], IfOk, IsUtf8, None, OnOk, false, length, string_bytes, take, true};
 ghost use Rattle.yaml_base.specs.Settings as base;
-ghost use Rattle.yaml_writer.specs.Given.{default_settings, seen_settings};
+ghost use Rattle.yaml_emitter.specs.Given.{seen_settings};
+ghost use Rattle.yaml_writer.specs.Given.{given_for_values};
 ghost use Rattle.yaml_writer.specs.Writing.{StandsTaken, awaits_node, opening};
 ghost use Rattle.yaml_serde.specs.Documents.{AppendsDocument, GivesEvents, IsDocument};
 
@@ -14,7 +15,7 @@ use std::alloc::Global;
 use std::io::Write;
 use std::marker::Brand;
 use std::mem;
-use yaml_writer::{Settings, Writer};
+use yaml_writer::{Settings, Writer, value_settings};
 
 /// The sink of a document whose bytes stay with the writer.
 type NoSink = Vec<u8>;
@@ -43,24 +44,24 @@ pub fn to_vec_with<T: Serialize>(
     finished::<T, Brand>(alloc, writer, value)
 }
 
-/// A value as a stream of one document, by the writer's default settings: in portable mode, so it begins with `---`; in UTF-8,
+/// A value as a stream of one document, by the settings for values: in portable mode, so it begins with `---`; in UTF-8,
 /// with LF, an indent of 2, indented sequences, a width of 80, and characters past ASCII as themselves.
 ///
 /// # Errors
 /// Those of `to_vec_with`.
 pub fn to_vec<T: Serialize>(alloc: Global, value: &T) -> Result<Vec<u8>, Error>
-    ensures document { IfOk result (λ bytes. IsDocument default_settings bytes.items) }
+    ensures document { IfOk result (λ bytes. IsDocument given_for_values bytes.items) }
     ensures utf8 { IfOk result (λ bytes. IsUtf8 bytes.items) }
 {
-    to_vec_with(alloc, Settings::default(), value)
+    to_vec_with(alloc, value_settings(), value)
 }
 
-/// A value as a stream of one document, by the writer's default settings, as a text.
+/// A value as a stream of one document, by the settings for values, as a text.
 ///
 /// # Errors
 /// Those of `to_vec_with`.
 pub fn to_string<T: Serialize>(alloc: Global, value: &T) -> Result<String, Error>
-    ensures { IfOk result (λ text. IsDocument default_settings (string_bytes text)) }
+    ensures { IfOk result (λ text. IsDocument given_for_values (string_bytes text)) }
 {
     let bytes = to_vec(alloc, value)?;
     Ok(text_of(bytes))
@@ -84,7 +85,7 @@ pub fn to_writer_with<T: Serialize, W: Write + Drop>(
     sent::<T, W, Brand>(alloc, writer, sink, value)
 }
 
-/// Writes a value to a sink as `to_writer_with` does, by the writer's default settings.
+/// Writes a value to a sink as `to_writer_with` does, by the settings for values.
 ///
 /// # Errors
 /// Those of `to_writer_with`.
@@ -93,9 +94,9 @@ pub fn to_writer<T: Serialize, W: Write + Drop>(
     sink: W,
     value: &T,
 ) -> Result<W, Error>
-    ensures { IfOk result (λ after. AppendsDocument default_settings (W.contents sink) (W.contents after)) }
+    ensures { IfOk result (λ after. AppendsDocument given_for_values (W.contents sink) (W.contents after)) }
 {
-    to_writer_with(alloc, Settings::default(), sink, value)
+    to_writer_with(alloc, value_settings(), sink, value)
 }
 
 /// Gives a value to a writer as its next node, with the anchor and the tag that await it. It doesn't notice that a `Serialize` by
@@ -115,7 +116,7 @@ pub fn write<T: Serialize>(
     ensures whole { OnOk result ((writer.new.levels ≡ writer.old.levels) × (awaits_node writer.new ≡ false)) }
     ensures sound { OnOk result (writer.new.emitter.error ≡ None) }
 {
-    let spare = Writer::new(alloc, Settings::default())?;
+    let spare = Writer::new(alloc, value_settings())?;
     let lent = mem::replace(writer, spare);
     let (lent, answer) = given::<T, Brand>(alloc, lent, value);
     *writer = lent;

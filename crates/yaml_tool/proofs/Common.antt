@@ -13,7 +13,8 @@ pub use Rattle.memchr.specs.Find.{Nowhere, NoneBefore, Passes, is_byte2}
 pub use Rattle.yaml_base.specs.Seen.{seen_text, seen_directive, seen_event}
 pub use Rattle.yaml_base.specs.scripts.Script.{at_character, Numbered, Script, understood, text_from, Field, bare, quoted, outside, separates, pieces_from}
 pub use Rattle.yaml_base.specs.scripts.Script.{field_read, field_and, fields_read, version_of, line_read, script_of}
-pub use Rattle.yaml_tool.specs.{Numbers.number_after, Settings.seen_setting, Settings.seen_settings}
+pub use Rattle.yaml_emitter.specs.Given.{seen_settings}
+pub use Rattle.yaml_tool.specs.{Numbers.number_after, Settings.seen_setting}
 pub use Rattle.yaml_tool.specs.Cuts.{IsFree, IsCut, cut_at, prefix_of, SkipsTo}
 pub use Rattle.yaml_tool.specs.Fields.{seen_field_state, prepend_to_first_piece, SkipsRunTo, later_fields, prepend_field, HasField}
 pub use Rattle.yaml_tool.specs.Runs.{events_in, RefusesAt, ReadsAll, IsFault, LastLine}

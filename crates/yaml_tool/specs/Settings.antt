@@ -1,14 +1,12 @@
--- What contracts see of a script's settings.
+-- What contracts see of a setting's line.
 use Rattle.std.specs.Prelude.{Bool}
 use Rattle.yaml_base.specs.scripts.Script as notation
 use Rattle.yaml_base.specs.scripts.Script.{limit_set, encoding_set, canonical_set, unicode_set, indent_set, width_set, break_set, breaks12_set, portable_set}
 use Rattle.yaml_base.specs.scripts.Script.{sequences_set}
-use Rattle.yaml_base.specs.Settings as given
 use Rattle.yaml_base.specs.Seen.{seen_encoding, seen_break}
 use Rattle.yaml_tool.specs.declared.settings.Setting.{Setting}
 use Rattle.yaml_tool.specs.declared.settings.Setting.TheVariants.{Limit, Encoding, Canonical, Unicode, Indent, Width, LineBreak, Breaks12, Portable}
 use Rattle.yaml_tool.specs.declared.settings.Setting.TheVariants.{IndentedSequences}
-use Rattle.yaml_tool.specs.declared.settings.Settings.{Settings}
 
 -- a setting's line, its names as plain data
 abbrev pub seen_setting : Setting → notation.Setting
@@ -22,21 +20,6 @@ seen_setting (LineBreak line_break) = break_set (seen_break line_break)
 seen_setting (Breaks12 on) = breaks12_set on
 seen_setting (Portable on) = portable_set on
 seen_setting (IndentedSequences indented) = sequences_set indented
-
--- all settings together, as an emitter takes them
-abbrev pub seen_settings : Settings → given.Settings
-seen_settings settings = record {
-  encoding = seen_encoding settings.encoding;
-  canonical = settings.canonical;
-  unicode = settings.unicode;
-  indent = settings.indent;
-  width = settings.width;
-  line_break = seen_break settings.line_break;
-  breaks12 = settings.breaks12;
-  portable = settings.portable;
-  indented_sequences = settings.indented_sequences;
-  limit = settings.limit;
-}
 
 -- two settings have one name
 abbrev pub sets_same : notation.Setting → notation.Setting → Bool

@@ -2,9 +2,9 @@
 ghost use Rattle.std.specs.Prelude.{◌≡◌, ℕ, false, List, [], ◌++◌, map, IfOk, IfErr, OnOk, IfSome};
 ghost use Rattle.std.specs.Io.KnownBytes.{IsAtEnd};
 ghost use Rattle.yaml_base.specs.scripts.Script as notation;
+ghost use Rattle.yaml_emitter.specs.Given.{seen_settings};
 ghost use Rattle.yaml_tool.specs.Runs.{IsFault, ReadsAll};
 ghost use Rattle.yaml_tool.specs.Scripts.{seen_numbered, script_with, ContinuesScript, IsFaultOf};
-ghost use Rattle.yaml_tool.specs.Settings.{seen_settings};
 
 use crate::answers::run_answer_t;
 use crate::scripts::{Progress, Script, ScriptError, finish, take_lines};

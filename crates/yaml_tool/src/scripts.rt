@@ -1,14 +1,16 @@
 //! Whole scripts.
 ghost use Rattle.std.specs.Prelude.{◌≡◌, ◌≤◌, ◌+◌, ◌-◌, ◌^◌, ℕ, List, ◌++◌, length, map, Some, IfOk, IfErr, OnOk};
 ghost use Rattle.yaml_base.specs.scripts.Script as notation;
-ghost use Rattle.yaml_tool.specs.Settings.{seen_setting, seen_settings};
+ghost use Rattle.yaml_emitter.specs.Given.{seen_settings};
+ghost use Rattle.yaml_tool.specs.Settings.{seen_setting};
 ghost use Rattle.yaml_tool.specs.Scripts.{seen_progress, seen_numbered, nothing_parsed, after_line, script_after_lines, LeavesLastLine, IsFaultOf, IsFaultAt};
 
 use crate::lines::{Line, parse_line};
-use crate::settings::{Setting, Settings, is_set, settings_of};
+use crate::settings::{Setting, is_set, settings_of};
 use memchr::memchr;
 use std::alloc::Allocator;
 use yaml_base::yaml_event_t;
+use yaml_emitter::Settings;
 
 /// An event and the number of its line.
 #[derive(Drop)]

@@ -3,11 +3,13 @@ ghost use Rattle.std.specs.Prelude.{◌≡◌, map, option_map};
 ghost use Rattle.std.specs.List.{list_any};
 ghost use Rattle.std.specs.Str.{chars};
 ghost use Rattle.yaml_base.specs.scripts.Script as notation;
-ghost use Rattle.yaml_tool.specs.Settings.{seen_setting, seen_settings, sets_same};
+ghost use Rattle.yaml_emitter.specs.Given.{seen_settings};
+ghost use Rattle.yaml_tool.specs.Settings.{seen_setting, sets_same};
 
 use crate::numbers::{number_up_to, signed_number};
 use crate::words::{break_named, encoding_named, indentation_named, is_word, switch_named};
 use yaml_base::{yaml_break_t, yaml_encoding_t};
+use yaml_emitter::Settings;
 
 /// A setting's line.
 #[derive(Clone, Copy, PartialEq, Eq, Debug)]
@@ -50,6 +52,24 @@ impl Setting {
             Setting::Breaks12(_) => "breaks12",
             Setting::Portable(_) => "portable",
             Setting::IndentedSequences(_) => "sequences",
+        }
+    }
+
+    /// Sets this one.
+    fn apply(self, settings: &mut Settings)
+        ensures { seen_settings settings.new ≡ notation.with_setting (seen_settings settings.old) (seen_setting self) }
+    {
+        match self {
+            Setting::Limit(limit) => settings.limit = limit as usize,
+            Setting::Encoding(encoding) => settings.encoding = encoding,
+            Setting::Canonical(canonical) => settings.canonical = canonical,
+            Setting::Unicode(unicode) => settings.unicode = unicode,
+            Setting::Indent(indent) => settings.indent = Some(indent),
+            Setting::Width(width) => settings.width = Some(width),
+            Setting::LineBreak(line_break) => settings.line_break = line_break,
+            Setting::Breaks12(breaks12) => settings.line_breaks_1_2 = breaks12,
+            Setting::Portable(portable) => settings.portable = portable,
+            Setting::IndentedSequences(indented) => settings.indented_sequences = indented,
         }
     }
 }
@@ -95,71 +115,13 @@ pub fn setting_of(name: &str, value: &str) -> Option<Setting>
     }
 }
 
-/// The settings of a script.
-#[derive(Clone, Copy, PartialEq, Eq, Debug)]
-pub struct Settings {
-    /// The maximum output size in bytes.
-    pub limit: u32,
-    /// The emitter's encoding.
-    pub encoding: yaml_encoding_t,
-    /// One form for each content.
-    pub canonical: bool,
-    /// Characters past U+007F may stand as themselves.
-    pub unicode: bool,
-    /// Columns per level, if set.
-    pub indent: Option<i32>,
-    /// The column past which lines may be folded, if set.
-    pub width: Option<i32>,
-    /// How lines end.
-    pub line_break: yaml_break_t,
-    /// U+2028 and U+2029 are no line breaks.
-    pub breaks12: bool,
-    /// What readers read differently is written so that all read it alike.
-    pub portable: bool,
-    /// Block sequences in a mapping are indented.
-    pub indented_sequences: bool,
-}
-
 /// The settings of a script that sets nothing.
-pub const UNSET: Settings = Settings {
-    limit: 1_000_000_000,
-    encoding: yaml_encoding_t::YAML_ANY_ENCODING,
-    canonical: false,
-    unicode: false,
-    indent: None,
-    width: None,
-    line_break: yaml_break_t::YAML_ANY_BREAK,
-    breaks12: false,
-    portable: false,
-    indented_sequences: false,
-};
-
-impl Settings {
-    /// The settings after one more.
-    fn with(self, setting: Setting) -> Settings
-        ensures { seen_settings result ≡ notation.with_setting (seen_settings self) (seen_setting setting) }
-    {
-        match setting {
-            Setting::Limit(limit) => Settings { limit, ..self },
-            Setting::Encoding(encoding) => Settings { encoding, ..self },
-            Setting::Canonical(canonical) => Settings { canonical, ..self },
-            Setting::Unicode(unicode) => Settings { unicode, ..self },
-            Setting::Indent(indent) => Settings {
-                indent: Some(indent),
-                ..self
-            },
-            Setting::Width(width) => Settings {
-                width: Some(width),
-                ..self
-            },
-            Setting::LineBreak(line_break) => Settings { line_break, ..self },
-            Setting::Breaks12(breaks12) => Settings { breaks12, ..self },
-            Setting::Portable(portable) => Settings { portable, ..self },
-            Setting::IndentedSequences(indented_sequences) => Settings {
-                indented_sequences,
-                ..self
-            },
-        }
+fn unset() -> Settings
+    ensures { seen_settings result ≡ notation.unset }
+{
+    Settings {
+        limit: 1_000_000_000,
+        ..Settings::default()
     }
 }
 
@@ -167,9 +129,9 @@ impl Settings {
 pub fn settings_of(lines: &[Setting]) -> Settings
     ensures { seen_settings result ≡ notation.settings_of notation.unset (map seen_setting lines.now) }
 {
-    let mut settings = UNSET;
+    let mut settings = unset();
     for line in lines {
-        settings = settings.with(*line);
+        line.apply(&mut settings);
     }
     settings
 }

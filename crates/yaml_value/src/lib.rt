@@ -17,6 +17,7 @@ pub use yaml_dump::Name;
 pub use yaml_dump::NodeNumber;
 pub use yaml_dump::Pen;
 pub use yaml_dump::ScalarContent;
+pub use yaml_dump::Settings;
 pub use yaml_dump::YAML_ALIAS_EVENT;
 pub use yaml_dump::YAML_ANY_BREAK;
 pub use yaml_dump::YAML_ANY_ENCODING;

@@ -23,7 +23,7 @@ pub use laws::{
     written_numbers_are_read,
 };
 pub use numbers::{Number, number_of};
-pub use settings::Settings;
+pub use settings::value_settings;
 pub use spelling::{Spelling, number_spelling};
 pub use texts::is_surely_text;
 pub use writer::Writer;
@@ -36,3 +36,4 @@ pub use yaml_base::{
     YAML_UTF16BE_ENCODING, YAML_UTF16LE_ENCODING, yaml_break_t, yaml_encoding_t, yaml_error_t,
     yaml_mapping_style_t, yaml_scalar_style_t, yaml_sequence_style_t,
 };
+pub use yaml_emitter::Settings;

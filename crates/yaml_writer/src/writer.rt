@@ -3,20 +3,19 @@ ghost use Rattle.std.specs.Prelude.{◌≡◌, IfOk, IfErr, OnErr, OnOk, [], Non
 ghost use Rattle.std.specs.Io.KnownBytes.{Appends};
 ghost use Rattle.yaml_base.specs.Seen.{seen_scalar_style, seen_text};
 ghost use Rattle.std.specs.Option.{option_or};
+ghost use Rattle.yaml_emitter.specs.Given.{seen_settings};
 ghost use Rattle.yaml_emitter.specs.State.{with_all_taken};
 ghost use Rattle.yaml_pen.specs.Page.{output_left};
-ghost use Rattle.yaml_writer.specs.Given.{seen_settings};
 ghost use Rattle.yaml_writer.specs.Unfinished.{IsUnfinished, IsUnfinishedBy};
 ghost use Rattle.yaml_writer.specs.Writing.{Finishes, FinishesBy, GaveEvent, StandsTaken, TakesBytes, awaits_node, is_implicit, opening, scalar_event};
 
 use crate::giving::{begin, finished, give_scalar};
 use crate::kinds::{CollectionKind, DocumentEnd};
-use crate::settings::{Settings, emitter_of};
 use std::alloc::Allocator;
 use std::io;
 use std::marker::Model;
 use yaml_base::{yaml_error_t, yaml_scalar_style_t};
-use yaml_emitter::{yaml_emitter_t, yaml_emitter_take_output};
+use yaml_emitter::{Settings, yaml_emitter_t, yaml_emitter_take_output};
 
 /// Writes values, one call each, into a vector of bytes.
 #[derive(Drop)]
@@ -53,7 +52,7 @@ impl<A: Allocator + Copy> Writer<A> {
         ensures bare { IfOk result (λ writer. (writer.anchor ≡ None) × (writer.tag ≡ None)) }
         ensures memory { IfErr result (λ error. error ≡ yaml_error_t.Memory) }
     {
-        let mut emitter = emitter_of(alloc, &settings)?;
+        let mut emitter = yaml_emitter_t::with_settings(alloc, settings)?;
         begin(alloc, &mut emitter);
         Ok(Writer {
             alloc,

@@ -14,57 +14,42 @@ use std::alloc::{Allocator, Global};
 use std::process::Abort;
 use streams::{Given, event};
 use yaml_base::{
-    YAML_ANY_ENCODING, YAML_STREAM_END_EVENT, yaml_encoding_t, yaml_error_t, yaml_event_t,
+    YAML_ANY_BREAK, YAML_ANY_ENCODING, YAML_STREAM_END_EVENT, yaml_error_t, yaml_event_t,
 };
-use yaml_emitter::{
-    yaml_emitter_emit, yaml_emitter_flush, yaml_emitter_initialize, yaml_emitter_set_canonical,
-    yaml_emitter_set_encoding, yaml_emitter_set_output_string, yaml_emitter_set_unicode,
-    yaml_emitter_set_width, yaml_emitter_t,
-};
+use yaml_emitter::{Settings, yaml_emitter_emit, yaml_emitter_flush, yaml_emitter_t};
 use yaml_test_allocator::Refusing;
 
 pub(super) type Answer = Result<(), yaml_error_t>;
 
-/// What is set before a stream.
-#[derive(Clone, Copy)]
-pub(super) struct Setting {
-    pub(super) limit: usize,
-    pub(super) encoding: yaml_encoding_t,
-    pub(super) canonical: bool,
-    pub(super) unicode: bool,
-    pub(super) width: i32,
-}
-
 /// An output with room, and the width that is taken where none is set.
-pub(super) const UNSET: Setting = Setting {
-    limit: usize::MAX,
+pub(super) const UNSET: Settings = Settings {
     encoding: YAML_ANY_ENCODING,
     canonical: false,
     unicode: false,
-    width: 80,
+    indent: None,
+    width: Some(80),
+    line_break: YAML_ANY_BREAK,
+    line_breaks_1_2: false,
+    portable: false,
+    indented_sequences: false,
+    limit: usize::MAX,
 };
 
 /// An emitter before its stream.
 pub(super) fn begun<A: Allocator + Copy>(
     alloc: A,
-    setting: &Setting,
+    settings: &Settings,
 ) -> Result<yaml_emitter_t<A>, yaml_error_t> {
-    let mut emitter = yaml_emitter_initialize(alloc)?;
-    yaml_emitter_set_output_string(&mut emitter, setting.limit);
-    yaml_emitter_set_encoding(&mut emitter, setting.encoding);
-    yaml_emitter_set_canonical(&mut emitter, setting.canonical);
-    yaml_emitter_set_unicode(&mut emitter, setting.unicode);
-    yaml_emitter_set_width(&mut emitter, setting.width);
-    Ok(emitter)
+    yaml_emitter_t::with_settings(alloc, *settings)
 }
 
 /// An emitter before its stream, for which there is memory.
 pub(super) fn made<A: Allocator + Copy>(
     rt: &impl Abort,
     alloc: A,
-    setting: &Setting,
+    settings: &Settings,
 ) -> yaml_emitter_t<A> {
-    begun(alloc, setting).expect(rt, "no memory")
+    begun(alloc, settings).expect(rt, "no memory")
 }
 
 /// Emits an event: an output is set.

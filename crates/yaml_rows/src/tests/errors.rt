@@ -1,12 +1,12 @@
 //! Errors of the library in a caller that returns `anyhow::Result`.
-use crate::tests::emitters::{Setting, UNSET, give, made};
+use crate::tests::emitters::{UNSET, give, made};
 use crate::tests::same;
 use std::alloc::Global;
 use std::process::Abort;
 use yaml_base::{NodeNumber, YAML_STREAM_END_EVENT};
-use yaml_emitter::yaml_emitter_t;
+use yaml_emitter::{Settings, yaml_emitter_t};
 
-const HUNDRED: Setting = Setting {
+const HUNDRED: Settings = Settings {
     limit: 100,
     ..UNSET
 };

@@ -113,7 +113,7 @@ const SETTINGS: Settings = Settings {
     indent: None,
     width: Some(-1),
     line_break: YAML_ANY_BREAK,
-    breaks12: false,
+    line_breaks_1_2: false,
     portable: false,
     indented_sequences: false,
 };

@@ -5,7 +5,7 @@ use serde::{Described, Serialize, Serializer};
 use std::alloc::Global;
 use std::io;
 use std::process::Abort;
-use yaml_serde::{Error, Settings, Writer, to_writer, write, yaml_error_t};
+use yaml_serde::{Error, Writer, to_writer, value_settings, write, yaml_error_t};
 use yaml_writer::YAML_BLOCK_SEQUENCE_STYLE;
 
 /// The kind of a sink's error; nothing where it fails otherwise, or the value is written.
@@ -61,7 +61,7 @@ fn is_given<T: Serialize>(alloc: Global, writer: &mut Writer<Global>, value: &T)
 }
 
 fn writer(rt: &impl Abort, alloc: Global) -> Writer<Global> {
-    Writer::new(alloc, Settings::default()).expect(rt, "no memory")
+    Writer::new(alloc, value_settings()).expect(rt, "no memory")
 }
 
 fn check_finished(rt: &impl Abort, writer: Writer<Global>, expected: &str) {

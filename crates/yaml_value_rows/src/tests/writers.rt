@@ -12,7 +12,7 @@ use std::alloc::Global;
 use std::process::Abort;
 use yaml_writer::{
     DocumentEnd, Settings, Writer, YAML_BLOCK_MAPPING_STYLE, YAML_BLOCK_SEQUENCE_STYLE,
-    YAML_FLOW_SEQUENCE_STYLE, number_of, yaml_error_t, yaml_scalar_style_t,
+    YAML_FLOW_SEQUENCE_STYLE, number_of, value_settings, yaml_error_t, yaml_scalar_style_t,
 };
 
 /// A call of a writer.
@@ -100,19 +100,13 @@ fn check_written(
 
 /// Checks what calls write in portable mode, where the stream has an end.
 fn check_portable(rt: &impl Abort, alloc: Global, calls: &[Call], wanted: &str) {
-    check_written(
-        rt,
-        alloc,
-        Settings::default(),
-        calls,
-        &Ok(wanted.as_bytes()),
-    );
+    check_written(rt, alloc, value_settings(), calls, &Ok(wanted.as_bytes()));
 }
 
 fn canonical() -> Settings {
     Settings {
         canonical: true,
-        ..Settings::default()
+        ..value_settings()
     }
 }
 
@@ -120,6 +114,6 @@ fn canonical() -> Settings {
 fn limited(limit: usize) -> Settings {
     Settings {
         limit,
-        ..Settings::default()
+        ..value_settings()
     }
 }

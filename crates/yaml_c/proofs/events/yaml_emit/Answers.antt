@@ -4,8 +4,8 @@ use Rattle.yaml_c.specs.{declared.results.CallResult.CallResult}
 use Rattle.yaml_emitter.specs.State.{new_state}
 use Rattle.yaml_c.proofs.events.yaml_emit.Goals as goal
 
-pub returns-in_default-emitter_by : goal.returns-in_default-emitter_by
-returns-in_default-emitter_by c =
+pub returns-in_default-with_settings : goal.returns-in_default-with_settings
+returns-in_default-with_settings c =
     let read : Some (seen_settings c.in-Some.given) ≡ settings_given c.args.settings.now =
     ap (option_map seen_settings) (sym c.in-Some.is) ∙ c.settings_from.ensures in
     let all = events_from 0 c.args.texts.now c.args.directives.now c.args.events.now in

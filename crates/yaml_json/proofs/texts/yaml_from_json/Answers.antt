@@ -1,7 +1,7 @@
 use Rattle.yaml_json.proofs.Common.{refl, inl}
 use Rattle.yaml_json.proofs.{Stopping.if_some, WhyFailed.text_failed, WhyFailed.finish_failed, WroteLemmas.bare_awaits_none, YamlOf.yaml_of}
 use Rattle.yaml_json.specs.Failing.{writers_error}
-use Rattle.yaml_writer.specs.Given.{seen_settings}
+use Rattle.yaml_emitter.specs.Given.{seen_settings}
 use Rattle.yaml_json.proofs.texts.yaml_from_json.Goals as goal
 
 pub returns-in-Ok-finish-clause-stream : goal.returns-in-Ok-finish-clause-stream

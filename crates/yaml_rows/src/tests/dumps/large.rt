@@ -4,11 +4,12 @@ use super::events::events_of;
 use super::steps::Step::{Close, Dump, Output};
 use super::steps::{check_steps, check_steps_at};
 use super::{Given, document, nodes};
-use crate::tests::emitters::{Setting, UNSET};
+use crate::tests::emitters::UNSET;
 use crate::tests::{equal, joined};
 use std::alloc::Global;
 use std::process::Abort;
 use yaml_base::yaml_error_t;
+use yaml_emitter::Settings;
 
 /// Sequences of so many of these numbers each.
 fn sequences<'a>(
@@ -154,7 +155,10 @@ fn forty_nodes_in_each_other_are_written(rt: HostRuntime) {
     check_text(&rt, alloc, given.as_slice(), text.as_str());
 }
 
-const ENDLESS: Setting = Setting { width: -1, ..UNSET };
+const ENDLESS: Settings = Settings {
+    width: Some(-1),
+    ..UNSET
+};
 
 /// The tag of each event takes one, so the second comes once the events are emitted, before the output grows; the last stands for none.
 const REFUSED_OF_A_MILLION: &[usize] = &[1_000, 1_000_078, usize::MAX];

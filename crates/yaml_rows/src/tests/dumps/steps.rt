@@ -1,6 +1,6 @@
 //! Calls on one emitter, and what is then so, as tables write them; also with each growth refused in turn.
 use super::{Given, close, document, dump, nodes};
-use crate::tests::emitters::{Answer, Setting, begun, check_answer, check_out_of_memory, give};
+use crate::tests::emitters::{Answer, begun, check_answer, check_out_of_memory, give};
 use crate::tests::{equal, same};
 use std::alloc::{Allocator, Global};
 use std::process::Abort;
@@ -9,7 +9,7 @@ use yaml_base::{
     yaml_error_t,
 };
 use yaml_dump::yaml_emitter_open;
-use yaml_emitter::yaml_emitter_t;
+use yaml_emitter::{Settings, yaml_emitter_t};
 use yaml_test_allocator::Refusing;
 
 /// A call with its answer, or what stands after it.
@@ -139,10 +139,10 @@ fn take_refused<A: Allocator + Copy>(
     rt: &impl Abort,
     heap: &Refusing<Global>,
     alloc: A,
-    setting: &Setting,
+    settings: &Settings,
     steps: &[Step],
 ) {
-    match begun(alloc, setting) {
+    match begun(alloc, settings) {
         Ok(mut emitter) => take_all(rt, heap, alloc, &mut emitter, steps),
         Err(error) => check_answer(rt, heap, Err(error), &Ok(())),
     }
@@ -152,21 +152,21 @@ fn take_refused<A: Allocator + Copy>(
 fn is_refused(
     rt: &impl Abort,
     alloc: Global,
-    setting: &Setting,
+    settings: &Settings,
     steps: &[Step],
     number: usize,
 ) -> bool {
     let heap = Refusing::new(alloc);
     heap.refuse(number);
-    take_refused(rt, &heap, &heap, setting, steps);
+    take_refused(rt, &heap, &heap, settings, steps);
     // It was refused; or no growth was refused before another dump, from which on so many are left.
     heap.left() == 0 || heap.left() > number
 }
 
 /// The steps are taken with the first growth refused, the second, and so on, until none is.
-pub(super) fn check_steps(rt: &impl Abort, alloc: Global, setting: &Setting, steps: &[Step]) {
+pub(super) fn check_steps(rt: &impl Abort, alloc: Global, settings: &Settings, steps: &[Step]) {
     for number in 1..usize::MAX {
-        if !is_refused(rt, alloc, setting, steps, number) {
+        if !is_refused(rt, alloc, settings, steps, number) {
             return;
         }
     }
@@ -176,12 +176,12 @@ pub(super) fn check_steps(rt: &impl Abort, alloc: Global, setting: &Setting, ste
 pub(super) fn check_steps_at(
     rt: &impl Abort,
     alloc: Global,
-    setting: &Setting,
+    settings: &Settings,
     steps: &[Step],
     numbers: &[usize],
 ) {
     for number in numbers {
-        if !is_refused(rt, alloc, setting, steps, *number) {
+        if !is_refused(rt, alloc, settings, steps, *number) {
             return;
         }
     }
@@ -190,7 +190,7 @@ pub(super) fn check_steps_at(
 /// A dump of these nodes and a close give this text.
 pub(super) type Row<'a> = (&'a [Given<'a>], &'a str);
 
-pub(super) fn check_rows(rt: &impl Abort, alloc: Global, setting: &Setting, rows: &[Row]) {
+pub(super) fn check_rows(rt: &impl Abort, alloc: Global, settings: &Settings, rows: &[Row]) {
     for row in rows {
         let output = row.1.as_bytes();
         let steps = [
@@ -198,6 +198,6 @@ pub(super) fn check_rows(rt: &impl Abort, alloc: Global, setting: &Setting, rows
             Step::Close(Ok(())),
             Step::Output(output),
         ];
-        check_steps(rt, alloc, setting, &steps);
+        check_steps(rt, alloc, settings, &steps);
     }
 }

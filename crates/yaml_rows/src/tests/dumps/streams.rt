@@ -1,8 +1,9 @@
 //! Streams opened and closed as a whole, without documents.
 use super::steps::Step::{Close, Closed, Error, Open, Output};
 use super::steps::{Step, check_steps};
-use crate::tests::emitters::{Setting, UNSET};
+use crate::tests::emitters::UNSET;
 use yaml_base::{YAML_UTF16BE_ENCODING, yaml_error_t};
+use yaml_emitter::Settings;
 
 const EMPTY: &[Step] = &[
     Open(Ok(())),
@@ -21,7 +22,7 @@ fn an_empty_stream_is_opened_and_closed(rt: HostRuntime) {
     check_steps(&rt, rt.alloc(), &UNSET, EMPTY);
 }
 
-const BIG: Setting = Setting {
+const BIG: Settings = Settings {
     encoding: YAML_UTF16BE_ENCODING,
     ..UNSET
 };
@@ -44,7 +45,7 @@ fn a_mark_is_written_as_the_stream_closes(rt: HostRuntime) {
 }
 
 /// The byte order mark, which the stream's end writes, takes two bytes.
-pub(super) const ONE_BYTE: Setting = Setting { limit: 1, ..BIG };
+pub(super) const ONE_BYTE: Settings = Settings { limit: 1, ..BIG };
 
 const CUT: &[Step] = &[
     Open(Ok(())),

@@ -5,8 +5,9 @@ use super::events::events_of;
 use super::steps::Step::{Close, Closed, Dump, End, Error, Open, Opened, Output, Start};
 use super::steps::{Row, Step, check_rows, check_steps};
 use super::streams::ONE_BYTE;
-use crate::tests::emitters::{Answer, Setting, UNSET};
+use crate::tests::emitters::{Answer, UNSET};
 use yaml_base::{yaml_error_t, yaml_node_pair_t};
+use yaml_emitter::Settings;
 
 /// A sequence that holds one string twice.
 const SHARED: &[Given] = &[Sequence(&[2, 2]), Text("a")];
@@ -82,7 +83,7 @@ const CANONICAL: &[Row] = &[
     (&[Sequence(&[3, 3]), Text("a"), Sequence(&[2, 2])], NESTED),
 ];
 
-const IN_FULL: Setting = Setting {
+const IN_FULL: Settings = Settings {
     canonical: true,
     ..UNSET
 };

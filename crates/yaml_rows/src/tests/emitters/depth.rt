@@ -1,16 +1,20 @@
 //! Collections within one another, as deep as they may be.
+use super::UNSET;
 use super::steps::Step::{Emit, Failed, Held, Output, Refused, Repeat};
 use super::steps::{Step, check_granted, check_steps};
 use super::streams::Given::{
     BlockSequence, Document, DocumentEnd, FlowSequence, SequenceEnd, Stream, StreamEnd,
 };
-use super::{Setting, UNSET};
 use crate::tests::joined;
 use std::alloc::Global;
 use std::process::Abort;
 use yaml_base::yaml_error_t;
+use yaml_emitter::Settings;
 
-const ENDLESS: &Setting = &Setting { width: -1, ..UNSET };
+const ENDLESS: &Settings = &Settings {
+    width: Some(-1),
+    ..UNSET
+};
 
 /// The maximum nesting depth.
 const MOST: usize = 1_000_000;

@@ -1,7 +1,7 @@
 //! Short values as roots in each style, which is another one where the value doesn't allow the one that is asked for.
 use super::steps::{Step, check_steps};
 use super::streams::Given::{Document, DocumentEnd, Stream, StreamEnd, Styled};
-use super::{Setting, UNSET, short_block, short_quoted};
+use super::{UNSET, short_block, short_quoted};
 use crate::tests::{equal, joined};
 use std::alloc::Global;
 use std::process::Abort;
@@ -10,6 +10,7 @@ use yaml_base::{
     YAML_LITERAL_SCALAR_STYLE, YAML_PLAIN_SCALAR_STYLE, YAML_SINGLE_QUOTED_SCALAR_STYLE,
     yaml_scalar_style_t,
 };
+use yaml_emitter::Settings;
 
 /// A row of a table: a value, and what is written in two styles.
 fn row_of<'a>(rt: &impl Abort, row: &'a str) -> (&'a str, &'a str, &'a str) {
@@ -91,7 +92,7 @@ type Root<'a> = (&'a str, yaml_scalar_style_t);
 fn check_outputs<'a>(
     rt: &impl Abort,
     alloc: Global,
-    setting: &Setting,
+    settings: &Settings,
     root: Root<'a>,
     outputs: (&'a str, &'a str),
 ) {
@@ -106,26 +107,26 @@ fn check_outputs<'a>(
         Step::Output(outputs.1.as_bytes()),
         Step::Held(0),
     ];
-    check_steps(rt, alloc, setting, &steps);
+    check_steps(rt, alloc, settings, &steps);
 }
 
 fn check_document(
     rt: &impl Abort,
     alloc: Global,
-    setting: &Setting,
+    settings: &Settings,
     root: Root,
     (document, dots): (&str, &str),
 ) {
     let stream = both(rt, alloc, document, dots);
-    check_outputs(rt, alloc, setting, root, (document, stream.as_str()));
+    check_outputs(rt, alloc, settings, root, (document, stream.as_str()));
 }
 
-fn check_style(rt: &impl Abort, alloc: Global, setting: &Setting, root: Root, text: &str) {
+fn check_style(rt: &impl Abort, alloc: Global, settings: &Settings, root: Root, text: &str) {
     let document = both(rt, alloc, text, last_break(text));
     check_document(
         rt,
         alloc,
-        setting,
+        settings,
         root,
         (document.as_str(), dots_after(text)),
     );
@@ -140,22 +141,22 @@ const STYLES: &[yaml_scalar_style_t] = &[
     YAML_FOLDED_SCALAR_STYLE,
 ];
 
-fn check_styles(rt: &impl Abort, alloc: Global, setting: &Setting, texts: &Texts) {
+fn check_styles(rt: &impl Abort, alloc: Global, settings: &Settings, texts: &Texts) {
     for style in STYLES {
         let text = texts.chosen(*style);
-        check_style(rt, alloc, setting, (texts.value, *style), text);
+        check_style(rt, alloc, settings, (texts.value, *style), text);
     }
 }
 
-const NARROW: &Setting = &Setting {
+const NARROW: &Settings = &Settings {
     unicode: true,
-    width: 5,
+    width: Some(5),
     ..UNSET
 };
 
-const ENDLESS: &Setting = &Setting {
+const ENDLESS: &Settings = &Settings {
     unicode: true,
-    width: -1,
+    width: Some(-1),
     ..UNSET
 };
 

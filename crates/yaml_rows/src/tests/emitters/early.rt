@@ -1,11 +1,12 @@
 //! Flushes before a stream begins.
+use super::UNSET;
 use super::steps::Step::{Emit, Flush, Known, Output, Started};
 use super::steps::{Step, check_steps};
 use super::streams::Given::{Stream, StreamEnd};
-use super::{Setting, UNSET};
 use yaml_base::{YAML_UTF8_ENCODING, YAML_UTF16LE_ENCODING};
+use yaml_emitter::Settings;
 
-const SMALL: &Setting = &Setting {
+const SMALL: &Settings = &Settings {
     encoding: YAML_UTF8_ENCODING,
     ..UNSET
 };
@@ -23,7 +24,7 @@ const EARLY: &[Step] = &[
     Output(b""),
 ];
 
-const LITTLE: &Setting = &Setting {
+const LITTLE: &Settings = &Settings {
     encoding: YAML_UTF16LE_ENCODING,
     ..UNSET
 };

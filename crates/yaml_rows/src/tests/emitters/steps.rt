@@ -1,14 +1,12 @@
 //! Calls on one emitter, and what is then so, as tables write them; also with each growth refused in turn.
 use super::memory::granted;
 use super::streams::Given;
-use super::{
-    Answer, Setting, begun, check_answer, check_failed, check_out_of_memory, flush_if_known, give,
-};
+use super::{Answer, begun, check_answer, check_failed, check_out_of_memory, flush_if_known, give};
 use crate::tests::{equal, same};
 use std::alloc::{Allocator, Global};
 use std::process::Abort;
 use yaml_base::yaml_error_t;
-use yaml_emitter::{yaml_emitter_t, yaml_emitter_take_output};
+use yaml_emitter::{Settings, yaml_emitter_t, yaml_emitter_take_output};
 use yaml_test_allocator::Refusing;
 
 /// Calls with their answers, or what stands after them.
@@ -134,10 +132,10 @@ fn take_refused<A: Allocator + Copy>(
     rt: &impl Abort,
     heap: &Refusing<Global>,
     alloc: A,
-    setting: &Setting,
+    settings: &Settings,
     steps: &[Step],
 ) {
-    match begun(alloc, setting) {
+    match begun(alloc, settings) {
         Ok(mut emitter) => take_steps(rt, heap, alloc, &mut emitter, steps),
         Err(error) => check_answer(rt, heap, Err(error), &Ok(())),
     }
@@ -147,30 +145,30 @@ fn take_refused<A: Allocator + Copy>(
 fn is_refused(
     rt: &impl Abort,
     alloc: Global,
-    setting: &Setting,
+    settings: &Settings,
     steps: &[Step],
     number: usize,
 ) -> bool {
     let heap = Refusing::new(alloc);
     heap.refuse(number);
-    take_refused(rt, &heap, &heap, setting, steps);
+    take_refused(rt, &heap, &heap, settings, steps);
     heap.left() == 0
 }
 
 /// The steps are taken with the first growth refused, the second, and so on, until none is.
-pub(super) fn check_steps(rt: &impl Abort, alloc: Global, setting: &Setting, steps: &[Step]) {
+pub(super) fn check_steps(rt: &impl Abort, alloc: Global, settings: &Settings, steps: &[Step]) {
     for number in 1..usize::MAX {
-        if !is_refused(rt, alloc, setting, steps, number) {
+        if !is_refused(rt, alloc, settings, steps, number) {
             return;
         }
     }
 }
 
 /// The steps are taken with no growth refused.
-pub(super) fn check_granted(rt: &impl Abort, alloc: Global, setting: &Setting, steps: &[Step]) {
+pub(super) fn check_granted(rt: &impl Abort, alloc: Global, settings: &Settings, steps: &[Step]) {
     equal(
         rt,
-        &is_refused(rt, alloc, setting, steps, usize::MAX),
+        &is_refused(rt, alloc, settings, steps, usize::MAX),
         &false,
     );
 }

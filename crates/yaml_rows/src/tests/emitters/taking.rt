@@ -1,11 +1,12 @@
 //! The output, taken in parts while the stream is written.
+use super::UNSET;
 use super::steps::Step::{Emit, Failed, Flush, Held, Take};
 use super::steps::{Step, check_steps};
 use super::streams::Given::{
     Document, DocumentEnd, FlowSequence, SequenceEnd, Stream, StreamEnd, Text,
 };
-use super::{Setting, UNSET};
 use yaml_base::{YAML_UTF16LE_ENCODING, yaml_error_t};
+use yaml_emitter::Settings;
 
 // In the middle of a document, and where events wait.
 const PARTS: &[Step] = &[
@@ -42,7 +43,7 @@ fn a_stream_is_taken_in_parts(rt: HostRuntime) {
     check_steps(&rt, rt.alloc(), &UNSET, PARTS);
 }
 
-const UTF16: &Setting = &Setting {
+const UTF16: &Settings = &Settings {
     encoding: YAML_UTF16LE_ENCODING,
     ..UNSET
 };
@@ -66,7 +67,7 @@ fn utf16_is_taken_in_parts(rt: HostRuntime) {
     check_steps(&rt, rt.alloc(), UTF16, IN_UTF16);
 }
 
-const SIX: &Setting = &Setting { limit: 6, ..UNSET };
+const SIX: &Settings = &Settings { limit: 6, ..UNSET };
 
 // Five bytes are taken, and the limit leaves one of the next three.
 const TO_THE_LIMIT: &[Step] = &[

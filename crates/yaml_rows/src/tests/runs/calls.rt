@@ -22,12 +22,12 @@ fn emitter_with<A: Allocator + Copy>(
     settings: &Settings,
 ) -> Result<yaml_emitter_t<A>, yaml_error_t> {
     let mut emitter = yaml_emitter_initialize(alloc)?;
-    yaml_emitter_set_output_string(&mut emitter, settings.limit as usize);
+    yaml_emitter_set_output_string(&mut emitter, settings.limit);
     yaml_emitter_set_encoding(&mut emitter, settings.encoding);
     yaml_emitter_set_canonical(&mut emitter, settings.canonical);
     yaml_emitter_set_unicode(&mut emitter, settings.unicode);
     yaml_emitter_set_break(&mut emitter, settings.line_break);
-    yaml_emitter_set_line_breaks_1_2(&mut emitter, settings.breaks12);
+    yaml_emitter_set_line_breaks_1_2(&mut emitter, settings.line_breaks_1_2);
     yaml_emitter_set_portable(&mut emitter, settings.portable);
     yaml_emitter_set_indented_sequences(&mut emitter, settings.indented_sequences);
     match (settings.indent, settings.width) {

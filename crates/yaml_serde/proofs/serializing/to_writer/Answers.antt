@@ -5,4 +5,4 @@ pub returns : goal.returns
 returns g c =
     subst
     (λ (given : Settings). IfOk c.to_writer_with.result (λ after. AppendsDocument given (g.W.Write.contents c.args.sink) (g.W.Write.contents after)))
-    c.default.ensures c.to_writer_with.ensures
+    c.value_settings.ensures c.to_writer_with.ensures

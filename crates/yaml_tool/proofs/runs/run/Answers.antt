@@ -1,4 +1,4 @@
-use Rattle.yaml_tool.proofs.Common.{[], map, subst, ◌∙◌, Appends, StandsAfter, seen_numbered, seen_settings}
+use Rattle.yaml_tool.proofs.Common.{map, ap, subst, ◌∙◌, Appends, State, seen_numbered, seen_settings}
 use Rattle.yaml_tool.proofs.RunLemmas.{tells_all, told_answer, silent_only}
 use Rattle.yaml_tool.proofs.runs.run.Goals as goal
 
@@ -9,16 +9,15 @@ returns-in-Ok-write_all-clause-reported g c =
     let answer = c.emit_all-answer.result in
     let old = g.W.Write.contents c.args.writer.now in
     let new = g.W.Write.contents c.write_all.new.self in
-    let emits = c.emit_all-answer.ensures.emits set (subst (λ given. StandsAfter given [] c.set_all.new.emitter) c.set_all.ensures.given
-    c.set_all.ensures.stands) in
-    let output = c.output.ensures.untaken (c.emit_all-answer.ensures.taken ∙ c.set_all.ensures.untaken) in
+    let emits = c.emit_all-answer.ensures.emits set c.in-Ok-with_settings.ensures.stands in
+    let untaken = c.emit_all-answer.ensures.taken ∙ ap (λ (s : State). s.page.taken) c.in-Ok-with_settings.ensures.made in
     tells_all (g.R.Read.remaining c.args.reader.now) set all answer old new c.in-Ok.ensures.understood
-    (told_answer set all answer c.emit_all-answer.new.emitter old new emits (subst (Appends old new) output c.in-Ok-write_all.ensures.bytes))
+    (told_answer set all answer c.emit_all-answer.new.emitter old new emits
+    (subst (Appends old new) (c.output.ensures.untaken untaken) c.in-Ok-write_all.ensures.bytes))
 
 pub returns-in-Ok-write_all-clause-unwritten : goal.returns-in-Ok-write_all-clause-unwritten
 returns-in-Ok-write_all-clause-unwritten g c =
     let set = seen_settings c.in-Ok.script.settings in
-    let emits = c.emit_all-answer.ensures.emits set (subst (λ given. StandsAfter given [] c.set_all.new.emitter) c.set_all.ensures.given
-    c.set_all.ensures.stands) in
     silent_only set (map seen_numbered c.in-Ok.script.events.items) c.emit_all-answer.result c.emit_all-answer.new.emitter
-    (g.W.Write.contents c.args.writer.now) (g.W.Write.contents c.write_all.new.self) emits
+    (g.W.Write.contents c.args.writer.now) (g.W.Write.contents c.write_all.new.self)
+    (c.emit_all-answer.ensures.emits set c.in-Ok-with_settings.ensures.stands)

@@ -6,7 +6,7 @@ use yaml_json::{JsonError, JsonSettings, yaml_from_json};
 /// The YAML of a JSON text, with an indent of 4.
 fn yaml_of_json(alloc: Global, text: &str) -> Result<Vec<u8>, JsonError> {
     let mut settings = JsonSettings::default();
-    settings.writer.indent = 4;
+    settings.writer.indent = Some(4);
     yaml_from_json(alloc, text, settings)
 }
 

@@ -4,7 +4,7 @@ use serde::Serialize;
 use std::alloc::Global;
 use std::io::Write;
 use std::process::Abort;
-use yaml_writer::{Settings, Writer};
+use yaml_writer::{Writer, value_settings};
 
 /// A host, and what it lets through.
 #[derive(Drop, Serialize)]
@@ -63,7 +63,7 @@ fn send_each<W: Write>(
     values: &[serde_json::Value],
     sink: &mut W,
 ) -> Result<(), yaml_serde::Error> {
-    let mut writer = Writer::new(alloc, Settings::default())?;
+    let mut writer = Writer::new(alloc, value_settings())?;
     for (index, value) in values.iter().enumerate() {
         if index > 0 {
             writer.next_document()?;

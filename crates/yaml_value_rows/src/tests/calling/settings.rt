@@ -3,15 +3,26 @@ use crate::tests::{equal, same};
 use std::alloc::Global;
 use std::process::Abort;
 use yaml_dump::{
-    YAML_CRLN_BREAK, YAML_UTF16LE_ENCODING, yaml_emitter_delete, yaml_emitter_initialize,
+    Settings, YAML_CRLN_BREAK, YAML_UTF16LE_ENCODING, yaml_emitter_delete, yaml_emitter_initialize,
     yaml_emitter_set_break, yaml_emitter_set_canonical, yaml_emitter_set_encoding,
     yaml_emitter_set_indent, yaml_emitter_set_indented_sequences, yaml_emitter_set_line_breaks_1_2,
     yaml_emitter_set_output_string, yaml_emitter_set_portable, yaml_emitter_set_unicode,
     yaml_emitter_set_width, yaml_emitter_t, yaml_error_t,
 };
 
-/// An emitter with every setting set, for a stream of at most `limit` bytes.
+/// An emitter for a stream of at most `limit` bytes in UTF-16, with lines of at most 120 characters.
 fn emitter_of(alloc: Global, limit: usize) -> Result<yaml_emitter_t<Global>, yaml_error_t> {
+    let settings = Settings {
+        limit,
+        encoding: YAML_UTF16LE_ENCODING,
+        width: Some(120),
+        ..Settings::default()
+    };
+    yaml_emitter_t::with_settings(alloc, settings)
+}
+
+/// An emitter with every setting set, for a stream of at most `limit` bytes.
+fn emitter_set(alloc: Global, limit: usize) -> Result<yaml_emitter_t<Global>, yaml_error_t> {
     let mut emitter = yaml_emitter_initialize(alloc)?;
     yaml_emitter_set_output_string(&mut emitter, limit);
     yaml_emitter_set_encoding(&mut emitter, YAML_UTF16LE_ENCODING);
@@ -41,6 +52,9 @@ fn check_unstarted(rt: &impl Abort, emitter: &yaml_emitter_t<Global>) {
 #[test]
 fn an_emitter_is_set_before_its_stream(rt: HostRuntime) {
     let emitter = emitter_of(rt.alloc(), 1_000).expect(&rt, "no memory");
+    check_unstarted(&rt, &emitter);
+    yaml_emitter_delete(emitter);
+    let emitter = emitter_set(rt.alloc(), 1_000).expect(&rt, "no memory");
     check_unstarted(&rt, &emitter);
     yaml_emitter_delete(emitter);
 }

@@ -3,7 +3,7 @@ use crate::tests::{answers, equal, finished, gives, same};
 use std::alloc::Global;
 use std::process::Abort;
 use yaml_writer::{
-    Settings, Writer, YAML_BLOCK_MAPPING_STYLE, YAML_FLOW_SEQUENCE_STYLE, yaml_error_t,
+    Writer, YAML_BLOCK_MAPPING_STYLE, YAML_FLOW_SEQUENCE_STYLE, value_settings, yaml_error_t,
 };
 
 /// A mapping of a text and of a sequence of values.
@@ -22,7 +22,7 @@ fn give_values(writer: &mut Writer<Global>) -> Result<(), yaml_error_t> {
 
 /// A document of it.
 fn values(alloc: Global) -> Result<Vec<u8>, yaml_error_t> {
-    let mut writer = Writer::new(alloc, Settings::default())?;
+    let mut writer = Writer::new(alloc, value_settings())?;
     give_values(&mut writer)?;
     writer.finish()
 }
@@ -54,7 +54,7 @@ fn values_are_written(rt: HostRuntime) {
 }
 
 fn writer(rt: &impl Abort, alloc: Global) -> Writer<Global> {
-    Writer::new(alloc, Settings::default()).expect(rt, "no memory")
+    Writer::new(alloc, value_settings()).expect(rt, "no memory")
 }
 
 #[test]

@@ -2,7 +2,7 @@
 use super::{Call, check_portable, check_written};
 use std::alloc::Global;
 use std::process::Abort;
-use yaml_writer::Settings;
+use yaml_writer::{Settings, value_settings};
 
 /// A list of a list and a word, as a value, a list with an anchor, and a list as the key of a list with a tag.
 const LISTS: &[Call] = &[
@@ -35,8 +35,8 @@ const LISTS: &[Call] = &[
 fn check_lists(rt: &impl Abort, alloc: Global, indented: bool, indent: i32, wanted: &str) {
     let settings = Settings {
         indented_sequences: indented,
-        indent,
-        ..Settings::default()
+        indent: Some(indent),
+        ..value_settings()
     };
     check_written(rt, alloc, settings, LISTS, &Ok(wanted.as_bytes()));
 }

@@ -2,7 +2,7 @@
 use super::{Answer, Call, check_given, check_written, equal, give, give_all, writer};
 use std::alloc::Global;
 use std::process::Abort;
-use yaml_writer::{Settings, Writer, yaml_error_t};
+use yaml_writer::{Writer, value_settings, yaml_error_t};
 
 /// Calls that are good, one that is refused so, and good ones again; then the stream ends so.
 #[derive(Drop)]
@@ -20,7 +20,7 @@ fn check_refused_call(rt: &impl Abort, writer: &mut Writer<Global>, row: &Refuse
 }
 
 fn check_refused(rt: &impl Abort, alloc: Global, row: &Refused) {
-    let mut writer = writer(rt, alloc, Settings::default());
+    let mut writer = writer(rt, alloc, value_settings());
     check_refused_call(rt, &mut writer, row);
     check_given(rt, writer, row.after, &row.end);
 }
@@ -67,7 +67,7 @@ fn a_document_ends_after_the_node_of_its_tag(rt: HostRuntime) {
 /// The stream has no end after these calls.
 fn check_unfinished(rt: &impl Abort, alloc: Global, calls: &[Call]) {
     let error = Err(yaml_error_t::ExpectedNode);
-    check_written(rt, alloc, Settings::default(), calls, &error);
+    check_written(rt, alloc, value_settings(), calls, &error);
 }
 
 #[test]

@@ -4,7 +4,7 @@ use crate::tests::{Narrow, answers, equal, finished, same};
 use std::alloc::Global;
 use std::io;
 use std::process::Abort;
-use yaml_writer::{Settings, Writer};
+use yaml_writer::{Writer, value_settings};
 
 const FIRST: &[Call] = &[Call::Sequence, Call::Text("a"), Call::End, Call::Next];
 
@@ -23,7 +23,7 @@ fn failure(writer: &mut Writer<Global>, sink: &mut Narrow) -> Option<io::ErrorKi
 #[test]
 fn what_is_sent_is_taken(rt: HostRuntime) {
     let mut sink = Narrow::new(rt.alloc(), 100);
-    let mut writer = writer(&rt, rt.alloc(), Settings::default());
+    let mut writer = writer(&rt, rt.alloc(), value_settings());
     equal(&rt, &is_sent(&mut writer, &mut sink), &true);
     same(&rt, sink.taken.as_slice(), b"");
     give_all(&rt, &mut writer, FIRST);
@@ -38,7 +38,7 @@ fn what_is_sent_is_taken(rt: HostRuntime) {
 #[test]
 fn what_a_sink_refuses_is_left(rt: HostRuntime) {
     let mut sink = Narrow::new(rt.alloc(), 5);
-    let mut writer = writer(&rt, rt.alloc(), Settings::default());
+    let mut writer = writer(&rt, rt.alloc(), value_settings());
     give_all(&rt, &mut writer, FIRST);
     let full = Some(io::ErrorKind::StorageFull);
     equal(&rt, &failure(&mut writer, &mut sink), &full);

@@ -3,9 +3,9 @@ use super::{Call, canonical, check_portable, check_written, give_all, writer};
 use crate::tests::answers;
 use std::alloc::Global;
 use yaml_writer::{
-    DocumentEnd, Settings, Writer, YAML_ANY_SCALAR_STYLE, YAML_DOUBLE_QUOTED_SCALAR_STYLE,
+    DocumentEnd, Writer, YAML_ANY_SCALAR_STYLE, YAML_DOUBLE_QUOTED_SCALAR_STYLE,
     YAML_FOLDED_SCALAR_STYLE, YAML_LITERAL_SCALAR_STYLE, YAML_PLAIN_SCALAR_STYLE,
-    YAML_SINGLE_QUOTED_SCALAR_STYLE, yaml_error_t,
+    YAML_SINGLE_QUOTED_SCALAR_STYLE, value_settings, yaml_error_t,
 };
 
 const PLAIN: &[Call] = &[
@@ -85,7 +85,7 @@ fn ended(writer: Writer<Global>) -> Result<Vec<u8>, yaml_error_t> {
 #[test]
 fn a_document_ends_with_dots_where_asked(rt: HostRuntime) {
     check_portable(&rt, rt.alloc(), ENDED, "---\n- a\n...\n--- b\n");
-    let mut writer = writer(&rt, rt.alloc(), Settings::default());
+    let mut writer = writer(&rt, rt.alloc(), value_settings());
     give_all(&rt, &mut writer, ENDED);
     let expected = b"---\n- a\n...\n--- b\n...\n".as_slice();
     answers(&rt, ended(writer), &Ok(expected));

@@ -1,0 +1,30 @@
+use Rattle.yaml_emitter.proofs.Common.{true, [], refl, ap, subst, sym, ◌∙◌, state_of, StandsAfter, State, MachineState}
+use Rattle.yaml_emitter.proofs.standing.{EmitterKept.kept_limited, StandingSet.stands_set}
+use Rattle.yaml_emitter.specs.Given.{seen_settings}
+use Rattle.yaml_emitter.proofs.emitter.yaml_emitter_t.set_all.Goals as goal
+
+pub set_all-requires : goal.set_all-requires
+set_all-requires g c = c.self.invariant.untouched (ap (λ (s : State). s.has_output) c.self.view_is ∙ c.requires)
+
+pub invariant_of-self : goal.invariant_of-self
+invariant_of-self g c = kept_limited c.self.inside c.set_all.new.self c.self.invariant
+
+pub returns-clause-set : goal.returns-clause-set
+returns-clause-set g c =
+    ap (λ (m : MachineState). state_of (record c.self.inside { has_output = true; machine = m })) c.set_all.ensures
+    ∙ ap (λ (s : State). let made : State = record s {
+      has_output = true;
+      given = seen_settings c.args.settings;
+      settings = record s.settings { canonical = c.args.settings.canonical };
+      page = record s.page { limit = c.args.settings.limit };
+    } in made) c.self.view_is
+
+pub returns-clause-stands : goal.returns-clause-stands
+returns-clause-stands g c stands =
+    let now : State = record c.args.self.now {
+      has_output = true;
+      given = seen_settings c.args.settings;
+      settings = record c.args.self.now.settings { canonical = c.args.settings.canonical };
+      page = record c.args.self.now.page { limit = c.args.settings.limit };
+    } in
+    subst (λ (s : State). StandsAfter s.given [] s) (sym (returns-clause-set g c)) (stands_set c.args.self.now now refl refl stands)
