@@ -2,6 +2,5 @@ pub mod Common
 pub mod AcceptedLemmas
 pub mod ContentLemmas
 pub mod EventLemmas
-pub mod SeenLemmas
-pub mod Weights
+pub mod WalkLemmas
 pub mod WritingLemmas

@@ -1,1 +1,2 @@
 pub mod SeenValues
+pub mod Walk

@@ -1,24 +1,25 @@
 //! The events of a value.
-ghost use Rattle.std.specs.Prelude.{◌≡◌, ◌<◌, ◌^◌, ◌++◌, ◌∷◌, [], None, Some, IfOk, IfErr, OnOk};
+ghost use Rattle.std.specs.Prelude.{◌≡◌, ◌<◌, ◌^◌, ◌++◌, ◌∷◌, [], None, Some, IfOk, IfErr, OnOk, option_map};
 ghost use Rattle.std.specs.Int.Signed.{mag};
 ghost use Rattle.std.specs.Str.{chars};
 ghost use Rattle.yaml_base.specs.Event as seen;
-ghost use Rattle.yaml_base.specs.Grammar.{node_events, pairs_events};
+ghost use Rattle.yaml_base.specs.Grammar.{node_events};
 ghost use Rattle.yaml_base.specs.graphs.Meetings.{mapping_tag, sequence_tag};
 ghost use Rattle.yaml_base.specs.Seen.{seen_events, seen_text};
 ghost use Rattle.yaml_base.specs.values.TypedValues as typed;
-ghost use Rattle.yaml_base.specs.values.TypedValues.{Has64Bits, Have64Bits, PairsHave64Bits, tagged_node, value_node, value_pairs};
-ghost use Rattle.yaml_value.specs.SeenValues.{seen_value, seen_values, seen_pairs};
+ghost use Rattle.yaml_base.specs.values.TypedValues.{Has64Bits, tagged_node, value_node};
+ghost use Rattle.yaml_value.specs.SeenValues.{seen_value};
+ghost use Rattle.yaml_value.specs.Walk.{HasOwn64Bits, StepHas64Bits, opening, seen_rest, step_event};
 
 use crate::tags::{YAML_BOOL_TAG, YAML_INT_TAG, YAML_NULL_TAG};
 use crate::value::Value;
+use crate::walk::{Rest, enter, step};
 use std::alloc::{AllocError, Allocator};
 use yaml_base::{
     YAML_ANY_ENCODING, YAML_ANY_MAPPING_STYLE, YAML_ANY_SCALAR_STYLE, YAML_ANY_SEQUENCE_STYLE,
-    YAML_DOCUMENT_END_EVENT, YAML_DOCUMENT_START_EVENT, YAML_MAPPING_END_EVENT,
-    YAML_MAPPING_START_EVENT, YAML_SCALAR_EVENT, YAML_SEQUENCE_END_EVENT,
-    YAML_SEQUENCE_START_EVENT, YAML_STREAM_END_EVENT, YAML_STREAM_START_EVENT, yaml_error_t,
-    yaml_event_t,
+    YAML_DOCUMENT_END_EVENT, YAML_DOCUMENT_START_EVENT, YAML_MAPPING_START_EVENT,
+    YAML_SCALAR_EVENT, YAML_SEQUENCE_START_EVENT, YAML_STREAM_END_EVENT, YAML_STREAM_START_EVENT,
+    yaml_error_t, yaml_event_t,
 };
 use yaml_dump::{YAML_MAP_TAG, YAML_SEQ_TAG, YAML_STR_TAG};
 
@@ -57,7 +58,6 @@ fn built<A: Allocator + Copy>(
 }
 
 /// The events of a value, after others.
-#[cycle(push_value)]
 fn push_value<A: Allocator + Copy>(
     alloc: A,
     events: &mut Vec<yaml_event_t<A>, A>,
@@ -66,64 +66,53 @@ fn push_value<A: Allocator + Copy>(
     ensures pushed { OnOk result (seen_events events.new.items ≡ seen_events events.old.items ++ node_events (value_node (seen_value value.now))) }
     ensures bits { OnOk result (Has64Bits (seen_value value.now)) }
 {
+    let mut levels = Vec::new(alloc);
+    enter(&mut levels, value)?;
+    push_opening(alloc, events, value)?;
+    while let Some(rest) = levels.pop() {
+        let entered = step(&mut levels, rest)?;
+        push_step(alloc, events, entered, rest)?;
+    }
+    Ok(())
+}
+
+/// The event with which a value begins, after others.
+fn push_opening<A: Allocator + Copy>(
+    alloc: A,
+    events: &mut Vec<yaml_event_t<A>, A>,
+    value: &Value<A>,
+) -> Result<(), AllocError>
+    ensures pushed { OnOk result (seen_events events.new.items ≡ seen_events events.old.items ++ opening (seen_value value.now) ∷ []) }
+    ensures bits { OnOk result (HasOwn64Bits (seen_value value.now)) }
+{
     match value {
         Value::Null => push_null(alloc, events),
         Value::Bool(value) => push_bool(alloc, events, *value),
         Value::Int(value) => push_integer(alloc, events, *value),
         Value::Text(text) => push_text(alloc, events, text.as_str()),
-        Value::List(items) => push_list(alloc, events, items),
-        Value::Map(pairs) => push_map(alloc, events, pairs),
+        Value::List(_) => push_list_start(alloc, events),
+        Value::Map(_) => push_map_start(alloc, events),
     }
 }
 
-#[cycle(push_value)]
-fn push_list<A: Allocator + Copy>(
+/// The event of a step that entered a value, or that ended what was left, after others.
+fn push_step<A: Allocator + Copy>(
     alloc: A,
     events: &mut Vec<yaml_event_t<A>, A>,
-    items: &Vec<Value<A>, A>,
+    entered: Option<&Value<A>>,
+    rest: Rest<'_, A>,
 ) -> Result<(), AllocError>
     ensures pushed { OnOk result (seen_events events.new.items ≡ seen_events events.old.items
-        ++ node_events (value_node (typed.list_value (seen_values items.now.items)))) }
-    ensures bits { OnOk result (Have64Bits (seen_values items.now.items)) }
+        ++ step_event (seen_rest rest.entry).end (option_map (λ value. seen_value value.now) entered.entry) ∷ []) }
+    ensures bits { OnOk result (StepHas64Bits (option_map (λ value. seen_value value.now) entered.entry)) }
 {
-    push_list_start(alloc, events)?;
-    for item in items {
-        push_value(alloc, events, item)?;
+    match entered {
+        Some(value) => push_opening(alloc, events, value),
+        None => {
+            events.push(rest.end())?;
+            Ok(())
+        }
     }
-    events.push(YAML_SEQUENCE_END_EVENT)?;
-    Ok(())
-}
-
-#[cycle(push_value)]
-fn push_map<A: Allocator + Copy>(
-    alloc: A,
-    events: &mut Vec<yaml_event_t<A>, A>,
-    pairs: &Vec<(Value<A>, Value<A>), A>,
-) -> Result<(), AllocError>
-    ensures pushed { OnOk result (seen_events events.new.items ≡ seen_events events.old.items
-        ++ node_events (value_node (typed.map_value (seen_pairs pairs.now.items)))) }
-    ensures bits { OnOk result (PairsHave64Bits (seen_pairs pairs.now.items)) }
-{
-    push_map_start(alloc, events)?;
-    push_pairs(alloc, events, pairs)?;
-    events.push(YAML_MAPPING_END_EVENT)?;
-    Ok(())
-}
-
-#[cycle(push_value)]
-fn push_pairs<A: Allocator + Copy>(
-    alloc: A,
-    events: &mut Vec<yaml_event_t<A>, A>,
-    pairs: &Vec<(Value<A>, Value<A>), A>,
-) -> Result<(), AllocError>
-    ensures pushed { OnOk result (seen_events events.new.items ≡ seen_events events.old.items ++ pairs_events (value_pairs (seen_pairs pairs.now.items))) }
-    ensures bits { OnOk result (PairsHave64Bits (seen_pairs pairs.now.items)) }
-{
-    for (key, value) in pairs {
-        push_value(alloc, events, key)?;
-        push_value(alloc, events, value)?;
-    }
-    Ok(())
 }
 
 fn push_list_start<A: Allocator + Copy>(

@@ -6,6 +6,7 @@ mod laws;
 mod size;
 mod tags;
 mod value;
+mod walk;
 mod writing;
 
 pub use laws::equal_bytes_equal_values;

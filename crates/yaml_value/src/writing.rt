@@ -17,9 +17,6 @@ use yaml_emitter::{
     yaml_emitter_set_unicode, yaml_emitter_set_width, yaml_emitter_t,
 };
 
-/// The maximum nesting depth of lists and maps.
-const MOST_NESTED: u32 = 1_000;
-
 /// The canonical YAML of a value: one document in UTF-8, each node with its tag. The canonical reader of the definitions
 /// finds in these bytes this value and no other.
 ///
@@ -34,7 +31,7 @@ pub fn write_canonical<A: Allocator + Copy>(
     ensures too_deep { (result ≡ Err yaml_error_t.TooDeep) ↔ (most_nested < nesting (seen_value value.now)) }
     ensures failed { IfErr result (λ error. (error ≡ yaml_error_t.TooDeep) ⊎ (error ≡ yaml_error_t.Memory)) }
 {
-    if !lies_within(value, MOST_NESTED) {
+    if !lies_within(value) {
         return Err(yaml_error_t::TooDeep);
     }
     written(alloc, value)

@@ -1,14 +1,35 @@
 //! How many values there are, and how deep they lie.
-use super::{Example, Heap, made, refusal};
+use super::{Example, Heap, Made, made, refusal};
 use crate::tests::equal;
 use std::process::Abort;
 use yaml_base::yaml_error_t;
 use yaml_test_allocator::Refusing;
+use yaml_value::Value;
+
+/// How deep the deepest value of a row nests, far past what may be written.
+const DEEPEST: u32 = 100_000;
+
+/// The last item of a list; any other value is as it was.
+fn last_item<'a>(value: Made<'a>) -> Made<'a> {
+    match value {
+        Value::List(mut items) => items.pop().unwrap_or(Value::Null),
+        other => other,
+    }
+}
+
+/// Drops lists that nest, from the outside in: dropping them as one value takes stack for each.
+fn drop_nested(value: Made<'_>) {
+    let mut value = value;
+    for _ in 0..DEEPEST {
+        value = last_item(value);
+    }
+    drop(value);
+}
 
 fn counted(rt: &impl Abort, heap: Heap<'_>, example: &Example) -> u64 {
     let value = made(rt, heap, example);
-    let count = value.count();
-    drop(value);
+    let count = value.count(heap).expect(rt, "no memory");
+    drop_nested(value);
     count
 }
 
@@ -24,6 +45,7 @@ const COUNTS: &[(Example, u64)] = &[
     (Example::EmptyList, 1),
     (Example::Mixed, 6),
     (Example::Nested(1_000), 1_000),
+    (Example::Nested(DEEPEST), 100_000),
 ];
 
 #[test]
@@ -31,10 +53,40 @@ fn a_value_counts_itself(rt: HostRuntime) {
     check_counts(&rt, &Refusing::new(rt.alloc()), COUNTS);
 }
 
+// Counting with this growth refused: whether there is one, and the count or why there is none.
+fn counted_without(
+    rt: &impl Abort,
+    heap: Heap<'_>,
+    number: usize,
+) -> (bool, Result<u64, yaml_error_t>) {
+    let value = made(rt, heap, &Example::Nested(100));
+    heap.refuse(number);
+    let count = value.count(heap);
+    let is_met = heap.left() == 0;
+    heap.refuse(0);
+    drop(value);
+    (is_met, count)
+}
+
+// Each growth that counting takes is refused in turn, the first of them at least.
+#[test]
+fn counting_reports_want_of_memory(rt: HostRuntime) {
+    let heap = Refusing::new(rt.alloc());
+    for number in 1..usize::MAX {
+        let (is_met, count) = counted_without(&rt, &heap, number);
+        if !is_met {
+            equal(&rt, &count, &Ok(100));
+            equal(&rt, &(number > 1), &true);
+            return;
+        }
+        equal(&rt, &count, &Err(yaml_error_t::Memory));
+    }
+}
+
 fn refusal_of(rt: &impl Abort, heap: Heap<'_>, example: &Example) -> Option<yaml_error_t> {
     let value = made(rt, heap, example);
     let error = refusal(heap, &value);
-    drop(value);
+    drop_nested(value);
     error
 }
 
@@ -47,6 +99,7 @@ fn check_depths(rt: &impl Abort, heap: Heap<'_>, rows: &[(Example, Option<yaml_e
 const DEPTHS: &[(Example, Option<yaml_error_t>)] = &[
     (Example::Nested(1_000), None),
     (Example::Nested(1_001), Some(yaml_error_t::TooDeep)),
+    (Example::Nested(DEEPEST), Some(yaml_error_t::TooDeep)),
     (Example::NestedKey(1_000), Some(yaml_error_t::TooDeep)),
 ];
 
