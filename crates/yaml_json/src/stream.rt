@@ -31,24 +31,25 @@ const NO_MEMORY: StreamError = StreamError::Refused(JsonError::Emitter(yaml_erro
 
 /// How far the texts are read.
 #[derive(Drop)]
-pub(crate) struct Reading<A: Allocator> {
+pub(crate) struct Reading<'s, A: Allocator> {
     alloc: A,
     pub(crate) cut: Cut,
     /// Where what came and isn't written yet begins.
     place: Place,
-    scratch: Scratch<A>,
+    /// Borrowed, since it is large: each move would take as much stack again.
+    scratch: &'s mut Scratch<A>,
 }
 
 /// What came and isn't written yet.
 #[derive(Drop)]
-pub(crate) struct Incoming<A: Allocator> {
+pub(crate) struct Incoming<'s, A: Allocator> {
     pub(crate) held: Vec<u8, A>,
-    pub(crate) reading: Reading<A>,
+    pub(crate) reading: Reading<'s, A>,
 }
 
-impl<A: Allocator + Copy> Incoming<A> {
+impl<'s, A: Allocator + Copy> Incoming<'s, A> {
     /// Before anything came.
-    fn new(alloc: A) -> Self
+    fn new(alloc: A, scratch: &'s mut Scratch<A>) -> Self
         ensures scanned { IsScanned result }
         ensures nothing { result.held.items ≡ [] }
     {
@@ -58,7 +59,7 @@ impl<A: Allocator + Copy> Incoming<A> {
                 alloc,
                 cut: new_cut(),
                 place: Place::first(),
-                scratch: Scratch::new(alloc),
+                scratch,
             },
         }
     }
@@ -68,7 +69,7 @@ impl<A: Allocator + Copy> Incoming<A> {
 fn read_part<A: Allocator + Copy, R: Read>(
     reader: &mut R,
     part: &mut [u8],
-    incoming: &mut Incoming<A>,
+    incoming: &mut Incoming<'_, A>,
 ) -> Result<bool, StreamError>
     requires room { 0 < length part.old }
     requires scanned { IsScanned incoming.old }
@@ -96,7 +97,7 @@ fn read_part<A: Allocator + Copy, R: Read>(
 fn read_more<A: Allocator + Copy, R: Read>(
     alloc: A,
     reader: &mut R,
-    incoming: &mut Incoming<A>,
+    incoming: &mut Incoming<'_, A>,
 ) -> Result<bool, StreamError>
     requires { IsScanned incoming.old }
     ensures come { OnOk result (HasCome incoming.old (R.remaining reader.old) incoming.new (R.remaining reader.new)) }
@@ -184,7 +185,7 @@ fn begin_next<A: Allocator + Copy, W: Write>(
 
 /// Keeps the last so many bytes of what came.
 fn keep_last<A: Allocator + Copy>(
-    incoming: &mut Incoming<A>,
+    incoming: &mut Incoming<'_, A>,
     count: usize,
 ) -> Result<(), StreamError>
     requires { count ≤ length incoming.old.held.items }
@@ -213,7 +214,7 @@ fn write_texts<A: Allocator + Copy, W: Write>(
     writer: &mut Writer<A>,
     sink: &mut W,
     held: &[u8],
-    reading: &mut Reading<A>,
+    reading: &mut Reading<'_, A>,
     settings: &JsonSettings,
 ) -> Result<usize, StreamError>
     requires bare { IsBare writer.old }
@@ -228,13 +229,7 @@ fn write_texts<A: Allocator + Copy, W: Write>(
     let mut rest = held;
     'texts: while let Some(end) = find_end(rest, &mut reading.cut) {
         let (first, more) = rest.split_at(end);
-        if let Err(error) = write_bytes(
-            reading.alloc,
-            writer,
-            &mut reading.scratch,
-            first,
-            settings,
-        ) {
+        if let Err(error) = write_bytes(reading.alloc, writer, reading.scratch, first, settings) {
             let done = &held[..held.len() - rest.len()];
             return Err(placed(error, reading.place.after(done), first));
         }
@@ -251,7 +246,7 @@ fn write_texts<A: Allocator + Copy, W: Write>(
 fn write_complete<A: Allocator + Copy, W: Write>(
     writer: &mut Writer<A>,
     sink: &mut W,
-    incoming: &mut Incoming<A>,
+    incoming: &mut Incoming<'_, A>,
     settings: &JsonSettings,
 ) -> Result<(), StreamError>
     requires bare { IsBare writer.old }
@@ -276,7 +271,7 @@ fn write_complete<A: Allocator + Copy, W: Write>(
 /// Gives a writer the last text.
 fn write_last<A: Allocator + Copy>(
     writer: &mut Writer<A>,
-    incoming: &mut Incoming<A>,
+    incoming: &mut Incoming<'_, A>,
     settings: &JsonSettings,
 ) -> Result<(), StreamError>
     requires { IsBare writer.old }
@@ -287,7 +282,7 @@ fn write_last<A: Allocator + Copy>(
 {
     let text = incoming.held.as_slice();
     let reading = &mut incoming.reading;
-    match write_bytes(reading.alloc, writer, &mut reading.scratch, text, settings) {
+    match write_bytes(reading.alloc, writer, reading.scratch, text, settings) {
         Ok(()) => Ok(()),
         Err(error) => Err(placed(error, reading.place, text)),
     }
@@ -326,7 +321,8 @@ pub fn send_json_texts<A: Allocator + Copy, R: Read, W: Write>(
     ensures sent { IfErr result (λ error. IsSent error → IfSome (R.remaining reader.old) (λ text.
         SentDocuments settings.depth settings.flow settings.unique_names text writer.old (W.contents sink.old) error (W.contents sink.new))) }
 {
-    let mut incoming = Incoming::new(alloc);
+    let mut scratch = Scratch::new(alloc);
+    let mut incoming = Incoming::new(alloc, &mut scratch);
     // No reader promises to end, so the reads are counted.
     let mut turns = u64::MAX;
     'parts: while turns > 0 {
