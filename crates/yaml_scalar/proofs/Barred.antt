@@ -1,6 +1,6 @@
 -- All styles are looked at in one loop over a value's characters.
-use Rattle.yaml_scalar.proofs.Common.{ℕ, if◌then◌else◌, ◌==◌, chars, IsUtf8, codes, length, Bool, false, not, true, ◌&&◌, ◌||◌, List, [], ◌++◌, ◌∷◌, refl}
-use Rattle.yaml_scalar.proofs.Common.{◌≡◌, eqb-true, ap, sym, ◌∙◌, and_parts, and_right, or_parts, or_from, not-true, nil_from_length, chars-nil}
+use Rattle.yaml_scalar.proofs.Common.{arith, ℕ, if◌then◌else◌, ◌==◌, chars, IsUtf8, codes, length, Bool, false, not, true, ◌&&◌, ◌||◌, List, [], ◌++◌, ◌∷◌}
+use Rattle.yaml_scalar.proofs.Common.{refl, ◌≡◌, eqb-true, ap, sym, ◌∙◌, and_parts, and_right, or_parts, or_from, not-true, nil_from_length, chars-nil}
 use Rattle.yaml_scalar.proofs.Common.{chars_past_char, encode_utf8, list_all, Text, is_among, line_separator, paragraph_separator, space, tab, is_ascii}
 use Rattle.yaml_scalar.proofs.Common.{is_space, is_break, is_printable, Charset, begins_with, is_empty, is_gap, ends_word, is_special, is_trailing_space}
 use Rattle.yaml_scalar.proofs.Common.{Barred, barred_by, barred_in, none_barred, either, is_quiet, barred_by_space, last_from}
@@ -31,9 +31,7 @@ pub either_none : (a : Barred) → either a none_barred ≡ a
 either_none a = same (or_none a.multiline) (or_none a.flow_plain) (or_none a.block_plain) (or_none a.single_quoted) (or_none a.block)
 
 pub either_more : (a b c : Barred) → either a (either b c) ≡ either (either a b) c
-either_more a b c =
-    same (or_more a.multiline b.multiline c.multiline) (or_more a.flow_plain b.flow_plain c.flow_plain) (or_more a.block_plain b.block_plain c.block_plain)
-    (or_more a.single_quoted b.single_quoted c.single_quoted) (or_more a.block b.block c.block)
+either_more a b c = grind (arith, same, or_more)
 
 -- one more character was read
 pub barred_more : (charset : Charset) (whole found : Barred) {after : Barred} (old new rest : List ℕ) (c : ℕ)
@@ -62,13 +60,7 @@ record Quiet (charset : Charset) (c : ℕ) : Type 0 where
   pub symbol : is_among (codes ",?:[]{}") c ≡ false
 
 quiet_parts : (charset : Charset) (c : ℕ) → is_quiet charset c ≡ true → Quiet charset c
-quiet_parts charset c h =
-    let p = or_parts (is_special charset c || is_break c || c == tab || c == 0 || c == 35) (is_among (codes ",?:[]{}") c) (not-true _ h) in
-    let q = or_parts (is_special charset c || is_break c || c == tab || c == 0) (c == 35) p.0 in
-    let r = or_parts (is_special charset c || is_break c || c == tab) (c == 0) q.0 in
-    let s = or_parts (is_special charset c || is_break c) (c == tab) r.0 in
-    let t = or_parts (is_special charset c) (is_break c) s.0 in
-    record { special = t.0; broken = t.1; tabbed = s.1; nul = r.1; hash = q.1; symbol = p.1 }
+quiet_parts charset c h = grind (arith, or_parts, not-true)
 
 no_colon : (a b c rest : Bool) → (a || (b || (c || rest))) ≡ false → c ≡ false
 no_colon true b c rest h = cc
@@ -85,16 +77,7 @@ gap_before false tabbed broken nul hash e f g h = rw (e, f, g)
 quiet_bars : (charset : Charset) (c : ℕ) (rest : Text) → Quiet charset c → (is_space c && is_empty rest) ≡ false
     → (is_space c && begins_with (λ d. d == 35) rest) ≡ false → (is_space c && begins_with is_break rest) ≡ false
     → barred_by charset c rest ≡ none_barred
-quiet_bars charset c rest quiet ends hash breaks =
-    let colon : (c == 58) ≡ false = no_colon (c == 44) (c == 63) (c == 58) _ quiet.symbol in
-    let key : is_key_or_comment c rest
-    ≡ false = or_from _ _ (and_left _ (ends_word rest) colon)
-    (gap_before (c == space) (c == tab) (is_break c) (c == 0) _ quiet.tabbed quiet.broken quiet.nul hash) in
-    let plain : (is_special charset c || is_break c || (is_space c && is_empty rest) || is_key_or_comment c rest) ≡ false =
-    or_from _ _ (or_from _ _ (or_from _ _ quiet.special quiet.broken) ends) key in
-    let trailing : (is_special charset c || is_trailing_space c rest) ≡ false = or_from _ _ quiet.special breaks in
-    same quiet.broken (or_from _ _ plain quiet.symbol) (or_from _ _ plain refl)
-    (or_from _ _ trailing (and_left _ (begins_with is_space rest) quiet.broken)) (or_from _ _ trailing ends)
+quiet_bars charset c rest quiet ends hash breaks = grind (arith, no_colon, or_from, and_left, gap_before, same)
 
 -- before another one it bars nothing; and before any it does so only where it is a space
 quiet_next : (charset : Charset) (c d : ℕ) (rest : Text) → Quiet charset c → Quiet charset d → barred_by charset c (d ∷ rest) ≡ none_barred
@@ -112,9 +95,7 @@ quiet_last_by charset c rest quiet false e =
 pub quiet_run : (charset : Charset) (prefix rest : Text) → list_all (is_quiet charset) prefix ≡ true
     → barred_in charset (prefix ++ rest) ≡ either (barred_by_space charset (last_from 0 prefix) rest) (barred_in charset rest)
 quiet_run charset [] rest h = refl
-quiet_run charset (c ∷ []) rest h =
-    let p = and_parts (is_quiet charset c) _ h in
-    ap (λ (b : Barred). either b (barred_in charset rest)) (quiet_last_by charset c rest (quiet_parts charset c p.0) (is_space c) refl)
+quiet_run charset (c ∷ []) rest h = grind (arith, and_parts, quiet_last_by, quiet_parts)
 quiet_run charset (c ∷ d ∷ prefix) rest h =
     let p = and_parts (is_quiet charset c) (list_all (is_quiet charset) (d ∷ prefix)) h in
     let q = and_parts (is_quiet charset d) (list_all (is_quiet charset) prefix) p.1 in
@@ -157,13 +138,9 @@ indicator_bars charset c rest is =
 
 pub indicator_seen : (charset : Charset) (found : Barred) (c : ℕ) (rest : Text) → is_among (codes ",?:[]{}") c ≡ true
     → with_indicator found c rest ≡ either found (barred_by charset c rest)
-indicator_seen charset found c rest is =
-    sym (ap (either found) (indicator_bars charset c rest is)
-    ∙ same (or_none found.multiline) (or_last found.flow_plain true refl) refl (or_none found.single_quoted) (or_none found.block))
+indicator_seen charset found c rest is = grind (arith, indicator_bars, same, or_none, or_last)
 
 -- where all styles are barred only breaks matter
 pub all_barred : (found more : Barred) → found.flow_plain ≡ true → found.block_plain ≡ true → found.single_quoted ≡ true → found.block ≡ true
     → either found more ≡ record found { multiline = found.multiline || more.multiline }
-all_barred found more f p s k =
-    same refl (ap (λ b. b || more.flow_plain) f ∙ sym f) (ap (λ b. b || more.block_plain) p ∙ sym p) (ap (λ b. b || more.single_quoted) s ∙ sym s)
-    (ap (λ b. b || more.block) k ∙ sym k)
+all_barred found more f p s k = grind (arith, same)

@@ -15,9 +15,7 @@ use Rattle.yaml_scalar.specs.Batch.{is_batched, characters_text, WroteBatch}
 characters-more : (unicode : Bool) (prefix : Text) (c : ℕ)
     → characters_text unicode (prefix ++ c ∷ []) ≡ characters_text unicode prefix ++ character_text unicode c
 characters-more unicode [] c = append-nil (character_text unicode c)
-characters-more unicode (d ∷ prefix) c =
-    ap (λ t. character_text unicode d ++ t) (characters-more unicode prefix c)
-    ∙ sym (append_assoc (character_text unicode d) (characters_text unicode prefix) (character_text unicode c))
+characters-more unicode (d ∷ prefix) c = grind (arith, append_assoc, characters-more unicode prefix c)
 
 -- none is batched at first
 pub batched_none : (unicode : Bool) (before : ℕ) (text : Text) (bytes : List ℕ) → bytes ≡ [] → AreBatched unicode before text bytes before text
@@ -72,14 +70,7 @@ batched_plain {unicode} are = ap (list_all is_plain) are.bytes_are ∙ character
 -- two texts before what follows
 then-joined : (xs ys : Text) (cursor : Cursor) (next : Cursor → Rendered)
     → render_then (render_text xs cursor) (λ d. render_then (render_text ys d) next) ≡ render_then (render_text (xs ++ ys) cursor) next
-then-joined xs ys cursor next =
-    let last : Rendered = next (record cursor { column = column_after (xs ++ ys) cursor.column }) in
-    ap (λ (n : ℕ).
-    let l : Rendered = next (record cursor { column = n }) in
-    let m : Rendered = record { text = xs ++ (ys ++ l.text); cursor = l.cursor } in
-    m)
-    (sym (column_after-append xs ys cursor.column))
-    ∙ ap (λ (t : Text). let m : Rendered = record { text = t; cursor = last.cursor } in m) (sym (append_assoc xs ys last.text))
+then-joined xs ys cursor next = grind (arith, column_after-append, append_assoc)
 
 -- none becomes a fold
 batched_at : (unicode : Bool) (limit : Option ℕ) (indent before : ℕ) (prefix rest : Text) (cursor : Cursor) → list_all (is_batched unicode) prefix ≡ true

@@ -1,8 +1,7 @@
 -- The style of a value that only double quotes can write doesn't depend on its breaks.
-use Rattle.yaml_scalar.proofs.Common.{if◌then◌else◌, Bool, false, not, true, ◌&&◌, ◌||◌, [], ◌∷◌, refl, ◌≡◌, ap, sym, ◌∙◌, and_parts, Text, Charset}
-use Rattle.yaml_scalar.proofs.Common.{Allowances, is_empty, begins_unlike_plain, allowances, Choice, chosen, Barred, barred_in, allowed_by}
-use Rattle.yaml_base.proofs.Common.{ScalarStyle, any_style, plain, single_quoted, double_quoted, literal, folded, is_plain, requested_style, quoted_style}
-use Rattle.yaml_base.proofs.Common.{fitting_style, fits_plain}
+use Rattle.yaml_scalar.proofs.Common.{arith, if◌then◌else◌, Bool, false, not, true, ◌&&◌, ◌||◌, [], ◌∷◌, refl, ◌≡◌, ap, sym, ◌∙◌, and_parts, Text, Charset}
+use Rattle.yaml_scalar.proofs.Common.{Allowances, allowances, Choice, chosen, Barred, barred_in, allowed_by}
+use Rattle.yaml_base.proofs.Common.{ScalarStyle, any_style, plain, single_quoted, double_quoted, literal, folded, is_plain, quoted_style, fitting_style}
 use Rattle.yaml_scalar.{proofs.Barred.or_none, specs.Barred.all_styles, specs.ScalarData.ChooseAlike}
 
 -- what a value allows is what its characters don't bar
@@ -30,11 +29,7 @@ nothing_allowed : (allowed : Allowances) → allowed.flow_plain ≡ false → al
     → chosen allowed asked empty tag_written plain_implicit quoted_implicit flow simple_key canonical
     ≡ record { style = double_quoted; bare = not tag_written && not quoted_implicit && not (is_plain double_quoted) }
 nothing_allowed allowed f p s b asked empty tag_written plain_implicit quoted_implicit flow simple_key canonical =
-    ap (λ (style : ScalarStyle). let c : Choice = record { style = style; bare = not tag_written && not quoted_implicit && not (is_plain style) } in c)
-    (none_fits allowed (fits_plain allowed empty tag_written plain_implicit flow simple_key) (allowed.block && not flow && not simple_key)
-    (requested_style (canonical || (simple_key && allowed.multiline)) asked)
-    (neither_plain flow allowed.flow_plain allowed.block_plain (not (empty && (flow || simple_key))) (tag_written || plain_implicit) f p)
-    s (ap (λ x. x && not flow && not simple_key) b))
+    grind (arith, none_fits, neither_plain)
 
 not_plain : (a b x : Bool) → x ≡ true → (a && not (b || x)) ≡ false
 not_plain false b x e = refl
@@ -49,12 +44,7 @@ barred_double : (found : Barred) (value : Text) → all_styles found ≡ true
     → (asked : ScalarStyle) (empty tag_written plain_implicit quoted_implicit flow simple_key canonical : Bool)
     → chosen (allowed_by found value) asked empty tag_written plain_implicit quoted_implicit flow simple_key canonical
     ≡ record { style = double_quoted; bare = not tag_written && not quoted_implicit && not (is_plain double_quoted) }
-barred_double found value all =
-    let p = and_parts (found.flow_plain && found.block_plain && found.single_quoted) found.block all in
-    let q = and_parts (found.flow_plain && found.block_plain) found.single_quoted p.0 in
-    let r = and_parts found.flow_plain found.block_plain q.0 in
-    nothing_allowed (allowed_by found value) (not_plain (not (is_empty value)) (begins_unlike_plain value) found.flow_plain r.0)
-    (not_either (begins_unlike_plain value) found.block_plain r.1) (ap not q.1) (not_either (is_empty value) found.block p.1)
+barred_double found value all = grind (arith, and_parts, nothing_allowed, not_plain, not_either)
 
 -- so breaks that follow don't matter, where any do
 pub alike : (found : Barred) (more : Bool) (value : Text) → (all_styles found ≡ false → more ≡ false)

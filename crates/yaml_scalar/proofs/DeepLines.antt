@@ -1,6 +1,6 @@
 -- Texts whose lines after the first stand at least so many spaces deep, and in which no space stands before a break: how they
 -- are put together.
-use Rattle.yaml_scalar.proofs.Common.{suc, zero, ℕ, ◌≤◌, ◌==◌, replicate, Bool, false, not, true, [], ◌++◌, ◌∷◌, refl, ◌≡◌, eqb-true, ap, sym, ◌∙◌, arith}
+use Rattle.yaml_scalar.proofs.Common.{suc, zero, ℕ, ◌≤◌, ◌==◌, replicate, Bool, false, not, true, [], ◌++◌, ◌∷◌, refl, ◌≡◌, eqb-true, ap, arith}
 use Rattle.yaml_scalar.proofs.Common.{and_from, or_left, or_right, false≢true, Text, space, is_read_break, begins_with_spaces, begins_with_blank_line}
 use Rattle.yaml_scalar.proofs.Common.{begins_with_deep_line, has_deep_lines, begins_with_break}
 use Rattle.yaml_base.proofs.Common.{has_no_space_before_break}
@@ -32,13 +32,7 @@ space_unbroken false = refl
 
 -- a break is no space
 break_no_space : (breaks12 : Bool) (b : ℕ) → is_read_break breaks12 b ≡ true → (b == space) ≡ false
-break_no_space breaks12 b h = by (b == space) refl
-  where
-    by : (same : Bool) → (b == space) ≡ same → same ≡ false
-    by false e = refl
-    by true e =
-        let is : b ≡ space = eqb-true b space e in
-        absurd (false≢true (sym (space_unbroken breaks12) ∙ ap (is_read_break breaks12) (sym is) ∙ h))
+break_no_space breaks12 b h = grind (arith, eqb-true, false≢true, space_unbroken)
 
 module _ (breaks12 : Bool) where
   -- ink is no break
@@ -100,27 +94,16 @@ module _ (breaks12 : Bool) where
   -- ink before such a text
   pub even_ink : (count : ℕ) (prefix text : Text) → AllInk breaks12 prefix → IsEven count text → IsEven count (prefix ++ text)
   even_ink count [] text h k = k
-  even_ink count (c ∷ prefix) text h k =
-      let more = even_ink count prefix text h.1 k in
-      record {
-        deep = and_from _ _ (or_left _ _ (ap not (h.0).no_break)) more.deep;
-        even = even_other c (prefix ++ text) (h.0).no_space more.even;
-      }
+  even_ink count (c ∷ prefix) text h k = grind (arith, and_from, or_left, even_other, even_ink count prefix text h.1 k)
 
   -- a space, where no break follows
   pub even_space : (count : ℕ) (text : Text) → begins_with_break breaks12 text ≡ false → IsEven count text → IsEven count (space ∷ text)
-  even_space count text h k = record {
-    deep = and_from _ _ (or_left _ _ (ap not (space_unbroken breaks12))) k.deep;
-    even = and_from _ _ (ap not h) k.even;
-  }
+  even_space count text h k = grind (arith, and_from, or_left, space_unbroken)
 
   -- a break before a deep line
   pub even_break : (count b : ℕ) (text : Text) → is_read_break breaks12 b ≡ true → begins_with_deep_line breaks12 count text ≡ true → IsEven count text
       → IsEven count (b ∷ text)
-  even_break count b text h line k = record {
-    deep = deep_after count b text line k.deep;
-    even = even_other b text (break_no_space breaks12 b h) k.even;
-  }
+  even_break count b text h line k = grind (arith, deep_after, even_other, break_no_space)
 
   -- spaces before ink begin with no break
   spaces_before : (n : ℕ) (text : Text) → BeginsInk breaks12 text → begins_with_break breaks12 (replicate n space ++ text) ≡ false

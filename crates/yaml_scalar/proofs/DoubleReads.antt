@@ -33,13 +33,7 @@ no-read-break breaks12 c h =
 -- a character that needs no escape and is no space reads as itself
 other-reads : (breaks12 unicode : Bool) (c : ℕ) (rest : Text) → needs_escape unicode c ≡ false → is_space c ≡ false
     → quoted_from breaks12 between (c ∷ rest) ≡ with_unit (itself c) (quoted_from breaks12 between rest)
-other-reads breaks12 unicode c rest h s =
-    let u = unescaped unicode c h in
-    let no_quote : (c == quote) ≡ false = u.no_quote in
-    let no_backslash : (c == backslash) ≡ false = u.no_backslash in
-    let blank = no-blank c u.printable s in
-    let brk = no-read-break breaks12 c u.no_break in
-    rw (no_quote, no_backslash, blank, brk)
+other-reads breaks12 unicode c rest h s = grind (arith, unescaped, no-blank, no-read-break)
 
 -- a character that is no space reads as itself, as an escape or not
 character-reads : (breaks12 unicode : Bool) (c : ℕ) (rest : Text) → scalar c ≡ true → is_space c ≡ false
@@ -124,9 +118,7 @@ Fits indent before cursor = (cursor.indention ≡ false) ⊎ (indent + margin be
 pub fits-breaks : (indent : ℕ) (before : Option ℕ) (cursor : Cursor) → is_other before ≡ true → Fits indent before cursor
     → breaks_line indent cursor ≡ true
 fits-breaks indent before cursor h (inl e) = rw e
-fits-breaks indent before cursor h (inr le) =
-    let k : indent + 1 ≤ cursor.column = rw h at le in
-    or_left _ _ (or_right (not cursor.indention) _ (lt-ltb indent cursor.column (omega arith)))
+fits-breaks indent before cursor h (inr le) = grind (arith, or_left, or_right, lt-ltb)
 
 -- what is rendered between the quotes for a value, after a character or at the start
 record Inside (breaks12 : Bool) (tail : Text) (before : Option ℕ) (value text : Text) : Type 0 where
@@ -193,11 +185,7 @@ fold-indented (suc (suc n)) rest h k = unbroken-indented (replicate n space) res
 
 kept-unbroken : (rest : Text) → is_unbroken (space_kept rest) ≡ true
 kept-unbroken [] = refl
-kept-unbroken (c ∷ rest) = go (is_space c)
-  where
-    go : (b : Bool) → is_unbroken (if b then backslash ∷ [] else []) ≡ true
-    go true = refl
-    go false = refl
+kept-unbroken (c ∷ rest) = grind (arith)
 
 -- a space that is folded
 inside-fold : (breaks12 : Bool) (tail : Text) (before : Option ℕ) (indent : ℕ) (rest text : Text)
@@ -228,21 +216,13 @@ pub kept-column : (rest : Text) (column : ℕ) → column ≤ column_after (spac
 kept-column rest column = let e = unbroken-column (space_kept rest) column (kept-unbroken rest) in omega (arith, e)
 
 margin-small : (before : Option ℕ) → margin before ≤ 1
-margin-small before = go (is_other before)
-  where
-    go : (b : Bool) → (if b then 1 else 0) ≤ 1
-    go true = omega arith
-    go false = omega arith
+margin-small before = grind (arith)
 
 -- the cursor behind a character's text
 pub fits-character : (unicode : Bool) (indent : ℕ) (before : Option ℕ) (c : ℕ) (cursor : Cursor) → Fits indent before cursor
     → Fits indent (Some c) (render_text (character_text unicode c) cursor).cursor
 fits-character unicode indent before c cursor (inl e) = inl e
-fits-character unicode indent before c cursor (inr le) =
-    let e = unbroken-column (character_text unicode c) cursor.column (character-unbroken unicode c) in
-    let long = character-long unicode c in
-    let small : margin (Some c) ≤ 1 = margin-small (Some c) in
-    inr (omega (arith, e))
+fits-character unicode indent before c cursor (inr le) = grind (arith, unbroken-column, character-unbroken, character-long, margin-small)
 
 module _ (breaks12 unicode : Bool) (limit : Option ℕ) (indent : ℕ) (wide : 2 ≤ indent) (tail : Text) where
   -- what follows a character
@@ -257,16 +237,11 @@ module _ (breaks12 unicode : Bool) (limit : Option ℕ) (indent : ℕ) (wide : 2
 
   space-folded : (before : Option ℕ) (rest : Text) (cursor : Cursor) → is_other before ≡ true → breaks_line indent cursor ≡ true
       → Goes before rest (double_fold indent rest cursor) space
-  space-folded before rest cursor other breaks ih =
-      let next : Cursor = (double_fold indent rest cursor).cursor in
-      let fits : Fits indent (Some space) next = inr (let le = kept-column rest indent in omega arith) in
-      rw breaks (inside-fold breaks12 tail before indent rest _ wide other (ih next fits))
+  space-folded before rest cursor other breaks ih = grind (arith, kept-column, inside-fold)
 
   space-stays : (before : Option ℕ) (rest : Text) (cursor : Cursor) → Fits indent before cursor
       → Goes before rest (render_text (character_text unicode space) cursor) space
-  space-stays before rest cursor fits ih =
-      let next = ih (render_text (character_text unicode space) cursor).cursor (fits-character unicode indent before space cursor fits) in
-      rw (space-text unicode) (inside-space breaks12 tail before rest _ (rw (space-text unicode) at next))
+  space-stays before rest cursor fits ih = grind (arith, fits-character, space-text, inside-space)
 
   -- one character and what follows it
   step : (before : Option ℕ) (c : ℕ) (rest : Text) (cursor : Cursor) (folds spaced : Bool)

@@ -1,6 +1,6 @@
 -- An escape is short, of ASCII, and holds no break.
 use Rattle.yaml_scalar.proofs.Common.{suc, zero, ℕ, ◌%◌, ◌/◌, ◌≤◌, if◌then◌else◌, ◌==◌, Option, None, Some, nat_le, nat_lt, length, Bool, false, not, true}
-use Rattle.yaml_scalar.proofs.Common.{◌&&◌, List, [], ◌∷◌, refl, ◌≡◌, ◌∙◌, arith, and_parts, and_from, or_from, agree_below_at, not-true, list_all-append}
+use Rattle.yaml_scalar.proofs.Common.{◌&&◌, List, [], ◌∷◌, refl, ◌≡◌, arith, and_parts, and_from, or_from, agree_below_at, not-true, list_all-append}
 use Rattle.yaml_scalar.proofs.Common.{list_all, list_any, IsAscii, Text, is_break, hex_digit, hex_digits, ShortEscape, short_escapes, letter_among}
 use Rattle.yaml_scalar.proofs.Common.{escape_after_backslash, escape_text, is_plain}
 use Rattle.yaml_base.proofs.Common.{ltb-true}
@@ -14,9 +14,7 @@ plain-unbroken (b ∷ rest) h =
 
 pub plain-ascii : (text : Text) → list_all is_plain text ≡ true → IsAscii text
 plain-ascii [] h i = omega arith
-plain-ascii (b ∷ rest) h zero =
-    let p = and_parts (is_plain b) (list_all is_plain rest) h in
-    ltb-true b 128 (and_parts (nat_lt b 128) (not (is_break b)) p.0).0
+plain-ascii (b ∷ rest) h zero = grind (arith, and_parts, ltb-true)
 plain-ascii (b ∷ rest) h (suc i) = plain-ascii rest (and_parts (is_plain b) (list_all is_plain rest) h).1 i
 
 abbrev letters_plain : List ShortEscape → Bool
@@ -39,9 +37,7 @@ digit-plain n = agree_below_at (λ d. is_plain (hex_digit d)) (λ d. true) 16 (n
 
 digits-plain : (count n : ℕ) → list_all is_plain (hex_digits count n) ≡ true
 digits-plain zero n = refl
-digits-plain (suc count) n =
-    list_all-append is_plain (hex_digits count (n / 16)) (hex_digit (n % 16) ∷ [])
-    ∙ and_from _ _ (digits-plain count (n / 16)) (and_from _ true (digit-plain n) refl)
+digits-plain (suc count) n = grind (arith, list_all-append, and_from, digit-plain, digits-plain count (n / 16))
 
 abbrev number_text : (two four : Bool) → ℕ → Text
 number_text two four c = if two then 120 ∷ hex_digits 2 c else (if four then 117 ∷ hex_digits 4 c else 85 ∷ hex_digits 8 c)

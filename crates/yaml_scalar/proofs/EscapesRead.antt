@@ -1,7 +1,7 @@
 -- What is written for a character between double quotes reads as that character.
 use Rattle.yaml_scalar.proofs.Common.{suc, zero, ℕ, ◌%◌, ◌+◌, ◌/◌, ◌<◌, ◌≤◌, if◌then◌else◌, ◌==◌, Option, None, Some, nat_le, Bool, false, true, ◌&&◌, List}
-use Rattle.yaml_scalar.proofs.Common.{[], ◌++◌, ◌∷◌, refl, ◌≡◌, eqb-true, leb-true, append_assoc, inl, inr, ap, arith, scalar, and_parts, agree_below_at}
-use Rattle.yaml_scalar.proofs.Common.{nat_tests, Text, hex_digit, hex_digits, between, with_unit, quoted_from, itself, ShortEscape, short_escapes}
+use Rattle.yaml_scalar.proofs.Common.{[], ◌++◌, ◌∷◌, refl, ◌≡◌, eqb-true, leb-true, append_assoc, ap, arith, scalar, and_parts, agree_below_at}
+use Rattle.yaml_scalar.proofs.Common.{Text, hex_digit, hex_digits, between, with_unit, quoted_from, itself, ShortEscape, short_escapes}
 use Rattle.yaml_scalar.proofs.Common.{letter_among, escape_after_backslash, escape_text}
 use Rattle.std.{proofs.Math.Utf8.scalar_cases, specs.Prelude.◌*◌}
 use Rattle.yaml_base.specs.reading.ReadDouble.{after_backslash, within_digits, letter_meaning, digit_meaning, is_scalar_number}
@@ -24,11 +24,7 @@ letter-found : (more : List ShortEscape) (entry : ShortEscape) (c letter : ℕ) 
     → is_answer (letter_meaning entry.letter) entry.character ≡ true
     → (letter_among more c ≡ Some letter → letter_meaning letter ≡ Some c)
     → (if b then Some entry.letter else letter_among more c) ≡ Some letter → letter_meaning letter ≡ Some c
-letter-found more entry c letter true is reads later h =
-    let e : c ≡ entry.character = eqb-true c entry.character is in
-    let f : entry.letter ≡ letter = cc in
-    let g = is_answer-is (letter_meaning entry.letter) entry.character reads in
-    rw (← f, e, g)
+letter-found more entry c letter true is reads later h = grind (arith, eqb-true, is_answer-is)
 letter-found more entry c letter false is reads later h = later h
 
 letter-reads : (table : List ShortEscape) (c letter : ℕ) → letters_read table ≡ true
@@ -60,10 +56,7 @@ digit-steps breaks12 more number d rest h = rw (digit-reads d h)
 digits-go : (breaks12 : Bool) (count more number n at : ℕ) (rest : Text) → at ≡ count + more → n < sixteen_to count
     → quoted_from breaks12 (within_digits at number) (hex_digits count n ++ rest)
     ≡ quoted_from breaks12 (within_digits more (number * sixteen_to count + n)) rest
-digits-go breaks12 zero more number n at rest e h =
-    let p : at ≡ more = omega arith in
-    let q : number * 1 + n ≡ number = omega arith in
-    rw (p, q)
+digits-go breaks12 zero more number n at rest e h = grind (arith)
 digits-go breaks12 (suc count) more number n at rest e h =
     let here : n / 16 < sixteen_to count = omega arith in
     let digit : n % 16 < 16 = omega arith in
@@ -94,11 +87,7 @@ digits-read breaks12 count n rest h s =
 
 -- the number of a character has a reading
 scalar-number : (c : ℕ) → scalar c ≡ true → (is_scalar_number c ≡ true) × (c < 0x110000)
-scalar-number c h =
-    elim (scalar_cases c h) [
-      | inl low ↦ (grind (arith, nat_tests), omega arith)
-      | inr high ↦ (grind (arith, nat_tests), high.1)
-    ]
+scalar-number c h = grind (arith, scalar_cases)
 
 -- two, four or eight digits after their letter
 number-reads : (breaks12 : Bool) (c : ℕ) (rest : Text) (two four : Bool) → nat_le c 0xFF ≡ two → nat_le c 0xFFFF ≡ four

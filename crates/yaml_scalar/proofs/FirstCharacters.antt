@@ -1,6 +1,6 @@
 -- A text's first characters, as they are taken one after another.
-use Rattle.yaml_scalar.proofs.Common.{ℕ, ◌==◌, chars, IsUtf8, length, false, true, ◌&&◌, ◌||◌, List, [], ◌++◌, ◌∷◌, refl, ◌≡◌, eqb-true, true≢false, ap, sym}
-use Rattle.yaml_scalar.proofs.Common.{◌∙◌, chars-nil, IsUtf8-past_char, chars_past_char, encode_utf8, Text, begins_like_marker, begins_unlike_plain}
+use Rattle.yaml_scalar.proofs.Common.{arith, ℕ, ◌==◌, chars, IsUtf8, length, false, true, ◌&&◌, ◌||◌, List, [], ◌++◌, ◌∷◌, refl, ◌≡◌, eqb-true, true≢false, ap}
+use Rattle.yaml_scalar.proofs.Common.{sym, ◌∙◌, chars-nil, IsUtf8-past_char, chars_past_char, encode_utf8, Text, begins_like_marker, begins_unlike_plain}
 use Rattle.yaml_scalar.proofs.Common.{is_ordinary}
 use Rattle.yaml_scalar.proofs.ByteRuns.{false_unless}
 
@@ -38,28 +38,4 @@ no_exclamation c (a ∷ b ∷ rest) e f = rw (e, f)
 
 -- so a text that begins with one begins as plain text may
 pub ordinary_plain : (c : ℕ) (rest : Text) → is_ordinary c ≡ true → begins_unlike_plain (c ∷ rest) ≡ false
-ordinary_plain c rest h =
-    let other : (k : ℕ) → is_ordinary k ≡ false → (c == k) ≡ false = λ k e. other_than c k h e in
-    rw (
-      other 32 refl,
-      no_exclamation c rest (other 45 refl) (other 46 refl),
-      other 35 refl,
-      other 44 refl,
-      other 91 refl,
-      other 93 refl,
-      other 123 refl,
-      other 125 refl,
-      other 38 refl,
-      other 42 refl,
-      other 33 refl,
-      other 124 refl,
-      other 62 refl,
-      other 39 refl,
-      other 34 refl,
-      other 37 refl,
-      other 64 refl,
-      other 96 refl,
-      other 63 refl,
-      other 58 refl,
-      other 45 refl,
-    )
+ordinary_plain c rest h = grind (arith, other_than, no_exclamation)

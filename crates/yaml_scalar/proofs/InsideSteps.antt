@@ -14,9 +14,7 @@ StillInside unicode limit indent value before bytes start here =
 -- what stays is neither escaped nor a fold, and no break
 stays_parts : (unicode : Bool) (limit : Option ℕ) (c : ℕ) → stays unicode limit c ≡ true
     → (needs_escape unicode c ≡ false) × ((is_space c && has_limit limit) ≡ false)
-stays_parts unicode limit c h =
-    let p = and_parts (not (needs_escape unicode c)) (not (is_space c && has_limit limit)) h in
-    (not-true _ p.0, not-true _ p.1)
+stays_parts unicode limit c h = grind (arith, and_parts, not-true)
 
 pub stays_unbroken : (unicode : Bool) (limit : Option ℕ) (c : ℕ) → stays unicode limit c ≡ true → is_break c ≡ false
 stays_unbroken unicode limit c h = (unescaped unicode c (stays_parts unicode limit c h).0).no_break
@@ -64,16 +62,11 @@ ascii_unescaped false c h = h
 ascii_unescaped true c h = (escaped_parts (not (is_printable c)) (not (is_ascii c)) (is_break c) (c == quote) (c == backslash) h).1
 
 pub ascii_stays : (unicode folds : Bool) (c : ℕ) → stays_where false folds c ≡ true → stays_where unicode folds c ≡ true
-ascii_stays unicode folds c h =
-    let p = and_parts (not (needs_escape false c)) (not (is_space c && folds)) h in
-    and_from _ _ (ap not (ascii_unescaped unicode c (not-true _ p.0))) p.1
+ascii_stays unicode folds c h = grind (arith, and_parts, and_from, ascii_unescaped, not-true)
 
 low : (c : ℕ) → is_ascii c ≡ true → nat_lt c 128 ≡ true
 low c h = grind (arith, nat_tests)
 
 -- and it is of ASCII
 pub ascii_stays_plain : (folds : Bool) (c : ℕ) → stays_where false folds c ≡ true → is_plain c ≡ true
-ascii_stays_plain folds c h =
-    let is = not-true _ (and_parts (not (needs_escape false c)) (not (is_space c && folds)) h).0 in
-    let ascii = not-false _ (escaped_parts (not (is_printable c)) (not (is_ascii c)) (is_break c) (c == quote) (c == backslash) is).0 in
-    and_from _ _ (low c ascii) (ap not (unescaped false c is).no_break)
+ascii_stays_plain folds c h = grind (arith, not-true, and_parts, not-false, escaped_parts, and_from, low, unescaped)

@@ -1,6 +1,6 @@
 -- The last characters of a text say how it ends.
-use Rattle.yaml_scalar.proofs.Common.{ℕ, if◌then◌else◌, length, take, false, true, List, [], ◌++◌, ◌∷◌, refl, ◌≡◌, append-nil, append_assoc, ap, subst, sym}
-use Rattle.yaml_scalar.proofs.Common.{◌∙◌, scalar, IsUtf8-encode, IsUtf8-take, Text, is_break, without_break, one_break, more_breaks, ending, last_from}
+use Rattle.yaml_scalar.proofs.Common.{arith, ℕ, if◌then◌else◌, length, take, false, true, List, [], ◌++◌, ◌∷◌, refl, ◌≡◌, append-nil, append_assoc, ap, subst}
+use Rattle.yaml_scalar.proofs.Common.{sym, ◌∙◌, scalar, IsUtf8-encode, IsUtf8-take, Text, is_break, without_break, one_break, more_breaks, ending, last_from}
 use Rattle.yaml_base.proofs.Common.{encode_utf8, chars-encodes, chars}
 use Rattle.std.{proofs.lemmas.List.take_at, proofs.lemmas.Str.IsCharBoundary-at_seam, proofs.lemmas.Str.chars-append, specs.Str.IsUtf8}
 use Rattle.yaml_scalar.proofs.WholeRuns.{last-more}
@@ -47,6 +47,4 @@ break-ends prefix c u s e none = ap ending (chars-last prefix c u s ∙ ap (λ t
 -- in a break after another character
 pub two-end : (prefix : List ℕ) (b c : ℕ) → IsUtf8 prefix → IsUtf8 (prefix ++ encode_utf8 b) → scalar b ≡ true → scalar c ≡ true → is_break c ≡ true
     → ending (chars (prefix ++ encode_utf8 b ++ encode_utf8 c)) ≡ (if is_break b then more_breaks else one_break)
-two-end prefix b c u v s t e =
-    ap ending (chars-last (prefix ++ encode_utf8 b) c v t ∙ ap (λ l. l ++ c ∷ []) (chars-last prefix b u s) ∙ append_assoc (chars prefix) (b ∷ []) (c ∷ []))
-    ∙ ending-two (chars prefix) b c ∙ rw e refl
+two-end prefix b c u v s t e = grind (arith, chars-last, append_assoc, ending-two)

@@ -1,10 +1,10 @@
 -- Folding reads the lines of plain and single-quoted text as the value.
-use Rattle.yaml_scalar.proofs.Common.{suc, zero, ℕ, if◌then◌else◌, ◌==◌, Option, Bool, false, not, true, ◌&&◌, ◌||◌, [], map, ◌++◌, ◌∷◌, refl, ◌≡◌, eqb-true}
-use Rattle.yaml_scalar.proofs.Common.{ap, subst, sym, ◌∙◌, and-false, and_parts, and_from, or_parts, not_from_false, not-false, not-true, list_any, Text}
-use Rattle.yaml_scalar.proofs.Common.{line_feed, carriage_return, next_line, space, is_space, is_break, is_printable, Cursor, is_past_width, is_rendered_text}
-use Rattle.yaml_scalar.proofs.Common.{FoldUnit, literal_blank, literal_break, itself, unit_of, FoldState, fold_state_text, prepend_unit, fold_state_of}
-use Rattle.yaml_scalar.proofs.Common.{folding_read, Charset, somewhere, begins_with, is_empty, is_special, bars_single_quoted, Kind, spaces, breaks, others}
-use Rattle.yaml_scalar.proofs.Common.{kind_of, is_same_kind, indentation, begins_kind, step_text}
+use Rattle.yaml_scalar.proofs.Common.{arith, suc, zero, ℕ, if◌then◌else◌, ◌==◌, Option, Bool, false, not, true, ◌&&◌, ◌||◌, [], map, ◌++◌, ◌∷◌, refl, ◌≡◌}
+use Rattle.yaml_scalar.proofs.Common.{eqb-true, ap, subst, sym, ◌∙◌, and-false, and_parts, and_from, or_parts, not_from_false, not-false, not-true, list_any}
+use Rattle.yaml_scalar.proofs.Common.{Text, line_feed, carriage_return, next_line, space, is_space, is_break, is_printable, Cursor, is_past_width}
+use Rattle.yaml_scalar.proofs.Common.{is_rendered_text, FoldUnit, literal_blank, literal_break, itself, unit_of, FoldState, fold_state_text, prepend_unit}
+use Rattle.yaml_scalar.proofs.Common.{fold_state_of, folding_read, Charset, somewhere, begins_with, is_empty, is_special, bars_single_quoted, Kind, spaces}
+use Rattle.yaml_scalar.proofs.Common.{breaks, others, kind_of, is_same_kind, indentation, begins_kind, step_text}
 use Rattle.yaml_base.specs.reading.ReadFolding.{run_read}
 use Rattle.yaml_scalar.proofs.LineTexts.{bare_steps}
 
@@ -40,11 +40,7 @@ same_unit c false is_tab false is_cr is_nel false false false t r n s = simp (t,
 -- the reader takes a character that isn't special for what the writer takes it for
 pub unit_by_kind :
     (charset : Charset) (c : ℕ) → is_special charset c ≡ false → unit_of charset.breaks12 c ≡ unit_of_kind (kind_of c) c
-unit_by_kind charset c clean =
-    let parts = or_parts _ _ clean in
-    let printable : is_printable c ≡ true = not-false _ (or_parts _ _ parts.0).0 in
-    same_unit c (c == 32) (c == 9) (c == 10) (c == 13) (c == 0x85) (c == 0x2028) (c == 0x2029) charset.breaks12
-    (unlike c 9 printable refl) (unlike c 13 printable refl) (unlike c 0x85 printable refl) parts.1
+unit_by_kind charset c clean = grind (arith, or_parts, not-false, same_unit, unlike)
 
 -- the prefix of a text
 abbrev pub fold_state_at : Bool → Text → FoldState
@@ -91,11 +87,7 @@ own_step :
     (before : Kind) (c : ℕ) (rest : Text) (prefix : FoldState) →
     fold_state_text prefix ≡ rest →
     ReadsAfter before (c ∷ rest) (prepend_unit (itself c) prefix)
-own_step spaces c rest prefix read = record {
-  whole = ap (λ (t : Text). c ∷ t) read;
-  no_breaks = λ _. refl;
-  no_blanks = λ _. refl;
-}
+own_step spaces c rest prefix read = grind (arith)
 own_step breaks c rest prefix read = λ _. record { no_blanks = refl; whole = ap (λ (t : Text). c ∷ t) read }
 own_step others c rest prefix read = ap (λ (t : Text). c ∷ t) read
 
@@ -117,11 +109,7 @@ space_step :
     AfterSpace rest prefix →
     begins_with is_break rest ≡ false →
     ReadsAfter before (space ∷ rest) (prepend_unit (literal_blank space) prefix)
-space_step spaces rest prefix after clear = record {
-  whole = space_read rest prefix (after.no_breaks clear) after.whole;
-  no_breaks = λ _. after.no_breaks clear;
-  no_blanks = λ e. cc;
-}
+space_step spaces rest prefix after clear = grind (arith, space_read)
 space_step breaks rest prefix after clear = λ e. cc
 space_step others rest prefix after clear = space_read rest prefix (after.no_breaks clear) after.whole
 
@@ -172,11 +160,7 @@ break_step :
     is_break c ≡ true →
     more ++ rest ≡ value →
     ReadsAfter before (c ∷ value) (broken (c == line_feed && not (is_same_kind before breaks)) c more rest)
-break_step spaces c value more rest b whole = record {
-  whole = broken_read c value more rest _ refl whole;
-  no_breaks = λ e. cc;
-  no_blanks = λ _. refl;
-}
+break_step spaces c value more rest b whole = grind (arith, broken_read)
 break_step breaks c value more rest b whole =
     λ _. record { no_blanks = refl; whole = rw (and-false (c == line_feed)) (ap (λ (t : Text). c ∷ t) whole) }
 break_step others c value more rest b whole = broken_read c value more rest _ refl whole
@@ -226,10 +210,7 @@ folds_where :
     (folds : Bool) (before : Kind) (rest : Text) →
     (folds && not (is_same_kind before spaces || (is_empty rest || begins_kind spaces rest))) ≡ true →
     Folds before rest
-folds_where folds before rest e =
-    let parts = or_parts (is_same_kind before spaces) _ (not-true _ (and_parts folds _ e).1) in
-    let later = or_parts (is_empty rest) (begins_kind spaces rest) parts.1 in
-    record { other = parts.0; own = sym (begins_space rest) ∙ later.1 }
+folds_where folds before rest e = grind (arith, or_parts, not-true, and_parts, begins_space)
 
 -- a space or a fold before what reads as the rest
 spaced :
@@ -240,10 +221,7 @@ spaced :
     (folds && not (is_same_kind before spaces || (is_empty rest || begins_kind spaces rest))) ≡ folded →
     ReadsAfter before (space ∷ rest)
     (fold_state_at breaks12 ((if folded then line_feed ∷ indentation indent else space ∷ []) ++ text))
-spaced breaks12 folds indent before rest text clear after true e =
-    let where_folds = folds_where folds before rest e in
-    rw (indentation-breaks breaks12 indent text, indentation-rest breaks12 indent text)
-    (fold_step before rest (fold_state_at breaks12 text) where_folds.other after clear where_folds.own)
+spaced breaks12 folds indent before rest text clear after true e = grind (arith, folds_where, indentation-breaks, indentation-rest, fold_step)
 spaced breaks12 folds indent before rest text clear after false e =
     space_step before rest (fold_state_at breaks12 text) after clear
 
@@ -256,18 +234,9 @@ step_reads :
     ReadsAfter kind rest (fold_state_at charset.breaks12 text) →
     ReadsAfter before (c ∷ rest)
     (fold_state_at charset.breaks12 (step_text (λ t. t) folds indent before kind c rest ++ text))
-step_reads charset folds indent before spaces c rest text k clean clear after =
-    rw (eqb-true c 32 (spaces_only (is_space c) (is_break c) k))
-    (spaced charset.breaks12 folds indent before rest text clear after _ refl)
-step_reads charset folds indent before breaks c rest text k clean clear after =
-    let unit = unit_by_kind charset c clean ∙ ap (λ (kind : Kind). unit_of_kind kind c) k in
-    let prefix = after clear in
-    rw (broken_prefix charset.breaks12 (c == line_feed && not (is_same_kind before breaks)) (begins_kind breaks rest) indent c text unit)
-    (break_step before c rest (fold_state_at charset.breaks12 text).breaks (fold_state_at charset.breaks12 text).rest
-    (breaks_only (is_space c) (is_break c) k) prefix.whole)
-step_reads charset folds indent before others c rest text k clean clear after =
-    let unit = unit_by_kind charset c clean ∙ ap (λ (kind : Kind). unit_of_kind kind c) k in
-    rw unit (own_step before c rest (fold_state_at charset.breaks12 text) after)
+step_reads charset folds indent before spaces c rest text k clean clear after = grind (arith, eqb-true, spaces_only, spaced)
+step_reads charset folds indent before breaks c rest text k clean clear after = grind (arith, unit_by_kind, broken_prefix, break_step, breaks_only)
+step_reads charset folds indent before others c rest text k clean clear after = grind (arith, unit_by_kind, own_step)
 
 -- a value that single quotes may hold has no space beside a break
 clear_after :
@@ -275,9 +244,7 @@ clear_after :
     kind_of c ≡ kind →
     bars_single_quoted charset c rest ≡ false →
     clashes kind rest ≡ false
-clear_after charset c rest spaces k clean =
-    let trailing = (or_parts _ _ (or_parts _ _ clean).0).1 in
-    sym (ap (λ (b : Bool). b && begins_with is_break rest) (spaces_only (is_space c) (is_break c) k)) ∙ trailing
+clear_after charset c rest spaces k clean = grind (arith, or_parts, spaces_only)
 clear_after charset c rest breaks k clean =
     sym (ap (λ (b : Bool). b && begins_with is_space rest) (breaks_only (is_space c) (is_break c) k)) ∙ (or_parts _ _ clean).1
 clear_after charset c rest others k clean = refl

@@ -1,7 +1,7 @@
 -- Each nonempty line of plain and single-quoted text after the first begins with two spaces.
-use Rattle.yaml_scalar.proofs.Common.{suc, zero, ℕ, ◌≤◌, if◌then◌else◌, ◌==◌, Option, Bool, false, not, true, ◌&&◌, ◌||◌, [], ◌++◌, ◌∷◌, refl, ◌≡◌, eqb-true}
+use Rattle.yaml_scalar.proofs.Common.{suc, zero, ℕ, ◌≤◌, if◌then◌else◌, Option, Bool, false, not, true, [], ◌++◌, ◌∷◌, refl, ◌≡◌, eqb-true}
 use Rattle.yaml_scalar.proofs.Common.{append_assoc, arith, and-false, and_from, or_right, Text, line_feed, space, is_space, is_break, Cursor, render_text}
-use Rattle.yaml_scalar.proofs.Common.{is_past_width, begins_indented, is_indented_text, is_empty, Kind, spaces, breaks, others, kind_of, is_same_kind}
+use Rattle.yaml_scalar.proofs.Common.{is_past_width, begins_indented, is_indented_text, Kind, spaces, breaks, others, kind_of, is_same_kind}
 use Rattle.yaml_scalar.proofs.Common.{indentation, begins_kind, step_text, render_steps}
 use Rattle.yaml_base.proofs.BreakLaws.{break-begins}
 use Rattle.yaml_scalar.proofs.{LineFolds.spaces_only, LineFolds.breaks_only, LineRuns.WritesEach, Unbroken.unbroken-replicate, Unbroken.unbroken-indented}
@@ -24,9 +24,7 @@ after_break c text begins lines = and_from _ _ (or_right (not (is_break c)) _ be
 
 -- indentation behind a break
 indented_line : (indent : ℕ) → 2 ≤ indent → (c : ℕ) (text : Text) → is_indented_text text ≡ true → is_indented_text (c ∷ (indentation indent ++ text)) ≡ true
-indented_line indent wide c text lines =
-    after_break c (indentation indent ++ text) (indentation-begins indent wide text)
-    (unbroken-indented (indentation indent) text (unbroken-replicate indent) lines)
+indented_line indent wide c text lines = grind (arith, after_break, indentation-begins, unbroken-indented, unbroken-replicate)
 
 -- a space or a fold
 folded_line :
@@ -60,15 +58,9 @@ step_indented :
     is_indented_text text ≡ true →
     (is_same_kind kind breaks ≡ true → begins_kind breaks rest ≡ true → begins_indented text ≡ true) →
     is_indented_text (step_text written folds indent before kind c rest ++ text) ≡ true
-step_indented written w folds indent wide before spaces c rest text k lines begins =
-    rw (eqb-true c 32 (spaces_only (is_space c) (is_break c) k))
-    (folded_line (folds && not (is_same_kind before spaces || (is_empty rest || begins_kind spaces rest))) indent wide text lines)
+step_indented written w folds indent wide before spaces c rest text k lines begins = grind (arith, eqb-true, spaces_only, folded_line)
 step_indented written w folds indent wide before breaks c rest text k lines begins =
-    let first = if c == line_feed && not (is_same_kind before breaks) then line_feed ∷ [] else [] in
-    let run = if begins_kind breaks rest then [] else indentation indent in
-    rw (append_assoc first (c ∷ run) text)
-    (doubled_line (c == line_feed && not (is_same_kind before breaks)) c (run ++ text) (breaks_only (is_space c) (is_break c) k)
-    (broken_line (begins_kind breaks rest) indent wide c text lines (begins refl)))
+    grind (arith, append_assoc, doubled_line, breaks_only, broken_line)
 step_indented written w folds indent wide before others c rest text k lines begins =
     unbroken-indented (written (c ∷ [])) text (w.unbroken c (others_only (is_space c) (is_break c) k)) lines
 
@@ -91,12 +83,7 @@ text_begins :
     begins_kind breaks value ≡ true →
     begins_indented ((render_steps written limit indent before value cursor).text ++ after) ≡ true
 text_begins written limit indent before [] after cursor same here = cc
-text_begins written limit indent before (c ∷ rest) after cursor same here =
-    let folds = is_past_width limit cursor in
-    let step = step_text written folds indent before (kind_of c) c rest in
-    let more = (render_steps written limit indent (kind_of c) rest (render_text step cursor).cursor).text in
-    rw (append_assoc step more after)
-    (run_begins written limit indent before (kind_of c) c rest (more ++ after) folds refl same here)
+text_begins written limit indent before (c ∷ rest) after cursor same here = grind (arith, append_assoc, run_begins)
 
 -- lines before a text whose later lines are indented
 pub lines_indented :

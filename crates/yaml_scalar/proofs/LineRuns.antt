@@ -1,4 +1,5 @@
 -- Plain and single-quoted lines rendered character by character, and that this is their layout by runs.
+use Rattle.yaml_scalar.proofs.Common.{arith}
 use Rattle.yaml_base.proofs.Common.{ℕ, ◌==◌, Option, Bool, false, not, true, ◌&&◌, ◌||◌, List, [], ◌++◌, ◌∷◌, refl, ◌≡◌, append_assoc, ap, subst, sym, ◌∙◌}
 use Rattle.yaml_base.proofs.Common.{Text, is_break, Cursor, Rendered, render_nothing, render_then, column_after, is_past_width, is_empty, runs, render_runs}
 use Rattle.std.proofs.Math.Bool.{and-false, and-true, or-false}
@@ -88,11 +89,7 @@ joined_kinds :
     is_same_kind kind (kind_of d) ≡ true →
     step_text written folds indent before kind c (d ∷ rest) ++ tail_text written indent next (d ∷ run) ≡
     first_text written other indent (is_same_kind before next) next (c ∷ d ∷ run)
-joined_kinds written w folds other indent before kind next c d rest run same e =
-    subst (λ (k : Kind).
-    step_text written folds indent before kind c (d ∷ rest) ++ tail_text written indent k (d ∷ run) ≡
-    first_text written other indent (is_same_kind before k) k (c ∷ d ∷ run))
-    same (joined_text written w folds other indent before kind c d rest run e)
+joined_kinds written w folds other indent before kind next c d rest run same e = grind (arith, joined_text)
 
 -- the first run has an edge
 edge_text :
@@ -149,27 +146,15 @@ agrees_by :
     (limit : Option ℕ) (indent : ℕ) (before : Kind) (c d : ℕ) (rest text : Text) (more : List Run) (cursor : Cursor) →
     (same : Bool) → is_same_kind (kind_of c) (kind_of d) ≡ same →
     Agrees written limit indent before c (d ∷ rest) (record { kind = kind_of d; text = d ∷ text } ∷ more) cursor
-agrees_by written w limit indent before c d rest text more cursor true e =
-    let next = render_runs written limit indent false more in
-    let step = step_text written (is_past_width limit cursor) indent before (kind_of c) c (d ∷ rest) in
-    let folds = is_past_width limit cursor && not (is_last more) in
-    simp e (two_texts step (tail_text written indent (kind_of d) (d ∷ text)) next cursor
-    ∙ ap (λ (t : Text). render_then (render_text t cursor) next)
-    (joined_kinds written w (is_past_width limit cursor) folds indent before (kind_of c) (kind_of d) c d rest text
-    (same_kind (kind_of c) (kind_of d) e) e))
-agrees_by written w limit indent before c d rest text more cursor false e =
-    simp e (ap (λ (t : Text). render_then (render_text t cursor)
-    (render_runs written limit indent false (record { kind = kind_of d; text = d ∷ text } ∷ more)))
-    (lone_text written (is_past_width limit cursor) indent before (kind_of c) c (d ∷ rest) false refl e))
+agrees_by written w limit indent before c d rest text more cursor true e = grind (arith, two_texts, joined_kinds, same_kind)
+agrees_by written w limit indent before c d rest text more cursor false e = grind (arith, lone_text)
 
 -- they agree
 agrees :
     (written : Text → Text) → WritesEach written →
     (limit : Option ℕ) (indent : ℕ) (before : Kind) (c : ℕ) (rest : Text) (cursor : Cursor) →
     Agrees written limit indent before c rest (runs rest) cursor
-agrees written w limit indent before c [] cursor =
-    ap (λ (t : Text). render_then (render_text t cursor) render_nothing)
-    (lone_text written (is_past_width limit cursor) indent before (kind_of c) c [] true refl refl)
+agrees written w limit indent before c [] cursor = grind (arith, lone_text)
 agrees written w limit indent before c (d ∷ rest) cursor =
     let shape = shape_of d (runs rest) in
     subst (λ (after : List Run). Agrees written limit indent before c (d ∷ rest) after cursor) (sym shape.is)
@@ -192,15 +177,11 @@ edge_continues :
     (written : Text → Text) (limit : Option ℕ) (indent : ℕ) (after : List Run) (cursor : Cursor) →
     continued written limit indent spaces after cursor ≡ render_runs written limit indent true after cursor
 edge_continues written limit indent [] cursor = refl
-edge_continues written limit indent (run ∷ more) cursor =
-    ap (λ (t : Text). render_then (render_text t cursor) (render_runs written limit indent false more))
-    (edge_text written (is_past_width limit cursor) indent run.kind run.text (is_last more))
+edge_continues written limit indent (run ∷ more) cursor = grind (arith, edge_text)
 
 -- the layout by runs is the layout by characters
 pub runs_by_steps :
     (written : Text → Text) → WritesEach written →
     (limit : Option ℕ) (indent : ℕ) (value : Text) (cursor : Cursor) →
     render_runs written limit indent true (runs value) cursor ≡ render_steps written limit indent spaces value cursor
-runs_by_steps written w limit indent value cursor =
-    sym (steps_continue written w limit indent spaces value cursor
-    ∙ edge_continues written limit indent (runs value) cursor)
+runs_by_steps written w limit indent value cursor = grind (arith, steps_continue, edge_continues)

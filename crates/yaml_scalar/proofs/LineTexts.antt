@@ -1,7 +1,7 @@
 -- The text of plain and single-quoted lines before quotes are doubled: each character is the value's, or of a break or indentation.
-use Rattle.yaml_scalar.proofs.Common.{suc, zero, ℕ, if◌then◌else◌, ◌==◌, Option, Bool, false, not, true, ◌&&◌, [], ◌++◌, ◌∷◌, refl, ◌≡◌, eqb-true, ap, subst}
-use Rattle.yaml_scalar.proofs.Common.{sym, ◌∙◌, or_parts, list_any-append, list_any, Text, line_feed, space, Cursor, render_text, is_past_width, Kind, spaces}
-use Rattle.yaml_scalar.proofs.Common.{breaks, others, kind_of, is_same_kind, indentation, step_text, render_steps}
+use Rattle.yaml_scalar.proofs.Common.{arith, suc, zero, ℕ, if◌then◌else◌, ◌==◌, Option, Bool, false, true, [], ◌++◌, ◌∷◌, refl, ◌≡◌, eqb-true, ap}
+use Rattle.yaml_scalar.proofs.Common.{sym, ◌∙◌, or_parts, list_any-append, list_any, Text, line_feed, space, Cursor, render_text, is_past_width, Kind}
+use Rattle.yaml_scalar.proofs.Common.{spaces, breaks, others, kind_of, is_same_kind, indentation, step_text, render_steps}
 use Rattle.yaml_scalar.proofs.LineRuns.{WritesEach}
 
 -- the lines with each character as it is; the cursor is that of the text as it is written
@@ -43,14 +43,8 @@ pub any_step :
     test space ≡ false →
     test c ≡ false →
     list_any test (step_text (λ t. t) folds indent before kind c rest) ≡ false
-any_step test folds indent before spaces c rest feed blank own =
-    any_cond test _ (line_feed ∷ indentation indent) (c ∷ [])
-    (any_one test line_feed (indentation indent) feed (any_indentation test indent blank))
-    (any_one test c [] own refl)
-any_step test folds indent before breaks c rest feed blank own =
-    any_both test (if c == line_feed && not (is_same_kind before breaks) then line_feed ∷ [] else []) _
-    (any_cond test _ (line_feed ∷ []) [] (any_one test line_feed [] feed refl) refl)
-    (any_one test c _ own (any_cond test _ [] (indentation indent) refl (any_indentation test indent blank)))
+any_step test folds indent before spaces c rest feed blank own = grind (arith, any_cond, any_one, any_indentation)
+any_step test folds indent before breaks c rest feed blank own = grind (arith, any_both, any_cond, any_one, any_indentation)
 any_step test folds indent before others c rest feed blank own = any_one test c [] own refl
 
 -- no character of all lines passes a test that none of the value's does
@@ -74,10 +68,7 @@ is_quote c = c == 39
 not_quote_by :
     (c : ℕ) (kind : Kind) (quote : Bool) → is_quote c ≡ quote → kind_of c ≡ kind → is_same_kind kind others ≡ false → quote ≡ false
 not_quote_by c kind false q k e = refl
-not_quote_by c kind true q k e =
-    let same : others ≡ kind = subst (λ (n : ℕ). kind_of n ≡ kind) (eqb-true c 39 q) k in
-    let other : true ≡ false = subst (λ (x : Kind). is_same_kind x others ≡ false) (sym same) e in
-    other
+not_quote_by c kind true q k e = grind (arith, eqb-true)
 
 -- a space or a break is no quote
 not_quote : (c : ℕ) (kind : Kind) → kind_of c ≡ kind → is_same_kind kind others ≡ false → is_quote c ≡ false

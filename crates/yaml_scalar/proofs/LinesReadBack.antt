@@ -1,9 +1,8 @@
 -- What a writer of plain or single-quoted scalars wrote reads back.
-use Rattle.yaml_scalar.proofs.Common.{ℕ, ◌≤◌, if◌then◌else◌, IfOk, Option, Some, Result, Err, Ok, negsuc, pos, ℤ, ◌≤ℤ◌, Bool, false, not, true, ◌&&◌, []}
-use Rattle.yaml_scalar.proofs.Common.{◌++◌, ◌∷◌, refl, ◌≡◌, ap, ◌∙◌, arith, ints, list_all, Text, space, is_space, Cursor, Rendered, render_then, render_text}
-use Rattle.yaml_scalar.proofs.Common.{space_if, with_breaks_written, with_line_breaks_read, is_indented_text, LineBreak, read_plain, read_single, Charset}
-use Rattle.yaml_scalar.proofs.Common.{allows_plain, allows_single_quoted, plain_body, render_plain, single_quoted_body, render_single_quoted, wrote_all, Page}
-use Rattle.yaml_scalar.proofs.Common.{natural, Wrote, ReadsBack}
+use Rattle.yaml_scalar.proofs.Common.{ℕ, ◌≤◌, IfOk, Option, Some, Result, Err, Ok, negsuc, pos, ℤ, ◌≤ℤ◌, Bool, true, ◌++◌, ◌≡◌, ap, ◌∙◌, arith, ints, list_all}
+use Rattle.yaml_scalar.proofs.Common.{Text, is_space, Cursor, Rendered, render_then, render_text, space_if, with_breaks_written, with_line_breaks_read}
+use Rattle.yaml_scalar.proofs.Common.{is_indented_text, LineBreak, read_plain, read_single, Charset, allows_plain, allows_single_quoted, plain_body}
+use Rattle.yaml_scalar.proofs.Common.{render_plain, single_quoted_body, render_single_quoted, wrote_all, Page, natural, Wrote, ReadsBack}
 use Rattle.yaml_base.specs.declared.errors.yaml_error_t.{yaml_error_t}
 use Rattle.yaml_pen.proofs.Composing.{with_breaks_written-append}
 use Rattle.yaml_scalar.proofs.{PlainReads.plain-reads, PlainReads.plain-indented, SingleReads.single-reads, SingleReads.single-indented}
@@ -16,11 +15,7 @@ two_or_more (negsuc n) h = omega (arith, ints)
 -- a lead is spaces alone
 lead_spaces : (setting : LineBreak) (space_stands : Bool) (cursor : Cursor)
     → list_all is_space (with_breaks_written setting (space_if space_stands cursor)) ≡ true
-lead_spaces setting need cursor = by (need && not cursor.whitespace)
-  where
-    by : (b : Bool) → list_all is_space (with_breaks_written setting (if b then space ∷ [] else [])) ≡ true
-    by true = refl
-    by false = refl
+lead_spaces setting need cursor = grind (arith)
 
 -- a lead of at most one space, and a body that reads as a value
 pub body_back :

@@ -1,12 +1,12 @@
 -- A plain body reads as its value, and its later lines are indented.
-use Rattle.yaml_scalar.proofs.Common.{ℕ, ◌≤◌, Option, Some, Bool, false, true, ◌&&◌, [], map, ◌++◌, ◌∷◌, refl, ◌≡◌, append-nil, ap, ◌∙◌, and-false, and_parts}
-use Rattle.yaml_scalar.proofs.Common.{or_parts, or_from, not-true, breaks-round, indented-written, Text, is_space, is_break, Cursor, with_breaks_written}
-use Rattle.yaml_scalar.proofs.Common.{with_line_breaks_read, is_rendered_text, is_indented_text, LineBreak, unit_of, folding_read, begins_no_plain}
-use Rattle.yaml_scalar.proofs.Common.{holds_no_plain, read_plain, Charset, somewhere, begins_with, is_empty, begins_unlike_plain, bars_plain}
+use Rattle.yaml_scalar.proofs.Common.{arith, ℕ, ◌≤◌, Option, Some, Bool, false, true, ◌&&◌, [], map, ◌++◌, ◌∷◌, refl, ◌≡◌, append-nil, ap, ◌∙◌, and-false}
+use Rattle.yaml_scalar.proofs.Common.{and_parts, or_parts, or_from, not-true, breaks-round, indented-written, Text, is_space, is_break, Cursor}
+use Rattle.yaml_scalar.proofs.Common.{with_breaks_written, with_line_breaks_read, is_rendered_text, is_indented_text, LineBreak, unit_of, folding_read}
+use Rattle.yaml_scalar.proofs.Common.{begins_no_plain, holds_no_plain, read_plain, Charset, somewhere, begins_with, is_empty, begins_unlike_plain, bars_plain}
 use Rattle.yaml_scalar.proofs.Common.{bars_single_quoted, allows_plain, spaces, plain_body, render_steps}
 use Rattle.yaml_scalar.proofs.{LineIndents.lines_indented, LineRuns.WritesEach, LineRuns.runs_by_steps, LineTexts.bare_steps, LineTexts.any_bare}
 use Rattle.yaml_scalar.proofs.{LineTexts.bare_written, PlainStarts.lines_hold, PlainStarts.lines_full, PlainStarts.lines_begin}
-use Rattle.yaml_scalar.proofs.LineFolds.{folding_reads, is_return, no_returns, rendered_without_returns}
+use Rattle.yaml_scalar.proofs.LineFolds.{folding_reads, no_returns, rendered_without_returns}
 
 -- plain characters are written one by one
 pub itself_writes : WritesEach (λ text. text)
@@ -25,11 +25,7 @@ lines limit indent value cursor = bare_steps (λ text. text) limit indent spaces
 pub body-lines :
     (limit : Option ℕ) (indent : ℕ) (value : Text) (cursor : Cursor) →
     (plain_body limit indent value cursor).text ≡ lines limit indent value cursor
-body-lines limit indent value cursor =
-    rw (
-      runs_by_steps (λ text. text) itself_writes limit indent value cursor,
-      bare_written (λ text. text) itself_writes limit indent spaces value cursor,
-    )
+body-lines limit indent value cursor = grind (arith, runs_by_steps, bare_written)
 
 -- a value that allows plain text begins with no break
 no_break_begins :
@@ -77,10 +73,7 @@ pub plain-rendered :
     allows_plain charset flow value ≡ true →
     is_rendered_text (plain_body limit indent value cursor).text ≡ true
 plain-rendered charset flow limit indent value cursor allowed =
-    let clean = plain_is_single charset flow value (plain_bars charset flow value allowed) in
-    ap is_rendered_text (body-lines limit indent value cursor)
-    ∙ rendered_without_returns (lines limit indent value cursor)
-    (any_bare is_return refl refl (λ text. text) limit indent spaces value cursor (no_returns charset value clean))
+    grind (arith, plain_is_single, plain_bars, body-lines, rendered_without_returns, any_bare, no_returns)
 
 -- a text that breaks no rule of plain text is read by folding, unless it is empty in flow
 unbarred_read :
@@ -117,12 +110,7 @@ pub plain-reads :
     (with_line_breaks_read (with_breaks_written setting (plain_body limit indent value cursor).text)) ≡
     Some value
 plain-reads charset flow limit indent value cursor setting allowed =
-    let body = (plain_body limit indent value cursor).text in
-    let clean = plain_is_single charset flow value (plain_bars charset flow value allowed) in
-    ap (read_plain charset.breaks12 flow)
-    (breaks-round setting body (plain-rendered charset flow limit indent value cursor allowed) ∙ body-lines limit indent value cursor)
-    ∙ (value_reads charset flow limit indent value cursor allowed
-    ∙ ap (λ (t : Text). Some t) (folding_reads charset (λ text. text) limit indent value cursor clean))
+    grind (arith, plain_is_single, plain_bars, breaks-round, plain-rendered, body-lines, value_reads, folding_reads)
 
 -- each nonempty line of a body after the first begins with two spaces, however its line breaks are written
 pub plain-indented :

@@ -1,9 +1,9 @@
 -- Where plain lines begin as the value does, and hold no indicator that plain text may not hold.
-use Rattle.yaml_scalar.proofs.Common.{suc, zero, ℕ, if◌then◌else◌, ◌==◌, Option, codes, Bool, false, not, true, ◌&&◌, ◌||◌, [], ◌++◌, ◌∷◌, refl, ◌≡◌}
+use Rattle.yaml_scalar.proofs.Common.{arith, suc, zero, ℕ, if◌then◌else◌, ◌==◌, Option, codes, Bool, false, not, true, ◌&&◌, ◌||◌, [], ◌++◌, ◌∷◌, refl, ◌≡◌}
 use Rattle.yaml_scalar.proofs.Common.{eqb-true, true≢false, ap, subst, sym, ◌∙◌, and-false, and-true, or_parts, or_from, Text, is_among, line_feed, space}
-use Rattle.yaml_scalar.proofs.Common.{is_space, is_blank, is_break, Cursor, render_text, is_past_width, is_read_white, begins_no_plain, holds_no_plain}
-use Rattle.yaml_scalar.proofs.Common.{Charset, somewhere, begins_with, is_empty, is_gap, ends_word, begins_like_marker, begins_unlike_plain, bars_plain, Kind}
-use Rattle.yaml_scalar.proofs.Common.{spaces, breaks, others, kind_of, is_same_kind, indentation, begins_kind, step_text}
+use Rattle.yaml_scalar.proofs.Common.{is_space, is_break, Cursor, render_text, is_past_width, is_read_white, begins_no_plain, holds_no_plain, Charset}
+use Rattle.yaml_scalar.proofs.Common.{somewhere, begins_with, is_empty, is_gap, ends_word, begins_like_marker, begins_unlike_plain, bars_plain, Kind, spaces}
+use Rattle.yaml_scalar.proofs.Common.{breaks, others, kind_of, is_same_kind, indentation, begins_kind, step_text}
 use Rattle.yaml_base.proofs.Common.{begins_white, begins_with_three, begins_with_hash}
 use Rattle.std.proofs.Math.Bool.{and_assoc}
 use Rattle.yaml_scalar.proofs.{LineFolds.spaces_only, LineFolds.breaks_only, LineTexts.bare_steps}
@@ -31,9 +31,7 @@ white_is_gap breaks12 c e =
 
 -- a break is a gap
 break_is_gap : (c : ℕ) → is_break c ≡ true → is_gap c ≡ false → false ≡ true
-break_is_gap c b e =
-    let parts = or_parts (is_blank c) (is_break c) (or_parts (is_blank c || is_break c) (c == 0) e).0 in
-    sym parts.1 ∙ b
+break_is_gap c b e = grind (arith, or_parts)
 
 -- a step begins white only where its character is a gap
 step_white :
@@ -77,9 +75,7 @@ step_hash :
     kind_of c ≡ kind →
     (c == 35) ≡ false →
     begins_with_hash (step_text (λ t. t) folds indent before kind c rest ++ text) ≡ false
-step_hash folds indent before spaces c rest text k e =
-    rw (eqb-true c 32 (spaces_only (is_space c) (is_break c) k))
-    (hash_of_fold (folds && not (is_same_kind before spaces || (is_empty rest || begins_kind spaces rest))) indent text)
+step_hash folds indent before spaces c rest text k e = grind (arith, eqb-true, spaces_only, hash_of_fold)
 step_hash folds indent before breaks c rest text k e =
     hash_of_break (c == line_feed && not (is_same_kind before breaks)) c _ text e
 step_hash folds indent before others c rest text k e = e
@@ -241,13 +237,8 @@ step_times :
     kind_of c ≡ kind →
     begins_times n marker text ≡ begins_times n marker rest →
     begins_times (suc n) marker (step_text (λ t. t) folds indent before kind c rest ++ text) ≡ begins_times (suc n) marker (c ∷ rest)
-step_times marker is_marker n folds indent before spaces c rest text k later =
-    rw (eqb-true c 32 (spaces_only (is_space c) (is_break c) k))
-    (fold_times marker is_marker n (folds && not (is_same_kind before spaces || (is_empty rest || begins_kind spaces rest))) indent text
-    ∙ sym (simp is_marker.no_space))
-step_times marker is_marker n folds indent before breaks c rest text k later =
-    let other = other_break marker c (c == marker) refl is_marker.no_break (breaks_only (is_space c) (is_break c) k) in
-    break_times marker is_marker n (c == line_feed && not (is_same_kind before breaks)) c _ text other ∙ sym (simp other)
+step_times marker is_marker n folds indent before spaces c rest text k later = grind (arith, eqb-true, spaces_only, fold_times)
+step_times marker is_marker n folds indent before breaks c rest text k later = grind (arith, other_break, breaks_only, break_times)
 step_times marker is_marker n folds indent before others c rest text k later = ap (λ (b : Bool). c == marker && b) later
 
 -- lines begin with an indicator as often as the value does
@@ -314,12 +305,7 @@ pub lines_full :
     is_break c ≡ false →
     (flow : Bool) →
     (is_empty (bare_steps written limit indent before (c ∷ rest) cursor) && flow) ≡ false
-lines_full written limit indent before c rest cursor e f flow =
-    let to_mark = or_parts _ _ (or_parts _ _ (or_parts _ _ e).0).0 in
-    let folds = is_past_width limit cursor in
-    let after = (render_text (step_text written folds indent before (kind_of c) c rest) cursor).cursor in
-    ap (λ (step : Text). is_empty (step ++ bare_steps written limit indent (kind_of c) rest after) && flow)
-    (first_kept folds indent before c rest to_mark.0 f)
+lines_full written limit indent before c rest cursor e f flow = grind (arith, or_parts, first_kept)
 
 -- lines begin with no indicator that the value doesn't begin with
 pub lines_begin :

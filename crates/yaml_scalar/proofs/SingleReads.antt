@@ -1,20 +1,17 @@
 -- A single-quoted body reads as its value, and its later lines are indented.
-use Rattle.yaml_scalar.proofs.Common.{ℕ, ◌≤◌, if◌then◌else◌, ◌==◌, option_map, Option, Some, Bool, false, true, [], map, ◌++◌, ◌∷◌, refl, ◌≡◌, eqb-true}
-use Rattle.yaml_scalar.proofs.Common.{append_assoc, ap, sym, ◌∙◌, or_parts, not-true, list_any-append, list_any, breaks-round, rendered-append}
-use Rattle.yaml_scalar.proofs.Common.{indented-written, Text, is_break, Cursor, with_breaks_written, with_line_breaks_read, is_rendered_text}
-use Rattle.yaml_scalar.proofs.Common.{is_indented_text, LineBreak, unit_of, folding_read, read_single, Charset, allows_single_quoted, spaces, quotes_doubled}
-use Rattle.yaml_scalar.proofs.Common.{single_quote, single_quoted_body}
+use Rattle.yaml_scalar.proofs.Common.{arith, ℕ, ◌≤◌, if◌then◌else◌, ◌==◌, option_map, Option, Some, Bool, false, true, [], ◌++◌, ◌∷◌, refl, ◌≡◌, eqb-true}
+use Rattle.yaml_scalar.proofs.Common.{append_assoc, ◌∙◌, or_parts, not-true, list_any-append, list_any, breaks-round, rendered-append, indented-written, Text}
+use Rattle.yaml_scalar.proofs.Common.{is_break, Cursor, with_breaks_written, with_line_breaks_read, is_rendered_text, is_indented_text, LineBreak, read_single}
+use Rattle.yaml_scalar.proofs.Common.{Charset, allows_single_quoted, spaces, quotes_doubled, single_quote, single_quoted_body}
 use Rattle.yaml_base.proofs.Common.{unquoted}
 use Rattle.yaml_scalar.proofs.{LineIndents.lines_indented, LineRuns.WritesEach, LineRuns.runs_by_steps, Unbroken.is_unbroken}
-use Rattle.yaml_scalar.proofs.LineFolds.{folding_reads, is_return, no_returns, rendered_without_returns}
+use Rattle.yaml_scalar.proofs.LineFolds.{folding_reads, no_returns, rendered_without_returns}
 use Rattle.yaml_scalar.proofs.LineTexts.{bare_steps, any_cond, any_bare, bare_written}
 
 -- quotes are doubled part by part
 doubled-joined : (prefix rest : Text) → quotes_doubled (prefix ++ rest) ≡ quotes_doubled prefix ++ quotes_doubled rest
 doubled-joined [] rest = refl
-doubled-joined (c ∷ prefix) rest =
-    ap (λ (t : Text). (if c == 39 then 39 ∷ 39 ∷ [] else c ∷ []) ++ t) (doubled-joined prefix rest)
-    ∙ sym (append_assoc (if c == 39 then 39 ∷ 39 ∷ [] else c ∷ []) (quotes_doubled prefix) (quotes_doubled rest))
+doubled-joined (c ∷ prefix) rest = grind (arith, append_assoc, doubled-joined prefix rest)
 
 -- and no break comes from it
 doubled-unbroken : (c : ℕ) (quote : Bool) → is_break c ≡ false → is_unbroken ((if quote then 39 ∷ 39 ∷ [] else c ∷ []) ++ []) ≡ true
@@ -45,9 +42,7 @@ unquoted-step c text after false e read = rw (unquoted-other c after e, read)
 -- quotes undo, up to the closing one
 unquoted-doubled : (text : Text) → unquoted (quotes_doubled text ++ 39 ∷ []) ≡ Some text
 unquoted-doubled [] = refl
-unquoted-doubled (c ∷ rest) =
-    rw (append_assoc (if c == 39 then 39 ∷ 39 ∷ [] else c ∷ []) (quotes_doubled rest) (39 ∷ []))
-    (unquoted-step c rest (quotes_doubled rest ++ 39 ∷ []) (c == 39) refl (unquoted-doubled rest))
+unquoted-doubled (c ∷ rest) = grind (arith, append_assoc, unquoted-step, unquoted-doubled rest)
 
 -- the lines between the quotes, before each quote of theirs is doubled
 abbrev pub inside : (limit : Option ℕ) (indent : ℕ) (value : Text) → Cursor → Text
@@ -77,12 +72,7 @@ pub single-rendered :
     allows_single_quoted charset value ≡ true →
     is_rendered_text (single_quoted_body limit indent value cursor).text ≡ true
 single-rendered charset limit indent value cursor allowed =
-    let clean = no_returns charset value (not-true _ allowed) in
-    let bare = any_bare is_return refl refl quotes_doubled limit indent spaces value (single_quote cursor).cursor clean in
-    let doubled = rendered_without_returns (quotes_doubled (inside limit indent value cursor))
-    (any_doubled is_return refl (inside limit indent value cursor) bare) in
-    ap is_rendered_text (body-inside limit indent value cursor)
-    ∙ rendered-append (quotes_doubled (inside limit indent value cursor)) (39 ∷ []) doubled refl
+    grind (arith, no_returns, not-true, any_bare, rendered_without_returns, any_doubled, body-inside, rendered-append)
 
 -- a body, however its line breaks are written, reads as the value
 pub single-reads :
@@ -92,14 +82,7 @@ pub single-reads :
     (with_line_breaks_read (with_breaks_written setting (single_quoted_body limit indent value cursor).text)) ≡
     Some value
 single-reads charset limit indent value cursor setting allowed =
-    let body = (single_quoted_body limit indent value cursor).text in
-    let text = inside limit indent value cursor in
-    let folded = λ (t : Text). folding_read (map (unit_of charset.breaks12) t) in
-    ap (read_single charset.breaks12)
-    (breaks-round setting body (single-rendered charset limit indent value cursor allowed) ∙ body-inside limit indent value cursor)
-    ∙ (ap (option_map folded) (unquoted-doubled text)
-    ∙ ap (λ (t : Text). Some t)
-    (folding_reads charset quotes_doubled limit indent value (single_quote cursor).cursor (not-true _ allowed)))
+    grind (arith, breaks-round, single-rendered, body-inside, unquoted-doubled, folding_reads, not-true)
 
 -- each nonempty line of a body after the first begins with two spaces, however its line breaks are written
 pub single-indented :

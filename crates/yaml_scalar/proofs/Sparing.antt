@@ -1,12 +1,12 @@
 -- Tests that spare printable ASCII and LF: what a style writes holds no character that meets such a test, where the value's
 -- own characters that stand raw don't.
 use Rattle.yaml_scalar.proofs.Common.{suc, zero, ℕ, ◌%◌, ◌/◌, if◌then◌else◌, ◌==◌, Option, None, Some, nat_le, replicate, Bool, false, true, ◌&&◌, List, []}
-use Rattle.yaml_scalar.proofs.Common.{◌++◌, ◌∷◌, refl, ◌≡◌, ap, ◌∙◌, arith, and_parts, and_from, agree_below_at, list_all-append, list_all, list_any, Text}
-use Rattle.yaml_scalar.proofs.Common.{is_between, line_feed, space, is_space, hex_digit, hex_digits, Cursor, render_text, breaks_line, new_line}
+use Rattle.yaml_scalar.proofs.Common.{◌∷◌, refl, ◌≡◌, arith, and_parts, and_from, agree_below_at, list_all-append, list_all, list_any, Text}
+use Rattle.yaml_scalar.proofs.Common.{is_between, line_feed, space, is_space, hex_digit, hex_digits, Cursor, render_text, new_line}
 use Rattle.yaml_scalar.proofs.Common.{is_past_width, quote, backslash, ShortEscape, short_escapes, letter_among, escape_after_backslash, escape_text}
 use Rattle.yaml_scalar.proofs.Common.{needs_escape, character_text, may_fold, space_kept, double_fold, double_character, double_inside, render_quote}
-use Rattle.yaml_scalar.proofs.Common.{double_quoted_body, spaces, plain_body, quotes_doubled, single_quote, single_quoted_body}
-use Rattle.yaml_scalar.proofs.{PlainReads.body-lines, SingleReads.inside, SingleReads.body-inside, SingleReads.any_doubled}
+use Rattle.yaml_scalar.proofs.Common.{double_quoted_body, plain_body, single_quoted_body}
+use Rattle.yaml_scalar.proofs.{PlainReads.body-lines, SingleReads.body-inside, SingleReads.any_doubled}
 use Rattle.yaml_scalar.proofs.LineTexts.{any_cond, any_both, any_one, any_indentation, any_bare}
 
 -- a printable character of ASCII other than the space
@@ -45,9 +45,7 @@ digit_graph n = agree_below_at (λ d. is_graph (hex_digit d)) (λ d. true) 16 (n
 -- any number of digits
 pub digits_graph : (count n : ℕ) → list_all is_graph (hex_digits count n) ≡ true
 digits_graph zero n = refl
-digits_graph (suc count) n =
-    list_all-append is_graph (hex_digits count (n / 16)) (hex_digit (n % 16) ∷ [])
-    ∙ and_from _ _ (digits_graph count (n / 16)) (and_from _ true (digit_graph n) refl)
+digits_graph (suc count) n = grind (arith, list_all-append, and_from, digit_graph, digits_graph count (n / 16))
 
 -- the digits of an escape, with their letter
 number_graph : (c : ℕ) (two four : Bool)
@@ -79,28 +77,17 @@ module _ (test : ℕ → Bool) (spares : Spares test) where
 
   -- a new line
   pub lacks_line : (at : ℕ) (cursor : Cursor) → list_any test (new_line at cursor).text ≡ false
-  lacks_line at cursor =
-      any_cond test (breaks_line at cursor) (line_feed ∷ replicate at space) _
-      (any_one test line_feed (replicate at space) spares.feed (lacks_spaces at)) (lacks_spaces _)
+  lacks_line at cursor = grind (arith, any_cond, any_one, lacks_spaces)
 
   -- a plain body
   pub lacks_plain : (limit : Option ℕ) (indent : ℕ) (value : Text) (cursor : Cursor) → list_any test value ≡ false
       → list_any test (plain_body limit indent value cursor).text ≡ false
-  lacks_plain limit indent value cursor own =
-      ap (list_any test) (body-lines limit indent value cursor)
-      ∙ any_bare test spares.feed spares.blank (λ text. text) limit indent spaces value cursor own
+  lacks_plain limit indent value cursor own = grind (arith, body-lines, any_bare)
 
   -- a single-quoted body
   pub lacks_single : (limit : Option ℕ) (indent : ℕ) (value : Text) (cursor : Cursor) → list_any test value ≡ false
       → list_any test (single_quoted_body limit indent value cursor).text ≡ false
-  lacks_single limit indent value cursor own =
-      let quote_spared : test 39 ≡ false = spares.graph 39 refl in
-      let text = inside limit indent value cursor in
-      let bare : list_any test text ≡ false = any_bare test spares.feed spares.blank quotes_doubled limit indent spaces value
-      (single_quote cursor).cursor own in
-      ap (list_any test) (body-inside limit indent value cursor)
-      ∙ any_one test 39 (quotes_doubled text ++ 39 ∷ []) quote_spared
-      (any_both test (quotes_doubled text) (39 ∷ []) (any_doubled test quote_spared text bare) (any_one test 39 [] quote_spared refl))
+  lacks_single limit indent value cursor own = grind (arith, any_bare, body-inside, any_one, any_both, any_doubled)
 
   module _ (unicode : Bool) (raw : (c : ℕ) → needs_escape unicode c ≡ false → test c ≡ false) where
     -- a character, as an escape or as itself

@@ -1,6 +1,6 @@
 -- A character that stays in its line is rendered as itself.
 use Rattle.yaml_scalar.proofs.Common.{suc, zero, ℕ, ◌+◌, ◌<◌, ◌≤◌, if◌then◌else◌, ◌==◌, IsUtf8, Option, None, Some, length, take, encode_utf8_all as encodes}
-use Rattle.yaml_scalar.proofs.Common.{Bool, false, true, ◌&&◌, ◌||◌, List, [], ◌++◌, ◌∷◌, refl, ◌≡◌, length-take-le, ap, subst, sym, ◌∙◌, arith, and_parts}
+use Rattle.yaml_scalar.proofs.Common.{Bool, false, true, ◌&&◌, List, [], ◌++◌, ◌∷◌, refl, ◌≡◌, length-take-le, ap, subst, sym, ◌∙◌, arith, and_parts}
 use Rattle.yaml_scalar.proofs.Common.{or_parts, not-true, nat_tests, IsUtf8-take, encodes-chars, list_all, IsCharBoundary, Text, is_space, is_break, Cursor}
 use Rattle.yaml_scalar.proofs.Common.{Rendered, render_then, next_column, render_text, is_past_width, Kind, spaces, breaks, others, kind_of, written_as}
 use Rattle.yaml_scalar.proofs.Common.{step_text, render_steps, stays_in_line, last_from, HasRoom}
@@ -14,10 +14,7 @@ pub record Stays (folds quotes : Bool) (c : ℕ) : Type 0 where
   pub no_quote : (quotes && c == 39) ≡ false
 
 pub stays_parts : (folds quotes : Bool) (c : ℕ) → stays_in_line folds quotes c ≡ true → Stays folds quotes c
-stays_parts folds quotes c h =
-    let p = or_parts (is_break c || (is_space c && folds)) (quotes && c == 39) (not-true _ h) in
-    let q = or_parts (is_break c) (is_space c && folds) p.0 in
-    record { no_break = q.0; no_fold = q.1; no_quote = p.1 }
+stays_parts folds quotes c h = grind (arith, or_parts, not-true)
 
 pub stays_unbroken : (folds quotes : Bool) (c : ℕ) → stays_in_line folds quotes c ≡ true → is_break c ≡ false
 stays_unbroken folds quotes c h = (stays_parts folds quotes c h).no_break

@@ -1,10 +1,10 @@
 -- Block scalars have deep lines: each line after the header holds a character that is no space, and stands at its indentation.
-use Rattle.yaml_scalar.proofs.Common.{suc, zero, ℕ, ◌+◌, ◌≤◌, if◌then◌else◌, ◌==◌, Option, replicate, Bool, false, not, true, ◌&&◌, ◌||◌, List, [], ◌++◌, ◌∷◌}
-use Rattle.yaml_scalar.proofs.Common.{◌⊎◌, refl, ◌≡◌, true≢false, append_assoc, inl, inr, ap, sym, ◌∙◌, and_from, or_parts, or_right, not-true, Text}
+use Rattle.yaml_scalar.proofs.Common.{arith, suc, zero, ℕ, ◌+◌, ◌≤◌, if◌then◌else◌, Option, replicate, Bool, false, not, true, List, [], ◌++◌}
+use Rattle.yaml_scalar.proofs.Common.{◌∷◌, ◌⊎◌, refl, ◌≡◌, true≢false, append_assoc, inl, inr, ap, sym, ◌∙◌, and_from, or_parts, or_right, not-true, Text}
 use Rattle.yaml_scalar.proofs.Common.{line_feed, space, is_space, is_break, Cursor, is_read_break, begins_with_spaces, begins_with_blank_line}
 use Rattle.yaml_scalar.proofs.Common.{begins_with_deep_line, has_deep_lines, Charset, somewhere, begins_with, is_empty, bars_block, allows_block, Ending}
 use Rattle.yaml_scalar.proofs.Common.{without_break, one_break, more_breaks, ending, begins_blank, ending_hint, block_body, folds, cut_from, cut_line}
-use Rattle.yaml_scalar.proofs.Common.{next_line_unindented, folded_parts, folded_body, Part, line, line_break, begun, parts, indented, literal_body}
+use Rattle.yaml_scalar.proofs.Common.{folded_parts, folded_body, Part, line, line_break, begun, parts, indented, literal_body}
 use Rattle.yaml_scalar.proofs.{Sparing.is_graph, SparingBlocks.one_digit, TidyQuoted.graph_no_break, blocks.BlockFolds.fold-spaced}
 use Rattle.yaml_scalar.proofs.DeepLines.{Unbroken, space_unbroken, enough_spaces, deep_break, deep_unbroken, spaces_unbroken, deep_after}
 use Rattle.yaml_scalar.proofs.blocks.BlockReads.{ordinary, block-text, digit_text, block_indicator_of}
@@ -24,11 +24,7 @@ module _ (breaks12 : Bool) where
   -- a line isn't blank where what follows its first character isn't
   blank_after : (c : ℕ) (further : Text) → is_read_break breaks12 c ≡ false → begins_with_blank_line breaks12 further ≡ false
       → begins_with_blank_line breaks12 (c ∷ further) ≡ false
-  blank_after c further u h = by (is_space c)
-    where
-      by : (s : Bool) → (is_read_break breaks12 c || (s && begins_with_blank_line breaks12 further)) ≡ false
-      by true = simp (u, h)
-      by false = simp u
+  blank_after c further u h = grind (arith)
 
   -- such a line isn't blank
   full_blank : (text rest : Text) → Unbroken breaks12 text → HasInk text → begins_with_blank_line breaks12 (text ++ rest) ≡ false
@@ -183,9 +179,7 @@ module _ (breaks12 : Bool) where
       → IsCut (c ∷ rest) (if fold then line [] ∷ line_break line_feed ∷ further else begun c further)
   cut_step c rest u ends [] k fold f = absurd k
   cut_step c rest u ends (line_break b ∷ others) k fold f = absurd k
-  cut_step c rest u ends (line first ∷ others) k true f =
-      let parts : (is_space c ≡ true) × (begins_with is_space rest ≡ false) = f refl in
-      (tt, (refl, (k.0, k.2 parts.1 (ended_some c rest ends parts.0), k.1)), λ none some. absurd (true≢false (sym parts.0 ∙ none)))
+  cut_step c rest u ends (line first ∷ others) k true f = grind (arith, ended_some, true≢false)
   cut_step c rest u ends (line first ∷ others) k false f = ((u, k.0), k.1, λ none some. inl none)
 
   -- a line from some column on
@@ -215,12 +209,7 @@ module _ (breaks12 : Bool) where
 
   -- a line's parts, cut or whole
   line_full : (limit : Option ℕ) (indent : ℕ) (text : Text) → Unbroken breaks12 text → EndsInk text → AreFull (cut_line limit indent text)
-  line_full limit indent text u ends = by (begins_with is_space text) refl
-    where
-      by : (spaced : Bool) → begins_with is_space text ≡ spaced → AreFull (if spaced then line text ∷ [] else cut_from limit indent indent text)
-      by true e = (u, ended_ink text ends, tt)
-      by false e =
-          cut_full text (cut_from limit indent indent text) e (ended_not_empty text ends) (cut_known limit indent indent text u (ended_or text ends))
+  line_full limit indent text u ends = grind (arith, ended_ink, cut_full, ended_not_empty, cut_known, ended_or)
 
   -- full parts after full parts
   full_joined : (prefix rest : List Part) → AreFull prefix → AreFull rest → AreFull (prefix ++ rest)
@@ -240,25 +229,14 @@ module _ (breaks12 : Bool) where
   folded_full limit indent after_even (line text ∷ rest) h =
       full_joined (cut_line limit indent text) _ (line_full limit indent text h.0 h.1)
       (folded_full limit indent (not (begins_with is_space text)) rest h.2)
-  folded_full limit indent after_even (line_break b ∷ rest) h =
-      full_twice (after_even && b == line_feed && next_line_unindented rest) b (folded_parts limit indent false rest) h.0
-      (folded_full limit indent false rest h.1)
+  folded_full limit indent after_even (line_break b ∷ rest) h = grind (arith, full_twice, folded_full limit indent false rest h.1)
 
 -- A value that block styles may hold.
 module _ (charset : Charset) where
   -- a space stands neither last nor before a break
   space_inside : (c : ℕ) (rest : Text) → bars_block charset c rest ≡ false → (is_space c ≡ false) ⊎ BeginsLine charset.breaks12 (parts rest)
-  space_inside c [] h = inl (last (is_space c) (or_parts _ _ h).1)
-    where
-      last : (s : Bool) → (s && true) ≡ false → s ≡ false
-      last true e = e
-      last false e = refl
-  space_inside c (d ∷ rest) h = by (is_space c) (is_break d) (or_parts _ _ (or_parts _ _ h).0).1
-    where
-      by : (s b : Bool) → (s && b) ≡ false → (s ≡ false) ⊎ BeginsLine charset.breaks12 (if b then line_break d ∷ parts rest else begun d (parts rest))
-      by true true e = inl e
-      by true false e = inr (begun_line charset.breaks12 d (parts rest))
-      by false b e = inl refl
+  space_inside c [] h = grind (arith, or_parts)
+  space_inside c (d ∷ rest) h = grind (arith, or_parts, begun_line)
 
   -- such a value's lines end with no space
   parts_ended : (value : Text) → somewhere (bars_block charset) value ≡ false → AreEnded charset.breaks12 (parts value)

@@ -1,16 +1,16 @@
 -- Plain and single-quoted texts are tidy: their lines after the first stand at their indentation, and no space stands before a
 -- break; a plain text has no blank and no break at its edges.
-use Rattle.yaml_scalar.proofs.Common.{ℕ, ◌≤◌, if◌then◌else◌, ◌==◌, Option, Bool, false, not, true, ◌&&◌, ◌||◌, [], ◌++◌, ◌∷◌, refl, ◌≡◌, eqb-true, true≢false}
-use Rattle.yaml_scalar.proofs.Common.{append-nil, append_assoc, ap, subst, sym, ◌∙◌, and_parts, and_from, or_parts, or_from, not-true, false≢true, Text}
-use Rattle.yaml_scalar.proofs.Common.{line_feed, space, is_space, is_break, Cursor, render_text, is_past_width, is_read_break, is_read_white}
+use Rattle.yaml_scalar.proofs.Common.{arith, ℕ, ◌≤◌, if◌then◌else◌, ◌==◌, Option, Bool, false, not, true, ◌&&◌, ◌||◌, [], ◌++◌, ◌∷◌, refl, ◌≡◌, eqb-true}
+use Rattle.yaml_scalar.proofs.Common.{true≢false, append-nil, append_assoc, ap, subst, sym, ◌∙◌, and_parts, and_from, or_parts, or_from, not-true, false≢true}
+use Rattle.yaml_scalar.proofs.Common.{Text, line_feed, space, is_space, is_break, Cursor, render_text, is_past_width, is_read_break, is_read_white}
 use Rattle.yaml_scalar.proofs.Common.{begins_with_break, Charset, somewhere, begins_with, is_empty, is_special, begins_unlike_plain, bars_plain}
-use Rattle.yaml_scalar.proofs.Common.{bars_single_quoted, allows_plain, allows_single_quoted, Kind, spaces, breaks, others, kind_of, is_same_kind}
-use Rattle.yaml_scalar.proofs.Common.{indentation, plain_body, quotes_doubled, single_quote, single_quoted_body, begins_kind, step_text, render_steps}
+use Rattle.yaml_scalar.proofs.Common.{bars_single_quoted, allows_plain, allows_single_quoted, Kind, spaces, breaks, others, kind_of, is_same_kind, indentation}
+use Rattle.yaml_scalar.proofs.Common.{plain_body, quotes_doubled, single_quote, single_quoted_body, begins_kind, step_text, render_steps}
 use Rattle.yaml_base.proofs.Common.{ends_white, has_clean_edges}
-use Rattle.yaml_scalar.proofs.{LineFolds.spaces_only, LineFolds.breaks_only, LineIndents.others_only, LineRuns.runs_by_steps, SingleReads.doubled_writes}
-use Rattle.yaml_scalar.proofs.{blocks.BlockReads.ordinary}
-use Rattle.yaml_scalar.proofs.DeepLines.{Ink, BeginsInk, AllInk, space_unbroken, ink_unbroken, deep_break, IsEven, even_ink, even_space, even_break}
-use Rattle.yaml_scalar.proofs.DeepLines.{even_line, even_nothing}
+use Rattle.yaml_scalar.proofs.{LineIndents.others_only, LineRuns.runs_by_steps, SingleReads.doubled_writes, blocks.BlockReads.ordinary}
+use Rattle.yaml_scalar.proofs.LineFolds.{spaces_only, breaks_only}
+use Rattle.yaml_scalar.proofs.DeepLines.{Ink, BeginsInk, AllInk, space_unbroken, ink_unbroken, deep_break, IsEven, even_ink, even_space, even_break, even_line}
+use Rattle.yaml_scalar.proofs.DeepLines.{even_nothing}
 use Rattle.yaml_scalar.proofs.PlainReads.{itself_writes, plain_is_single, plain_bars, plain_begins}
 
 -- Kinds.
@@ -97,12 +97,7 @@ module _ (charset : Charset) (count indent : ℕ) (enough : count ≤ indent) (c
   unbroken_end false = refl
 
   lines_end : (before : Kind) → LinesEven before [] (ending_quote closed)
-  lines_end before = record {
-    begins_unindented = even_end closed;
-    ink = ink_end closed;
-    unbroken = λ e k. unbroken_end closed;
-    broken = λ e k. absurd (false≢true k);
-  }
+  lines_end before = grind (arith, even_end, ink_end, unbroken_end, false≢true)
 
   -- a fold in place of a space
   space_folded : (before : Kind) (rest text : Text) → is_same_kind before spaces ≡ false → next_ink closed rest ≡ true → LinesEven spaces rest text
@@ -117,41 +112,24 @@ module _ (charset : Charset) (count indent : ℕ) (enough : count ≤ indent) (c
   -- a space that stays
   space_kept : (before : Kind) (rest text : Text) → begins_kind breaks rest ≡ false → LinesEven spaces rest text
       → LinesEven before (space ∷ rest) (space ∷ text)
-  space_kept before rest text next ih = record {
-    begins_unindented = even_space charset.breaks12 count text (ih.unbroken refl next) ih.begins_unindented;
-    ink = λ e. absurd (false≢true e);
-    unbroken = λ e k. space_unbroken charset.breaks12;
-    broken = λ e k. absurd (false≢true k);
-  }
+  space_kept before rest text next ih = grind (arith, even_space, false≢true, space_unbroken)
 
   -- what is known behind a break
   break_begins : (before : Kind) (c : ℕ) (rest text : Text) → kind_of c ≡ breaks → is_read_break charset.breaks12 c ≡ true
       → IsEven charset.breaks12 count (c ∷ text) → LinesEven before (c ∷ rest) (c ∷ text)
-  break_begins before c rest text k brk even = record {
-    begins_unindented = even;
-    ink = λ e. absurd (false≢true (ap (is_same_kind others) (sym k) ∙ e));
-    unbroken = λ e none. absurd (true≢false (ap (is_same_kind breaks) (sym k) ∙ none));
-    broken = λ e h. brk;
-  }
+  break_begins before c rest text k brk even = grind (arith, false≢true, true≢false)
 
   -- a break, and LF before it where it is doubled
   break_doubled : (twice : Bool) (before : Kind) (c : ℕ) (rest text : Text) → kind_of c ≡ breaks → is_read_break charset.breaks12 c ≡ true
       → LinesEven before (c ∷ rest) (c ∷ text) → LinesEven before (c ∷ rest) ((if twice then line_feed ∷ [] else []) ++ (c ∷ text))
   break_doubled false before c rest text k brk h = h
-  break_doubled true before c rest text k brk h = record {
-    begins_unindented = even_break charset.breaks12 count line_feed (c ∷ text) refl (deep_break charset.breaks12 count (c ∷ text) brk) h.begins_unindented;
-    ink = λ e. absurd (false≢true (ap (is_same_kind others) (sym k) ∙ e));
-    unbroken = λ e none. absurd (true≢false (ap (is_same_kind breaks) (sym k) ∙ none));
-    broken = λ e h. refl;
-  }
+  break_doubled true before c rest text k brk h = grind (arith, even_break, deep_break, false≢true, true≢false)
 
   -- a break that goes on, or the indentation behind it
   break_line : (goes_on : Bool) (before : Kind) (c : ℕ) (rest text : Text) → kind_of c ≡ breaks → is_read_break charset.breaks12 c ≡ true
       → begins_kind breaks rest ≡ goes_on → (goes_on ≡ false → next_ink closed rest ≡ true) → LinesEven breaks rest text
       → LinesEven before (c ∷ rest) (c ∷ ((if goes_on then [] else indentation indent) ++ text))
-  break_line true before c rest text k brk e next ih =
-      break_begins before c rest text k brk
-      (even_break charset.breaks12 count c text brk (deep_break charset.breaks12 count text (ih.broken refl e)) ih.begins_unindented)
+  break_line true before c rest text k brk e next ih = grind (arith, break_begins, even_break, deep_break)
   break_line false before c rest text k brk e next ih =
       break_begins before c rest (indentation indent ++ text) k brk
       (even_line charset.breaks12 count indent c text enough brk (ih.ink (next refl)) ih.begins_unindented)
@@ -169,10 +147,7 @@ module _ (charset : Charset) (count indent : ℕ) (enough : count ≤ indent) (c
 
   -- a character that isn't special and neither a space nor a break is ink
   ink_of : (c : ℕ) → is_special charset c ≡ false → kind_of c ≡ others → Ink charset.breaks12 c
-  ink_of c clean k = record {
-    no_space = others_no_space (is_space c) (is_break c) k;
-    no_break = (ordinary charset c clean).same_break ∙ others_only (is_space c) (is_break c) k;
-  }
+  ink_of c clean k = grind (arith, others_no_space, ordinary, others_only)
 
   -- how each character of a value is written
   record InksEach (written : Text → Text) : Type 0 where
@@ -236,18 +211,10 @@ module _ (charset : Charset) (count indent : ℕ) (enough : count ≤ indent) (c
 -- Single quotes.
 
 doubled_inks : (breaks12 : Bool) (c : ℕ) → Ink breaks12 c → AllInk breaks12 (quotes_doubled (c ∷ []))
-doubled_inks breaks12 c ink = by (c == 39)
-  where
-    by : (quote : Bool) → AllInk breaks12 ((if quote then 39 ∷ 39 ∷ [] else c ∷ []) ++ [])
-    by true = (quote_ink breaks12, (quote_ink breaks12, tt))
-    by false = (ink, tt)
+doubled_inks breaks12 c ink = grind (arith, quote_ink)
 
 doubled_begins : (breaks12 : Bool) (c : ℕ) (text : Text) → Ink breaks12 c → BeginsInk breaks12 (quotes_doubled (c ∷ []) ++ text)
-doubled_begins breaks12 c text ink = by (c == 39)
-  where
-    by : (quote : Bool) → BeginsInk breaks12 (((if quote then 39 ∷ 39 ∷ [] else c ∷ []) ++ []) ++ text)
-    by true = quote_ink breaks12
-    by false = ink
+doubled_begins breaks12 c text ink = grind (arith, quote_ink)
 
 ends_always : (value : Text) → ends_closed true value ≡ true
 ends_always [] = refl
@@ -299,12 +266,7 @@ record EndsInk (breaks12 : Bool) (text : Text) : Type 0 where
   pub ends : ends_white breaks12 text ≡ false
 
 ends_after : (breaks12 : Bool) (prefix text : Text) (c : ℕ) (rest : Text) → prefix ≡ c ∷ rest → EndsInk breaks12 text → EndsInk breaks12 (prefix ++ text)
-ends_after breaks12 prefix text c rest e h = record {
-  first = c;
-  more = rest ++ text;
-  is = ap (λ (t : Text). t ++ text) e;
-  ends = ap (λ (t : Text). ends_white breaks12 (prefix ++ t)) h.is ∙ ends_append breaks12 prefix h.first h.more ∙ ap (ends_white breaks12) (sym h.is) ∙ h.ends;
-}
+ends_after breaks12 prefix text c rest e h = grind (arith, ends_append)
 
 -- a step of plain text holds a character
 step_some : (folds : Bool) (indent : ℕ) (before kind : Kind) (c : ℕ) (rest : Text)
@@ -326,20 +288,11 @@ step_some folds indent before others c rest = (c, [], refl)
 -- a character of plain text that is no space is no blank and no break
 plain_white : (charset : Charset) (flow : Bool) (c : ℕ) (rest : Text) → bars_plain charset flow c rest ≡ false → is_space c ≡ false
     → is_read_white charset.breaks12 c ≡ false
-plain_white charset flow c rest h s =
-    let parts = or_parts _ _ (or_parts _ _ (or_parts _ _ (or_parts _ _ h).0).0).0 in
-    let o = ordinary charset c parts.0 in
-    or_from _ _ (o.same_blank ∙ s) (o.same_break ∙ parts.1)
+plain_white charset flow c rest h s = grind (arith, or_parts, ordinary, or_from)
 
 -- the last character of plain text is no space
 plain_last : (charset : Charset) (flow : Bool) (c : ℕ) → bars_plain charset flow c [] ≡ false → is_space c ≡ false
-plain_last charset flow c h =
-    let parts = or_parts _ _ (or_parts _ _ (or_parts _ _ h).0).0 in
-    by (is_space c) parts.1
-  where
-    by : (s : Bool) → (s && true) ≡ false → s ≡ false
-    by true e = e
-    by false e = refl
+plain_last charset flow c h = grind (arith, or_parts)
 
 kind_others : (s b : Bool) → s ≡ false → b ≡ false → (if s then spaces else if b then breaks else others) ≡ others
 kind_others true b e f = absurd (true≢false e)
@@ -385,6 +338,4 @@ lines_edges charset flow limit indent (c ∷ rest) cursor h begins =
 -- a plain body has no blank and no break at its edges
 pub plain_edges : (charset : Charset) (flow : Bool) (limit : Option ℕ) (indent : ℕ) (value : Text) (cursor : Cursor) → allows_plain charset flow value ≡ true
     → has_clean_edges charset.breaks12 (plain_body limit indent value cursor).text ≡ true
-plain_edges charset flow limit indent value cursor allowed =
-    rw (runs_by_steps (λ text. text) itself_writes limit indent value cursor)
-    (lines_edges charset flow limit indent value cursor (plain_bars charset flow value allowed) (plain_begins charset flow value allowed))
+plain_edges charset flow limit indent value cursor allowed = grind (arith, runs_by_steps, lines_edges, plain_bars, plain_begins)

@@ -52,10 +52,7 @@ module _ (breaks12 unicode : Bool) (count indent : ℕ) (enough : count ≤ inde
 
   -- the closing quote
   quoted_end : (before : Option ℕ) → QuotedEven before [] (quote ∷ [])
-  quoted_end before =
-      let ink = graph_ink breaks12 quote refl in
-      let even = even_ink breaks12 count (quote ∷ []) [] (ink, tt) (even_nothing breaks12 count) in
-      record { begins_unindented = even; unbroken = λ e. ink.no_break; kept_even = λ e. even; kept = λ e. ink }
+  quoted_end before = grind (arith, graph_ink, even_ink, even_nothing)
 
   -- a character that is no space
   quoted_other : (before : Option ℕ) (c : ℕ) (rest text : Text) → is_space c ≡ false → QuotedEven (Some c) rest text
@@ -72,15 +69,7 @@ module _ (breaks12 unicode : Bool) (count indent : ℕ) (enough : count ≤ inde
 
   -- a space that stays
   quoted_space : (before : Option ℕ) (rest text : Text) → QuotedEven (Some space) rest text → QuotedEven before (space ∷ rest) (space ∷ text)
-  quoted_space before rest text ih =
-      let even = even_space breaks12 count text (ih.unbroken refl) ih.begins_unindented in
-      let ink = graph_ink breaks12 backslash refl in
-      record {
-        begins_unindented = even;
-        unbroken = λ e. space_unbroken breaks12;
-        kept_even = λ e. even_ink breaks12 count (backslash ∷ []) (space ∷ text) (ink, tt) even;
-        kept = λ e. ink;
-      }
+  quoted_space before rest text ih = grind (arith, even_space, graph_ink, space_unbroken, even_ink)
 
   -- a space that is folded
   quoted_fold : (before : Option ℕ) (rest text : Text) → is_other before ≡ true → QuotedEven (Some space) rest text

@@ -1,7 +1,7 @@
 -- Texts without a break: what they do to a column and to a text's lines; and that no written character holds one.
 use Rattle.yaml_scalar.proofs.Common.{suc, zero, ℕ, ◌%◌, ◌+◌, ◌/◌, ◌≤◌, if◌then◌else◌, ◌==◌, Option, None, Some, nat_le, length, replicate, Bool, false, not}
 use Rattle.yaml_scalar.proofs.Common.{true, ◌&&◌, ◌||◌, List, [], ◌++◌, ◌∷◌, refl, ◌≡◌, arith, and_parts, and_from, or_left, agree_below_at, not-false}
-use Rattle.yaml_scalar.proofs.Common.{not-true, Text, line_feed, carriage_return, next_line, line_separator, paragraph_separator, space, is_ascii, is_break}
+use Rattle.yaml_scalar.proofs.Common.{not-true, Text, line_feed, carriage_return, next_line, line_separator, paragraph_separator, space, is_break}
 use Rattle.yaml_scalar.proofs.Common.{is_printable, hex_digit, hex_digits, column_after, is_rendered_text, is_indented_text, quote, backslash, ShortEscape}
 use Rattle.yaml_scalar.proofs.Common.{short_escapes, letter_among, escape_after_backslash, escape_text, needs_escape, character_text}
 
@@ -107,9 +107,7 @@ pub record Unescaped (c : ℕ) : Type 0 where
   pub no_backslash : (c == backslash) ≡ false
 
 pub unescaped : (unicode : Bool) (c : ℕ) → needs_escape unicode c ≡ false → Unescaped c
-unescaped unicode c h =
-    let p = parts-false (not (is_printable c)) (not unicode && not (is_ascii c)) (is_break c) (c == quote) (c == backslash) h in
-    record { printable = not-false _ p.0; no_break = p.1; no_quote = p.2; no_backslash = p.3 }
+unescaped unicode c h = grind (arith, parts-false, not-false)
 
 -- no text of a character holds a break
 pub character-unbroken : (unicode : Bool) (c : ℕ) → is_unbroken (character_text unicode c) ≡ true

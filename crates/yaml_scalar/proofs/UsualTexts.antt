@@ -1,7 +1,7 @@
 -- Usual texts: every style may hold them.
 use Rattle.yaml_scalar.proofs.Common.{ℕ, ◌-◌, ◌<◌, if◌then◌else◌, ◌==◌, slice_index, IsUtf8, Option, length, Bool, false, not, true, ◌&&◌, ◌||◌, List, []}
 use Rattle.yaml_scalar.proofs.Common.{◌∷◌, refl, ◌≡◌, leb-true, true≢false, append-nil, ap, subst, sym, ◌∙◌, arith, and_parts, not-true, chars-nil, list_all}
-use Rattle.yaml_scalar.proofs.Common.{Text, is_between, space, is_space, Cursor, Charset, Allowances, begins_with, is_empty, allowances, Barred, barred_by}
+use Rattle.yaml_scalar.proofs.Common.{Text, space, is_space, Cursor, Charset, Allowances, begins_with, is_empty, allowances, Barred, barred_by}
 use Rattle.yaml_scalar.proofs.Common.{barred_in, none_barred, either, is_ordinary, is_quiet, allowed_by, is_free, ImpliesTest, is_plain, IsShortRun}
 use Rattle.yaml_scalar.proofs.Common.{IsShortLine, has_usual_ends, is_usual_character, stays_in_line, last_from, HasRoom}
 use Rattle.yaml_base.proofs.Common.{chars}
@@ -24,9 +24,7 @@ usual_ends (first ∷ rest) ordinary =
 
 -- what the classes of bytes that no usual text holds say of its characters
 usual_is_ascii : (c : ℕ) → is_usual_character c ≡ true → c < 128
-usual_is_ascii c is =
-    let within = and_parts (is_between 0x20 0x7E c) _ is in
-    omega (arith, leb-true c 0x7E (and_parts _ _ within.0).1)
+usual_is_ascii c is = grind (arith, and_parts, leb-true)
 
 pub usual_characters : {text : List ℕ} → IsUtf8 text → list_all (is_free 57) text ≡ list_all is_usual_character (chars text)
 usual_characters is_text = free_characters 57 is_usual_character refl refl usual_is_ascii is_text

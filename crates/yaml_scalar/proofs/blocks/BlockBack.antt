@@ -19,11 +19,7 @@ below (pos m) (negsuc n) h k = omega (arith, ints)
 below (negsuc m) n h k = omega (arith, ints)
 
 pub indents : (indent best_indent : ℤ) → pos 2 ≤ℤ best_indent → best_indent ≤ℤ pos 9 → best_indent ≤ℤ indent → Indents (natural indent) (natural best_indent)
-indents indent best_indent least most within = record {
-  least = two_or_more best_indent least;
-  most = at-most best_indent most;
-  within = below best_indent indent least within;
-}
+indents indent best_indent least most within = grind (arith, two_or_more, at-most, below)
 
 module _ (charset : Charset) (value : Text) (allowed : allows_block charset value ≡ true) (indent best_indent : ℕ) (are : Indents indent best_indent)
     (column : Option ℕ) (enclosing : Encloses indent best_indent column) where

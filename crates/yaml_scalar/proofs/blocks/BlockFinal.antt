@@ -1,6 +1,6 @@
 -- The breaks at a block scalar's end: the header's indicator says what chomping needs to keep them.
-use Rattle.yaml_scalar.proofs.Common.{ℕ, if◌then◌else◌, ◌==◌, Bool, false, true, ◌&&◌, List, [], ◌++◌, ◌∷◌, refl, ◌≡◌, append_assoc, inl, inr, ap, sym, ◌∙◌}
-use Rattle.yaml_scalar.proofs.Common.{cases_Bool, false≢true, Text, line_feed, is_break, Element, content, line_end, has_content, kept_lines, final_ends}
+use Rattle.yaml_scalar.proofs.Common.{arith, ℕ, if◌then◌else◌, ◌==◌, Bool, false, true, ◌&&◌, List, [], ◌++◌, ◌∷◌, refl, ◌≡◌, append_assoc, inl, inr, ap, sym}
+use Rattle.yaml_scalar.proofs.Common.{◌∙◌, cases_Bool, false≢true, Text, line_feed, is_break, Element, content, line_end, has_content, kept_lines, final_ends}
 use Rattle.yaml_scalar.proofs.Common.{joined, begins_unindented, next_content_unindented, unfolded, chomped, Ending, without_break, one_break, more_breaks}
 use Rattle.yaml_scalar.proofs.Common.{ending, Part, line, line_break, begun, parts}
 use Rattle.yaml_base.specs.reading.ReadBlock.{fold_read, Chomping, strip, clip, keep}
@@ -20,11 +20,7 @@ even-none (line_end b ∷ rest) h = even-none rest h
 even-kept : (es : List Element) → next_content_unindented (kept_lines es) ≡ next_content_unindented es
 even-kept [] = refl
 even-kept (content text ∷ rest) = refl
-even-kept (line_end b ∷ rest) =
-    elim (cases_Bool (has_content rest)) [
-      | inl some ↦ rw some (even-kept rest)
-      | inr none ↦ rw none (sym (even-none rest none))
-    ]
+even-kept (line_end b ∷ rest) = grind (arith, cases_Bool, even-none, even-kept rest)
 
 fold-kept : (es : List Element) → fold_read (kept_lines es) ≡ fold_read es
 fold-kept [] = refl
@@ -37,41 +33,21 @@ abbrev break_read : Bool → ℕ → List Element → Text
 break_read after_even b rest = if after_even && b == line_feed && next_content_unindented rest then fold_read rest else b ∷ []
 
 break-none : (after_even : Bool) (b : ℕ) (rest : List Element) → next_content_unindented rest ≡ false → break_read after_even b rest ≡ b ∷ []
-break-none true b rest h = by (b == line_feed)
-  where
-    by : (same : Bool) → (if same && next_content_unindented rest then fold_read rest else b ∷ []) ≡ b ∷ []
-    by true = rw h refl
-    by false = refl
+break-none true b rest h = grind (arith)
 break-none false b rest h = refl
 
 -- literal: what is kept and the final breaks make up all
 pub joined-kept : (es : List Element) → joined (kept_lines es) ++ final_ends es ≡ joined es
 joined-kept [] = refl
 joined-kept (content text ∷ rest) = append_assoc text (joined (kept_lines rest)) (final_ends rest) ∙ ap (λ t. text ++ t) (joined-kept rest)
-joined-kept (line_end b ∷ rest) =
-    elim (cases_Bool (has_content rest)) [
-      | inl some ↦ rw some (ap (λ t. b ∷ t) (joined-kept rest))
-      | inr none ↦
-          let here = joined-kept rest in
-          rw none (ap (λ t. b ∷ t) (rw (kept-none rest none) at here))
-    ]
+joined-kept (line_end b ∷ rest) = grind (arith, cases_Bool, kept-none, joined-kept rest)
 
 -- folded: likewise
 pub unfolded-kept : (after_even : Bool) (es : List Element) → unfolded after_even (kept_lines es) ++ final_ends es ≡ unfolded after_even es
 unfolded-kept after_even [] = refl
-unfolded-kept after_even (content text ∷ rest) =
-    append_assoc text (unfolded (begins_unindented text) (kept_lines rest)) (final_ends rest)
-    ∙ ap (λ t. text ++ t) (unfolded-kept (begins_unindented text) rest)
+unfolded-kept after_even (content text ∷ rest) = grind (arith, append_assoc, unfolded-kept (begins_unindented text) rest)
 unfolded-kept after_even (line_end b ∷ rest) =
-    elim (cases_Bool (has_content rest)) [
-      | inl some ↦ rw (some, even-kept rest, fold-kept rest)
-          (append_assoc (break_read after_even b rest) (unfolded false (kept_lines rest)) (final_ends rest)
-          ∙ ap (λ t. break_read after_even b rest ++ t) (unfolded-kept false rest))
-      | inr none ↦
-          let here = unfolded-kept false rest in
-          rw none (ap (λ t. b ∷ t) (rw (kept-none rest none) at here)
-          ∙ ap (λ t. t ++ unfolded false rest) (sym (break-none after_even b rest (even-none rest none))))
-    ]
+    grind (arith, cases_Bool, even-kept, fold-kept, append_assoc, kept-none, break-none, even-none, unfolded-kept false rest)
 
 -- what an ending says of the final breaks
 abbrev pub Ends : Ending → List Element → Type 0

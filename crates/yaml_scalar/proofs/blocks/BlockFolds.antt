@@ -1,7 +1,7 @@
 -- Folded parts: they are clean, end as the value does, and read as the value.
-use Rattle.yaml_scalar.proofs.Common.{ℕ, ◌+◌, if◌then◌else◌, ◌==◌, Option, Bool, false, not, true, ◌&&◌, List, [], ◌++◌, ◌∷◌, refl, ◌≡◌, eqb-true, ap, ◌∙◌}
-use Rattle.yaml_scalar.proofs.Common.{and_parts, not-true, false≢true, Text, line_feed, space, is_space, is_break, has_content, final_ends, joined}
-use Rattle.yaml_scalar.proofs.Common.{begins_unindented, next_content_unindented, unfolded, begins_with, is_past_limit, folds, cut_from, cut_line}
+use Rattle.yaml_scalar.proofs.Common.{arith, ℕ, ◌+◌, if◌then◌else◌, ◌==◌, Option, Bool, false, not, true, ◌&&◌, List, [], ◌++◌, ◌∷◌, refl, ◌≡◌, eqb-true, ap}
+use Rattle.yaml_scalar.proofs.Common.{◌∙◌, and_parts, not-true, false≢true, Text, line_feed, is_space, is_break, has_content, final_ends, joined}
+use Rattle.yaml_scalar.proofs.Common.{begins_unindented, next_content_unindented, unfolded, begins_with, folds, cut_from, cut_line}
 use Rattle.yaml_scalar.proofs.Common.{next_line_unindented, folded_parts, Part, line, line_break, begun}
 use Rattle.yaml_scalar.proofs.blocks.BlockParts.{Ordinary, IsLine, BeginsBroken, Clean, clean-begun, bare, BeginsFlush}
 
@@ -35,42 +35,16 @@ cut-step : (breaks12 : Bool) (c : ℕ) (rest : Text) → Ordinary breaks12 c →
     → IsCut breaks12 (c ∷ rest) (if fold then line [] ∷ line_break line_feed ∷ further else begun c further)
 cut-step breaks12 c rest o e [] k fold f = absurd k
 cut-step breaks12 c rest o e (line_break b ∷ others) k fold f = absurd k
-cut-step breaks12 c rest o e (line first ∷ others) k true f =
-    let spaced : c ≡ space = eqb-true c space (f refl).0 in
-    let even : begins_unindented first ≡ true = k.even (f refl).1 in
-    record {
-      clean = λ more broken h. (tt, tt, (feed-ordinary breaks12, refl, k.clean more broken h));
-      ends = λ more. k.ends more;
-      reads = λ more. rw (even, spaced) (ap (λ t. space ∷ t) (k.reads more));
-      flush = λ none. refl;
-      even = λ none. refl;
-    }
-cut-step breaks12 c rest o e (line first ∷ others) k false f =
-    record {
-      clean = λ more broken h. clean-begun breaks12 c (line first ∷ (others ++ more)) o e (k.clean more broken h);
-      ends = λ more. k.ends more;
-      reads = λ more. ap (λ t. c ∷ t) (k.reads more);
-      flush = λ none. none;
-      even = λ none. ap not (o.same_blank ∙ none);
-    }
+cut-step breaks12 c rest o e (line first ∷ others) k true f = grind (arith, eqb-true, feed-ordinary)
+cut-step breaks12 c rest o e (line first ∷ others) k false f = grind (arith, clean-begun)
 
 -- a fold stands in place of a space, before another character
 pub fold-spaced : (limit : Option ℕ) (column c : ℕ) (rest : Text) → folds limit column c rest ≡ true → (is_space c ≡ true) × (begins_with is_space rest ≡ false)
-fold-spaced limit column c rest h =
-    let outer = and_parts (is_space c && not (begins_with is_space rest)) (is_past_limit limit column) h in
-    let inner = and_parts (is_space c) (not (begins_with is_space rest)) outer.0 in
-    (inner.0, not-true (begins_with is_space rest) inner.1)
+fold-spaced limit column c rest h = grind (arith, and_parts, not-true)
 
 cut-known : (breaks12 : Bool) (limit : Option ℕ) (indent column : ℕ) (text : Text) → IsLine breaks12 text
     → IsCut breaks12 text (cut_from limit indent column text)
-cut-known breaks12 limit indent column [] h =
-    record {
-      clean = λ more broken k. (tt, broken, k);
-      ends = λ more. refl;
-      reads = λ more. refl;
-      flush = λ none. refl;
-      even = λ none. refl;
-    }
+cut-known breaks12 limit indent column [] h = grind (arith)
 cut-known breaks12 limit indent column (c ∷ rest) h =
     let at : ℕ = if folds limit column c rest then indent else column + 1 in
     cut-step breaks12 c rest h.0 h.1 (cut_from limit indent at rest) (cut-known breaks12 limit indent at rest h.2)
@@ -89,15 +63,7 @@ line-of-cut : (breaks12 : Bool) (text : Text) → IsLine breaks12 text → begin
     → LineCut breaks12 text ps
 line-of-cut breaks12 text h none [] k = absurd k
 line-of-cut breaks12 text h none (line_break b ∷ others) k = absurd k
-line-of-cut breaks12 text h none (line first ∷ others) k =
-    record {
-      clean = λ rest. k.clean rest;
-      ends = λ rest. k.ends rest;
-      reads = λ after_even rest. rw (k.even none, none) (k.reads rest);
-      even = λ rest. rw none (k.even none);
-      some = λ rest. refl;
-      flush = λ rest e. k.flush e;
-    }
+line-of-cut breaks12 text h none (line first ∷ others) k = grind (arith)
 
 line-cut : (breaks12 : Bool) (limit : Option ℕ) (indent : ℕ) (text : Text) → IsLine breaks12 text → LineCut breaks12 text (cut_line limit indent text)
 line-cut breaks12 limit indent text h = by (begins_with is_space text) refl
@@ -166,9 +132,7 @@ module _ (breaks12 : Bool) (limit : Option ℕ) (indent : ℕ) where
   folded-clean after_even (line text ∷ rest) h =
       let even = not (begins_with is_space text) in
       (line-cut breaks12 limit indent text h.0).clean (folded_parts limit indent even rest) (folded-begins even rest h.1) (folded-clean even rest h.2)
-  folded-clean after_even (line_break b ∷ rest) h =
-      twice-clean breaks12 (after_even && b == line_feed && next_line_unindented rest) b (folded_parts limit indent false rest) h.0 h.1
-      (folded-clean false rest h.2)
+  folded-clean after_even (line_break b ∷ rest) h = grind (arith, twice-clean, folded-clean false rest h.2)
 
   -- hold content where the value does
   pub folded-content : (after_even : Bool) (ps : List Part) → Clean breaks12 ps
@@ -195,10 +159,7 @@ module _ (breaks12 : Bool) (limit : Option ℕ) (indent : ℕ) where
   folded-reads after_even (line text ∷ rest) h =
       let even = not (begins_with is_space text) in
       (line-cut breaks12 limit indent text h.0).reads after_even (folded_parts limit indent even rest) ∙ ap (λ t. text ++ t) (folded-reads even rest h.2)
-  folded-reads after_even (line_break b ∷ rest) h =
-      twice-reads (after_even && b == line_feed && next_line_unindented rest) after_even b (folded_parts limit indent false rest)
-      (ap (λ next. after_even && b == line_feed && next) (folded-even false rest h.2))
-      ∙ ap (λ t. b ∷ t) (folded-reads false rest h.2)
+  folded-reads after_even (line_break b ∷ rest) h = grind (arith, twice-reads, folded-even, folded-reads false rest h.2)
 
   -- end as the value does
   pub folded-ends : (after_even : Bool) (ps : List Part) → Clean breaks12 ps
@@ -207,10 +168,7 @@ module _ (breaks12 : Bool) (limit : Option ℕ) (indent : ℕ) where
   folded-ends after_even (line text ∷ rest) h =
       let even = not (begins_with is_space text) in
       (line-cut breaks12 limit indent text h.0).ends (folded_parts limit indent even rest) ∙ folded-ends even rest h.2
-  folded-ends after_even (line_break b ∷ rest) h =
-      twice-ends (after_even && b == line_feed && next_line_unindented rest) (has_content (bare rest)) b (folded_parts limit indent false rest)
-      (folded-content false rest h.2) (λ e. even-some rest (and_parts (after_even && b == line_feed) (next_line_unindented rest) e).1)
-      ∙ ap (λ t. (if has_content (bare rest) then [] else b ∷ []) ++ t) (folded-ends false rest h.2)
+  folded-ends after_even (line_break b ∷ rest) h = grind (arith, twice-ends, folded-content, even-some, and_parts, folded-ends false rest h.2)
 
   -- and begin with a line that shows the indentation where the value's do
   pub folded-flush : (ps : List Part) → Clean breaks12 ps → BeginsFlush ps → BeginsFlush (folded_parts limit indent false ps)

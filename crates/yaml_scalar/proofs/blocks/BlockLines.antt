@@ -1,10 +1,10 @@
 -- A literal or folded body holds no CR and no U+0085, and each of its nonempty lines after the header begins with
 -- two spaces at least; so both hold as its line breaks are written, and reading it gives the value.
 use Rattle.yaml_scalar.proofs.Common.{suc, zero, ℕ, ◌+◌, ◌≤◌, ◌==◌, Option, Some, replicate, Bool, false, not, true, ◌||◌, List, [], ◌++◌, ◌∷◌, refl, ◌≡◌}
-use Rattle.yaml_scalar.proofs.Common.{append_assoc, ap, ◌∙◌, arith, and_from, or_from, or_left, or_right, not_from_false, breaks-round, rendered-append}
-use Rattle.yaml_scalar.proofs.Common.{indented-written, Text, line_feed, carriage_return, next_line, line_separator, paragraph_separator, space, is_break}
+use Rattle.yaml_scalar.proofs.Common.{append_assoc, arith, and_from, or_from, or_left, or_right, not_from_false, breaks-round, rendered-append}
+use Rattle.yaml_scalar.proofs.Common.{indented-written, Text, line_feed, carriage_return, next_line, space, is_break}
 use Rattle.yaml_scalar.proofs.Common.{Cursor, with_breaks_written, with_line_breaks_read, is_rendered_text, begins_indented, is_indented_text, LineBreak}
-use Rattle.yaml_scalar.proofs.Common.{read_block, Charset, allows_block, Ending, without_break, one_break, more_breaks, ending, begins_blank, ending_hint}
+use Rattle.yaml_scalar.proofs.Common.{read_block, Charset, allows_block, Ending, without_break, one_break, more_breaks, ending_hint}
 use Rattle.yaml_scalar.proofs.Common.{block_body, Encloses, folded_parts, folded_body, Part, line, line_break, parts, indented, literal_body}
 use Rattle.yaml_base.proofs.Common.{ne_eqb}
 use Rattle.yaml_scalar.proofs.blocks.{BlockFolds.folded-clean, BlockParts.Ordinary, BlockParts.IsLine, BlockParts.Clean, BlockParts.parts-clean}
@@ -50,10 +50,7 @@ lines-begin breaks12 less (line_break b ∷ rest) h = break-first b (indented (s
 
 lines-indented : (breaks12 : Bool) (less : ℕ) (ps : List Part) → Clean breaks12 ps → is_indented_text (indented (suc (suc less)) ps) ≡ true
 lines-indented breaks12 less [] h = refl
-lines-indented breaks12 less (line text ∷ rest) h =
-    ap is_indented_text (append_assoc (replicate (suc (suc less)) space) text (indented (suc (suc less)) rest))
-    ∙ spaces-indented (suc (suc less)) (text ++ indented (suc (suc less)) rest)
-    (line-indented breaks12 text (indented (suc (suc less)) rest) h.0 (lines-indented breaks12 less rest h.2))
+lines-indented breaks12 less (line text ∷ rest) h = grind (arith, append_assoc, spaces-indented, line-indented, lines-indented breaks12 less rest h.2)
 lines-indented breaks12 less (line_break b ∷ rest) h =
     and_from _ _ (or_right _ _ (lines-begin breaks12 less rest h.2)) (lines-indented breaks12 less rest h.2)
 
@@ -62,11 +59,7 @@ digit-rendered n high =
     not_from_false _ (or_from _ _ (ne_eqb (48 + n) carriage_return (λ e. omega (arith, e))) (ne_eqb (48 + n) next_line (λ e. omega (arith, e))))
 
 digit-unbroken : (n : ℕ) → n ≤ 9 → is_break (48 + n) ≡ false
-digit-unbroken n high =
-    or_from _ _ (or_from _ _ (or_from _ _
-    (or_from _ _ (ne_eqb (48 + n) line_feed (λ e. omega (arith, e))) (ne_eqb (48 + n) carriage_return (λ e. omega (arith, e))))
-    (ne_eqb (48 + n) next_line (λ e. omega (arith, e)))) (ne_eqb (48 + n) line_separator (λ e. omega (arith, e))))
-    (ne_eqb (48 + n) paragraph_separator (λ e. omega (arith, e)))
+digit-unbroken n high = grind (arith, or_from, ne_eqb)
 
 hint-rendered : (e : Ending) → is_rendered_text (ending_hint e) ≡ true
 hint-rendered without_break = refl
@@ -101,17 +94,12 @@ symbol-indented false rest h = h
 
 header-indented : (folded blank : Bool) (e : Ending) (n : ℕ) (lines : Text) → n ≤ 9 → begins_indented lines ≡ true → is_indented_text lines ≡ true
     → is_indented_text (block_indicator_of folded ∷ ((digit_text blank n ++ ending_hint e) ++ line_feed ∷ lines)) ≡ true
-header-indented folded blank e n lines high b h =
-    symbol-indented folded ((digit_text blank n ++ ending_hint e) ++ line_feed ∷ lines)
-    (ap is_indented_text (append_assoc (digit_text blank n) (ending_hint e) (line_feed ∷ lines))
-    ∙ digit-indented blank n (ending_hint e ++ line_feed ∷ lines) high (hint-indented e (line_feed ∷ lines) (and_from _ _ b h)))
+header-indented folded blank e n lines high b h = grind (arith, symbol-indented, append_assoc, digit-indented, hint-indented, and_from)
 
 -- a body of clean lines
 body-rendered : (breaks12 folded : Bool) (indent best_indent : ℕ) (value : Text) (ps : List Part) (cursor : Cursor) → best_indent ≤ 9 → Clean breaks12 ps
     → is_rendered_text (block_body (block_indicator_of folded) best_indent value (indented indent ps) cursor).text ≡ true
-body-rendered breaks12 folded indent best_indent value ps cursor high clean =
-    ap is_rendered_text (block-text (block_indicator_of folded) best_indent value (indented indent ps) cursor)
-    ∙ header-rendered folded (begins_blank value) (ending value) best_indent (indented indent ps) high (lines-rendered breaks12 indent ps clean)
+body-rendered breaks12 folded indent best_indent value ps cursor high clean = grind (arith, block-text, header-rendered, lines-rendered)
 
 body-indented : (breaks12 folded : Bool) (indent best_indent : ℕ) (value : Text) (ps : List Part) (cursor : Cursor) → best_indent ≤ 9 → 2 ≤ indent
     → Clean breaks12 ps
@@ -119,9 +107,7 @@ body-indented : (breaks12 folded : Bool) (indent best_indent : ℕ) (value : Tex
 body-indented breaks12 folded zero best_indent value ps cursor high low clean = absurd (omega arith)
 body-indented breaks12 folded (suc zero) best_indent value ps cursor high low clean = absurd (omega arith)
 body-indented breaks12 folded (suc (suc less)) best_indent value ps cursor high low clean =
-    ap is_indented_text (block-text (block_indicator_of folded) best_indent value (indented (suc (suc less)) ps) cursor)
-    ∙ header-indented folded (begins_blank value) (ending value) best_indent (indented (suc (suc less)) ps) high
-    (lines-begin breaks12 less ps clean) (lines-indented breaks12 less ps clean)
+    grind (arith, block-text, header-indented, lines-begin, lines-indented)
 
 -- what is promised of a body: as it was written, with any line breaks, it reads as the value, and each nonempty
 -- line after its first begins with at least two spaces
@@ -131,10 +117,7 @@ pub record IsBlockText (breaks12 : Bool) (column : Option ℕ) (setting : LineBr
 
 block-kept : (breaks12 : Bool) (column : Option ℕ) (setting : LineBreak) (value body : Text) → is_rendered_text body ≡ true → is_indented_text body ≡ true
     → read_block breaks12 column body ≡ Some value → IsBlockText breaks12 column setting value body
-block-kept breaks12 column setting value body rendered lines reads = record {
-  reads = rw (breaks-round setting body rendered) reads;
-  indented = indented-written setting body lines;
-}
+block-kept breaks12 column setting value body rendered lines reads = grind (arith, breaks-round, indented-written)
 
 module _ (charset : Charset) (value : Text) (allowed : allows_block charset value ≡ true) (indent best_indent : ℕ)
     (low : 2 ≤ best_indent) (high : best_indent ≤ 9) (above : best_indent ≤ indent) (cursor : Cursor) where

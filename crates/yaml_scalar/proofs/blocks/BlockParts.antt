@@ -1,6 +1,6 @@
 -- A value's parts, and that a reader cuts indented parts where they were joined.
-use Rattle.yaml_scalar.proofs.Common.{suc, zero, ℕ, if◌then◌else◌, ◌==◌, option_map, Some, replicate, Bool, false, true, List, [], ◌++◌, ◌∷◌, refl, ◌≡◌, ap}
-use Rattle.yaml_scalar.proofs.Common.{◌∙◌, Text, carriage_return, next_line, space, is_space, is_blank, is_break, is_read_break, Element, content, line_end}
+use Rattle.yaml_scalar.proofs.Common.{arith, suc, zero, ℕ, if◌then◌else◌, ◌==◌, option_map, Some, replicate, Bool, false, true, List, [], ◌++◌, ◌∷◌, refl, ◌≡◌}
+use Rattle.yaml_scalar.proofs.Common.{ap, ◌∙◌, Text, carriage_return, next_line, space, is_space, is_blank, is_break, is_read_break, Element, content, line_end}
 use Rattle.yaml_scalar.proofs.Common.{elements, all_unindented, joined, begins_with, Part, line, line_break, begun, parts, indented}
 use Rattle.yaml_base.specs.reading.ReadBlock.{prepend_to_elements, leading_spaces, detected_indentation, unindented}
 
@@ -113,9 +113,7 @@ elements-unbroken : (breaks12 : Bool) (c : ℕ) (text rest : Text) → Unbroken 
     → elements breaks12 (c ∷ (text ++ rest)) ≡ content (c ∷ text) ∷ elements breaks12 rest
 elements-unbroken breaks12 c [] rest h apart =
     element-unbroken breaks12 c (elements breaks12 rest) (is_read_break breaks12 c) h.0 ∙ prepend_to_elements-alone c (elements breaks12 rest) apart
-elements-unbroken breaks12 c (d ∷ text) rest h apart =
-    element-unbroken breaks12 c (elements breaks12 (d ∷ (text ++ rest))) (is_read_break breaks12 c) h.0
-    ∙ ap (prepend_to_elements c) (elements-unbroken breaks12 d text rest h.1 apart)
+elements-unbroken breaks12 c (d ∷ text) rest h apart = grind (arith, element-unbroken, elements-unbroken breaks12 d text rest h.1 apart)
 
 element-broken : (c : ℕ) (es : List Element) (b : Bool) → b ≡ true → (if b then line_end c ∷ es else prepend_to_elements c es) ≡ line_end c ∷ es
 element-broken c es b e = rw e refl
@@ -129,9 +127,7 @@ elements-indented breaks12 less (line text ∷ rest) h =
     elements-unbroken breaks12 space (replicate less space ++ text) (indented (suc less) rest)
     (spaces-unbroken breaks12 (suc less) text (line-unbroken breaks12 text h.0)) apart
     ∙ ap (λ es. content (space ∷ (replicate less space ++ text)) ∷ es) further
-elements-indented breaks12 less (line_break b ∷ rest) h =
-    element-broken b (elements breaks12 (indented (suc less) rest)) (is_read_break breaks12 b) ((h.0).same_break ∙ h.1)
-    ∙ ap (λ es. line_end b ∷ es) (elements-indented breaks12 less rest h.2)
+elements-indented breaks12 less (line_break b ∷ rest) h = grind (arith, element-broken, elements-indented breaks12 less rest h.2)
 
 unindented-spaces : (n : ℕ) (text : Text) → unindented n (replicate n space ++ text) ≡ Some text
 unindented-spaces zero text = refl

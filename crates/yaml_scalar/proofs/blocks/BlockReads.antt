@@ -1,17 +1,15 @@
 -- A literal or folded body is read as exactly its value.
-use Rattle.yaml_scalar.proofs.Common.{suc, zero, ℕ, ◌+◌, ◌-◌, ◌≤◌, if◌then◌else◌, ◌==◌, option_map, Option, None, Some, Bool, false, not, true, ◌&&◌, ◌||◌}
-use Rattle.yaml_scalar.proofs.Common.{List, [], ◌++◌, ◌∷◌, refl, ◌≡◌, eqb-true, le-leb, append_assoc, ap, sym, ◌∙◌, arith, and_from, or_parts}
-use Rattle.yaml_scalar.proofs.Common.{false_from_ne_true, not-false, not-true, false≢true, Text, is_between, line_feed, carriage_return, next_line}
-use Rattle.yaml_scalar.proofs.Common.{line_separator, paragraph_separator, space, tab, is_ascii, is_space, is_break, is_printable, Cursor, elements}
-use Rattle.yaml_scalar.proofs.Common.{all_unindented, has_content, kept_lines, final_ends, unfolded, chomped, read_block, Charset, somewhere, is_empty}
-use Rattle.yaml_scalar.proofs.Common.{is_special, is_trailing_space, bars_block, allows_block, Ending, without_break, one_break, more_breaks, ending}
-use Rattle.yaml_scalar.proofs.Common.{begins_blank, indentation_hint, ending_hint, render_hint, block_body, Encloses, folded_parts, folded_body, Part, line}
-use Rattle.yaml_scalar.proofs.Common.{line_break, begun, parts, indented, literal_body}
+use Rattle.yaml_scalar.proofs.Common.{suc, zero, ℕ, ◌+◌, ◌≤◌, if◌then◌else◌, ◌==◌, Option, None, Some, Bool, false, not, true, ◌&&◌, ◌||◌, List, [], ◌++◌, ◌∷◌}
+use Rattle.yaml_scalar.proofs.Common.{refl, ◌≡◌, eqb-true, le-leb, append_assoc, ap, sym, ◌∙◌, arith, and_from, or_parts, false_from_ne_true, not-false}
+use Rattle.yaml_scalar.proofs.Common.{not-true, false≢true, Text, is_between, line_feed, is_space, is_printable, Cursor, elements, all_unindented, has_content}
+use Rattle.yaml_scalar.proofs.Common.{kept_lines, final_ends, unfolded, chomped, read_block, Charset, somewhere, is_empty, is_special, is_trailing_space}
+use Rattle.yaml_scalar.proofs.Common.{bars_block, allows_block, Ending, without_break, one_break, more_breaks, ending, begins_blank, indentation_hint}
+use Rattle.yaml_scalar.proofs.Common.{ending_hint, render_hint, block_body, Encloses, folded_parts, folded_body, Part, parts, indented, literal_body}
 use Rattle.yaml_base.specs.reading.ReadBlock.{read_indentation, lines_read, digit_first, after_digit, read_lines}
 use Rattle.yaml_scalar.proofs.blocks.BlockFinal.{joined-kept, unfolded-kept, ends-parts, chomping_of, chomped-ends}
 use Rattle.yaml_scalar.proofs.blocks.BlockFolds.{folded-clean, folded-content, folded-reads, folded-ends, folded-flush}
-use Rattle.yaml_scalar.proofs.blocks.BlockParts.{Ordinary, AllOrdinary, Clean, parts-clean, bare, shifted, joined-parts, elements-indented}
-use Rattle.yaml_scalar.proofs.blocks.BlockParts.{unindented-shifted, BeginsFlush, detected_indentation-shifted}
+use Rattle.yaml_scalar.proofs.blocks.BlockParts.{Ordinary, AllOrdinary, Clean, parts-clean, bare, shifted, joined-parts, elements-indented, unindented-shifted}
+use Rattle.yaml_scalar.proofs.blocks.BlockParts.{BeginsFlush, detected_indentation-shifted}
 
 -- what isn't printable isn't among printable characters
 other-than : (c d : ℕ) → is_printable c ≡ true → is_printable d ≡ false → (c == d) ≡ false
@@ -33,20 +31,7 @@ or-none false = refl
 
 -- a character that isn't special is ordinary
 pub ordinary : (charset : Charset) (c : ℕ) → is_special charset c ≡ false → Ordinary charset.breaks12 c
-ordinary charset c h =
-    let outer = or_parts (not (is_printable c) || (not charset.unicode && not (is_ascii c)))
-    (charset.breaks12 && (c == line_separator || c == paragraph_separator)) h in
-    let printable : is_printable c ≡ true = not-false (is_printable c) (or_parts (not (is_printable c)) (not charset.unicode && not (is_ascii c)) outer.0).0 in
-    let return : (c == carriage_return) ≡ false = other-than c carriage_return printable refl in
-    let next : (c == next_line) ≡ false = other-than c next_line printable refl in
-    let tabless : (c == tab) ≡ false = other-than c tab printable refl in
-    record {
-      same_break = rw (return, next) (same-break (c == line_feed) (c == line_separator) (c == paragraph_separator) charset.breaks12
-          (λ e. rw e at outer.1));
-      same_blank = rw tabless (or-none (c == space));
-      no_return = return;
-      no_next_line = next;
-    }
+ordinary charset c h = grind (arith, or_parts, not-false, other-than, same-break, or-none)
 
 ordinary-somewhere : (charset : Charset) (value : Text) → somewhere (bars_block charset) value ≡ false → AllOrdinary charset.breaks12 value
 ordinary-somewhere charset [] h = tt
@@ -57,9 +42,7 @@ ordinary-somewhere charset (c ∷ rest) h =
 
 -- a value that block styles are allowed for isn't empty, and all its characters are ordinary
 pub allowed-ordinary : (charset : Charset) (value : Text) → allows_block charset value ≡ true → AllOrdinary charset.breaks12 value
-allowed-ordinary charset value h =
-    let parts = or_parts (is_empty value) (somewhere (bars_block charset) value) (not-true (is_empty value || somewhere (bars_block charset) value) h) in
-    ordinary-somewhere charset value parts.1
+allowed-ordinary charset value h = grind (arith, or_parts, not-true, ordinary-somewhere)
 
 -- the text of a hint
 hint-text : (hint : Text) (cursor : Cursor) → (render_hint hint cursor).text ≡ hint
@@ -70,18 +53,14 @@ hint-text (c ∷ rest) cursor = refl
 pub block-text : (symbol best_indent : ℕ) (value lines : Text) (cursor : Cursor)
     → (block_body symbol best_indent value lines cursor).text ≡ symbol ∷ ((indentation_hint best_indent value ++ ending_hint
     (ending value)) ++ line_feed ∷ lines)
-block-text symbol best_indent value lines cursor =
-    rw (hint-text (indentation_hint best_indent value), hint-text (ending_hint (ending value)))
-    (ap (λ t. symbol ∷ t) (append_assoc (indentation_hint best_indent value ++ ending_hint (ending value)) (line_feed ∷ []) lines))
+block-text symbol best_indent value lines cursor = grind (arith, hint-text, append_assoc)
 
 -- the digit of an indent of 2 to 9
 is-digit : (n : ℕ) → 2 ≤ n → n ≤ 9 → is_between 49 57 (48 + n) ≡ true
 is-digit n low high = and_from _ _ (le-leb 49 (48 + n) (omega arith)) (le-leb (48 + n) 57 (omega arith))
 
 digit-read : (n : ℕ) (rest : Text) → 2 ≤ n → n ≤ 9 → digit_first ((48 + n) ∷ rest) ≡ Some n
-digit-read n rest low high =
-    let less : (48 + n) - 48 ≡ n = omega arith in
-    rw (is-digit n low high) (ap Some less)
+digit-read n rest low high = grind (arith, is-digit)
 
 digit-passed : (n : ℕ) (rest : Text) → 2 ≤ n → n ≤ 9 → after_digit ((48 + n) ∷ rest) ≡ rest
 digit-passed n rest low high = rw (is-digit n low high) refl
@@ -130,19 +109,7 @@ unindented-lines false indent best_indent (Some column) ps e f = detected_indent
 
 -- a value's first character says whether its first line shows the read_indentation
 flush-parts : (c : ℕ) (rest : Text) → begins_blank (c ∷ rest) ≡ false → BeginsFlush (parts (c ∷ rest))
-flush-parts c rest h = by (is_break c) refl
-  where
-    both : (is_space c ≡ false) × (is_break c ≡ false)
-    both = or_parts (is_space c) (is_break c) h
-
-    by : (b : Bool) → is_break c ≡ b → BeginsFlush (if b then line_break c ∷ parts rest else begun c (parts rest))
-    by true e = absurd (false≢true (sym both.1 ∙ e))
-    by false e = flush-begun c (parts rest) both.0
-      where
-        flush-begun : (d : ℕ) (ps : List Part) → is_space d ≡ false → BeginsFlush (begun d ps)
-        flush-begun d [] k = k
-        flush-begun d (line text ∷ others) k = k
-        flush-begun d (line_break b ∷ others) k = k
+flush-parts c rest h = grind (arith, or_parts, false≢true)
 
 flush-value : (value : Text) → begins_blank value ≡ false → BeginsFlush (parts value)
 flush-value [] h = tt
@@ -156,10 +123,7 @@ block-reads : (breaks12 folded : Bool) (indent best_indent : ℕ) (column : Opti
     ≡ Some (lines_read folded (chomping_of (ending value)) (bare ps))
 block-reads breaks12 folded zero best_indent column value ps cursor low high positive e clean flush = absurd (omega arith)
 block-reads breaks12 folded (suc less) best_indent column value ps cursor low high positive e clean flush =
-    ap (read_block breaks12 column) (block-text (block_indicator_of folded) best_indent value (indented (suc less) ps) cursor)
-    ∙ read-header breaks12 folded (begins_blank value) (ending value) best_indent column (indented (suc less) ps) low high
-    ∙ ap (read_lines folded (chomping_of (ending value)) (digit_of (begins_blank value) best_indent) column) (elements-indented breaks12 less ps clean)
-    ∙ ap (option_map (lines_read folded (chomping_of (ending value)))) (unindented-lines (begins_blank value) (suc less) best_indent column ps e flush)
+    grind (arith, block-text, read-header, elements-indented, unindented-lines)
 
 -- the value's own lines read as the value
 literal-lines : (value : Text) → lines_read false (chomping_of (ending value)) (bare (parts value)) ≡ value

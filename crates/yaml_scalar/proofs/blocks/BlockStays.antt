@@ -1,11 +1,9 @@
 -- What stays in a block scalar's line is rendered as itself.
-use Rattle.yaml_scalar.proofs.Common.{ℕ, if◌then◌else◌, Option, Ok, Bool, false, not, true, [], ◌∷◌, refl, ◌≡◌, ap, sym, ◌∙◌, Text, is_space, is_break}
-use Rattle.yaml_scalar.proofs.Common.{Cursor, Rendered, render_then, render_text, begins_with, is_past_limit, folds, wrote_all, Page, Wrote, place_after}
-use Rattle.yaml_scalar.proofs.Common.{render_content, render_inner, is_doubled, render_end, render_step, stays_at, lines_from, has_limit}
-use Rattle.yaml_base.specs.Cursor.{with_flags}
-use Rattle.yaml_scalar.{proofs.RunsWritten.StandAlone, proofs.WholeRuns.no_fold, specs.BlockSteps.within, specs.BlockSteps.render_folded}
-use Rattle.yaml_scalar.{specs.declared.block_lines.Place.Place, specs.declared.block_lines.Place.TheVariants.Fixed}
-use Rattle.yaml_scalar.{specs.declared.block_lines.Place.TheVariants.Folding, specs.declared.block_lines.Place.TheVariants.LineStart}
+use Rattle.yaml_scalar.proofs.Common.{arith, ℕ, Option, Ok, Bool, false, true, [], ◌∷◌, refl, ◌≡◌, ap, sym, ◌∙◌, Text, is_break, Cursor, render_then}
+use Rattle.yaml_scalar.proofs.Common.{render_text, wrote_all, Page, Wrote, place_after, render_content, render_inner, render_step, stays_at, lines_from}
+use Rattle.yaml_scalar.proofs.Common.{has_limit}
+use Rattle.yaml_scalar.{proofs.RunsWritten.StandAlone, proofs.WholeRuns.no_fold, specs.BlockSteps.within, specs.declared.block_lines.Place.Place}
+use Rattle.yaml_scalar.specs.declared.block_lines.Place.TheVariants.{Fixed, Folding, LineStart}
 use Rattle.yaml_scalar.proofs.StaysInLine as line
 
 -- it is no break
@@ -18,30 +16,18 @@ stays_unbroken limit Fixed c h = line.stays_unbroken false false c h
 inner_off : (limit : Option ℕ) (indent : ℕ) (place : Place) (c : ℕ) (rest : Text) (cursor : Cursor)
     → (render_inner limit indent place c rest cursor).cursor.indention ≡ false
 inner_off limit indent LineStart c rest cursor = refl
-inner_off limit indent Folding c rest cursor = by (folds limit cursor.column c rest)
-  where
-    by : (fold : Bool) → (render_folded fold indent c cursor).cursor.indention ≡ false
-    by true = refl
-    by false = refl
+inner_off limit indent Folding c rest cursor = grind (arith)
 inner_off limit indent Fixed c rest cursor = refl
 
 step_off : (folded : Bool) (limit : Option ℕ) (indent : ℕ) (place : Place) (c : ℕ) (rest : Text) (cursor : Cursor) (d : ℕ)
     → stays_at limit (place_after folded place c) d ≡ true → (render_step limit indent place c rest cursor).cursor.indention ≡ false
-step_off folded limit indent place c rest cursor d = by (is_break c)
-  where
-    by : (b : Bool) → stays_at limit (if b then LineStart else within folded place c) d ≡ true
-        → (if b then render_end (is_doubled place c rest) c cursor else render_inner limit indent place c rest cursor).cursor.indention ≡ false
-    by true h = cc
-    by false h = inner_off limit indent place c rest cursor
+step_off folded limit indent place c rest cursor d = grind (arith, inner_off)
 
 -- there a character that stays is rendered as itself
 inner_kept : (limit : Option ℕ) (indent : ℕ) (place : Place) (c : ℕ) (rest : Text) (cursor : Cursor)
     → stays_at limit place c ≡ true → render_inner limit indent place c rest cursor ≡ render_content c cursor
 inner_kept limit indent LineStart c rest cursor h = cc
-inner_kept limit indent Folding c rest cursor h =
-    ap (λ b. render_folded b indent c cursor)
-    (no_fold (λ l. is_past_limit l cursor.column) refl (is_space c) (not (begins_with is_space rest)) limit
-    (line.stays_parts (has_limit limit) false c h).no_fold)
+inner_kept limit indent Folding c rest cursor h = grind (arith, no_fold)
 inner_kept limit indent Fixed c rest cursor h = refl
 
 stays_within : (folded : Bool) (limit : Option ℕ) (place : Place) (c d : ℕ) → stays_at limit place d ≡ true → within folded place c ≡ place
@@ -52,13 +38,7 @@ stays_within folded limit Fixed c d h = refl
 stands_at : (folded : Bool) (limit : Option ℕ) (indent : ℕ) (place : Place) (c : ℕ) (rest : Text) (cursor : Cursor)
     → stays_at limit place c ≡ true → cursor.indention ≡ false
     → lines_from folded limit indent place (c ∷ rest) cursor ≡ render_then (render_text (c ∷ []) cursor) (lines_from folded limit indent place rest)
-stands_at folded limit indent place c rest cursor h off =
-    ap (λ (b : Bool). render_then (if b then render_end (is_doubled place c rest) c cursor else render_inner limit indent place c rest cursor)
-    (lines_from folded limit indent (if b then LineStart else within folded place c) rest)) (stays_unbroken limit place c h)
-    ∙ ap (λ (p : Place). render_then (render_inner limit indent place c rest cursor) (lines_from folded limit indent p rest))
-    (stays_within folded limit place c c h)
-    ∙ ap (λ (l : Rendered). render_then l (lines_from folded limit indent place rest)) (inner_kept limit indent place c rest cursor h)
-    ∙ ap (λ (b : Bool). render_then (with_flags cursor.whitespace b (render_text (c ∷ []) cursor)) (lines_from folded limit indent place rest)) (sym off)
+stands_at folded limit indent place c rest cursor h off = grind (arith, stays_unbroken, stays_within, inner_kept)
 
 -- so it stands for itself behind a step
 pub block_alone : (folded : Bool) (limit : Option ℕ) (indent : ℕ) (place placed : Place) (c : ℕ) (rest : Text) {here after : Page}

@@ -1,25 +1,17 @@
 -- Lines rendered character by character, as code writes them, are the literal and the folded layout.
-use Rattle.yaml_scalar.proofs.Common.{suc, zero, ℕ, ◌+◌, ◌-◌, ◌≤◌, if◌then◌else◌, ◌==◌, Option, nat_lt, replicate, Bool, false, not, true, ◌&&◌, ◌||◌, List}
-use Rattle.yaml_scalar.proofs.Common.{[], ◌++◌, ◌∷◌, refl, ◌≡◌, le-ltb, append_assoc, inl, inr, ap, sym, ◌∙◌, arith, cases_Bool, and_right, or_parts, or_from}
-use Rattle.yaml_scalar.proofs.Common.{Text, line_feed, space, is_break, Cursor, Rendered, first_cursor, render_then, next_column, column_after, breaks_line}
-use Rattle.yaml_scalar.proofs.Common.{new_line, without_break, one_break, more_breaks, ending, render_lines, folds, Part, line, line_break, begun, parts}
-use Rattle.yaml_scalar.proofs.Common.{indented, place_after, render_inner, is_doubled, render_end, render_step, lines_from}
+use Rattle.yaml_scalar.proofs.Common.{suc, zero, ℕ, ◌+◌, if◌then◌else◌, Option, replicate, Bool, false, true, List, [], ◌++◌, ◌∷◌, refl, ◌≡◌, le-ltb}
+use Rattle.yaml_scalar.proofs.Common.{append_assoc, inl, inr, ap, sym, ◌∙◌, arith, cases_Bool, and_right, or_parts, or_from, Text, space, is_break, Cursor}
+use Rattle.yaml_scalar.proofs.Common.{Rendered, first_cursor, render_then, next_column, column_after, new_line, ending, render_lines, folds, Part, line}
+use Rattle.yaml_scalar.proofs.Common.{line_break, begun, parts, indented, place_after, render_inner, is_doubled, render_end, render_step, lines_from}
 use Rattle.yaml_base.proofs.Common.{ends_in_break}
 use Rattle.std.proofs.lemmas.Bool.{ltb-false}
-use Rattle.yaml_scalar.specs.BlockSteps.{render_folded}
-use Rattle.yaml_scalar.specs.declared.block_lines.{Place.Place, Place.TheVariants.Fixed, Place.TheVariants.Folding, Place.TheVariants.LineStart}
-
-abbrev first_line : ℕ → Text → Rendered
-first_line indent text = record { text = text; cursor = record { column = indent; whitespace = true; indention = true } }
+use Rattle.yaml_scalar.specs.{BlockSteps.render_folded, declared.block_lines.Place.Place}
+use Rattle.yaml_scalar.specs.declared.block_lines.Place.TheVariants.{Fixed, Folding, LineStart}
 
 -- a new line where a line begins
 new-line-first : (indent : ℕ) → new_line indent first_cursor
     ≡ record { text = replicate indent space; cursor = record { column = indent; whitespace = true; indention = true } }
-new-line-first indent =
-    let stays : breaks_line indent first_cursor ≡ false = or_from _ _ (le-ltb indent 0 (omega arith)) (and_right (0 == indent) false refl) in
-    let same : indent - 0 ≡ indent = omega arith in
-    ap (λ b. first_line indent (if b then line_feed ∷ replicate indent space else replicate (indent - 0) space)) stays
-    ∙ ap (λ n. first_line indent (replicate n space)) same
+new-line-first indent = grind (arith, or_from, le-ltb, and_right)
 
 -- the column after a new line is the one that its text leads to
 column-spaces : (n column : ℕ) → column_after (replicate n space) column ≡ column + n
@@ -31,17 +23,7 @@ column-after-append [] rest column = refl
 column-after-append (c ∷ prefix) rest column = column-after-append prefix rest (next_column c column)
 
 column-new-line : (at : ℕ) (cursor : Cursor) → column_after (new_line at cursor).text cursor.column ≡ at
-column-new-line at cursor = by (breaks_line at cursor) refl
-  where
-    by : (b : Bool) → breaks_line at cursor ≡ b
-        → column_after (if b then line_feed ∷ replicate at space else replicate (at - cursor.column) space) cursor.column ≡ at
-    by true e = column-spaces at 0 ∙ omega arith
-    by false e =
-        let over : nat_lt at cursor.column
-        ≡ false = (or_parts (not cursor.indention) (nat_lt at cursor.column)
-        (or_parts (not cursor.indention || nat_lt at cursor.column) (cursor.column == at && not cursor.whitespace) e).0).1 in
-        let below : cursor.column ≤ at = ltb-false at cursor.column over in
-        column-spaces (at - cursor.column) cursor.column ∙ omega arith
+column-new-line at cursor = grind (arith, column-spaces, or_parts, ltb-false)
 
 -- the cursor after some text that began at a cursor in white space
 abbrev pub after_text : Text → Bool → ℕ → Cursor
@@ -103,18 +85,8 @@ lines-cursor folded limit indent place (c ∷ rest) column indention =
     ∙ ap (λ (l : Rendered). column_after l.text column) (sym whole))
 
 pub ending-last : (c : ℕ) (rest : Text) → ends_in_break (ending (c ∷ rest)) ≡ last_broken (is_break c) rest
-ending-last c [] = by (is_break c)
-  where
-    by : (b : Bool) → ends_in_break (if b then more_breaks else without_break) ≡ b
-    by true = refl
-    by false = refl
-ending-last c (d ∷ []) = by (is_break c) (is_break d)
-  where
-    by : (a b : Bool) → ends_in_break (if b then (if a then more_breaks else one_break) else without_break) ≡ b
-    by true true = refl
-    by true false = refl
-    by false true = refl
-    by false false = refl
+ending-last c [] = grind (arith)
+ending-last c (d ∷ []) = grind (arith)
 ending-last c (d ∷ e ∷ rest) = ending-last d (e ∷ rest)
 
 -- what a line's first character leads to
@@ -127,9 +99,7 @@ start-step limit indent c rest e =
 pub from-step : (folded : Bool) (limit : Option ℕ) (indent : ℕ) (place next : Place) (c : ℕ) (rest : Text) (cursor : Cursor) (to : Rendered)
     → render_step limit indent place c rest cursor ≡ to → place_after folded place c ≡ next
     → (lines_from folded limit indent place (c ∷ rest) cursor).text ≡ to.text ++ (lines_from folded limit indent next rest to.cursor).text
-from-step folded limit indent place next c rest cursor to e f =
-    ap (λ (l : Rendered). l.text ++ (lines_from folded limit indent (place_after folded place c) rest l.cursor).text) e
-    ∙ ap (λ p. to.text ++ (lines_from folded limit indent p rest to.cursor).text) f
+from-step folded limit indent place next c rest cursor to e f = grind (arith)
 
 -- a break, that isn't doubled
 pub break-step : (limit : Option ℕ) (indent : ℕ) (place : Place) (c : ℕ) (rest : Text) (column : ℕ) (indention twice : Bool) → is_break c ≡ true
@@ -151,9 +121,7 @@ continued indent (line_break b ∷ rest) = b ∷ indented indent rest
 
 indented-begun : (indent c : ℕ) (ps : List Part) → indented indent (begun c ps) ≡ (replicate indent space ++ c ∷ []) ++ continued indent ps
 indented-begun indent c [] = refl
-indented-begun indent c (line text ∷ rest) =
-    append_assoc (replicate indent space) (c ∷ text) (indented indent rest)
-    ∙ sym (append_assoc (replicate indent space) (c ∷ []) (text ++ indented indent rest))
+indented-begun indent c (line text ∷ rest) = grind (arith, append_assoc)
 indented-begun indent c (line_break b ∷ rest) = refl
 
 continued-begun : (indent c : ℕ) (ps : List Part) → continued indent (begun c ps) ≡ c ∷ continued indent ps

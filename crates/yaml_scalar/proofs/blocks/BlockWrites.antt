@@ -1,17 +1,15 @@
 -- The calls of a block scalar's writer make up its layout.
-use Rattle.yaml_scalar.proofs.Common.{ℕ, Option, Bool, false, true, [], ◌++◌, ◌∷◌, refl, ◌≡◌, append_assoc, ap, sym, ◌∙◌, false≢true, Text, Cursor, Rendered}
-use Rattle.yaml_scalar.proofs.Common.{render_then, render_text, space_if, indicator, is_empty, render_hints, render_folded, render_literal, Page, lines_from}
-use Rattle.yaml_scalar.proofs.Common.{separated_header, header_end}
+use Rattle.yaml_scalar.proofs.Common.{arith, ℕ, Option, Bool, false, true, [], ◌++◌, ◌∷◌, refl, ◌≡◌, append_assoc, ap, sym, ◌∙◌, false≢true, Text, Cursor}
+use Rattle.yaml_scalar.proofs.Common.{Rendered, render_then, render_text, space_if, indicator, is_empty, render_hints, render_folded, render_literal, Page}
+use Rattle.yaml_scalar.proofs.Common.{lines_from, separated_header, header_end}
 use Rattle.yaml_base.specs.scalars.BlockHeader.{render_header}
 use Rattle.yaml_scalar.{proofs.StillToWrite.StillToWrite, proofs.blocks.BlockSteps.literal-lines-from, proofs.blocks.FoldedSteps.folded-lines-from}
-use Rattle.yaml_scalar.{specs.BlockSteps.block_indicator_of, specs.BlockSteps.render_block, specs.declared.block_lines.Place.Place}
-use Rattle.yaml_scalar.{specs.declared.block_lines.Place.TheVariants.LineStart}
+use Rattle.yaml_scalar.{specs.declared.block_lines.Place.Place, specs.declared.block_lines.Place.TheVariants.LineStart}
+use Rattle.yaml_scalar.specs.BlockSteps.{block_indicator_of, render_block}
 
 -- one after another, in either grouping
 then-assoc : (a : Rendered) (f g : Cursor → Rendered) → render_then (render_then a f) g ≡ render_then a (λ k. render_then (f k) g)
-then-assoc a f g =
-    ap (λ t. let l : Rendered = record { text = t; cursor = (g (f a.cursor).cursor).cursor } in l)
-    (append_assoc a.text (f a.cursor).text (g (f a.cursor).cursor).text)
+then-assoc a f g = grind (arith, append_assoc)
 
 -- an indicator's separating space is text before it
 indicator-lead : (symbol column : ℕ) (whitespace indention : Bool)
@@ -23,14 +21,7 @@ indicator-lead symbol column false indention = refl
 pub header-steps : (folded : Bool) (best_indent : ℕ) (value : Text) (cursor : Cursor)
     → render_then (render_then (indicator (block_indicator_of folded ∷ []) true false false cursor) (render_hints best_indent value)) header_end
     ≡ separated_header folded best_indent value cursor
-header-steps folded best_indent value cursor =
-    let lead : Rendered = render_text (space_if true cursor) cursor in
-    let symbol : Cursor → Rendered = indicator (block_indicator_of folded ∷ []) false false false in
-    ap (λ (l : Rendered). render_then (render_then l (render_hints best_indent value)) header_end)
-    (indicator-lead (block_indicator_of folded) cursor.column cursor.whitespace cursor.indention)
-    ∙ ap (λ (l : Rendered). render_then l header_end) (then-assoc lead symbol (render_hints best_indent value))
-    ∙ then-assoc lead (λ k. render_then (symbol k) (render_hints best_indent value)) header_end
-    ∙ ap (λ (f : Cursor → Rendered). render_then lead f) (λ i k. then-assoc (symbol k) (render_hints best_indent value) header_end i)
+header-steps folded best_indent value cursor = grind (arith, indicator-lead, then-assoc)
 
 -- a text of which some lines are left to be written, from a place on
 abbrev pub LinesLeft : (folded : Bool) (limit : Option ℕ) (indent : ℕ) (all left : Text) (place : Place) (before now : Page) → Type 0

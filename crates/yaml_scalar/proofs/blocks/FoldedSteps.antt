@@ -1,8 +1,8 @@
 -- Folded lines rendered character by character, as code writes them, are the folded layout.
-use Rattle.yaml_scalar.proofs.Common.{ℕ, ◌+◌, if◌then◌else◌, ◌==◌, Option, replicate, Bool, false, not, true, ◌&&◌, List, [], ◌++◌, ◌∷◌, refl, ◌≡◌, eqb-true}
-use Rattle.yaml_scalar.proofs.Common.{append_assoc, inl, inr, ap, sym, ◌∙◌, cases_Bool, false_from_ne_true, false≢true, Text, line_feed, space, is_space}
-use Rattle.yaml_scalar.proofs.Common.{is_break, first_cursor, begins_with, render_lines, is_past_limit, folds, cut_from, next_line_unindented, folded_parts}
-use Rattle.yaml_scalar.proofs.Common.{Part, line, line_break, begun, parts, indented, render_step, lines_from}
+use Rattle.yaml_scalar.proofs.Common.{arith, ℕ, ◌+◌, if◌then◌else◌, Option, replicate, Bool, false, not, true, ◌&&◌, List, [], ◌++◌, ◌∷◌, refl, ◌≡◌}
+use Rattle.yaml_scalar.proofs.Common.{eqb-true, append_assoc, inl, inr, ap, sym, ◌∙◌, cases_Bool, false_from_ne_true, false≢true, Text, line_feed, space}
+use Rattle.yaml_scalar.proofs.Common.{is_space, is_break, first_cursor, begins_with, render_lines, is_past_limit, folds, cut_from}
+use Rattle.yaml_scalar.proofs.Common.{folded_parts, Part, line, line_break, begun, parts, indented, render_step, lines_from}
 use Rattle.yaml_base.specs.scalars.Lines.{prepend_part}
 use Rattle.yaml_scalar.proofs.blocks.BlockSteps.{after_text, spot, lines-cursor, ending-last, start-step, from-step, break-step, content-step, continued}
 use Rattle.yaml_scalar.proofs.blocks.BlockSteps.{rendered-by}
@@ -73,11 +73,7 @@ head-begun d (line_break b ∷ rest) = refl
 
 head-spaced : (text : Text) → begins_with is_space text ≡ begins_with is_space (head_line (parts text))
 head-spaced [] = refl
-head-spaced (d ∷ rest) =
-    elim (cases_Bool (is_break d)) [
-      | inl e ↦ rw e (space-no-break d e)
-      | inr e ↦ rw e (sym (head-begun d (parts rest)))
-    ]
+head-spaced (d ∷ rest) = grind (arith, cases_Bool, space-no-break, head-begun)
 
 -- the fold that a line's cut sees is the one that the text shows
 folds-head : (limit : Option ℕ) (column c : ℕ) (rest : Text) → folds limit column c (head_line (parts rest)) ≡ folds limit column c rest
@@ -87,9 +83,7 @@ folds-head limit column c rest = ap (λ b. is_space c && not b && is_past_limit 
 fixed-begun : (limit : Option ℕ) (indent c : ℕ) (ps : List Part) → is_space c ≡ true
     → indented indent (folded_parts limit indent false (begun c ps)) ≡ (replicate indent space ++ c ∷ []) ++ fixed_text limit indent ps
 fixed-begun limit indent c [] e = rw e refl
-fixed-begun limit indent c (line text ∷ rest) e = rw e
-    (append_assoc (replicate indent space) (c ∷ text) (indented indent (folded_parts limit indent false rest))
-    ∙ sym (append_assoc (replicate indent space) (c ∷ []) (text ++ indented indent (folded_parts limit indent false rest))))
+fixed-begun limit indent c (line text ∷ rest) e = grind (arith, append_assoc)
 fixed-begun limit indent c (line_break b ∷ rest) e = rw e refl
 
 fixed-inner : (limit : Option ℕ) (indent c : ℕ) (ps : List Part) → fixed_text limit indent (begun c ps) ≡ c ∷ fixed_text limit indent ps
@@ -118,10 +112,7 @@ folding-inner limit indent column c (line_break b ∷ rest) fold e =
 -- a line's first character, where it isn't a space, is never a fold
 begun-first : (indent c : ℕ) (ps rest : List Part) → BeginsLine ps
     → indented indent (begun c ps ++ rest) ≡ (replicate indent space ++ c ∷ []) ++ continued indent (ps ++ rest)
-begun-first indent c ps rest h =
-    indented-line indent (begun c ps) rest (begun-line c ps)
-    ∙ ap (λ t. replicate indent space ++ t) (continued-first indent c ps rest h)
-    ∙ sym (append_assoc (replicate indent space) (c ∷ []) (continued indent (ps ++ rest)))
+begun-first indent c ps rest h = grind (arith, indented-line, begun-line, continued-first, append_assoc)
 
 folding-begun : (limit : Option ℕ) (indent c : ℕ) (ps : List Part) → is_space c ≡ false
     → indented indent (folded_parts limit indent false (begun c ps)) ≡ (replicate indent space ++ c ∷ []) ++ folding_text limit indent (indent + 1) ps
@@ -144,18 +135,7 @@ twice-text indent c true ps = refl
 twice-text indent c false ps = refl
 
 folded-broken : (limit : Option ℕ) (indent c : ℕ) (rest : Text) → is_break c ≡ true → FoldedFrom limit indent rest → FoldedFrom limit indent (c ∷ rest)
-folded-broken limit indent c rest e more =
-    let twice : Bool = c == line_feed && next_line_unindented (parts rest) in
-    record {
-      start = from-step true limit indent LineStart LineStart c rest first_cursor _ (break-step limit indent LineStart c rest 0 true false e refl) (rw e refl)
-          ∙ rw e (ap (λ t. c ∷ t) more.start);
-      inner = λ column. from-step true limit indent Fixed LineStart c rest (spot column false) _
-          (break-step limit indent Fixed c rest column false false e refl) (rw e refl)
-          ∙ rw e (ap (λ t. c ∷ t) more.start);
-      bent = λ column. from-step true limit indent Folding LineStart c rest (spot column false) _
-          (break-step limit indent Folding c rest column false twice e refl) (rw e refl)
-          ∙ rw e (ap (λ t. (if twice then c ∷ c ∷ [] else c ∷ []) ++ t) more.start ∙ twice-text indent c twice (folded_parts limit indent false (parts rest)));
-    }
+folded-broken limit indent c rest e more = grind (arith, from-step, break-step, twice-text)
 
 folded-first : (limit : Option ℕ) (indent c : ℕ) (rest : Text) → is_break c ≡ false → FoldedFrom limit indent rest
     → (lines_from true limit indent LineStart (c ∷ rest) first_cursor).text ≡ indented indent (folded_parts limit indent false (begun c (parts rest)))
@@ -172,16 +152,7 @@ part-begun c ps e = rw e refl
 
 folded-more : (limit : Option ℕ) (indent c : ℕ) (rest : Text) → is_break c ≡ false → FoldedFrom limit indent rest → FoldedFrom limit indent (c ∷ rest)
 folded-more limit indent c rest e more =
-    record {
-      start = folded-first limit indent c rest e more ∙ ap (λ ps. indented indent (folded_parts limit indent false ps)) (part-begun c (parts rest) e);
-      inner = λ column. from-step true limit indent Fixed Fixed c rest (spot column false) _ (content-step limit indent c rest column e) (rw e refl)
-          ∙ rw e (ap (λ t. c ∷ t) (more.inner (column + 1)) ∙ sym (fixed-inner limit indent c (parts rest)));
-      bent = λ column.
-          let fold : Bool = folds limit column c rest in
-          from-step true limit indent Folding Folding c rest (spot column false) _ (fold-step limit indent c rest column fold e refl) (rw e refl)
-          ∙ rw e (ap (λ t. (if fold then line_feed ∷ replicate indent space else c ∷ []) ++ t) (more.bent (if fold then indent else column + 1))
-          ∙ sym (folding-inner limit indent column c (parts rest) fold (folds-head limit column c rest)));
-    }
+    grind (arith, folded-first, part-begun, from-step, content-step, fixed-inner, fold-step, folding-inner, folds-head)
 
 folded-from : (limit : Option ℕ) (indent : ℕ) (text : Text) → FoldedFrom limit indent text
 folded-from limit indent [] = record { start = refl; inner = λ column. refl; bent = λ column. refl }
