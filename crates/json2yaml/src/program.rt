@@ -171,7 +171,9 @@ fn send_buffered<'a, R: Runtime + AllocGlobal, W: Write + Drop>(
     flushed.map_err(|error| (None, write_fault_of(error)))
 }
 
-/// Writes to a file what is to be converted, which appears whole or not at all.
+/// Writes to a file what is to be converted, which appears whole or not at all. (Not inlined: the names of files that it makes
+/// take much stack, which a run without `-o` doesn't need.)
+#[inline(never)]
 fn send_to_file<'a, R: Runtime + AllocGlobal>(
     rt: &R,
     conversion: &Conversion<'a>,

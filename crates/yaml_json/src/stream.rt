@@ -302,6 +302,8 @@ fn write_last<A: Allocator + Copy>(
 ///
 /// `Refused` as by `write_json_texts`; `NotText` and `Marked` where a text isn't UTF-8, or begins with a byte order mark;
 /// `ReadFailed` and `WriteFailed`. Until then the sink was given whole documents, those of the texts before the one that is refused.
+// (Not inlined, since `Scratch` is large: else a caller holds one on its stack for each call, also while it opens a file.)
+#[inline(never)]
 pub fn send_json_texts<A: Allocator + Copy, R: Read, W: Write>(
     alloc: A,
     writer: &mut Writer<A>,
