@@ -59,7 +59,6 @@ pub fn is_printable(character: char) -> bool
 }
 
 /// An upper-case hexadecimal digit.
-#[inline]
 pub fn hex_digit(digit: u8) -> u8
     requires { digit < 16 }
     ensures value { result ≡ class.hex_digit digit }

@@ -8,7 +8,6 @@ ghost use Rattle.yaml_pen.specs.Page.{buffer_size};
 use yaml_base::is_break;
 
 /// The column after a character.
-#[inline(always)]
 pub(crate) fn next_column(character: char, column: u32) -> u32
     ensures { (unbounded : ℕ) → column ≡ min unbounded 4294967295 → result ≡ min (next_column character unbounded) 4294967295 }
 {
@@ -20,7 +19,6 @@ pub(crate) fn next_column(character: char, column: u32) -> u32
 }
 
 /// Whether a byte is the first of a character.
-#[inline]
 fn begins_character(byte: u8) -> bool
     ensures { result ≡ is_char_start byte }
 {

@@ -46,7 +46,6 @@ pub(crate) fn encoded_break(encoding: yaml_encoding_t, line_break: yaml_break_t)
     }
 }
 
-#[inline(always)]
 fn utf8_bytes(character: char) -> CharacterBytes
     ensures { result.items ≡ encode_utf8 character }
 {

@@ -77,7 +77,6 @@ impl<A: Allocator> Outlet<A> {
     }
 
     /// Empties the buffer into the output.
-    #[inline(never)]
     pub(crate) fn flush(&mut self) -> Result<(), yaml_error_t>
         ensures emptied { Emptied self.old self.new result }
         ensures output { IsPrefix self.old.output self.new.output }
@@ -151,7 +150,6 @@ impl<A: Allocator> Outlet<A> {
         }
     }
 
-    #[inline(always)]
     fn append_all(&mut self, bytes: &[u8]) -> Result<(), yaml_error_t>
         requires { length bytes.now ≤ buffer_size }
         ensures { Appended bytes.now self.old self.new result }
@@ -167,7 +165,6 @@ impl<A: Allocator> Outlet<A> {
     }
 
     // One byte is a store.
-    #[inline(always)]
     fn push(&mut self, byte: u8) -> Result<(), yaml_error_t>
         ensures { Appended (byte ∷ []) self.old self.new result }
     {

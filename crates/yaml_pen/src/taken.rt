@@ -23,7 +23,6 @@ impl TakenBytes {
     }
 
     /// More bytes are taken.
-    #[inline(always)]
     pub(crate) fn with(&self, _more: &[u8]) -> TakenBytes
         ensures { result.bytes ≡ self.now.bytes ++ _more.now }
     {

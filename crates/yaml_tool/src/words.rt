@@ -9,7 +9,6 @@ ghost use Rattle.yaml_tool.specs.Events.{event_word, seen_collection_style};
 use yaml_base::{yaml_break_t, yaml_encoding_t, yaml_scalar_style_t};
 
 /// Whether a word is this name, which is ASCII.
-#[inline(always)]
 pub fn is_word(word: &str, name: &'static str) -> bool
     requires { IsTrue (list_all (λ byte. nat_lt byte 128) name.now) }
     ensures { result ≡ notation.is_word (chars word.now) name.now }
@@ -18,7 +17,6 @@ pub fn is_word(word: &str, name: &'static str) -> bool
 }
 
 /// Whether two texts are equal. Compares byte by byte, since the name is short and known when this is compiled.
-#[inline(always)]
 fn is_same(word: &[u8], name: &[u8]) -> bool
     ensures { result ≡ bytes_eq word.now name.now }
 {
@@ -95,7 +93,6 @@ pub fn event_named(word: &str) -> Option<EventName>
 }
 
 /// `0` or `1`.
-#[inline(always)]
 pub fn flag_named(word: &str) -> Option<bool>
     ensures { result ≡ notation.named notation.flags (chars word.now) }
 {
@@ -169,7 +166,6 @@ pub fn break_named(word: &str) -> Option<yaml_break_t>
 }
 
 /// `any`, `plain`, `single`, `double`, `literal` or `folded`.
-#[inline(always)]
 pub fn scalar_style_named(word: &str) -> Option<yaml_scalar_style_t>
     ensures { option_map seen_scalar_style result ≡ notation.named notation.scalar_styles (chars word.now) }
 {

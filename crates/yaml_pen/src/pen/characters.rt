@@ -26,7 +26,6 @@ impl<A: Allocator> Pen<A> {
     }
 
     /// Writes a character of ASCII that is no break.
-    #[inline(always)]
     pub fn put(&mut self, character: u8) -> Result<(), yaml_error_t>
         requires ready { IsReady self.old }
         requires ascii { character < 128 }
@@ -38,7 +37,6 @@ impl<A: Allocator> Pen<A> {
     }
 
     /// Writes characters none of which is a break.
-    #[inline(always)]
     pub fn write_run(&mut self, text: &str) -> Result<(), yaml_error_t>
         requires ready { IsReady self.old }
         requires no_break { list_any is_break (chars text.now) ≡ false }
@@ -98,7 +96,6 @@ impl<A: Allocator> Pen<A> {
     }
 
     /// Writes nothing, and returns the error of a pen that failed.
-    #[inline]
     pub fn write_nothing(&self) -> Result<(), yaml_error_t>
         requires { IsReady self.now }
         ensures { Wrote render_nothing self.now self.now result }
@@ -141,7 +138,6 @@ impl<A: Allocator> Pen<A> {
     }
 
     // In UTF-8, pieces of whole characters that fit the buffer.
-    #[inline(always)]
     fn write_pieces(&mut self, text: &str) -> Result<(), yaml_error_t>
         requires ready { IsReady self.old }
         requires no_bom { has_bom self.old.encoding ≡ false }
@@ -173,7 +169,6 @@ impl<A: Allocator> Pen<A> {
     }
 
     // One character after another.
-    #[inline(never)]
     fn write_characters(&mut self, text: &str) -> Result<(), yaml_error_t>
         requires ready { IsReady self.old }
         requires no_break { list_any is_break (chars text.now) ≡ false }
@@ -188,7 +183,6 @@ impl<A: Allocator> Pen<A> {
         Ok(())
     }
 
-    #[inline]
     pub(super) fn write_character(&mut self, character: char) -> Result<(), yaml_error_t>
         requires ready { IsReady self.old }
         requires not_line_feed { (character == line_feed) ≡ false }

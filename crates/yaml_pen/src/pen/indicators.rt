@@ -28,7 +28,6 @@ pub struct Indicator<'a> {
 
 impl<'a> Indicator<'a> {
     /// A space before it, none after it.
-    #[inline(always)]
     pub fn spaced(text: &'a str) -> Indicator<'a>
         ensures { seen_indicator result ≡ spaced (chars text.now) }
     {
@@ -41,7 +40,6 @@ impl<'a> Indicator<'a> {
     }
 
     /// A bracket that opens: a space before it, and it counts as white space.
-    #[inline(always)]
     pub fn opening(text: &'a str) -> Indicator<'a>
         ensures { seen_indicator result ≡ opening (chars text.now) }
     {
@@ -54,7 +52,6 @@ impl<'a> Indicator<'a> {
     }
 
     /// No space before it, and none after it.
-    #[inline(always)]
     pub fn tight(text: &'a str) -> Indicator<'a>
         ensures { seen_indicator result ≡ tight (chars text.now) }
     {
@@ -67,7 +64,6 @@ impl<'a> Indicator<'a> {
     }
 
     /// The indicator of an entry in a block: a space before it, and it may stand in indentation.
-    #[inline(always)]
     pub fn indented(text: &'a str) -> Indicator<'a>
         ensures { seen_indicator result ≡ indented (chars text.now) }
     {
@@ -120,7 +116,6 @@ impl<A: Allocator> Pen<A> {
     }
 
     /// Writes a space, where none stands there.
-    #[inline]
     pub fn separate(&mut self) -> Result<(), yaml_error_t>
         requires ready { IsReady self.old }
         ensures written { Wrote (λ cursor. render_text (space_if true cursor) cursor) self.old self.new result }
@@ -130,7 +125,6 @@ impl<A: Allocator> Pen<A> {
     }
 
     /// Writes a space, where one is needed and none stands there.
-    #[inline]
     pub fn separate_if(&mut self, needed: bool) -> Result<(), yaml_error_t>
         requires ready { IsReady self.old }
         ensures written { Wrote (λ cursor. render_text (space_if needed cursor) cursor) self.old self.new result }

@@ -61,7 +61,6 @@ impl<A: Allocator> Pen<A> {
     }
 
     // Whether a break is needed here, and is one byte as the spaces are.
-    #[inline(always)]
     fn starts_at_once(&self, at: u32) -> bool
         requires { at < 2147483648 }
         ensures breaks { result ≡ true → breaks_line at self.now.cursor ≡ true }
@@ -90,7 +89,6 @@ impl<A: Allocator> Pen<A> {
         Ok(())
     }
 
-    #[inline(never)]
     fn break_and_indent(&mut self, at: u32) -> Result<(), yaml_error_t>
         requires ready { IsReady self.old }
         requires below { at < 2147483648 }
@@ -155,7 +153,6 @@ impl<A: Allocator> Pen<A> {
     }
 
     // One space after another.
-    #[inline(never)]
     fn write_many_spaces(&mut self, count: u32) -> Result<(), yaml_error_t>
         requires ready { IsReady self.old }
         ensures written { Wrote (render_text (replicate count space)) self.old self.new result }
