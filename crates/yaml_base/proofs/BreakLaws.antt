@@ -1,8 +1,8 @@
 -- Reading line breaks undoes the writing of them; and lines stay indented as their breaks are written.
-use Rattle.yaml_base.proofs.Common.{arith, ℕ, if◌then◌else◌, ◌==◌, Bool, false, not, true, ◌&&◌, ◌||◌, [], ◌++◌, ◌∷◌, refl, ◌≡◌, eqb-true, or_cases, and_parts}
-use Rattle.yaml_base.proofs.Common.{and_from, or_parts, or_left, or_right, not-true, Text, line_feed, carriage_return, next_line, space, is_break, break_text}
-use Rattle.yaml_base.proofs.Common.{with_breaks_written, with_line_breaks_read, is_rendered_text, is_indented_text, LineBreak, carriage_return_break}
-use Rattle.yaml_base.proofs.Common.{line_feed_break, both_break}
+use Rattle.yaml_base.proofs.Common.{nat_tests, arith, ℕ, if◌then◌else◌, ◌==◌, Bool, false, not, true, ◌&&◌, ◌||◌, [], ◌++◌, ◌∷◌, refl, ◌≡◌, eqb-true, or_cases}
+use Rattle.yaml_base.proofs.Common.{and_parts, and_from, or_parts, or_left, or_right, not-true, Text, line_feed, carriage_return, next_line, space, is_break}
+use Rattle.yaml_base.proofs.Common.{break_text, with_breaks_written, with_line_breaks_read, is_rendered_text, is_indented_text, LineBreak}
+use Rattle.yaml_base.proofs.Common.{carriage_return_break, line_feed_break, both_break}
 use Rattle.yaml_base.specs.LineBreaks.{line_breaks_read_after, begins_indented}
 
 -- a rendered text's prefix and rest are rendered
@@ -85,10 +85,7 @@ kept-begins setting a (d ∷ rest) h = grind (arith, or_cases, break-begins, spa
 -- a line begins as before, or with a break
 first-begins : (setting : LineBreak) (a : ℕ) (rest : Text) (x : Bool) → begins_indented (a ∷ rest) ≡ true
     → begins_indented ((if x then break_text setting else a ∷ []) ++ with_breaks_written setting rest) ≡ true
-first-begins setting a rest false h = kept-begins setting a rest h
-first-begins carriage_return_break a rest true h = break-begins carriage_return _ refl
-first-begins line_feed_break a rest true h = break-begins line_feed _ refl
-first-begins both_break a rest true h = refl
+first-begins setting a rest x h = grind (arith, nat_tests, kept-begins, break-begins)
 
 begins-written : (setting : LineBreak) (rest : Text) → begins_indented rest ≡ true
     → begins_indented (with_breaks_written setting rest) ≡ true
@@ -98,9 +95,7 @@ begins-written setting (a ∷ rest) h = first-begins setting a rest (a == line_f
 -- a break, as the setting writes it, before a line
 break-written : (setting : LineBreak) (text : Text) → begins_indented text ≡ true → is_indented_text text ≡ true
     → is_indented_text (break_text setting ++ text) ≡ true
-break-written carriage_return_break text h k = and_from _ _ h k
-break-written line_feed_break text h k = and_from _ _ h k
-break-written both_break text h k = and_from _ _ (break-begins line_feed text refl) (and_from _ _ h k)
+break-written setting text h k = grind (arith, nat_tests, and_from, break-begins)
 
 character-written : (setting : LineBreak) (c : ℕ) (rest : Text) (x : Bool) → (c == line_feed) ≡ x
     → (not (is_break c) || begins_indented rest) ≡ true

@@ -1,6 +1,6 @@
 -- The completion of a list that begins a stream is a stream.
-use Rattle.yaml_base.proofs.Common.{arith, option_and_then, Option, None, Some, true, List, [], ◌++◌, ◌∷◌, refl, ◌≡◌, any_style, DocumentStart, Event}
-use Rattle.yaml_base.proofs.Common.{stream_end, document_end, Node, scalar_node, sequence_node, mapping_node, no_nodes, nodes_and, no_pairs, pairs_and}
+use Rattle.yaml_base.proofs.Common.{nat_tests, arith, option_and_then, Option, None, Some, true, List, [], ◌++◌, ◌∷◌, refl, ◌≡◌, any_style, DocumentStart}
+use Rattle.yaml_base.proofs.Common.{Event, stream_end, document_end, Node, scalar_node, sequence_node, mapping_node, no_nodes, nodes_and, no_pairs, pairs_and}
 use Rattle.yaml_base.proofs.Common.{Documents, no_documents, documents_and, Stream, Level, at_item, at_key, at_value, Partial, before_stream, between_documents}
 use Rattle.yaml_base.proofs.Common.{within_document, after_root, after_stream, with_node, push, pushed, partial_of, outer_missing, levels_missing, missing}
 use Rattle.yaml_base.proofs.Common.{completion, Encoding}
@@ -59,19 +59,10 @@ outer_pushed (at_value c pairs key ∷ outer) n e d s rest = outer_pushed outer 
 
 levels_pushed : (levels : List Level) (e : Option Encoding) (d : Documents) (s : DocumentStart) (rest : List Event)
     → pushed (within_document e d s levels) (levels_missing levels ++ rest) ≡ pushed (after_root e d s (root_completed levels)) rest
-levels_pushed [] e d s rest = refl
-levels_pushed (at_item c no_nodes ∷ outer) e d s rest = outer_pushed outer (sequence_node c (nodes_and no_nodes empty_node)) e d s rest
-levels_pushed (at_item c (nodes_and items last) ∷ outer) e d s rest = outer_pushed outer (sequence_node c (nodes_and items last)) e d s rest
-levels_pushed (at_key c no_pairs ∷ outer) e d s rest = outer_pushed outer (mapping_node c (pairs_and no_pairs empty_node empty_node)) e d s rest
-levels_pushed (at_key c (pairs_and pairs key value) ∷ outer) e d s rest = outer_pushed outer (mapping_node c (pairs_and pairs key value)) e d s rest
-levels_pushed (at_value c pairs key ∷ outer) e d s rest = outer_pushed outer (mapping_node c (pairs_and pairs key empty_node)) e d s rest
+levels_pushed levels e d s rest = grind (arith, nat_tests, outer_pushed)
 
 pub missing_pushed : (p : Partial) → pushed p (missing p) ≡ Some (after_stream (stream_completed p))
-missing_pushed before_stream = refl
-missing_pushed (between_documents e d) = refl
-missing_pushed (within_document e d s levels) = levels_pushed levels e d s (document_end true ∷ stream_end ∷ [])
-missing_pushed (after_root e d s root) = refl
-missing_pushed (after_stream t) = refl
+missing_pushed p = grind (arith, nat_tests, levels_pushed)
 
 pub completion_pushed : (events : List Event) (p : Partial) → partial_of events ≡ Some p
     → partial_of (completion events) ≡ Some (after_stream (stream_completed p))

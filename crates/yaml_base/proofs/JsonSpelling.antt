@@ -1,6 +1,6 @@
 -- What a number of JSON is spelled as is the same number.
-use Rattle.yaml_base.proofs.Common.{ℕ, ◌*◌, ◌+◌, if◌then◌else◌, Option, None, Some, codes, neg_ℤ, negsuc, pos, ℤ, ◌+ℤ◌, Bool, false, not, true, ◌&&◌, []}
-use Rattle.yaml_base.proofs.Common.{◌++◌, ◌≡◌, append-nil, ap, sym, arith, Decides-int_eq, digits_value, Text, is_word, JsonExponent, JsonNumber}
+use Rattle.yaml_base.proofs.Common.{nat_tests, ℕ, ◌*◌, ◌+◌, if◌then◌else◌, Option, None, Some, codes, neg_ℤ, negsuc, pos, ℤ, ◌+ℤ◌, Bool, false, not, true, ◌&&◌}
+use Rattle.yaml_base.proofs.Common.{[], ◌++◌, ◌≡◌, append-nil, ap, sym, arith, Decides-int_eq, digits_value, Text, is_word, JsonExponent, JsonNumber}
 use Rattle.yaml_base.proofs.Common.{exponent_value, json_value, number_meant, means_number, Decimal, meant_integer, meant_decimal, signed}
 use Rattle.std.{proofs.lemmas.Int.ints, proofs.lemmas.Int.Digits.digits_value_push, specs.Ordering.int_eq, specs.Prelude.◌*ℤ◌, specs.Prelude.◌-ℤ◌}
 use Rattle.yaml_base.specs.values.JsonNumbers.{value_with, is_same_number}
@@ -39,20 +39,7 @@ zero_added negative whole e = grind (arith, same_integer, one_below, digits_valu
 keeps : (negative : Bool) (whole : Text) (fraction : Option Text) (exponent : Option JsonExponent)
     → means_number (json_value (record { negative = negative; whole = whole; fraction = fraction; exponent = exponent }))
     (number_meant (record { negative = negative; whole = whole; fraction = fraction; exponent = exponent })) ≡ true
-keeps negative whole (Some fraction) exponent =
-    itself_same (value_with (record { negative = negative; whole = whole; fraction = Some fraction; exponent = exponent }) fraction)
-keeps negative whole None (Some exponent) = zero_added negative whole (exponent_value (Some exponent))
-keeps negative whole None None = by (negative && is_word whole (codes "0"))
-  where
-    number : JsonNumber
-    number = record { negative = negative; whole = whole; fraction = None; exponent = None }
-
-    by : (x : Bool) → means_number (json_value number)
-        (if not x then meant_integer (signed negative (digits_value 10 whole)) else meant_decimal (value_with number (codes "0"))) ≡ true
-    by true = zero_added negative whole (pos 0)
-    by false =
-        same_integer (signed negative (digits_value 10 whole) *ℤ pos 1) (signed negative (digits_value 10 (whole ++ [])) *ℤ pos 1)
-        (ap (λ t. signed negative (digits_value 10 t) *ℤ pos 1) (sym (append-nil whole)))
+keeps negative whole fraction exponent = grind (arith, nat_tests, itself_same, zero_added, same_integer, append-nil)
 
 -- what a number's spelling means is the number
 pub spelling_keeps_value : (number : JsonNumber) → means_number (json_value number) (number_meant number) ≡ true

@@ -86,9 +86,7 @@ no_letter letter (c ∷ digits) rest other h g = digit_unlike c letter other (an
 
 core_based_none : (letter base : ℕ) (negative : Bool) (c : ℕ) (rest : Text) → first_meets (λ d. d == letter) rest ≡ false
     → core_based letter base (minus negative ++ (c ∷ rest)) ≡ None
-core_based_none letter base true c rest h = refl
-core_based_none letter base false c [] h = refl
-core_based_none letter base false c (d ∷ rest) h = grind (arith, withheld, and_left, and_right)
+core_based_none letter base negative c rest h = grind (arith, nat_tests, withheld, and_left, and_right)
 
 -- a number that is no integer, cut at its exponent
 pub cut_read : (c : ℕ) (whole fraction : Text) (exponent : Option JsonExponent) → list_all is_decimal (c ∷ whole) ≡ true → list_all is_decimal fraction ≡ true

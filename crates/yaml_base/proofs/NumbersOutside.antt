@@ -1,11 +1,11 @@
 -- The numbers that name no node are sought node by node.
-use Rattle.yaml_base.proofs.Common.{suc, ℕ, ◌+◌, ◌<◌, is_some, is_none, Option, None, Some, nat_le, negsuc, pos, ℤ, drop, length, slice_index_or as get_or}
-use Rattle.yaml_base.proofs.Common.{Bool, cond, false, not, true, ◌&&◌, List, [], map, ◌∷◌, refl, ◌≡◌, ap, sym, ◌∙◌, length-map, flat_map, list_all}
-use Rattle.yaml_base.proofs.Common.{option_or, numbers_held, is_whole, numbers_of_pairs, all_numbers, first_outside}
+use Rattle.yaml_base.proofs.Common.{arith, nat_tests, suc, ℕ, ◌+◌, ◌<◌, is_some, is_none, Option, None, Some, nat_le, negsuc, pos, ℤ, drop, length}
+use Rattle.yaml_base.proofs.Common.{slice_index_or as get_or, Bool, cond, false, not, true, ◌&&◌, List, [], map, ◌∷◌, refl, ◌≡◌, ap, sym, ◌∙◌, length-map}
+use Rattle.yaml_base.proofs.Common.{flat_map, list_all, option_or, numbers_held, is_whole, numbers_of_pairs, all_numbers, first_outside}
 use Rattle.std.proofs.{Common.add-one, Common.drop-cons, Common.IsTrue, lemmas.List.Folds.find-append}
-use Rattle.yaml_base.specs.declared.directives.{yaml_tag_directive_t.yaml_tag_directive_t, yaml_version_directive_t.yaml_version_directive_t}
-use Rattle.yaml_base.specs.declared.nodes.{yaml_node_data_t.yaml_node_data_t, yaml_node_data_t.TheVariants.Mapping, yaml_node_data_t.TheVariants.Scalar}
-use Rattle.yaml_base.specs.declared.nodes.{yaml_node_data_t.TheVariants.Sequence, yaml_node_pair_t.yaml_node_pair_t, yaml_node_t.yaml_node_t}
+use Rattle.yaml_base.specs.declared.{directives.yaml_tag_directive_t.yaml_tag_directive_t, directives.yaml_version_directive_t.yaml_version_directive_t}
+use Rattle.yaml_base.specs.declared.{nodes.yaml_node_data_t.yaml_node_data_t, nodes.yaml_node_pair_t.yaml_node_pair_t, nodes.yaml_node_t.yaml_node_t}
+use Rattle.yaml_base.specs.declared.nodes.yaml_node_data_t.TheVariants.{Mapping, Scalar, Sequence}
 use Rattle.yaml_base.specs.graphs.SeenNodes.{seen_number, seen_pair, seen_held, seen_node, seen_document, names_node, numbers_of}
 
 -- at a place of the list: the node's numbers, and then those behind it
@@ -60,9 +60,7 @@ held_seen_pairs (pair ∷ pairs) = ap (λ (rest : List ℕ). seen_number pair.ke
 
 -- the numbers that are seen are those that are held
 held_seen : {A : Type 0} (contents : yaml_node_data_t A) → numbers_held (seen_held contents) ≡ map seen_number (numbers_of contents)
-held_seen (Scalar value style) = refl
-held_seen (Sequence items style) = refl
-held_seen (Mapping pairs style) = held_seen_pairs pairs.items
+held_seen contents = grind (arith, nat_tests, held_seen_pairs)
 
 both_none : (first second : Option ℤ) → option_or first second ≡ None → (first ≡ None) × (second ≡ None)
 both_none None second none = (refl, none)

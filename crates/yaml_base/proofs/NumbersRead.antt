@@ -26,9 +26,7 @@ float_11_none negative c digits h = grind (arith, nat_tests, no_exponent, no_poi
 
 based_11_none : (negative : Bool) (letter base : ℕ) (c : ℕ) (rest : Text) → first_meets (λ d. d == letter) rest ≡ false
     → based_11 negative letter base (c ∷ rest) ≡ None
-based_11_none negative letter base c [] h = refl
-based_11_none negative letter base c (d ∷ []) h = refl
-based_11_none negative letter base c (d ∷ first ∷ rest) h = grind (arith, and_left, and_right)
+based_11_none negative letter base c rest h = grind (arith, nat_tests, and_left, and_right)
 
 -- digits of which the first isn't 0 are no octal number
 octal_11_none : (negative : Bool) (c : ℕ) (digits : Text) → (c == 0x30) ≡ false → octal_11 negative (c ∷ digits) ≡ None

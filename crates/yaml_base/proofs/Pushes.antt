@@ -1,10 +1,10 @@
 -- A partial tree's events: each push adds its event at their end.
-use Rattle.yaml_base.proofs.Common.{arith, option_and_then, Option, None, Some, List, [], ◌++◌, ◌∷◌, refl, ◌≡◌, append-nil, append_assoc, ap, sym, ◌∙◌}
-use Rattle.yaml_base.proofs.Common.{DocumentStart, Event, stream_start, stream_end, document_start, document_end, alias, scalar, sequence_start, sequence_end}
-use Rattle.yaml_base.proofs.Common.{mapping_start, mapping_end, Node, alias_node, scalar_node, sequence_node, mapping_node, no_nodes, no_pairs, Document}
-use Rattle.yaml_base.proofs.Common.{Documents, no_documents, documents_and, node_events, nodes_events, pairs_events, documents_events, stream_events, Level}
-use Rattle.yaml_base.proofs.Common.{at_item, at_key, at_value, Partial, before_stream, between_documents, within_document, after_root, after_stream, with_node}
-use Rattle.yaml_base.proofs.Common.{closed, push_within, push, pushed, partial_of, Encoding}
+use Rattle.yaml_base.proofs.Common.{nat_tests, arith, option_and_then, Option, None, Some, List, [], ◌++◌, ◌∷◌, refl, ◌≡◌, append-nil, append_assoc, ap, sym}
+use Rattle.yaml_base.proofs.Common.{◌∙◌, DocumentStart, Event, stream_start, stream_end, document_start, document_end, alias, scalar, sequence_start}
+use Rattle.yaml_base.proofs.Common.{sequence_end, mapping_start, mapping_end, Node, alias_node, scalar_node, sequence_node, mapping_node, no_nodes, no_pairs}
+use Rattle.yaml_base.proofs.Common.{Document, Documents, no_documents, documents_and, node_events, nodes_events, pairs_events, documents_events, stream_events}
+use Rattle.yaml_base.proofs.Common.{Level, at_item, at_key, at_value, Partial, before_stream, between_documents, within_document, after_root, after_stream}
+use Rattle.yaml_base.proofs.Common.{with_node, closed, push_within, push, pushed, partial_of, Encoding}
 
 abbrev pub level_events : Level → List Event
 level_events (at_item c items) = sequence_start c ∷ nodes_events items
@@ -33,18 +33,11 @@ added e d s outer level node = grind (arith, append_assoc)
 
 with_node_events : (e : Option Encoding) (d : Documents) (s : DocumentStart) (levels : List Level) (n : Node)
     → partial_events (with_node e d s levels n) ≡ begun_events e d s (levels_events levels) ++ node_events n
-with_node_events e d s [] n = ap (λ events. events ++ node_events n) (sym (append-nil (stream_start e ∷ (documents_events d ++ document_start s ∷ []))))
-with_node_events e d s (at_item c items ∷ outer) n = added e d s (levels_events outer) (sequence_start c ∷ nodes_events items) (node_events n)
-with_node_events e d s (at_key c pairs ∷ outer) n = added e d s (levels_events outer) (mapping_start c ∷ pairs_events pairs) (node_events n)
-with_node_events e d s (at_value c pairs key ∷ outer) n = grind (arith, append_assoc, added)
+with_node_events e d s levels n = grind (arith, nat_tests, append-nil, added, append_assoc)
 
 -- The end of the innermost collection.
 closed_events : (level : Level) (event : Event) (n : Node) → closed level event ≡ Some n → node_events n ≡ level_events level ++ event ∷ []
-closed_events (at_item c items) sequence_end n is =
-    let same : sequence_node c items ≡ n = cc in ap node_events (sym same)
-closed_events (at_key c pairs) mapping_end n is =
-    let same : mapping_node c pairs ≡ n = cc in ap node_events (sym same)
-closed_events level event n is = cc
+closed_events level event n h = grind (arith, nat_tests)
 
 abbrev AddsEvent : Partial → Event → Partial → Type 0
 AddsEvent p event q = partial_events q ≡ partial_events p ++ event ∷ []
@@ -65,12 +58,7 @@ level_added e d s levels level event q only given = grind (arith, append_assoc)
 
 within_added : (e : Option Encoding) (d : Documents) (s : DocumentStart) (levels : List Level) (event : Event) (q : Partial)
     → push_within e d s levels event ≡ Some q → AddsEvent (within_document e d s levels) event q
-within_added e d s levels (alias name) q given = node_added e d s levels (alias_node name) q given
-within_added e d s levels (scalar content) q given = node_added e d s levels (scalar_node content) q given
-within_added e d s levels (sequence_start c) q given = level_added e d s levels (at_item c no_nodes) (sequence_start c) q refl given
-within_added e d s levels (mapping_start c) q given = level_added e d s levels (at_key c no_pairs) (mapping_start c) q refl given
-within_added e d s (level ∷ levels) event q given = closed_added e d s level levels event (closed level event) q refl given
-within_added e d s [] event q given = cc
+within_added e d s levels event q h = grind (arith, nat_tests, node_added, level_added, closed_added)
 
 with_read_document : (e : Option Encoding) (d : Documents) (x : Document)
     → stream_start e ∷ documents_events (documents_and d x) ≡ begun_events e d x.start (node_events x.root) ++ document_end x.end_implicit ∷ []
@@ -93,11 +81,7 @@ AddsEvents events p q = pushed p events ≡ Some q → partial_events q ≡ part
 
 one_more : (event : Event) (events : List Event) (p q : Partial) → ((r : Partial) → AddsEvents events r q) → (next : Option Partial) → push p event ≡ next
     → option_and_then (λ r. pushed r events) next ≡ Some q → partial_events q ≡ partial_events p ++ event ∷ events
-one_more event events p q others None is given = cc
-one_more event events p q others (Some r) is given =
-    others r given
-    ∙ ap (λ before. before ++ events) (push_events p event r is)
-    ∙ append_assoc (partial_events p) (event ∷ []) events
+one_more event events p q h next k e = grind (arith, nat_tests, push_events, append_assoc)
 
 -- Pushing several events adds them all.
 pub pushed_events : (events : List Event) (p q : Partial) → AddsEvents events p q

@@ -24,9 +24,7 @@ more_stand : (n : ℕ) (a b : List Event) → nat_lt n (length a) ≡ true → n
 more_stand n a b given = grind (arith, nat_tests, length-append a b)
 
 either_of : (a b c d : Bool) → (a ≡ true → c ≡ true) → (b ≡ true → d ≡ true) → a || b ≡ true → c || d ≡ true
-either_of true b c d first second given = ap (λ x. x || d) (first refl)
-either_of false b true d first second given = refl
-either_of false b false d first second given = second given
+either_of a b c d h k e = grind (arith, nat_tests)
 
 pub ready_stays : (event : Event) (rest more : List Event) → is_ready event rest ≡ true → is_ready event (rest ++ more) ≡ true
 ready_stays event rest more given =
@@ -41,9 +39,7 @@ ready_stays event rest more given =
     given
 
 counted : (now later : Bool) (m n : ℕ) → (now ≡ true → later ≡ true) → m ≤ n → (if now then suc m else 0) ≤ (if later then suc n else 0)
-counted false later m n stays h = omega arith
-counted true true m n stays h = omega arith
-counted true false m n stays h = let no : false ≡ true = stays refl in cc
+counted now later m n h k = grind (arith, nat_tests)
 
 pub written_grows : ReadyStays
 written_grows [] more = omega arith

@@ -1,7 +1,7 @@
 -- A stage allows and refuses what the partial tree does that it stands for.
-use Rattle.yaml_base.proofs.Common.{arith, suc, is_none, option_and_then, Option, None, Some, length, Bool, false, not, true, List, [], ◌∷◌, refl, ◌≡◌, ap}
-use Rattle.yaml_base.proofs.Common.{subst, sym, ◌∙◌, TagDirective, DocumentStart, Event, stream_start, stream_end, document_start, document_end, alias, scalar}
-use Rattle.yaml_base.proofs.Common.{sequence_start, sequence_end, mapping_start, mapping_end, Node, nodes_and, pairs_and, Documents, no_documents}
+use Rattle.yaml_base.proofs.Common.{nat_tests, arith, suc, is_none, option_and_then, Option, None, Some, length, Bool, false, not, true, List, [], ◌∷◌, refl}
+use Rattle.yaml_base.proofs.Common.{◌≡◌, ap, subst, sym, ◌∙◌, TagDirective, DocumentStart, Event, stream_start, stream_end, document_start, document_end, alias}
+use Rattle.yaml_base.proofs.Common.{scalar, sequence_start, sequence_end, mapping_start, mapping_end, Node, nodes_and, pairs_and, Documents, no_documents}
 use Rattle.yaml_base.proofs.Common.{documents_and, Level, at_item, at_key, at_value, Partial, before_stream, between_documents, within_document, after_root}
 use Rattle.yaml_base.proofs.Common.{after_stream, with_node, closed, push_within, push, pushed, partial_of, first_standing, Standing, Role, as_item, as_key}
 use Rattle.yaml_base.proofs.Common.{as_value, is_key, expected, ends_collection, open_levels, refusal_at, refusal, Encoding, Effective, Frame, Stage, at_stream}
@@ -36,18 +36,11 @@ level_next (at_key c pairs) n = at_value c pairs n
 level_next (at_value c pairs key) n = at_key c (pairs_and pairs key n)
 
 awaits_next : (level : Level) (role : Role) (n : Node) (simple : Bool) → Awaits level role → Awaits (level_next level n) (role_after role simple)
-awaits_next (at_item c items) (as_item first) n simple h = tt
-awaits_next (at_key c pairs) (as_key first) n simple h = tt
-awaits_next (at_value c pairs key) (as_value was) n simple h = tt
-awaits_next level role n simple h = absurd h
+awaits_next level role n simple h = grind (arith, nat_tests)
 
 node_stands : (e : Option Encoding) (d : Documents) (s : DocumentStart) (levels : List Level) (n : Node) (t : List TagDirective) (frames : List Frame)
     (simple : Bool) → AllAwait levels frames → StandsFor (with_node e d s levels n) (stage_after t frames simple)
-node_stands e d s [] n t [] simple h = tt
-node_stands e d s (at_item c items ∷ levels) n t (frame ∷ frames) simple h = (awaits_next (at_item c items) frame.place.role n simple h.0, h.1)
-node_stands e d s (at_key c pairs ∷ levels) n t (frame ∷ frames) simple h = (awaits_next (at_key c pairs) frame.place.role n simple h.0, h.1)
-node_stands e d s (at_value c pairs key ∷ levels) n t (frame ∷ frames) simple h = (awaits_next (at_value c pairs key) frame.place.role n simple h.0, h.1)
-node_stands e d s levels n t frames simple h = absurd h
+node_stands e d s levels n t frames simple h = grind (arith, nat_tests, awaits_next)
 
 -- the stage after an event stands for the tree after it
 abbrev Follows : Partial → Stage → Event → Type 0
@@ -60,14 +53,10 @@ stands_as p q stage given h = let same : p ≡ q = cc in subst (λ r. StandsFor 
 end_follows : (e : Option Encoding) (d : Documents) (s : DocumentStart) (level : Level) (levels : List Level) (t : List TagDirective) (frame : Frame)
     (frames : List Frame) (event : Event) (q : Partial) (made : Option Node) → AllAwait levels frames
     → option_and_then (λ node. Some (with_node e d s levels node)) made ≡ Some q → StandsFor q (stage_after t frames frame.simple)
-end_follows e d s level levels t frame frames event q None h given = cc
-end_follows e d s level levels t frame frames event q (Some n) h given =
-    stands_as (with_node e d s levels n) q (stage_after t frames frame.simple) given (node_stands e d s levels n t frames frame.simple h)
+end_follows e d s level levels t frame frames event q made h k = grind (arith, nat_tests, stands_as, node_stands)
 
 closed_none : (level : Level) (event : Event) → ends_collection event ≡ false → closed level event ≡ None
-closed_none (at_item c items) sequence_end h = cc
-closed_none (at_key c pairs) mapping_end h = cc
-closed_none level event h = refl
+closed_none level event h = grind (arith, nat_tests)
 
 within_follows : (e : Option Encoding) (d : Documents) (s : DocumentStart) (levels : List Level) (t : List TagDirective) (frames : List Frame) (event : Event)
     → AllAwait levels frames → Follows (within_document e d s levels) (at_node t frames) event
@@ -132,17 +121,11 @@ stage_stands events p s follows given = list_stands events before_stream p at_st
 -- A stage allows what may be pushed.
 item_allowed : (level : Level) (role : Role) (f : Node → Partial) → Awaits level role
     → not (is_item role) ≡ is_none (option_and_then (λ node. Some (f node)) (closed level sequence_end))
-item_allowed (at_item c items) (as_item first) f h = refl
-item_allowed (at_key c pairs) (as_key first) f h = refl
-item_allowed (at_value c pairs key) (as_value simple) f h = refl
-item_allowed level role f h = absurd h
+item_allowed level role f h = grind (arith, nat_tests)
 
 key_allowed : (level : Level) (role : Role) (f : Node → Partial) → Awaits level role
     → not (is_key role) ≡ is_none (option_and_then (λ node. Some (f node)) (closed level mapping_end))
-key_allowed (at_item c items) (as_item first) f h = refl
-key_allowed (at_key c pairs) (as_key first) f h = refl
-key_allowed (at_value c pairs key) (as_value simple) f h = refl
-key_allowed level role f h = absurd h
+key_allowed level role f h = grind (arith, nat_tests)
 
 none_allowed : (level : Level) (event : Event) (f : Node → Partial) → ends_collection event ≡ false
     → true ≡ is_none (option_and_then (λ node. Some (f node)) (closed level event))
@@ -150,38 +133,13 @@ none_allowed level event f h = ap (λ o. is_none (option_and_then (λ node. Some
 
 within_allowed : (e : Option Encoding) (d : Documents) (s : DocumentStart) (levels : List Level) (t : List TagDirective) (frames : List Frame) (event : Event)
     → AllAwait levels frames → not (node_allowed frames event) ≡ is_none (push_within e d s levels event)
-within_allowed e d s levels t frames (alias name) h = refl
-within_allowed e d s levels t frames (scalar content) h = refl
-within_allowed e d s levels t frames (sequence_start c) h = refl
-within_allowed e d s levels t frames (mapping_start c) h = refl
-within_allowed e d s (level ∷ levels) t (frame ∷ frames) sequence_end h = item_allowed level frame.place.role (with_node e d s levels) h.0
-within_allowed e d s (level ∷ levels) t (frame ∷ frames) mapping_end h = key_allowed level frame.place.role (with_node e d s levels) h.0
-within_allowed e d s (level ∷ levels) t (frame ∷ frames) (stream_start x) h = none_allowed level (stream_start x) (with_node e d s levels) refl
-within_allowed e d s (level ∷ levels) t (frame ∷ frames) stream_end h = none_allowed level stream_end (with_node e d s levels) refl
-within_allowed e d s (level ∷ levels) t (frame ∷ frames) (document_start x) h = none_allowed level (document_start x) (with_node e d s levels) refl
-within_allowed e d s (level ∷ levels) t (frame ∷ frames) (document_end x) h = none_allowed level (document_end x) (with_node e d s levels) refl
-within_allowed e d s [] t [] event h = refl
-within_allowed e d s levels t frames event h = absurd h
+within_allowed e d s levels t frames event h = grind (arith, nat_tests, item_allowed, key_allowed, none_allowed)
 
 pub stage_allowed : (p : Partial) (stage : Stage) (event : Event) → StandsFor p stage → not (stage_allows stage event) ≡ is_none (push p event)
-stage_allowed before_stream at_stream (stream_start encoding) h = refl
-stage_allowed before_stream at_stream event h = refl
-stage_allowed (between_documents e d) (at_document first) (document_start start) h = refl
-stage_allowed (between_documents e d) (at_document first) stream_end h = refl
-stage_allowed (between_documents e d) (at_document first) event h = refl
-stage_allowed (within_document e d s levels) (at_node t frames) event h = within_allowed e d s levels t frames event h
-stage_allowed (after_root e d s root) at_document_end (document_end implicit) h = refl
-stage_allowed (after_root e d s root) at_document_end event h = refl
-stage_allowed (after_stream t) at_nothing event h = refl
-stage_allowed p stage event h = absurd h
+stage_allowed p stage event h = grind (arith, nat_tests, within_allowed)
 
 stage_expects : (p : Partial) (stage : Stage) → StandsFor p stage → stage_expected stage ≡ expected p
-stage_expects before_stream at_stream h = refl
-stage_expects (between_documents e d) (at_document first) h = refl
-stage_expects (within_document e d s levels) (at_node t frames) h = refl
-stage_expects (after_root e d s root) at_document_end h = refl
-stage_expects (after_stream t) at_nothing h = refl
-stage_expects p stage h = absurd h
+stage_expects p stage h = grind (arith, nat_tests)
 
 frames_count : (levels : List Level) (frames : List Frame) → AllAwait levels frames → length frames ≡ length levels
 frames_count [] [] h = refl
@@ -189,12 +147,7 @@ frames_count (level ∷ levels) (frame ∷ frames) h = ap suc (frames_count leve
 frames_count levels frames h = absurd h
 
 frames_open : (p : Partial) (stage : Stage) → StandsFor p stage → open_frames stage ≡ length (open_levels p)
-frames_open before_stream at_stream h = refl
-frames_open (between_documents e d) (at_document first) h = refl
-frames_open (within_document e d s levels) (at_node t frames) h = frames_count levels frames h
-frames_open (after_root e d s root) at_document_end h = refl
-frames_open (after_stream t) at_nothing h = refl
-frames_open p stage h = absurd h
+frames_open p stage h = grind (arith, nat_tests, frames_count)
 
 -- The refusal at a stage is the refusal after the list.
 pub stage_refuses : (canonical : Bool) (p : Partial) (stage : Stage) (event : Event) → StandsFor p stage

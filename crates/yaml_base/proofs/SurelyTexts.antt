@@ -1,9 +1,9 @@
 -- A text that is surely one means a text by both schemas.
-use Rattle.yaml_base.proofs.Common.{arith, ℕ, if◌then◌else◌, ⊤, ◌==◌, Option, None, Bool, false, not, true, ◌&&◌, ◌||◌, List, [], ◌∷◌, ◌⊎◌, refl, ◌≡◌, eqb-true}
-use Rattle.yaml_base.proofs.Common.{true≢false, inl, inr, ap, ◌∙◌, and_cases, and_left, or_parts, not-false, not-true, list_all, list_any, Text, named}
-use Rattle.yaml_base.proofs.Common.{Resolved, meant_text, first_reading, words_of_core, words_of_11, is_plus_or_minus, is_decimal, first_meets, past_sign}
-use Rattle.yaml_base.proofs.Common.{are_digits, core_based, resolved_by_core, is_underscore, are_grouped, based_11, past, resolved_by_11, is_reserved}
-use Rattle.yaml_base.proofs.Common.{is_symbol, is_based, is_number_letter, in_number, is_numeric}
+use Rattle.yaml_base.proofs.Common.{nat_tests, arith, ℕ, if◌then◌else◌, ⊤, ◌==◌, Option, None, Bool, false, not, true, ◌&&◌, ◌||◌, List, [], ◌∷◌, ◌⊎◌, refl}
+use Rattle.yaml_base.proofs.Common.{◌≡◌, eqb-true, true≢false, inl, inr, ap, ◌∙◌, and_cases, and_left, or_parts, not-false, not-true, list_all, list_any, Text}
+use Rattle.yaml_base.proofs.Common.{named, Resolved, meant_text, first_reading, words_of_core, words_of_11, is_plus_or_minus, is_decimal, first_meets}
+use Rattle.yaml_base.proofs.Common.{past_sign, are_digits, core_based, resolved_by_core, is_underscore, are_grouped, based_11, past, resolved_by_11}
+use Rattle.yaml_base.proofs.Common.{is_reserved, is_symbol, is_based, is_number_letter, in_number, is_numeric}
 use Rattle.yaml_base.proofs.{SchemaWords.named_unlike, no_numbers.NumbersHoldDigits.without_digits, no_numbers.NumbersWithin.with_others}
 use Rattle.yaml_base.proofs.no_numbers.NoNumbers.{NoNumber, off, past_cons}
 use Rattle.yaml_base.proofs.no_numbers.NumbersBegin.{begins_digits, without_begin}
@@ -46,10 +46,7 @@ based_by_11 negative letter base (c ∷ d ∷ e ∷ rest) among h =
     off _ _ (and_left (c == 0x30 && d == letter) (are_grouped base (e ∷ rest)) (unbased c d letter (e ∷ rest) among h))
 
 based_by_core : (letter base : ℕ) (text : Text) → names_base letter ≡ true → is_based text ≡ false → core_based letter base text ≡ None
-based_by_core letter base [] among h = refl
-based_by_core letter base (c ∷ []) among h = refl
-based_by_core letter base (c ∷ d ∷ rest) among h =
-    off _ _ (and_left (c == 0x30 && d == letter) (are_digits base rest) (unbased c d letter rest among h))
+based_by_core letter base text h k = grind (arith, nat_tests, off, and_left, unbased)
 
 -- ---- other numbers
 

@@ -1,7 +1,7 @@
 -- The forms of handles and tags: what they consist of, and how a tag is spelled by the directives in force.
-use Rattle.yaml_base.proofs.Common.{arith, ℕ, ◌==◌, option_map, bytes_eq, Option, None, Some, codes, Bool, cond, false, not, true, List, [], ◌++◌, ◌∷◌, ◌⊎◌}
-use Rattle.yaml_base.proofs.Common.{refl, ◌≡◌, eqb-true, append_assoc, inr, ap, sym, ◌∙◌, and_parts, or_parts, not-false, bytes_eq-Decides, list_all, scalars}
-use Rattle.yaml_base.proofs.Common.{Text, is_alpha, TagDirective, exclamation_mark, handle_fault, directive_fault, gives_handle, next_directive_fault}
+use Rattle.yaml_base.proofs.Common.{nat_tests, arith, ℕ, ◌==◌, option_map, bytes_eq, Option, None, Some, codes, Bool, cond, false, not, true, List, [], ◌++◌}
+use Rattle.yaml_base.proofs.Common.{◌∷◌, ◌⊎◌, refl, ◌≡◌, eqb-true, append_assoc, inr, ap, sym, ◌∙◌, and_parts, or_parts, not-false, bytes_eq-Decides, list_all}
+use Rattle.yaml_base.proofs.Common.{scalars, Text, is_alpha, TagDirective, exclamation_mark, handle_fault, directive_fault, gives_handle, next_directive_fault}
 use Rattle.yaml_base.proofs.Common.{directives_fault_after, directives_fault, directives_in_force, Spelling, shorthand, verbatim, spelling, prefix_among}
 use Rattle.yaml_base.proofs.Common.{directives_assumed, without_closing_angle}
 use lib.Utf8.{scalar}
@@ -34,10 +34,7 @@ prefix_and_last c d (e ∷ rest) = ap (λ x. d ∷ x) (prefix_and_last d e rest)
 
 handle_tests : (a b t : Bool) → cond {A = Option yaml_error_t} a (Some TagHandleStart)
     (cond b (Some TagHandleEnd) (cond t None (Some TagHandleAlphabet))) ≡ None → (a ≡ false) × (b ≡ false) × (t ≡ true)
-handle_tests true b t e = cc
-handle_tests false true t e = cc
-handle_tests false false true e = (refl, refl, refl)
-handle_tests false false false e = cc
+handle_tests a b t h = grind (arith, nat_tests)
 
 -- `!`, or characters of the anchor alphabet between two
 abbrev pub IsHandle : Text → Type 0
@@ -163,11 +160,7 @@ secondary = record { handle = codes "!!"; prefix = codes "tag:yaml.org,2002:" }
 
 defaults_found_by : (own : List TagDirective) (first second : Bool) → gives_handle primary.handle own ≡ first → gives_handle secondary.handle own ≡ second
     → AreFound own (cond (not first) (primary ∷ cond (not second) (secondary ∷ []) []) (cond (not second) (secondary ∷ []) []))
-defaults_found_by own true true e f = tt
-defaults_found_by own true false e f = (refl, passed_over own directives_assumed (codes "!!") f, tt)
-defaults_found_by own false true e f = (refl, passed_over own directives_assumed (codes "!") e, tt)
-defaults_found_by own false false e f =
-    (refl, passed_over own directives_assumed (codes "!") e, (refl, passed_over own directives_assumed (codes "!!") f, tt))
+defaults_found_by own first second h k = grind (arith, nat_tests, passed_over)
 
 found-append : (own xs ys : List TagDirective) → AreFound own xs → AreFound own ys → AreFound own (xs ++ ys)
 found-append own [] ys f g = g

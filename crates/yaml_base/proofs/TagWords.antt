@@ -24,9 +24,7 @@ letters_end_no_word (c ∷ rest) h =
     or_from _ _ (alpha_ends_no_word c both.0) (letters_end_no_word rest both.1)
 
 pub handle_ends_no_word : (handle : Text) → IsHandle handle → list_any ends_word handle ≡ false
-handle_ends_no_word handle (inl e) = rw e refl
-handle_ends_no_word handle (inr form) =
-    rw form.1 (any-append ends_word (exclamation_mark ∷ form.0) (exclamation_mark ∷ []) (letters_end_no_word form.0 form.2) refl)
+handle_ends_no_word handle h = grind (arith, nat_tests, any-append, letters_end_no_word)
 
 never_separates : (text : Text) → list_all stands_written text ≡ true → list_any separates text ≡ false
 never_separates [] h = refl

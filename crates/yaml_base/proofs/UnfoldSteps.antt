@@ -1,9 +1,9 @@
 -- What a walk keeps, one step at a time: a node is entered once, it is met again only after that, and whatever is entered
 -- is reached.
-use Rattle.yaml_base.proofs.Common.{suc, zero, ℕ, ◌+◌, ⊤, ◌==◌, Contains, count_by, Bool, cond, false, true, ◌||◌, List, [], ◌++◌, ◌∷◌, refl, ◌≡◌, eqb-true}
-use Rattle.yaml_base.proofs.Common.{ne_eqb, append-nil, append_assoc, inl, inr, ap, subst, sym, ◌∙◌, arith, or-true, or_cases, cases_eq, Contains-append_left}
-use Rattle.yaml_base.proofs.Common.{Contains-append_right, list_any-append, sum_by-append, list_any, Graph, children, Step, enters, leaves, meets_again}
-use Rattle.yaml_base.proofs.Common.{is_entry_of, steps_from, IsReached, child_reached}
+use Rattle.yaml_base.proofs.Common.{nat_tests, suc, zero, ℕ, ◌+◌, ⊤, ◌==◌, Contains, count_by, Bool, cond, false, true, ◌||◌, List, [], ◌++◌, ◌∷◌, refl, ◌≡◌}
+use Rattle.yaml_base.proofs.Common.{eqb-true, ne_eqb, append-nil, append_assoc, inl, inr, ap, subst, sym, ◌∙◌, arith, or-true, or_cases, cases_eq}
+use Rattle.yaml_base.proofs.Common.{Contains-append_left, Contains-append_right, list_any-append, sum_by-append, list_any, Graph, children, Step, enters}
+use Rattle.yaml_base.proofs.Common.{leaves, meets_again, is_entry_of, steps_from, IsReached, child_reached}
 use Rattle.std.{proofs.Math.Bool.or-false, specs.List.fold}
 
 -- the steps from a node that was entered before or not
@@ -90,10 +90,7 @@ pub record IsOrderly (graph : Graph) (walk : List Step) : Type 0 where
   pub reached : (number : ℕ) → list_any (is_entry_of number) walk ≡ true → IsReached graph number
 
 once_added : (any now : Bool) (counted : ℕ) → counted ≡ cond any 1 0 → (any ≡ true → now ≡ false) → counted + cond now 1 0 ≡ cond (any || now) 1 0
-once_added true true counted is fails = let not_now = fails refl in cc
-once_added true false counted is fails = omega (arith, is)
-once_added false true counted is fails = omega (arith, is)
-once_added false false counted is fails = omega (arith, is)
+once_added any now counted h k = grind (arith, nat_tests)
 
 once_more : (test : Step → Bool) (before : List Step) (step : Step) → count_by test before ≡ cond (list_any test before) 1 0
     → (list_any test before ≡ true → test step ≡ false)

@@ -1,6 +1,6 @@
 -- A text that begins with no digit and no point, past its sign, is no number and no timestamp.
-use Rattle.yaml_base.proofs.Common.{arith, ℕ, if◌then◌else◌, ◌==◌, Option, None, Some, pos, ℤ, length, Bool, false, not, true, ◌||◌, List, [], ◌++◌, ◌∷◌, refl}
-use Rattle.yaml_base.proofs.Common.{◌≡◌, eqb-true, true≢false, ap, ◌∙◌, and_left, and_right, or_parts, or_from, false≢true, slice_split-cons_no}
+use Rattle.yaml_base.proofs.Common.{nat_tests, arith, ℕ, if◌then◌else◌, ◌==◌, Option, None, Some, pos, ℤ, length, Bool, false, not, true, ◌||◌, List, [], ◌++◌}
+use Rattle.yaml_base.proofs.Common.{◌∷◌, refl, ◌≡◌, eqb-true, true≢false, ap, ◌∙◌, and_left, and_right, or_parts, or_from, false≢true, slice_split-cons_no}
 use Rattle.yaml_base.proofs.Common.{take_while-cons, onto_first, slice_split, take_while, Text, is_between, Decimal, is_point, is_decimal, first_meets}
 use Rattle.yaml_base.proofs.Common.{past_sign, are_digits, counted_digits, decimal_of_digits, times_power_of_ten, scientific, core_mantissa, are_grouped}
 use Rattle.yaml_base.proofs.Common.{begins_grouped, is_leading, octal_11, decimal_11, are_sixtieths, is_colon, fine_sixties_11, mantissa_11, has_more_points}
@@ -40,10 +40,7 @@ pointed_begins negative c whole fraction h = off _ _ (digits_begin ((c ∷ whole
 
 pub scientific_begins : (mantissa : Text → Option Decimal) (exponent : Text → Option ℤ) (parts : List Text) → mantissa (first_part parts) ≡ None
     → scientific mantissa exponent parts ≡ None
-scientific_begins mantissa exponent [] h = refl
-scientific_begins mantissa exponent (m ∷ []) h = ap (λ d. times_power_of_ten d (Some (pos 0))) h
-scientific_begins mantissa exponent (m ∷ e ∷ []) h = ap (λ d. times_power_of_ten d (exponent e)) h
-scientific_begins mantissa exponent (m ∷ e ∷ f ∷ rest) h = refl
+scientific_begins mantissa exponent parts h = grind (arith, nat_tests)
 
 core_mantissa_begins : (negative : Bool) (text : Text) → first_meets begins_digits text ≡ false → core_mantissa negative (slice_split is_point text) ≡ None
 core_mantissa_begins negative [] h = refl
@@ -58,57 +55,35 @@ more_points_begin [] h = refl
 more_points_begin (c ∷ rest) h = grind (arith, slice_split-cons_no, or_parts, and_left, or_from, filled)
 
 pub more_points_11_begins : (parts : List Text) → has_more_points (slice_split is_point (first_part parts)) ≡ false → more_points_11 parts ≡ None
-more_points_11_begins [] h = refl
-more_points_11_begins (m ∷ []) h = off _ _ h
-more_points_11_begins (m ∷ e ∷ []) h = off _ _ (and_left _ _ (and_left _ _ h))
-more_points_11_begins (m ∷ e ∷ f ∷ rest) h = refl
+more_points_11_begins parts h = grind (arith, nat_tests, off, and_left)
 
 pub groups_begin : (test : ℕ → Bool) (groups : List Text) → first_meets test (first_part groups) ≡ false → are_sixtieths test groups ≡ false
-groups_begin test [] h = refl
-groups_begin test (a ∷ []) h = refl
-groups_begin test (a ∷ b ∷ rest) h = and_left (begins_grouped test a) _ (and_left (first_meets test a) _ h)
+groups_begin test groups h = grind (arith, nat_tests, and_left)
 
 pub fine_sixties_begin : (negative : Bool) (parts : List Text) → first_meets is_decimal (first_part parts) ≡ false → fine_sixties_11 negative parts ≡ None
-fine_sixties_begin negative [] h = refl
-fine_sixties_begin negative (a ∷ []) h = refl
-fine_sixties_begin negative (a ∷ b ∷ []) h =
-    off _ _ (and_left _ (are_grouped 10 b) (groups_begin is_decimal (slice_split is_colon a) (split_begins is_decimal is_colon a h)))
-fine_sixties_begin negative (a ∷ b ∷ d ∷ rest) h = refl
+fine_sixties_begin negative parts h = grind (arith, nat_tests, off, and_left, groups_begin, split_begins)
 
 pub octal_11_begins : (negative : Bool) (text : Text) → first_meets is_decimal text ≡ false → octal_11 negative text ≡ None
-octal_11_begins negative [] h = refl
-octal_11_begins negative (c ∷ []) h = refl
-octal_11_begins negative (c ∷ d ∷ rest) h = off _ _ (and_left (c == 0x30) _ (unlike c 0x30 refl h))
+octal_11_begins negative text h = grind (arith, nat_tests, off, and_left, unlike)
 
 pub leading_begins : (text : Text) → first_meets is_decimal text ≡ false → first_meets is_leading text ≡ false
 leading_begins [] h = refl
 leading_begins (c ∷ rest) h = and_left (is_decimal c) _ h
 
 pub decimal_11_begins : (negative : Bool) (text : Text) → first_meets is_decimal text ≡ false → decimal_11 negative text ≡ None
-decimal_11_begins negative [] h = refl
-decimal_11_begins negative (c ∷ rest) h =
-    off _ _ (or_from _ _ (and_left (c == 0x30) _ (unlike c 0x30 refl h)) (and_left (is_leading c) _ (leading_begins (c ∷ rest) h)))
+decimal_11_begins negative text h = grind (arith, nat_tests, off, or_from, and_left, unlike, leading_begins)
 
 -- Timestamps
 
 date_prefix : (text : Text) → first_meets is_decimal text ≡ false → first_meets is_decimal (take_while in_date text) ≡ false
-date_prefix [] h = refl
-date_prefix (c ∷ rest) h = ap (first_meets is_decimal) (take_while-cons in_date c rest) ∙ by (in_date c)
-  where
-    by : (x : Bool) → first_meets is_decimal (if x then c ∷ take_while in_date rest else []) ≡ false
-    by true = h
-    by false = refl
+date_prefix text h = grind (arith, nat_tests, take_while-cons)
 
 year_begins : (text : Text) → first_meets is_decimal text ≡ false → counted_digits 4 4 text ≡ false
 year_begins [] h = refl
 year_begins (c ∷ rest) h = and_right (is_between 4 4 (length (c ∷ rest))) _ (and_left (is_decimal c) _ h)
 
 date_begins : (least : ℕ) (parts : List Text) → first_meets is_decimal (first_part parts) ≡ false → is_date least parts ≡ false
-date_begins least [] h = refl
-date_begins least (a ∷ []) h = refl
-date_begins least (a ∷ b ∷ []) h = refl
-date_begins least (a ∷ b ∷ d ∷ []) h = and_left _ (counted_digits least 2 d) (and_left (counted_digits 4 4 a) _ (year_begins a h))
-date_begins least (a ∷ b ∷ d ∷ e ∷ rest) h = refl
+date_begins least parts h = grind (arith, nat_tests, and_left, year_begins)
 
 pub timestamp_begins : (text : Text) → first_meets is_decimal text ≡ false → timestamp_11 text ≡ None
 timestamp_begins text h = grind (arith, off, or_from, and_left, date_begins, split_begins, date_prefix)

@@ -1,8 +1,8 @@
 -- A text without a digit is no number and no timestamp, unless it is of points alone.
-use Rattle.yaml_base.proofs.Common.{arith, ℕ, if◌then◌else◌, None, Bool, false, true, ◌||◌, List, [], ◌++◌, ◌∷◌, refl, ◌≡◌, eqb-true, true≢false, ap, ◌∙◌}
-use Rattle.yaml_base.proofs.Common.{and_parts, and_left, and_right, or_parts, or_from, list_any-append, concat, list_all, list_any, onto_first, slice_split}
-use Rattle.yaml_base.proofs.Common.{Text, is_point, is_decimal, first_meets, past_sign, decimal_of_digits, core_mantissa, begins_grouped, mantissa_11}
-use Rattle.yaml_base.proofs.Common.{has_more_points, is_number_letter}
+use Rattle.yaml_base.proofs.Common.{nat_tests, arith, ℕ, if◌then◌else◌, None, Bool, false, true, ◌||◌, List, [], ◌++◌, ◌∷◌, refl, ◌≡◌, eqb-true, true≢false, ap}
+use Rattle.yaml_base.proofs.Common.{◌∙◌, and_parts, and_left, and_right, or_parts, or_from, list_any-append, concat, list_all, list_any, onto_first}
+use Rattle.yaml_base.proofs.Common.{slice_split, Text, is_point, is_decimal, first_meets, past_sign, decimal_of_digits, core_mantissa, begins_grouped}
+use Rattle.yaml_base.proofs.Common.{mantissa_11, has_more_points, is_number_letter}
 use Rattle.yaml_base.proofs.no_numbers.NoNumbers.{NoNumber, off, filled}
 use Rattle.yaml_base.proofs.no_numbers.NumbersBegin.{first_part, split_begins, digits_begin, scientific_begins, more_points_11_begins, groups_begin}
 use Rattle.yaml_base.proofs.no_numbers.NumbersBegin.{fine_sixties_begin, octal_11_begins, leading_begins, decimal_11_begins, timestamp_begins}
@@ -23,9 +23,7 @@ past_sign_without test (c ∷ rest) h = grind (arith, or_parts)
 -- in its pieces
 onto_without : (c : ℕ) (parts : List Text) → is_decimal c ≡ false → list_any holds_digit parts ≡ false
     → list_any holds_digit (onto_first c parts) ≡ false
-onto_without c [] other h = or_from _ _ (or_from _ _ other refl) refl
-onto_without c (part ∷ parts) other h =
-    let both = or_parts (holds_digit part) (list_any holds_digit parts) h in or_from _ _ (or_from _ _ other both.0) both.1
+onto_without c parts h k = grind (arith, nat_tests, or_from, or_parts)
 
 parts_without : (sign : ℕ → Bool) (text : Text) → holds_digit text ≡ false → list_any holds_digit (slice_split sign text) ≡ false
 parts_without sign [] h = refl
@@ -61,10 +59,7 @@ begins_without : (text : Text) → holds_digit text ≡ false → begins_grouped
 begins_without text h = and_left (first_meets is_decimal text) _ (first_without text h)
 
 core_mantissa_without : (negative : Bool) (parts : List Text) → list_any holds_digit parts ≡ false → core_mantissa negative parts ≡ None
-core_mantissa_without negative [] h = refl
-core_mantissa_without negative (whole ∷ []) h = pointed_without negative whole [] (or_parts (holds_digit whole) false h).0 refl
-core_mantissa_without negative (whole ∷ fraction ∷ []) h = grind (arith, or_parts, pointed_without)
-core_mantissa_without negative (a ∷ b ∷ c ∷ rest) h = refl
+core_mantissa_without negative parts h = grind (arith, nat_tests, pointed_without, or_parts)
 
 mantissa_11_without : (negative : Bool) (parts : List Text) → list_any holds_digit parts ≡ false → mantissa_11 negative parts ≡ None
 mantissa_11_without negative [] h = refl

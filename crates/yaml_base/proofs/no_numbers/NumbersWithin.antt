@@ -1,4 +1,5 @@
 -- A text that holds a character which stands in no number is no number and no timestamp.
+use Rattle.yaml_base.proofs.Common.{nat_tests}
 use Rattle.yaml_base.proofs.Common.{ℕ, ◌==◌, Option, None, Some, codes, pos, ℤ, length, Bool, false, not, true, ◌&&◌, ◌||◌, List, [], ◌++◌, ◌∷◌, ◌⊎◌, refl, ◌≡◌}
 use Rattle.yaml_base.proofs.Common.{eqb-true, lt-ltb, ltb-true, true≢false, inl, inr, ap, sym, ◌∙◌, arith, or_cases, and_cases, and_left, and_right, or_from}
 use Rattle.yaml_base.proofs.Common.{or_left, list_all-append, bytes_eq-Decides, digit_value, concat, list_all, onto_first, slice_split, Text, is_between}
@@ -132,10 +133,7 @@ scaled_none (Some decimal) = refl
 scientific_outside : (mantissa : Text → Option Decimal) (exponent : Text → Option ℤ) → ((text : Text) → within text ≡ false → mantissa text ≡ None)
     → ((text : Text) → within text ≡ false → exponent text ≡ None) → (parts : List Text) → list_all within parts ≡ false
     → scientific mantissa exponent parts ≡ None
-scientific_outside mantissa exponent one two [] h = refl
-scientific_outside mantissa exponent one two (m ∷ []) h = ap (λ d. times_power_of_ten d (Some (pos 0))) (one m (sym (and_true (within m)) ∙ h))
-scientific_outside mantissa exponent one two (m ∷ e ∷ []) h = grind (arith, two_cases, scaled_none)
-scientific_outside mantissa exponent one two (m ∷ e ∷ f ∷ rest) h = refl
+scientific_outside mantissa exponent h k parts e = grind (arith, nat_tests, and_true, two_cases, scaled_none)
 
 exponent_outside : (text : Text) → within text ≡ false → exponent_read text ≡ None
 exponent_outside text h = off _ _ (digits_outside (past_sign text) (sign_outside text h))
@@ -147,11 +145,7 @@ pointed_outside : (negative : Bool) (whole fraction : Text) → (within whole &&
 pointed_outside negative whole fraction h = off _ _ (digits_outside (whole ++ fraction) (list_all-append in_number whole fraction ∙ h))
 
 core_mantissa_outside : (negative : Bool) (parts : List Text) → list_all within parts ≡ false → core_mantissa negative parts ≡ None
-core_mantissa_outside negative [] h = refl
-core_mantissa_outside negative (whole ∷ []) h = pointed_outside negative whole [] h
-core_mantissa_outside negative (whole ∷ fraction ∷ []) h =
-    pointed_outside negative whole fraction (ap (λ x. within whole && x) (sym (and_true (within fraction))) ∙ h)
-core_mantissa_outside negative (a ∷ b ∷ c ∷ rest) h = refl
+core_mantissa_outside negative parts h = grind (arith, nat_tests, pointed_outside, and_true)
 
 mantissa_11_outside : (negative : Bool) (parts : List Text) → list_all within parts ≡ false → mantissa_11 negative parts ≡ None
 mantissa_11_outside negative [] h = refl
@@ -164,19 +158,12 @@ mantissa_11_outside negative ([] ∷ a ∷ b ∷ rest) h = refl
 mantissa_11_outside negative ((c ∷ whole) ∷ a ∷ b ∷ rest) h = refl
 
 points_outside : (parts : List Text) → list_all within parts ≡ false → has_more_points parts ≡ false
-points_outside [] h = refl
-points_outside (whole ∷ []) h = refl
-points_outside (whole ∷ a ∷ []) h = refl
-points_outside (whole ∷ a ∷ b ∷ rest) h =
-    grind (arith, and_cases, and_left, or_from, filled_outside, begins_outside, and_right, digits_outside, list_all-append, concat_within)
+points_outside parts h =
+    grind (arith, nat_tests, and_cases, and_left, or_from, filled_outside, begins_outside, and_right, digits_outside, list_all-append, concat_within)
 
 more_points_outside : (parts : List Text) → list_all within parts ≡ false → more_points_11 parts ≡ None
-more_points_outside [] h = refl
-more_points_outside (m ∷ []) h =
-    off _ _ (points_outside (slice_split is_point m) (parts_outside is_point point_stands m (sym (and_true (within m)) ∙ h)))
-more_points_outside (m ∷ e ∷ []) h =
-    grind (arith, off, two_cases, and_left, points_outside, parts_outside, point_stands, and_right, digits_outside, sign_outside)
-more_points_outside (m ∷ e ∷ f ∷ rest) h = refl
+more_points_outside parts h =
+    grind (arith, nat_tests, off, points_outside, parts_outside, point_stands, and_true, two_cases, and_left, and_right, digits_outside, sign_outside)
 
 -- ---- integers
 
@@ -196,16 +183,11 @@ sixtieth_stands : (text : Text) → is_sixtieth text ≡ true → within text �
 sixtieth_stands text k = grind (arith, true≢false, and_left, counted_outside)
 
 groups_outside : (test : ℕ → Bool) (groups : List Text) → list_all within groups ≡ false → are_sixtieths test groups ≡ false
-groups_outside test [] h = refl
-groups_outside test (a ∷ []) h = refl
-groups_outside test (a ∷ b ∷ rest) h = grind (arith, and_cases, and_left, begins_outside, and_right, stronger, sixtieth_stands)
+groups_outside test groups h = grind (arith, nat_tests, and_cases, and_left, begins_outside, and_right, stronger, sixtieth_stands)
 
 fine_sixties_outside : (negative : Bool) (parts : List Text) → list_all within parts ≡ false → fine_sixties_11 negative parts ≡ None
-fine_sixties_outside negative [] h = refl
-fine_sixties_outside negative (a ∷ []) h = refl
-fine_sixties_outside negative (a ∷ b ∷ []) h =
-    grind (arith, off, two_cases, and_left, groups_outside, parts_outside, colon_stands, and_right, grouped_outside, digit_stands)
-fine_sixties_outside negative (a ∷ b ∷ d ∷ rest) h = refl
+fine_sixties_outside negative parts h =
+    grind (arith, nat_tests, off, two_cases, and_left, groups_outside, parts_outside, colon_stands, and_right, grouped_outside, digit_stands)
 
 -- ---- timestamps
 
@@ -216,10 +198,7 @@ rest_outside c rest false later stands fails h = refl
 rest_outside c rest true later stands fails h = fails (sym (ap (λ t. t && within rest) (stands refl)) ∙ h)
 
 offset_outside : (parts : List Text) → list_all within parts ≡ false → is_offset parts ≡ false
-offset_outside [] h = refl
-offset_outside (hours ∷ []) h = counted_outside 1 2 hours (sym (and_true (within hours)) ∙ h)
-offset_outside (hours ∷ minutes ∷ []) h = grind (arith, two_cases, and_left, counted_outside, and_right)
-offset_outside (a ∷ b ∷ d ∷ rest) h = refl
+offset_outside parts h = grind (arith, nat_tests, counted_outside, and_true, two_cases, and_left, and_right)
 
 zone_outside : (text : Text) → within text ≡ false → is_zone text ≡ false
 zone_outside [] h = refl

@@ -1,19 +1,19 @@
 -- Each document of an accepted list stands: its names and tags by what is accepted, its scalars by their bodies.
-use Rattle.yaml_base.proofs.Common.{◌≤◌, Option, None, Some, negsuc, pos, ℤ, true, List, [], ◌∷◌, refl, ◌≡◌}
-use Rattle.yaml_base.proofs.Common.{leb-true, subst, arith, list_all, is_printable, Rendered, Event, Documents, no_documents, documents_and}
-use Rattle.yaml_base.proofs.Common.{root_place, has_no_documents, render_documents, first_standing, text_of, has_scalar_values, MeaningIsKept}
-use Rattle.yaml_base.proofs.Common.{has_scalar_texts, text_written, bytes_written, list_layout, IsAccepted, Encoding, Settings, Effective, effective_indent}
-use Rattle.yaml_base.proofs.Common.{effective, reads_alike, directives_in_force, BodiesAreTidy, characters_read, documents_in_order}
-use Rattle.yaml_base.proofs.{Trees.tree_of-stream_events, stream_documents.StreamDocumentTexts.start_rendered}
-use Rattle.yaml_base.proofs.{stream_documents.StreamDocumentTexts.end_cursor, stream_documents.StreamEachDocument.AllDocuments}
-use Rattle.yaml_base.proofs.{stream_documents.StreamHeadingLines.heading_stands, stream_documents.StreamRootLeaves.root_stands}
-use Rattle.yaml_base.proofs.{stream_documents.StreamRootsStand.is_on_marker, stream_documents.StreamRootsStand.DocumentsStand}
-use Rattle.yaml_base.proofs.{stream_keys.StreamKeysFit.keys_fit, stream_keys.StreamSimpleKeys.simple_keys_fit, stream_lines.StreamClosed.margin_cursor}
-use Rattle.yaml_base.proofs.{stream_nodes.StreamBodies.DocumentsHold, stream_nodes.StreamBodies.roots_stand, stream_nodes.StreamNames.IsSoundDocument}
-use Rattle.yaml_base.proofs.{stream_nodes.StreamNames.accepted_names_stand, stream_nodes.StreamScalarLeaves.scalars_fit, stream_nodes.StreamStands.BodyStands}
-use Rattle.yaml_base.proofs.{stream_nodes.StreamStands.BodiesHold}
+use Rattle.yaml_base.proofs.Common.{nat_tests, ◌≤◌, Option, None, Some, negsuc, pos, ℤ, true, List, [], ◌∷◌, refl, ◌≡◌, leb-true, subst, arith, list_all}
+use Rattle.yaml_base.proofs.Common.{is_printable, Rendered, Event, Documents, no_documents, documents_and, root_place, has_no_documents, render_documents}
+use Rattle.yaml_base.proofs.Common.{first_standing, text_of, has_scalar_values, MeaningIsKept, has_scalar_texts, text_written, bytes_written, list_layout}
+use Rattle.yaml_base.proofs.Common.{IsAccepted, Encoding, Settings, Effective, effective_indent, effective, reads_alike, directives_in_force, BodiesAreTidy}
+use Rattle.yaml_base.proofs.Common.{characters_read, documents_in_order}
+use Rattle.yaml_base.{proofs.Trees.tree_of-stream_events, proofs.stream_documents.StreamEachDocument.AllDocuments}
+use Rattle.yaml_base.{proofs.stream_documents.StreamHeadingLines.heading_stands, proofs.stream_documents.StreamRootLeaves.root_stands}
+use Rattle.yaml_base.{proofs.stream_keys.StreamKeysFit.keys_fit, proofs.stream_keys.StreamSimpleKeys.simple_keys_fit}
+use Rattle.yaml_base.{proofs.stream_lines.StreamClosed.margin_cursor, proofs.stream_nodes.StreamScalarLeaves.scalars_fit, specs.StreamLaw.StreamReadsBack}
+use Rattle.yaml_base.proofs.stream_documents.StreamDocumentTexts.{start_rendered, end_cursor}
+use Rattle.yaml_base.proofs.stream_documents.StreamRootsStand.{is_on_marker, DocumentsStand}
+use Rattle.yaml_base.proofs.stream_nodes.StreamBodies.{DocumentsHold, roots_stand}
+use Rattle.yaml_base.proofs.stream_nodes.StreamNames.{IsSoundDocument, accepted_names_stand}
+use Rattle.yaml_base.proofs.stream_nodes.StreamStands.{BodyStands, BodiesHold}
 use Rattle.yaml_base.proofs.stream_documents.StreamLawStands.{documents_parts, indent_deep, StreamStands, stream_agrees}
-use Rattle.yaml_base.specs.StreamLaw.{StreamReadsBack}
 
 -- Documents
 
@@ -45,9 +45,7 @@ documents_stand s (documents_and before document) low high sound bodies =
 
 -- an indent is at most 9
 indent_low : (indent : Option ℤ) → effective_indent indent ≤ 9
-indent_low None = omega arith
-indent_low (Some (negsuc n)) = omega arith
-indent_low (Some (pos n)) = grind (arith, leb-true)
+indent_low indent = grind (arith, nat_tests, leb-true)
 
 -- The law
 

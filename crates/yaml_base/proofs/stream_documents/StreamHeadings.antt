@@ -100,9 +100,7 @@ written_prefix portable c text = by ((portable && c == exclamation_mark) || is_t
 -- a written prefix of at least one character is read as it was given
 pub prefix_reads : (portable : Bool) (prefix : Text) → prefix_fault prefix ≡ None → all_scalars prefix ≡ true
     → prefix_parsed (prefix_escaped portable prefix) ≡ Some prefix
-prefix_reads portable [] some scalars = absurd (cc)
-prefix_reads portable (c ∷ rest) some scalars =
-    parsed_if (prefix_escaped portable (c ∷ rest)) (written_prefix portable c rest) ∙ decoded_prefix portable (c ∷ rest) scalars
+prefix_reads portable prefix h k = grind (arith, nat_tests, parsed_if, written_prefix, decoded_prefix)
 
 -- Lines
 

@@ -1,9 +1,9 @@
 -- A line that begins with the bracket of a collection in flow, after its properties, holds no simple key, so it begins no mapping
 -- in a block.
-use Rattle.yaml_base.proofs.Common.{arith, ℕ, if◌then◌else◌, ◌==◌, option_map, option_and_then, Option, None, Some, nat_le, length, Bool, false, true, ◌&&◌, []}
-use Rattle.yaml_base.proofs.Common.{◌++◌, ◌∷◌, refl, ◌≡◌, append_assoc, ap, ◌∙◌, and_parts, false≢true, option_or, Text, space, plain, read_plain, ParsedTag}
-use Rattle.yaml_base.proofs.Common.{stood_plain, Tree, is_alias, longest_key, ends_indicator, begins_with_indicator, without_last_space, word_of_alias}
-use Rattle.yaml_base.proofs.Common.{key_of_text, key_ends, key_from, begins_text, kind_of_node, Rules, Properties, no_properties, scalar_parsed}
+use Rattle.yaml_base.proofs.Common.{nat_tests, arith, ℕ, if◌then◌else◌, ◌==◌, option_map, option_and_then, Option, None, Some, nat_le, length, Bool, false}
+use Rattle.yaml_base.proofs.Common.{true, ◌&&◌, [], ◌++◌, ◌∷◌, refl, ◌≡◌, append_assoc, ap, ◌∙◌, and_parts, false≢true, option_or, Text, space, plain}
+use Rattle.yaml_base.proofs.Common.{read_plain, ParsedTag, stood_plain, Tree, is_alias, longest_key, ends_indicator, begins_with_indicator, without_last_space}
+use Rattle.yaml_base.proofs.Common.{word_of_alias, key_of_text, key_ends, key_from, begins_text, kind_of_node, Rules, Properties, no_properties, scalar_parsed}
 use Rattle.yaml_base.proofs.Common.{scalar_of_style, empty_sequence, empty_mapping, a_scalar, word_by_kind, word_after}
 use Rattle.yaml_base.proofs.{stream_flow.StreamPropertyWords.lead, stream_nodes.StreamOwnTexts.own_kind, stream_nodes.StreamProperties.begins_content}
 use Rattle.yaml_base.proofs.stream_flow.StreamFlowWords.{opens_inside, Given, given_reads}
@@ -34,12 +34,7 @@ nothing_plain properties false = refl
 
 -- no plain text begins with a bracket
 no_plain_read : (breaks12 q : Bool) (t : Text) → read_plain breaks12 false (opening q ∷ t) ≡ None
-no_plain_read breaks12 true [] = refl
-no_plain_read breaks12 true (c ∷ []) = refl
-no_plain_read breaks12 true (c ∷ d ∷ t) = refl
-no_plain_read breaks12 false [] = refl
-no_plain_read breaks12 false (c ∷ []) = refl
-no_plain_read breaks12 false (c ∷ d ∷ t) = refl
+no_plain_read breaks12 q t = grind (arith, nat_tests)
 
 -- so no plain scalar does
 no_scalar : (rules : Rules) (q : Bool) (properties : Properties) (t : Text) → scalar_of_style plain rules false None properties (opening q ∷ t) ≡ None
@@ -91,13 +86,7 @@ bracket_shows false = refl
 -- nor does one with properties
 no_alias_led : (rules : Rules) (anchor tag : Option Text) (parsed : Option ParsedTag) (q : Bool) (t : Text) → Given rules anchor tag parsed
     → option_and_then (word_of_alias rules) (without_last_space (lead anchor tag ++ (opening q ∷ t))) ≡ None
-no_alias_led rules None None parsed q t given = no_alias_before rules (opening q) t (bracket_shows q) (no_alias rules q)
-no_alias_led rules (Some name) None parsed q t given =
-    no_alias_before rules 0x26 ((name ++ (space ∷ [])) ++ (opening q ∷ t)) refl (anchor_no_alias rules)
-no_alias_led rules (Some name) (Some tag) parsed q t given =
-    no_alias_before rules 0x26 (((name ++ (space ∷ tag)) ++ (space ∷ [])) ++ (opening q ∷ t)) refl (anchor_no_alias rules)
-no_alias_led rules None (Some tag) (Some parsed) q t given = grind (arith, no_alias_before, tag_no_alias)
-no_alias_led rules None (Some tag) None q t given = absurd given.tagged
+no_alias_led rules anchor tag parsed q t h = grind (arith, nat_tests, no_alias_before, bracket_shows, no_alias, anchor_no_alias, tag_no_alias)
 
 -- No keys
 

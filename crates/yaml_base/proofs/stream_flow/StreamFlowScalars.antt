@@ -1,10 +1,10 @@
 -- A scalar of the layout in flow is one word that reads as its tree.
-use Rattle.yaml_base.proofs.Common.{arith, ℕ, is_some, Option, None, Some, Bool, false, not, true, ◌&&◌, ◌||◌, List, [], ◌++◌, ◌∷◌, refl, ◌≡◌, true≢false}
-use Rattle.yaml_base.proofs.Common.{append_assoc, and_parts, false≢true, Text, Cursor, Rendered, space_if, ScalarStyle, any_style, plain, single_quoted}
-use Rattle.yaml_base.proofs.Common.{double_quoted, literal, folded, TagDirective, Scalar, scalar_tag, render_properties, render_separation, render_body}
-use Rattle.yaml_base.proofs.Common.{charset_of, choice_of, entry_place, Role, read_in_style, Effective, read_plain, is_tidy, Allowances, is_empty, allowances}
-use Rattle.yaml_base.proofs.Common.{double_inside, render_quote, runs, render_runs, quotes_doubled, single_quote, is_plain, requested_style, quoted_style}
-use Rattle.yaml_base.proofs.Common.{fitting_style, fits_plain, Rules}
+use Rattle.yaml_base.proofs.Common.{nat_tests, arith, ℕ, is_some, Option, None, Some, Bool, false, not, true, ◌&&◌, ◌||◌, List, [], ◌++◌, ◌∷◌, refl, ◌≡◌}
+use Rattle.yaml_base.proofs.Common.{true≢false, append_assoc, and_parts, false≢true, Text, Cursor, Rendered, space_if, ScalarStyle, any_style, plain}
+use Rattle.yaml_base.proofs.Common.{single_quoted, double_quoted, literal, folded, TagDirective, Scalar, scalar_tag, render_properties, render_separation}
+use Rattle.yaml_base.proofs.Common.{render_body, charset_of, choice_of, entry_place, Role, read_in_style, Effective, read_plain, is_tidy, Allowances, is_empty}
+use Rattle.yaml_base.proofs.Common.{allowances, double_inside, render_quote, runs, render_runs, quotes_doubled, single_quote, is_plain, requested_style}
+use Rattle.yaml_base.proofs.Common.{quoted_style, fitting_style, fits_plain, Rules}
 use Rattle.yaml_base.proofs.{stream_flow.StreamFlowTakes.and_false, stream_flow.StreamPropertyWords.lead, stream_lines.StreamCuts.none_not_some}
 use Rattle.yaml_base.proofs.stream_nodes.StreamLeads.{EndedCollection, lead_rendered}
 use Rattle.yaml_base.proofs.stream_nodes.StreamStands.{tag_written, tag_meant}
@@ -26,13 +26,7 @@ quotes_in_flow allowed = grind (arith)
 -- where no block style fits the style is one of flow
 style_in_flow : (allowed : Allowances) (fits x : Bool) (asked : ScalarStyle)
     → is_flow_style (fitting_style allowed fits (allowed.block && not true && not x) asked) ≡ true
-style_in_flow allowed true x plain = refl
-style_in_flow allowed false x plain = quotes_in_flow allowed
-style_in_flow allowed fits x single_quoted = quotes_in_flow allowed
-style_in_flow allowed fits x literal = grind (arith)
-style_in_flow allowed fits x folded = grind (arith)
-style_in_flow allowed fits x any_style = refl
-style_in_flow allowed fits x double_quoted = refl
+style_in_flow allowed fits x asked = grind (arith, nat_tests, quotes_in_flow)
 
 -- so is the style that is chosen in flow
 pub chosen_in_flow : (s : Effective) (role : Role) (column : ℕ) (simple : Bool) (content : Scalar)
@@ -81,21 +75,11 @@ body_flow_word s own anchor tag given_tag folded bare limit indent column value 
 -- after such a body white space has ended
 pub body_ended : (s : Effective) (style : ScalarStyle) (limit : Option ℕ) (indent : ℕ) (value : Text) (cursor : Cursor) → is_flow_style style ≡ true
     → EndedCollection (render_body style s limit indent value cursor).cursor
-body_ended s plain limit indent value cursor h = record { white = refl; indention = refl }
-body_ended s single_quoted limit indent value cursor h = grind (arith, and_false)
-body_ended s double_quoted limit indent value cursor h = grind (arith, and_false)
-body_ended s any_style limit indent value cursor h = grind (arith, and_false)
-body_ended s literal limit indent value cursor h = absurd (false≢true h)
-body_ended s folded limit indent value cursor h = absurd (false≢true h)
+body_ended s style limit indent value cursor h = grind (arith, nat_tests, and_false, false≢true)
 
 -- in flow a space stands before each body, where none stands there
 pub separation_in_flow : (style : ScalarStyle) (value : Text) (cursor : Cursor) → (render_separation style true value cursor).text ≡ space_if true cursor
-separation_in_flow plain value cursor = refl
-separation_in_flow single_quoted value cursor = refl
-separation_in_flow double_quoted value cursor = refl
-separation_in_flow any_style value cursor = refl
-separation_in_flow literal value cursor = refl
-separation_in_flow folded value cursor = refl
+separation_in_flow style value cursor = grind (arith, nat_tests)
 
 -- a scalar's text is a space where one is needed, and what leads its body, and the body
 pub scalar_whole : (portable : Bool) (directives : List TagDirective) (anchor tag : Option Text) (bare : Bool) (style : ScalarStyle) (value : Text)

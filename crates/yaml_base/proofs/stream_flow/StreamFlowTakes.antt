@@ -1,10 +1,10 @@
 -- What a node in flow, and the entries of a collection in flow, are to the reader of flow collections.
-use Rattle.yaml_base.proofs.Common.{arith, ℕ, ◌+◌, if◌then◌else◌, Option, codes, length, Bool, false, true, ◌&&◌, List, [], ◌++◌, ◌∷◌, refl, ◌≡◌, eqb-true}
-use Rattle.yaml_base.proofs.Common.{append-nil, append_assoc, ap, sym, ◌∙◌, and_parts, false≢true, Text, Cursor, Rendered, new_line, space_if, indicator}
-use Rattle.yaml_base.proofs.Common.{Brackets, square, curly, render_end, line_column, Effective, ParsedTag, Tree, Trees, sequence_tree, TreePairs, mapping_tree}
-use Rattle.yaml_base.proofs.Common.{no_key, key_due, key_held, OpenFlow, in_sequence, in_mapping, at_once, Awaited, entry_awaited, node_awaited, comma_awaited}
-use Rattle.yaml_base.proofs.Common.{colon_awaited, FlowReading, within, with_tree, level_opened, ends_indicator, spaces, Rules, properties_read, opens, symbol}
-use Rattle.yaml_base.proofs.Common.{free, begins_bracket, class_of, is_pair, flow_tokens}
+use Rattle.yaml_base.proofs.Common.{nat_tests, arith, ℕ, ◌+◌, if◌then◌else◌, Option, codes, length, Bool, false, true, ◌&&◌, List, [], ◌++◌, ◌∷◌, refl, ◌≡◌}
+use Rattle.yaml_base.proofs.Common.{eqb-true, append-nil, append_assoc, ap, sym, ◌∙◌, and_parts, false≢true, Text, Cursor, Rendered, new_line, space_if}
+use Rattle.yaml_base.proofs.Common.{indicator, Brackets, square, curly, render_end, line_column, Effective, ParsedTag, Tree, Trees, sequence_tree, TreePairs}
+use Rattle.yaml_base.proofs.Common.{mapping_tree, no_key, key_due, key_held, OpenFlow, in_sequence, in_mapping, at_once, Awaited, entry_awaited, node_awaited}
+use Rattle.yaml_base.proofs.Common.{comma_awaited, colon_awaited, FlowReading, within, with_tree, level_opened, ends_indicator, spaces, Rules, properties_read}
+use Rattle.yaml_base.proofs.Common.{opens, symbol, free, begins_bracket, class_of, is_pair, flow_tokens}
 use Rattle.yaml_base.proofs.{stream_flow.StreamPlainWords.ends_word, stream_lines.StreamInside.blank_spaces, stream_nodes.StreamStands.tag_meant}
 use Rattle.yaml_base.proofs.stream_flow.StreamPropertyWords.{lead, opens_after}
 use Rattle.yaml_base.proofs.stream_nodes.StreamLeads.{EndedCollection, lead_spaces, lead_then}
@@ -47,11 +47,7 @@ pub record FlowEntries (rules : Rules) (bracket : ℕ) (cursor : Cursor) (own : 
 -- where a mapping awaits no key a word is a node
 with_word_open : (breaks12 : Bool) (levels : List OpenFlow) (text : Text) (tree : Tree) → may_open levels ≡ true
     → with_word breaks12 levels text tree ≡ with_tree levels tree
-with_word_open breaks12 [] text tree h = refl
-with_word_open breaks12 (in_sequence anchor tag trees ∷ levels) text tree h = refl
-with_word_open breaks12 (in_mapping anchor tag pairs no_key ∷ levels) text tree h = absurd (false≢true h)
-with_word_open breaks12 (in_mapping anchor tag pairs key_due ∷ levels) text tree h = refl
-with_word_open breaks12 (in_mapping anchor tag pairs (key_held key) ∷ levels) text tree h = refl
+with_word_open breaks12 levels text tree h = grind (arith, nat_tests, false≢true)
 
 -- a word takes its place
 pub takes_word : (rules : Rules) (levels : List OpenFlow) (spaced : Bool) (text : Text) (tree : Tree) → FlowWord rules text tree → may_open levels ≡ true

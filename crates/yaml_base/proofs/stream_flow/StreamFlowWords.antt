@@ -43,31 +43,14 @@ given_reads rules flow anchor tag parsed rest given own = grind (arith, lead_the
 -- properties begin with `&` or `!`, and else it is what follows them
 pub lead_opens : (rules : Rules) (anchor tag : Option Text) (parsed : Option ParsedTag) (rest : Text) → Given rules anchor tag parsed → opens_inside rest ≡ true
     → opens_inside (lead anchor tag ++ rest) ≡ true
-lead_opens rules None None None rest given h = h
-lead_opens rules (Some name) None parsed rest given h = refl
-lead_opens rules (Some name) (Some tag) parsed rest given h = refl
-lead_opens rules None (Some tag) (Some parsed) rest given h = ap (λ t. opens_inside ((t ++ (space ∷ [])) ++ rest)) given.tagged.begins
-lead_opens rules None (Some tag) None rest given h = absurd given.tagged
-lead_opens rules None None (Some parsed) rest given h = absurd given.tagged
+lead_opens rules anchor tag parsed rest h k = grind (arith, nat_tests)
 
 -- Scalars
 
 -- how a scalar is tagged that is written so
 pub tagging_meant : (tag : Option Text) (style : ScalarStyle) (bare : Bool) → (bare ≡ true → is_plain style ≡ false)
     → tagging_parsed (tag_meant tag bare) (standing_of style) ≡ Some (tagging_in tag (record { style = style; bare = bare }))
-tagging_meant (Some tag) style bare h = refl
-tagging_meant None plain true h = absurd (true≢false (h refl))
-tagging_meant None any_style true h = refl
-tagging_meant None single_quoted true h = refl
-tagging_meant None double_quoted true h = refl
-tagging_meant None literal true h = refl
-tagging_meant None folded true h = refl
-tagging_meant None plain false h = refl
-tagging_meant None any_style false h = refl
-tagging_meant None single_quoted false h = refl
-tagging_meant None double_quoted false h = refl
-tagging_meant None literal false h = refl
-tagging_meant None folded false h = refl
+tagging_meant tag style bare h = grind (arith, nat_tests, true≢false)
 
 -- the tree of a scalar
 abbrev pub scalar_in : Option Text → Option Text → ScalarStyle → (bare : Bool) → Text → Tree
@@ -84,14 +67,10 @@ scalar_meant rules flow anchor tag style bare column text v value h tidy read = 
 
 -- a text in quotes is a scalar
 pub double_kind : (t : Text) → kind_of_word (0x22 ∷ t) ≡ a_scalar
-double_kind [] = refl
-double_kind (c ∷ []) = refl
-double_kind (c ∷ d ∷ t) = refl
+double_kind t = grind (arith, nat_tests)
 
 pub single_kind : (t : Text) → kind_of_word (0x27 ∷ t) ≡ a_scalar
-single_kind [] = refl
-single_kind (c ∷ []) = refl
-single_kind (c ∷ d ∷ t) = refl
+single_kind t = grind (arith, nat_tests)
 
 -- one in double quotes
 pub double_flow_word : (rules : Rules) (anchor tag given_tag : Option Text) (bare : Bool) (column : Option ℕ) (t v : Text)

@@ -1,7 +1,7 @@
 -- Plain text is one word among the tokens of flow, before white space and a flow indicator.
-use Rattle.yaml_base.proofs.Common.{arith, ℕ, if◌then◌else◌, ◌==◌, None, Some, codes, Bool, false, not, true, ◌&&◌, ◌||◌, List, [], map, ◌++◌, ◌∷◌, refl, ◌≡◌}
-use Rattle.yaml_base.proofs.Common.{true≢false, append-nil, append_assoc, ap, ◌∙◌, and_parts, or_parts, false≢true, map-append, list_all, Text, is_among}
-use Rattle.yaml_base.proofs.Common.{unit_of, folding_read, is_read_white, begins_white, begins_no_plain, begins_with_hash, holds_no_plain, read_plain}
+use Rattle.yaml_base.proofs.Common.{nat_tests, arith, ℕ, if◌then◌else◌, ◌==◌, None, Some, codes, Bool, false, not, true, ◌&&◌, ◌||◌, List, [], map, ◌++◌, ◌∷◌}
+use Rattle.yaml_base.proofs.Common.{refl, ◌≡◌, true≢false, append-nil, append_assoc, ap, ◌∙◌, and_parts, or_parts, false≢true, map-append, list_all, Text}
+use Rattle.yaml_base.proofs.Common.{is_among, unit_of, folding_read, is_read_white, begins_white, begins_no_plain, begins_with_hash, holds_no_plain, read_plain}
 use Rattle.yaml_base.proofs.Common.{ends_white, has_clean_edges, FlowToken, word, free, FlowStep, FlowClass, is_white_blank, is_white_break, is_flow_indicator}
 use Rattle.yaml_base.proofs.Common.{begins_property, begins_double, begins_single, begins_bracket, begins_plain, class_of, begun, flow_tokens}
 use Rattle.yaml_base.proofs.{stream_flow.StreamWords.GivesWord, stream_lines.StreamCuts.none_not_some}
@@ -82,14 +82,7 @@ ends_shown breaks12 (c ∷ d ∷ rest) = ends_shown breaks12 (d ∷ rest)
 passes_one : (breaks12 : Bool) (c : ℕ) (text white rest : Text) → (class : FlowClass) → stays_plain class ≡ true → not (is_white_class class) ≡ true
     → (let here : FlowStep = plain_step class breaks12 text white c in here.tokens ++ flow_tokens breaks12 here.place rest)
     ≡ flow_tokens breaks12 (in_plain (text ++ (white ++ (c ∷ []))) []) rest
-passes_one breaks12 c text white rest is_white_blank h k = absurd (false≢true k)
-passes_one breaks12 c text white rest is_white_break h k = absurd (false≢true k)
-passes_one breaks12 c text white rest is_flow_indicator h k = absurd (false≢true h)
-passes_one breaks12 c text white rest begins_bracket h k = absurd (false≢true h)
-passes_one breaks12 c text white rest begins_property h k = refl
-passes_one breaks12 c text white rest begins_double h k = refl
-passes_one breaks12 c text white rest begins_single h k = refl
-passes_one breaks12 c text white rest begins_plain h k = refl
+passes_one breaks12 c text white rest class h k = grind (arith, nat_tests, false≢true)
 
 -- plain text is passed whole, with the white space inside it
 pub plain_passes : (breaks12 : Bool) (c : ℕ) (t text white rest : Text) → all_stay breaks12 (c ∷ t) ≡ true → ends_shown breaks12 (c ∷ t) ≡ true
@@ -125,9 +118,7 @@ plain_passes breaks12 c (d ∷ t) text white rest h k =
 -- a text without flow indicators, whose last character isn't white, is a word after its first character
 pub plain_text_word : (breaks12 : Bool) (before : Text) (c : ℕ) (t rest : Text) → all_stay breaks12 t ≡ true → ends_shown breaks12 (c ∷ t) ≡ true
     → ends_word breaks12 rest ≡ true → GivesWord breaks12 (in_plain (before ++ (c ∷ [])) []) (before ++ (c ∷ [])) t rest
-plain_text_word breaks12 before c [] rest h k ends = grind (arith, plain_ends, append-nil)
-plain_text_word breaks12 before c (d ∷ t) rest h k ends =
-    plain_passes breaks12 d t (before ++ (c ∷ [])) [] rest h k ∙ plain_ends breaks12 ((before ++ (c ∷ [])) ++ (d ∷ t)) [] rest ends
+plain_text_word breaks12 before c t rest h k e = grind (arith, nat_tests, plain_ends, append-nil, plain_passes)
 
 -- What reads as plain
 

@@ -30,14 +30,7 @@ not_white breaks12 c h = grind (arith, nat_tests, shown_at)
 -- a character of a property is passed
 property_passes : (class : FlowClass) (text : Text) (c : ℕ) → is_white_class class ≡ false
     → property_step class text c ≡ record { tokens = []; place = in_property (text ++ (c ∷ [])) }
-property_passes is_white_blank text c h = absurd (true≢false h)
-property_passes is_white_break text c h = absurd (true≢false h)
-property_passes is_flow_indicator text c h = refl
-property_passes begins_property text c h = refl
-property_passes begins_double text c h = refl
-property_passes begins_single text c h = refl
-property_passes begins_bracket text c h = refl
-property_passes begins_plain text c h = refl
+property_passes class text c h = grind (arith, nat_tests, true≢false)
 
 -- the rest of a property is passed whole
 rest_passes : (breaks12 : Bool) (before text rest : Text) → holds_white text ≡ false

@@ -1,8 +1,8 @@
 -- What a line with a simple key begins with: no space, no indicator of an entry and no marker.
-use Rattle.yaml_base.proofs.Common.{arith, ℕ, if◌then◌else◌, ◌==◌, Option, None, Some, codes, Bool, false, true, ◌&&◌, ◌||◌, [], ◌++◌, ◌∷◌, refl, ◌≡◌, eqb-true}
-use Rattle.yaml_base.proofs.Common.{true≢false, ap, subst, sym, ◌∙◌, or_parts, false≢true, Text, is_among, space, begins_white, begins_with_three}
-use Rattle.yaml_base.proofs.Common.{begins_no_plain, ParsedTag, Tree, begins_with_marker, marker_of, ends_indicator, begins_with_indicator, key_of_text}
-use Rattle.yaml_base.proofs.Common.{key_entry, value_entry, simple_entry, Rules}
+use Rattle.yaml_base.proofs.Common.{nat_tests, arith, ℕ, if◌then◌else◌, ◌==◌, Option, None, Some, codes, Bool, false, true, ◌&&◌, ◌||◌, [], ◌++◌, ◌∷◌, refl}
+use Rattle.yaml_base.proofs.Common.{◌≡◌, eqb-true, true≢false, ap, subst, sym, ◌∙◌, or_parts, false≢true, Text, is_among, space, begins_white}
+use Rattle.yaml_base.proofs.Common.{begins_with_three, begins_no_plain, ParsedTag, Tree, begins_with_marker, marker_of, ends_indicator, begins_with_indicator}
+use Rattle.yaml_base.proofs.Common.{key_of_text, key_entry, value_entry, simple_entry, Rules}
 use Rattle.yaml_base.proofs.{stream_flow.StreamFlowWords.Given, stream_flow.StreamPropertyWords.lead, stream_keys.StreamKeys.NoKey}
 use Rattle.yaml_base.proofs.{stream_keys.StreamKeys.key_found, stream_keys.StreamKeysFit.KeyText, stream_keys.StreamPlainKeys.not_among}
 use Rattle.yaml_base.proofs.{stream_keys.StreamPlainKeys.Begins, stream_lines.StreamSections.is_unmarked, stream_nodes.StreamPairs.KeyFits}
@@ -45,12 +45,7 @@ other_prefix c t shows other = grind (arith, not_among, false≢true)
 -- properties begin with `&` or `!`, and else it is what follows them
 pub lead_prefix : (rules : Rules) (anchor tag : Option Text) (parsed : Option ParsedTag) (rest : Text) → Given rules anchor tag parsed → KeyBeginning rest
     → KeyBeginning (lead anchor tag ++ rest)
-lead_prefix rules None None None rest given prefix = prefix
-lead_prefix rules (Some name) None parsed rest given prefix = other_prefix 0x26 ((name ++ (space ∷ [])) ++ rest) refl refl
-lead_prefix rules (Some name) (Some tag) parsed rest given prefix = other_prefix 0x26 (((name ++ (space ∷ tag)) ++ (space ∷ [])) ++ rest) refl refl
-lead_prefix rules None (Some tag) (Some parsed) rest given prefix = grind (arith, other_prefix)
-lead_prefix rules None (Some tag) None rest given prefix = absurd given.tagged
-lead_prefix rules None None (Some parsed) rest given prefix = absurd given.tagged
+lead_prefix rules anchor tag parsed rest h k = grind (arith, nat_tests, other_prefix)
 
 -- Plain text
 
@@ -62,10 +57,7 @@ plain_indicator breaks12 c t after h symbol member = grind (arith, true≢false,
 -- nor does it begin with three of a marker's indicator
 plain_marker : (c : ℕ) (t after : Text) (symbol : ℕ) → (0x3A == symbol) ≡ false → begins_with_three symbol (c ∷ t) ≡ false → begins_with_marker symbol
     ((c ∷ t) ++ (0x3A ∷ after)) ≡ false
-plain_marker c [] [] symbol other h = refl
-plain_marker c [] (a ∷ after) symbol other h = grind (arith)
-plain_marker c (a ∷ []) after symbol other h = grind (arith)
-plain_marker c (a ∷ b ∷ t) after symbol other h = ap (λ x. x && ends_indicator (t ++ (0x3A ∷ after))) h
+plain_marker c t after symbol h k = grind (arith, nat_tests)
 
 -- what plain text begins with
 pub plain_prefix : (breaks12 : Bool) (c : ℕ) (t : Text) → begins_no_plain breaks12 (c ∷ t) ≡ false → Begins c → KeyBeginning (c ∷ t)

@@ -179,10 +179,4 @@ quoted_unbroken unicode value h =
 -- the body of a simple key has no break
 pub key_unbroken : (style : ScalarStyle) (unicode : Bool) (value : Text) → list_any is_break value ≡ false → list_any is_break (key_body style unicode value)
     ≡ false
-key_unbroken plain unicode value h = h
-key_unbroken single_quoted unicode value h =
-    unbroken_both (quotes_doubled value) (39 ∷ []) (ap (list_any is_break) (doubled_each value) ∙ unbroken_each quote_doubled unbroken_quote value h) refl
-key_unbroken double_quoted unicode value h = quoted_unbroken unicode value h
-key_unbroken any_style unicode value h = quoted_unbroken unicode value h
-key_unbroken literal unicode value h = quoted_unbroken unicode value h
-key_unbroken folded unicode value h = quoted_unbroken unicode value h
+key_unbroken style unicode value h = grind (arith, nat_tests, unbroken_both, doubled_each, unbroken_each, unbroken_quote, quoted_unbroken)

@@ -25,9 +25,7 @@ four_bytes c h = grind (arith, nat_tests, h)
 -- an escape has at most four characters for each byte
 number_length : (c : ℕ) (two four : Bool) → nat_le c 0xFF ≡ two → nat_le c 0xFFFF ≡ four
     → suc (length (if two then 120 ∷ hex_digits 2 c else (if four then 117 ∷ hex_digits 4 c else 85 ∷ hex_digits 8 c))) ≤ 4 * length (encode_utf8 c)
-number_length c true four e f = let some = some_byte c in omega arith
-number_length c false true e f = let some : 2 ≤ length (encode_utf8 c) = subst (λ n. 2 ≤ n) (sym (length-encode c)) (two_bytes c e) in omega arith
-number_length c false false e f = let some : 4 ≤ length (encode_utf8 c) = subst (λ n. 4 ≤ n) (sym (length-encode c)) (four_bytes c f) in omega arith
+number_length c two four h k = grind (arith, nat_tests, some_byte, length-encode, two_bytes, four_bytes)
 
 escape_length : (c : ℕ) (found : Option ℕ) → suc (length (escape_after_backslash found c)) ≤ 4 * length (encode_utf8 c)
 escape_length c (Some letter) = let some = some_byte c in omega arith

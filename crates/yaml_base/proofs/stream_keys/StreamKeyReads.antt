@@ -1,4 +1,5 @@
 -- A simple key after its anchor and its tag is read as its tree, and no `:` inside it ends a key earlier.
+use Rattle.yaml_base.proofs.Common.{nat_tests}
 use Rattle.yaml_base.proofs.Common.{arith, ℕ, if◌then◌else◌, ◌==◌, option_map, option_and_then, Option, None, Some, nat_le, length, Bool, false, true, [], ◌++◌}
 use Rattle.yaml_base.proofs.Common.{◌∷◌, refl, ◌≡◌, eqb-true, true≢false, append_assoc, ap, subst, sym, ◌∙◌, and_parts, false≢true, Text, space, plain}
 use Rattle.yaml_base.proofs.Common.{single_quoted, double_quoted, read_double, read_plain, read_single, ParsedTag, is_tidy, stood_quoted, Tree, sequence_tree}
@@ -16,9 +17,7 @@ use Rattle.yaml_base.proofs.stream_keys.StreamPlainKeys.{Begins, plain_kind, pla
 
 -- a text that doesn't begin with `*` is no alias
 not_star : (c : ℕ) (t : Text) → (c == 0x2A) ≡ false → kind_of_word (c ∷ t) ≡ an_alias → ⊥
-not_star c [] h e = grind (arith, true≢false)
-not_star c (d ∷ []) h e = grind (arith, true≢false)
-not_star c (d ∷ f ∷ t) h e = grind (arith, true≢false)
+not_star c t h k = grind (arith, nat_tests, true≢false)
 
 -- so it is none after properties
 content_other : (rules : Rules) (properties : Properties) (c : ℕ) (t : Text) → (c == 0x2A) ≡ false
@@ -28,14 +27,8 @@ content_other rules properties c t star = kind_other (kind_of_word (c ∷ t)) ru
 -- no alias stands before the last space
 lead_no_alias : (rules : Rules) (anchor tag : Option Text) (parsed : Option ParsedTag) (c : ℕ) (t : Text) → Given rules anchor tag parsed
     → begins_content (c ∷ t) ≡ true → (c == 0x2A) ≡ false → option_and_then (word_of_alias rules) (without_last_space (lead anchor tag ++ (c ∷ t))) ≡ None
-lead_no_alias rules None None None c t given own star = grind (arith, no_alias_before, and_parts, alias_left, given_reads, content_other, false≢true)
-lead_no_alias rules (Some name) None parsed c t given own star =
-    no_alias_before rules 0x26 ((name ++ (space ∷ [])) ++ (c ∷ t)) refl (anchor_no_alias rules)
-lead_no_alias rules (Some name) (Some tag) parsed c t given own star =
-    no_alias_before rules 0x26 (((name ++ (space ∷ tag)) ++ (space ∷ [])) ++ (c ∷ t)) refl (anchor_no_alias rules)
-lead_no_alias rules None (Some tag) (Some parsed) c t given own star = grind (arith, no_alias_before, tag_no_alias)
-lead_no_alias rules None (Some tag) None c t given own star = absurd given.tagged
-lead_no_alias rules None None (Some parsed) c t given own star = absurd given.tagged
+lead_no_alias rules anchor tag parsed c t h k e =
+    grind (arith, nat_tests, no_alias_before, and_parts, alias_left, given_reads, content_other, false≢true, anchor_no_alias, tag_no_alias)
 
 -- a text after properties is a key where it is a word after them
 lead_key_text : (rules : Rules) (anchor tag : Option Text) (parsed : Option ParsedTag) (c : ℕ) (t : Text) (read : Option Tree) → Given rules anchor tag parsed

@@ -1,8 +1,8 @@
 -- A simple key in quotes is found where its text ends, before the `:` that follows it.
-use Rattle.yaml_base.proofs.Common.{arith, ℕ, if◌then◌else◌, ◌==◌, option_map, option_and_then, Option, None, Some, nat_le, length, Bool, false, true, ◌&&◌, []}
-use Rattle.yaml_base.proofs.Common.{◌++◌, ◌∷◌, refl, ◌≡◌, append_assoc, ap, sym, ◌∙◌, option_or, Text, space, single_quoted, double_quoted, Stood, Tree}
-use Rattle.yaml_base.proofs.Common.{is_alias, longest_key, ends_indicator, SimpleKey, without_last_space, word_but_alias, word_of_alias, key_of_text, key_ends}
-use Rattle.yaml_base.proofs.Common.{key_from, Rules, Properties, no_properties, scalar_parsed, scalar_of_style, word_read}
+use Rattle.yaml_base.proofs.Common.{nat_tests, arith, ℕ, if◌then◌else◌, ◌==◌, option_map, option_and_then, Option, None, Some, nat_le, length, Bool, false}
+use Rattle.yaml_base.proofs.Common.{true, ◌&&◌, [], ◌++◌, ◌∷◌, refl, ◌≡◌, append_assoc, ap, sym, ◌∙◌, option_or, Text, space, single_quoted, double_quoted}
+use Rattle.yaml_base.proofs.Common.{Stood, Tree, is_alias, longest_key, ends_indicator, SimpleKey, without_last_space, word_but_alias, word_of_alias}
+use Rattle.yaml_base.proofs.Common.{key_of_text, key_ends, key_from, Rules, Properties, no_properties, scalar_parsed, scalar_of_style, word_read}
 
 -- no `:` inside a text ends a key, where so much stands before it and a `:` after it
 abbrev pub NoKey : Rules → Text → Text → Text → Type 0
@@ -49,16 +49,12 @@ scalar_no_alias properties standing (Some text) = grind (arith)
 -- a word that begins with a double quote is a scalar in such quotes
 word_of_double : (rules : Rules) (flow : Bool) (t : Text)
     → word_read rules flow (0x22 ∷ t) ≡ scalar_of_style double_quoted rules flow None no_properties (0x22 ∷ t)
-word_of_double rules flow [] = refl
-word_of_double rules flow (c ∷ []) = refl
-word_of_double rules flow (c ∷ d ∷ t) = refl
+word_of_double rules flow t = grind (arith, nat_tests)
 
 -- one that begins with a single quote, in such quotes
 word_of_single : (rules : Rules) (flow : Bool) (t : Text)
     → word_read rules flow (0x27 ∷ t) ≡ scalar_of_style single_quoted rules flow None no_properties (0x27 ∷ t)
-word_of_single rules flow [] = refl
-word_of_single rules flow (c ∷ []) = refl
-word_of_single rules flow (c ∷ d ∷ t) = refl
+word_of_single rules flow t = grind (arith, nat_tests)
 
 -- a text that begins with a quote is no alias before a space
 pub no_alias_before : (rules : Rules) (q : ℕ) (t : Text) → (q == space) ≡ false → ((u : Text) → word_of_alias rules (q ∷ u) ≡ None)

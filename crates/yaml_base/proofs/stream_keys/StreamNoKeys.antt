@@ -1,11 +1,11 @@
 -- No `:` in an anchor or a tag ends a key: what stands before it is no word, and no alias.
-use Rattle.yaml_base.proofs.Common.{arith, ℕ, ◌+◌, if◌then◌else◌, ◌==◌, is_some, option_map, option_and_then, Option, None, Some, length, Bool, false, not}
-use Rattle.yaml_base.proofs.Common.{true, ◌&&◌, ◌||◌, [], ◌++◌, ◌∷◌, refl, ◌≡◌, eqb-true, true≢false, append-nil, append_assoc, ap, subst, sym, ◌∙◌, and_parts}
-use Rattle.yaml_base.proofs.Common.{and_from, false≢true, list_all, option_or, Text, space, is_alpha, ParsedTag, tag_parsed, Stood, Tree, sequence_tree}
-use Rattle.yaml_base.proofs.Common.{mapping_tree, no_trees, no_tree_pairs, is_alias, ends_indicator, Indented, indented, spaces, without_last_space}
-use Rattle.yaml_base.proofs.Common.{word_of_alias, key_of_text, key_ends, key_from, Rules, Properties, PropertiesRead, cut_before_space, tag_of_word, tag_first}
-use Rattle.yaml_base.proofs.Common.{collection_tag_parsed, scalar_parsed, an_alias, empty_sequence, empty_mapping, a_scalar, word_by_kind, word_after}
-use Rattle.yaml_base.proofs.Common.{word_read}
+use Rattle.yaml_base.proofs.Common.{nat_tests, arith, ℕ, ◌+◌, if◌then◌else◌, ◌==◌, is_some, option_map, option_and_then, Option, None, Some, length, Bool}
+use Rattle.yaml_base.proofs.Common.{false, not, true, ◌&&◌, ◌||◌, [], ◌++◌, ◌∷◌, refl, ◌≡◌, eqb-true, true≢false, append-nil, append_assoc, ap, subst, sym, ◌∙◌}
+use Rattle.yaml_base.proofs.Common.{and_parts, and_from, false≢true, list_all, option_or, Text, space, is_alpha, ParsedTag, tag_parsed, Stood, Tree}
+use Rattle.yaml_base.proofs.Common.{sequence_tree, mapping_tree, no_trees, no_tree_pairs, is_alias, ends_indicator, Indented, indented, spaces}
+use Rattle.yaml_base.proofs.Common.{without_last_space, word_of_alias, key_of_text, key_ends, key_from, Rules, Properties, PropertiesRead, cut_before_space}
+use Rattle.yaml_base.proofs.Common.{tag_of_word, tag_first, collection_tag_parsed, scalar_parsed, an_alias, empty_sequence, empty_mapping, a_scalar}
+use Rattle.yaml_base.proofs.Common.{word_by_kind, word_after, word_read}
 use Rattle.yaml_base.{proofs.stream_flow.StreamPropertyWords.lead, proofs.stream_lines.StreamInside.indented_spaces, specs.streams.StreamScalars.WordKind}
 use Rattle.yaml_base.proofs.stream_keys.StreamKeys.{NoKey, no_alias_before, key_by_word}
 use Rattle.yaml_base.proofs.stream_nodes.StreamProperties.{WrittenTag, IsTagged, IsNamed, properties_text, has_no_space, word_whole, name_letters}
@@ -74,13 +74,7 @@ collection_other (Some tag) make h = h tag
 -- a word that isn't of the kind of an alias is none
 pub kind_other : (kind : WordKind) (rules : Rules) (flow : Bool) (properties : Properties) (text : Text)
     → (kind ≡ an_alias → ⊥) → reads_alias (word_by_kind kind rules flow None properties text) ≡ false
-kind_other an_alias rules flow properties text other = absurd (other refl)
-kind_other empty_sequence rules flow properties text other = collection_other (collection_tag_parsed properties.tag)
-    (λ tag. sequence_tree properties.anchor tag no_trees) (λ tag. refl)
-kind_other empty_mapping rules flow properties text other = collection_other (collection_tag_parsed properties.tag)
-    (λ tag. mapping_tree properties.anchor tag no_tree_pairs) (λ tag. refl)
-kind_other a_scalar rules flow properties [] other = refl
-kind_other a_scalar rules flow properties (c ∷ rest) other = grind (arith, scalar_other)
+kind_other kind rules flow properties text h = grind (arith, nat_tests, collection_other, scalar_other)
 
 -- a node with an anchor or a tag is none
 pub properties_other : (rules : Rules) (flow : Bool) (properties : Properties) (text : Text) → (is_some properties.anchor || is_some properties.tag) ≡ true
@@ -154,11 +148,7 @@ no_key_text rules text no_word none = grind (arith, key_by_word)
 -- the beginning of a tag after an anchor or not is no key
 tag_no_key : (rules : Rules) (anchor : Option Text) (b : Text) → IsNamed anchor → has_no_space b ≡ true → key_of_text rules (anchored anchor ++ (0x21 ∷ b))
     ≡ None
-tag_no_key rules None b named h =
-    no_key_text rules (0x21 ∷ b) (tag_no_word rules false None b named h) (no_alias_before rules 0x21 b refl (tag_no_alias rules))
-tag_no_key rules (Some name) b named h =
-    no_key_text rules (anchored (Some name) ++ (0x21 ∷ b)) (tag_no_word rules false (Some name) b named h)
-    (no_alias_before rules 0x26 ((name ++ (space ∷ [])) ++ (0x21 ∷ b)) refl (anchor_no_alias rules))
+tag_no_key rules anchor b h k = grind (arith, nat_tests, no_key_text, tag_no_word, no_alias_before, tag_no_alias, anchor_no_alias)
 
 -- no key ends in the rest of a tag
 tag_rest_nowhere : (rules : Rules) (anchor : Option Text) (b t : Text) → IsNamed anchor → has_no_space b ≡ true → has_no_space t ≡ true

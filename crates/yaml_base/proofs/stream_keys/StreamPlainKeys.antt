@@ -29,9 +29,7 @@ pub begins : (breaks12 : Bool) (c : ℕ) (t : Text) → begins_no_plain breaks12
 begins breaks12 c t h white = grind (arith, or_parts, not_among, true≢false, eqb-true)
 
 pub plain_kind : (c : ℕ) (t : Text) → Begins c → kind_of_word (c ∷ t) ≡ a_scalar
-plain_kind c [] b = ap (λ x. if x then an_alias else a_scalar) b.star
-plain_kind c (d ∷ []) b = rw (b.star, b.square, b.curly) refl
-plain_kind c (d ∷ e ∷ t) b = ap (λ x. if x then an_alias else a_scalar) b.star
+plain_kind c t h = grind (arith, nat_tests)
 
 pub plain_style : (c : ℕ) (t : Text) → Begins c → style_of_first_character (c ∷ t) ≡ plain
 plain_style c t b = rw (b.single, b.double, b.literal, b.folded) refl

@@ -1,23 +1,23 @@
 -- Each simple key of the layout in a block is cut off before its `:`, where its names and its body stand.
-use Rattle.yaml_base.proofs.Common.{suc, ℕ, ◌+◌, ◌≤◌, if◌then◌else◌, is_some, Option, None, Some, nat_le, length, Bool, false, not, true, List}
-use Rattle.yaml_base.proofs.Common.{[], ◌++◌, ◌∷◌, refl, ◌≡◌, le-leb, leb-true, length-append, true≢false, ap, subst, sym, ◌∙◌, arith, and_parts, false≢true}
+use Rattle.yaml_base.proofs.Common.{nat_tests, suc, ℕ, ◌+◌, ◌≤◌, if◌then◌else◌, is_some, Option, None, Some, nat_le, length, Bool, false, not, true, List, []}
+use Rattle.yaml_base.proofs.Common.{◌++◌, ◌∷◌, refl, ◌≡◌, le-leb, leb-true, length-append, true≢false, ap, subst, sym, ◌∙◌, arith, and_parts, false≢true}
 use Rattle.yaml_base.proofs.Common.{flat_map, list_all, Text, space, is_alpha, Cursor, Rendered, render_nothing, space_if, ScalarStyle, any_style, plain}
 use Rattle.yaml_base.proofs.Common.{single_quoted, double_quoted, literal, folded, TagDirective, Scalar, Collection, scalar_tag, collection_tag, alias_node}
 use Rattle.yaml_base.proofs.Common.{scalar_node, sequence_node, Pairs, mapping_node, no_nodes, nodes_and, no_pairs, pairs_and, Body, render_properties}
-use Rattle.yaml_base.proofs.Common.{render_alias, render_separation, render_body, choice_of, body_at, is_written_in_flow, Brackets}
-use Rattle.yaml_base.proofs.Common.{square, curly, render_end, entry_place, Role, as_key, Place, deeper, byte_count, name_count, tag_count, is_short}
-use Rattle.yaml_base.proofs.Common.{has_no_pairs, read_in_style, most_key_bytes, Effective, is_tidy, Allowances, is_empty, character_text}
-use Rattle.yaml_base.proofs.Common.{quotes_doubled, is_plain, fitting_style, Tree, alias_tree, scalar_tree, longest_key, Rules}
-use Rattle.yaml_base.proofs.{stream_flow.StreamFlowKinds.empty_whole, stream_flow.StreamFlowScalars.rules_of, stream_flow.StreamFlowScalars.is_flow_style}
-use Rattle.yaml_base.proofs.{stream_flow.StreamFlowScalars.bare_not_plain, stream_flow.StreamFlowWords.Given, stream_flow.StreamFlowWords.scalar_in}
+use Rattle.yaml_base.proofs.Common.{render_alias, render_separation, render_body, choice_of, body_at, is_written_in_flow, Brackets, square, curly, render_end}
+use Rattle.yaml_base.proofs.Common.{entry_place, Role, as_key, Place, deeper, byte_count, name_count, tag_count, is_short, has_no_pairs, read_in_style}
+use Rattle.yaml_base.proofs.Common.{most_key_bytes, Effective, is_tidy, Allowances, is_empty, character_text, quotes_doubled, is_plain, fitting_style, Tree}
+use Rattle.yaml_base.proofs.Common.{alias_tree, scalar_tree, longest_key, Rules}
+use Rattle.yaml_base.proofs.{stream_flow.StreamFlowKinds.empty_whole, stream_flow.StreamFlowWords.Given, stream_flow.StreamFlowWords.scalar_in}
 use Rattle.yaml_base.proofs.{stream_flow.StreamPropertyWords.lead, stream_keys.StreamAliasKeys.alias_key, stream_keys.StreamKeyBodies.key_body}
-use Rattle.yaml_base.proofs.{stream_keys.StreamKeyBodies.body_alone, stream_keys.StreamPlainKeys.begins, stream_keys.StreamPlainKeys.reads_plain}
-use Rattle.yaml_base.proofs.{stream_keys.StreamPlainKeys.tidy_begins, stream_lines.StreamClosed.margin_cursor, stream_lines.StreamClosed.spaces_line}
+use Rattle.yaml_base.proofs.{stream_keys.StreamKeyBodies.body_alone, stream_lines.StreamClosed.margin_cursor, stream_lines.StreamClosed.spaces_line}
 use Rattle.yaml_base.proofs.{stream_lines.StreamCuts.none_not_some, stream_lines.StreamLineLaws.one_line_both, stream_lines.StreamTidyLaws.tidy_at_root}
-use Rattle.yaml_base.proofs.{stream_nodes.StreamAgrees.tagging_in, stream_nodes.StreamAgrees.node_tree, stream_nodes.StreamLeads.lead_rendered}
-use Rattle.yaml_base.proofs.{stream_nodes.StreamLeads.tag_is_written, stream_nodes.StreamLeaves.SimpleKeysFit, stream_nodes.StreamNodesFit.render_begun}
-use Rattle.yaml_base.proofs.{stream_nodes.StreamPairs.KeyFits, stream_nodes.StreamPairs.key_place, stream_nodes.StreamProperties.IsNamed}
-use Rattle.yaml_base.proofs.{stream_nodes.StreamProperties.name_letters}
+use Rattle.yaml_base.proofs.{stream_nodes.StreamAgrees.tagging_in, stream_nodes.StreamAgrees.node_tree, stream_nodes.StreamLeaves.SimpleKeysFit}
+use Rattle.yaml_base.proofs.{stream_nodes.StreamNodesFit.render_begun, stream_nodes.StreamPairs.KeyFits, stream_nodes.StreamPairs.key_place}
+use Rattle.yaml_base.proofs.stream_flow.StreamFlowScalars.{rules_of, is_flow_style, bare_not_plain}
+use Rattle.yaml_base.proofs.stream_keys.StreamPlainKeys.{begins, reads_plain, tidy_begins}
+use Rattle.yaml_base.proofs.stream_nodes.StreamLeads.{lead_rendered, tag_is_written}
+use Rattle.yaml_base.proofs.stream_nodes.StreamProperties.{IsNamed, name_letters}
 use Rattle.yaml_base.proofs.stream_keys.StreamKeyBeginnings.{beginning_unmarked, key_fits, other_prefix, lead_prefix, plain_prefix}
 use Rattle.yaml_base.proofs.stream_keys.StreamKeyReads.{double_key_read, single_key_read, plain_key_read, square_key_read, curly_key_read}
 use Rattle.yaml_base.proofs.stream_keys.StreamKeysFit.{KeyText, key_style, SimpleScalar, simple_scalar, scalar_key_text, alias_key_text, empty_key_text}
@@ -85,12 +85,7 @@ scalar_key_fits s own anchor tag given_tag folded bare column value given flow h
 -- a space stands before each body but an empty plain one, where one is needed
 separated : (style : ScalarStyle) (value : Text) (cursor : Cursor) → (is_plain style ≡ true → is_empty value ≡ false)
     → (render_separation style false value cursor).text ≡ space_if true cursor
-separated plain value cursor some = ap (λ x. space_if (not x) cursor) (some refl)
-separated single_quoted value cursor some = refl
-separated double_quoted value cursor some = refl
-separated any_style value cursor some = refl
-separated literal value cursor some = refl
-separated folded value cursor some = refl
+separated style value cursor h = grind (arith, nat_tests)
 
 -- the body that is rendered for a scalar at its place, where it is a simple key or not
 abbrev body_where : Effective → List TagDirective → Place → (simple : Bool) → Scalar → Cursor → Body

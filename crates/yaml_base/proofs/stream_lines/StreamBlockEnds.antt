@@ -170,11 +170,4 @@ is_block _ = false
 -- one is chosen only where it fits
 pub block_fitting : (allowed : Allowances) (plain_fits block_fits : Bool) (asked : ScalarStyle)
     → is_block (fitting_style allowed plain_fits block_fits asked) ≡ true → block_fits ≡ true
-block_fitting allowed plain_fits block_fits plain h = grind (arith, false≢true)
-block_fitting allowed plain_fits block_fits single_quoted h = grind (arith, false≢true)
-block_fitting allowed plain_fits true literal h = refl
-block_fitting allowed plain_fits false literal h = absurd (false≢true h)
-block_fitting allowed plain_fits true folded h = refl
-block_fitting allowed plain_fits false folded h = absurd (false≢true h)
-block_fitting allowed plain_fits block_fits double_quoted h = absurd (false≢true h)
-block_fitting allowed plain_fits block_fits any_style h = absurd (false≢true h)
+block_fitting allowed plain_fits block_fits asked h = grind (arith, nat_tests, false≢true)

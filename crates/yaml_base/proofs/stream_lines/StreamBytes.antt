@@ -1,8 +1,8 @@
 -- A printable text, however its line breaks are written, is read as its documents.
-use Rattle.yaml_base.proofs.Common.{arith, ℕ, if◌then◌else◌, ◌==◌, option_and_then, Some, Bool, false, not, true, ◌&&◌, ◌||◌, List, [], ◌∷◌, refl, ◌≡◌}
-use Rattle.yaml_base.proofs.Common.{eqb-true, ap, ◌∙◌, and_parts, and_from, or_right, false≢true, list_all-append, list_all, Text, line_feed, carriage_return}
-use Rattle.yaml_base.proofs.Common.{next_line, is_printable, break_text, with_breaks_written, is_rendered_text, LineBreak, carriage_return_break}
-use Rattle.yaml_base.proofs.Common.{line_feed_break, both_break, characters_read, documents_of, stream_trees}
+use Rattle.yaml_base.proofs.Common.{nat_tests, arith, ℕ, if◌then◌else◌, ◌==◌, option_and_then, Some, Bool, false, not, true, ◌&&◌, ◌||◌, List, [], ◌∷◌, refl}
+use Rattle.yaml_base.proofs.Common.{◌≡◌, eqb-true, ap, ◌∙◌, and_parts, and_from, or_right, false≢true, list_all-append, list_all, Text, line_feed}
+use Rattle.yaml_base.proofs.Common.{carriage_return, next_line, is_printable, break_text, with_breaks_written, is_rendered_text, LineBreak}
+use Rattle.yaml_base.proofs.Common.{carriage_return_break, line_feed_break, both_break, characters_read, documents_of, stream_trees}
 use Rattle.yaml_base.{proofs.BreakLaws.breaks-round, specs.streams.StreamReader.may_stand_raw, specs.streams.StreamReader.text_trees}
 
 -- a character that isn't printable is none of a printable text
@@ -19,9 +19,7 @@ printable_rendered (c ∷ rest) h =
     ∙ printable_rendered rest parts.1
 
 break_raw : (setting : LineBreak) → list_all may_stand_raw (break_text setting) ≡ true
-break_raw carriage_return_break = refl
-break_raw line_feed_break = refl
-break_raw both_break = refl
+break_raw setting = grind (arith, nat_tests)
 
 -- however its breaks are written, a printable text may stand raw
 pub printable_raw : (setting : LineBreak) (text : Text) → list_all is_printable text ≡ true → list_all may_stand_raw (with_breaks_written setting text) ≡ true

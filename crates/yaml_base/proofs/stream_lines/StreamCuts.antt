@@ -22,10 +22,7 @@ unit_extends r unit (Some quoted) b h = ap (with_unit unit) h
 
 step_extends : (r : Text) (step : QuoteStep) (a b : QuotePlace → Option Quoted) (t : Text)
     → ((place : QuotePlace) → Extends r (a place) (b place)) → Extends r (after_step step a t) (after_step step b (t ++ r))
-step_extends r (goes_on place) a b t h = h place
-step_extends r (gives unit) a b t h = unit_extends r unit (a between) (b between) (h between)
-step_extends r ends_quotes a b t h = refl
-step_extends r has_no_reading a b t h = tt
+step_extends r step a b t h = grind (arith, nat_tests, unit_extends)
 
 from_extends : (breaks12 : Bool) (r t : Text) (place : QuotePlace) → Extends r (quoted_from breaks12 place t) (quoted_from breaks12 place (t ++ r))
 from_extends breaks12 r [] place = tt

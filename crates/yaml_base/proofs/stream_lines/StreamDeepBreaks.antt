@@ -164,13 +164,7 @@ lines_pass breaks12 test line_test first (c ∷ t) h =
 -- so many spaces after a break begin a line inside the column before them
 pub deep_first : (breaks12 : Bool) (column : ℕ) (u : Text) → begins_deep breaks12 (suc column) u ≡ true
     → belongs_to_entry true column (first_text (lines_of breaks12 (u ++ (line_feed ∷ [])))) ≡ true
-deep_first breaks12 column [] h = absurd (false≢true h)
-deep_first breaks12 column (c ∷ u) h = by (is_read_break breaks12 c) refl h
-  where
-    by : (x : Bool) → is_read_break breaks12 c ≡ x → (x || begins_with_spaces (suc column) (c ∷ u)) ≡ true
-        → belongs_to_entry true column (first_text (lines_of breaks12 (c ∷ (u ++ (line_feed ∷ []))))) ≡ true
-    by true e h = ap (λ b. belongs_to_entry true column (first_text (prepend_character b c (lines_of breaks12 (u ++ (line_feed ∷ [])))))) e
-    by false e h = spaces_inside breaks12 column (c ∷ (u ++ (line_feed ∷ []))) (spaces_keep (suc column) (c ∷ u) (line_feed ∷ []) h)
+deep_first breaks12 column u h = grind (arith, nat_tests, false≢true, spaces_inside, spaces_keep)
 
 -- a deep text's lines lie inside the column
 pub deep_inside : (breaks12 : Bool) (column : ℕ) (t : Text) → Deep breaks12 (suc column) t

@@ -1,6 +1,6 @@
 -- The lines of texts one after another.
-use Rattle.yaml_base.proofs.Common.{arith, ℕ, Bool, false, true, ◌||◌, List, [], ◌++◌, ◌∷◌, refl, ◌≡◌, ap, sym, ◌∙◌, or_parts, list_any, Text, is_read_break}
-use Rattle.yaml_base.proofs.Common.{Line, prepend_character, lines_of, text_of_lines}
+use Rattle.yaml_base.proofs.Common.{nat_tests, arith, ℕ, Bool, false, true, ◌||◌, List, [], ◌++◌, ◌∷◌, refl, ◌≡◌, ap, sym, ◌∙◌, or_parts, list_any, Text}
+use Rattle.yaml_base.proofs.Common.{is_read_break, Line, prepend_character, lines_of, text_of_lines}
 
 -- a text is empty, or its last character is a break
 abbrev pub is_closed : Bool → Text → Bool
@@ -13,9 +13,7 @@ abbrev pub OneLine : Bool → Text → Type 0
 OneLine breaks12 text = list_any (is_read_break breaks12) text ≡ false
 
 text_before : (b : Bool) (c : ℕ) (lines : List Line) → text_of_lines (prepend_character b c lines) ≡ c ∷ text_of_lines lines
-text_before true c lines = refl
-text_before false c [] = refl
-text_before false c (line ∷ rest) = refl
+text_before b c lines = grind (arith, nat_tests)
 
 -- the lines of a text are its text
 pub text_of_lines_of : (breaks12 : Bool) (text : Text) → text_of_lines (lines_of breaks12 text) ≡ text
@@ -25,10 +23,7 @@ text_of_lines_of breaks12 (c ∷ rest) =
 
 before_both : (b d : Bool) (c e : ℕ) (lines more : List Line)
     → prepend_character b c (prepend_character d e lines ++ more) ≡ prepend_character b c (prepend_character d e lines) ++ more
-before_both true d c e lines more = refl
-before_both false true c e lines more = refl
-before_both false false c e [] more = refl
-before_both false false c e (line ∷ rest) more = refl
+before_both b d c e lines more = grind (arith, nat_tests)
 
 break_alone : (b : Bool) (c : ℕ) (more : List Line) → b ≡ true → prepend_character b c more ≡ prepend_character b c [] ++ more
 break_alone b c more h = ap (λ x. prepend_character x c more) h ∙ sym (ap (λ x. prepend_character x c [] ++ more) h)

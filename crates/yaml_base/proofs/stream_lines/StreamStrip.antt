@@ -1,6 +1,6 @@
 -- A break more at the end of a block scalar that strips its final breaks doesn't change what it reads as.
-use Rattle.yaml_base.proofs.Common.{arith, ℕ, if◌then◌else◌, option_map, option_and_then, Option, None, Some, Bool, false, true, List, [], ◌++◌, ◌∷◌, refl, ◌≡◌}
-use Rattle.yaml_base.proofs.Common.{true≢false, ap, ◌∙◌, Text, line_feed, is_read_break, elements, strip, digit_first, after_digit, chomping_first}
+use Rattle.yaml_base.proofs.Common.{nat_tests, arith, ℕ, if◌then◌else◌, option_map, option_and_then, Option, None, Some, Bool, false, true, List, [], ◌++◌, ◌∷◌}
+use Rattle.yaml_base.proofs.Common.{refl, ◌≡◌, true≢false, ap, ◌∙◌, Text, line_feed, is_read_break, elements, strip, digit_first, after_digit, chomping_first}
 use Rattle.yaml_base.proofs.Common.{after_chomping, after_break, read_lines, read_block}
 use Rattle.yaml_base.proofs.stream_lines.StreamCuts.{none_not_some}
 use Rattle.yaml_base.specs.reading.ReadBlock.{Element, content, line_end, prepend_to_elements, prepend_element, detected_indentation, read_indentation}
@@ -17,10 +17,7 @@ last_end = line_end line_feed ∷ []
 before_more : (x : Bool) (c : ℕ) (es : List Element)
     → (if x then line_end c ∷ (es ++ last_end) else prepend_to_elements c
     (es ++ last_end)) ≡ (if x then line_end c ∷ es else prepend_to_elements c es) ++ last_end
-before_more true c es = refl
-before_more false c [] = refl
-before_more false c (content text ∷ rest) = refl
-before_more false c (line_end b ∷ rest) = refl
+before_more x c es = grind (arith, nat_tests)
 
 -- it is one element more
 elements_more : (breaks12 : Bool) (body : Text) → elements breaks12 (body ++ feed) ≡ elements breaks12 body ++ last_end
@@ -36,9 +33,7 @@ detected_more (line_end b ∷ rest) = detected_more rest
 
 -- so the read_indentation stays
 indentation_more : (digit column : Option ℕ) (es : List Element) → read_indentation digit column (es ++ last_end) ≡ read_indentation digit column es
-indentation_more None column es = detected_more es
-indentation_more (Some digit) None es = refl
-indentation_more (Some digit) (Some column) es = refl
+indentation_more digit column es = grind (arith, nat_tests, detected_more)
 
 -- it needs none
 unindented_more : (n : ℕ) (es : List Element) → all_unindented n (es ++ last_end) ≡ option_map (λ t. t ++ last_end) (all_unindented n es)

@@ -1,9 +1,9 @@
 -- The lines of a tidy text after its first lie inside the column of the block around, and of any block farther out.
-use Rattle.yaml_base.proofs.Common.{suc, zero, ℕ, ◌≤◌, ◌==◌, Option, None, Some, Bool, false, not, true, ◌&&◌, ◌||◌, List, [], ◌∷◌, refl, ◌≡◌, eqb-true, ap}
-use Rattle.yaml_base.proofs.Common.{◌∙◌, arith, and_parts, and_from, false≢true, list_all, Text, space, is_printable, ScalarStyle, is_read_break}
+use Rattle.yaml_base.proofs.Common.{nat_tests, suc, zero, ℕ, ◌≤◌, ◌==◌, Option, None, Some, Bool, false, not, true, ◌&&◌, ◌||◌, List, [], ◌∷◌, refl, ◌≡◌}
+use Rattle.yaml_base.proofs.Common.{eqb-true, ap, ◌∙◌, arith, and_parts, and_from, false≢true, list_all, Text, space, is_printable, ScalarStyle, is_read_break}
 use Rattle.yaml_base.proofs.Common.{begins_with_spaces, begins_with_blank_line, begins_with_deep_line, has_deep_lines, is_tidy_style, is_tidy, Line}
 use Rattle.yaml_base.proofs.Common.{prepend_to_first_line, prepend_character, lines_of, belongs_to_entry}
-use Rattle.yaml_base.{proofs.stream_lines.StreamInside.AllInside}
+use Rattle.yaml_base.proofs.stream_lines.StreamInside.{AllInside}
 
 -- Fewer spaces
 
@@ -84,15 +84,7 @@ spaces_inside breaks12 (suc column) (c ∷ t) h =
 -- a deep line lies inside the column
 first_inside : (breaks12 : Bool) (column : ℕ) (t : Text) → begins_with_deep_line breaks12 (suc column) t ≡ true
     → belongs_to_entry true column (first_text (lines_of breaks12 t)) ≡ true
-first_inside breaks12 column [] h = refl
-first_inside breaks12 column (c ∷ t) h = by (is_read_break breaks12 c) refl h
-  where
-    by : (x : Bool) → is_read_break breaks12 c ≡ x
-        → (x || (begins_with_spaces (suc column) (c ∷ t) && not (begins_with_blank_line breaks12 (c ∷ t)))) ≡ true
-        → belongs_to_entry true column (first_text (lines_of breaks12 (c ∷ t))) ≡ true
-    by true e h = ap (λ b. belongs_to_entry true column (first_text (prepend_character b c (lines_of breaks12 t)))) e
-    by false e h =
-        spaces_inside breaks12 column (c ∷ t) (and_parts (begins_with_spaces (suc column) (c ∷ t)) (not (begins_with_blank_line breaks12 (c ∷ t))) h).0
+first_inside breaks12 column t h = grind (arith, nat_tests, spaces_inside, and_parts)
 
 -- the first line and those after it
 all_inside : (column : ℕ) (lines : List Line) → belongs_to_entry true column (first_text lines) ≡ true → AllInside true column (lines_after_first lines)

@@ -1,10 +1,10 @@
 -- No node is read of a line that begins with a directive's `%` or that is a document's marker: so what reads as a node is neither.
-use Rattle.yaml_base.proofs.Common.{arith, suc, zero, ℕ, if◌then◌else◌, ◌==◌, is_some, option_map, Option, None, Some, codes, length, Bool, false, true, ◌&&◌}
-use Rattle.yaml_base.proofs.Common.{◌||◌, List, [], ◌++◌, ◌∷◌, refl, ◌≡◌, eqb-true, append_assoc, ap, sym, ◌∙◌, and_parts, false≢true, option_or, Text, plain}
-use Rattle.yaml_base.proofs.Common.{read_plain, is_tidy, stood_plain, Tree, begins_with_marker, start_marker, end_marker, no_exclamation, marker_of}
-use Rattle.yaml_base.proofs.Common.{begins_with_percent, Line, ends_indicator, SimpleKey, without_last_space, key_of_text, key_ends, key_from, key_of_line}
-use Rattle.yaml_base.proofs.Common.{trimmed, word_text, kind_of_text, text_read, begins_mapping, begins_text, kind_of_node, node_by_kind, begins_properties}
-use Rattle.yaml_base.proofs.Common.{text_or_properties, node_read, Rules, Properties, no_properties, scalar_parsed, word_after, word_read}
+use Rattle.yaml_base.proofs.Common.{nat_tests, arith, suc, zero, ℕ, if◌then◌else◌, ◌==◌, is_some, option_map, Option, None, Some, codes, length, Bool, false}
+use Rattle.yaml_base.proofs.Common.{true, ◌&&◌, ◌||◌, List, [], ◌++◌, ◌∷◌, refl, ◌≡◌, eqb-true, append_assoc, ap, sym, ◌∙◌, and_parts, false≢true, option_or}
+use Rattle.yaml_base.proofs.Common.{Text, plain, read_plain, is_tidy, stood_plain, Tree, begins_with_marker, start_marker, end_marker, no_exclamation}
+use Rattle.yaml_base.proofs.Common.{marker_of, begins_with_percent, Line, ends_indicator, SimpleKey, without_last_space, key_of_text, key_ends, key_from}
+use Rattle.yaml_base.proofs.Common.{key_of_line, trimmed, word_text, kind_of_text, text_read, begins_mapping, begins_text, kind_of_node, node_by_kind}
+use Rattle.yaml_base.proofs.Common.{begins_properties, text_or_properties, node_read, Rules, Properties, no_properties, scalar_parsed, word_after, word_read}
 use Rattle.yaml_base.proofs.stream_lines.{StreamCuts.none_not_some, StreamSections.is_unmarked}
 
 -- what a document's text doesn't begin with
@@ -26,20 +26,11 @@ unsaid true properties value h = ap (scalar_parsed properties stood_plain) h
 unsaid false properties value h = refl
 
 percent_plain : (breaks12 : Bool) (t : Text) → read_plain breaks12 false (0x25 ∷ t) ≡ None
-percent_plain breaks12 [] = refl
-percent_plain breaks12 (a ∷ []) = refl
-percent_plain breaks12 (a ∷ b ∷ t) = refl
+percent_plain breaks12 t = grind (arith, nat_tests)
 
 indicator_word : (symbol : Sign) (t : Text) (rules : Rules) (column : Option ℕ) (properties : Properties)
     → word_after rules false column properties (indicator_text symbol ++ t) ≡ None
-indicator_word percent [] rules column properties =
-    unsaid (is_tidy plain rules.breaks12 column (0x25 ∷ [])) properties (read_plain rules.breaks12 false (0x25 ∷ [])) refl
-indicator_word percent (a ∷ []) rules column properties = grind (arith, unsaid, percent_plain)
-indicator_word percent (a ∷ b ∷ t) rules column properties = grind (arith, unsaid, percent_plain)
-indicator_word dashes t rules column properties =
-    unsaid (is_tidy plain rules.breaks12 column (codes "---" ++ t)) properties (read_plain rules.breaks12 false (codes "---" ++ t)) refl
-indicator_word dots t rules column properties =
-    unsaid (is_tidy plain rules.breaks12 column (codes "..." ++ t)) properties (read_plain rules.breaks12 false (codes "..." ++ t)) refl
+indicator_word symbol t rules column properties = grind (arith, nat_tests, unsaid, percent_plain)
 
 indicator_read : (symbol : Sign) (t : Text) (rules : Rules) → word_read rules false (indicator_text symbol ++ t) ≡ None
 indicator_read percent t rules = indicator_word percent t rules None no_properties
@@ -50,12 +41,7 @@ indicator_read dots t rules = indicator_word dots t rules None no_properties
 
 -- a text's last space is one of what follows the indicator
 space_after : (symbol : Sign) (t : Text) → without_last_space (indicator_text symbol ++ t) ≡ option_map (λ u. indicator_text symbol ++ u) (without_last_space t)
-space_after percent [] = refl
-space_after percent (c ∷ t) = refl
-space_after dashes [] = refl
-space_after dashes (c ∷ t) = grind (arith)
-space_after dots [] = refl
-space_after dots (c ∷ t) = grind (arith)
+space_after symbol t = grind (arith, nat_tests)
 
 -- no such text is a key
 indicator_key : (symbol : Sign) (t : Text) (rules : Rules) → key_of_text rules (indicator_text symbol ++ t) ≡ None
@@ -81,25 +67,16 @@ indicator_line dashes t rules = no_key_after dashes [] t rules
 indicator_line dots t rules = no_key_after dots [] t rules
 
 indicator_kind : (symbol : Sign) (t : Text) (rules : Rules) → kind_of_node rules (indicator_text symbol ++ t) ≡ begins_text
-indicator_kind percent t rules = ap (λ o. if false || is_some o then begins_mapping else begins_text) (indicator_line percent t rules)
-indicator_kind dashes t rules = ap (λ o. if false || is_some o then begins_mapping else begins_text) (indicator_line dashes t rules)
-indicator_kind dots t rules = ap (λ o. if false || is_some o then begins_mapping else begins_text) (indicator_line dots t rules)
+indicator_kind symbol t rules = grind (arith, nat_tests, indicator_line)
 
 -- Texts
 
 -- white space at a text's end is none of the indicator
 indicator_trimmed : (breaks12 : Bool) (symbol : Sign) (t : Text) → trimmed breaks12 (indicator_text symbol ++ t) ≡ indicator_text symbol ++ trimmed breaks12 t
-indicator_trimmed true percent t = refl
-indicator_trimmed false percent t = refl
-indicator_trimmed true dashes t = refl
-indicator_trimmed false dashes t = refl
-indicator_trimmed true dots t = refl
-indicator_trimmed false dots t = refl
+indicator_trimmed breaks12 symbol t = grind (arith, nat_tests)
 
 indicator_text_kind : (symbol : Sign) (t : Text) → kind_of_text (indicator_text symbol ++ t) ≡ word_text
-indicator_text_kind percent t = refl
-indicator_text_kind dashes t = refl
-indicator_text_kind dots t = refl
+indicator_text_kind symbol t = grind (arith, nat_tests)
 
 -- no text is read of such a line
 indicator_text_read : (symbol : Sign) (t ending : Text) (rest : List Line) (rules : Rules) (column : Option ℕ) (properties : Properties)
@@ -109,38 +86,13 @@ indicator_text_read symbol t ending rest rules column properties = grind (arith,
 -- nor a node
 indicator_unread : (symbol : Sign) (t ending : Text) (rest : List Line) (depth : ℕ) (rules : Rules) (here : Bool) (column : Option ℕ)
     → node_read depth rules here column (record { text = indicator_text symbol ++ t; ending = ending } ∷ rest) ≡ None
-indicator_unread symbol t ending rest zero rules here column = refl
-indicator_unread percent t ending rest (suc depth) rules here column =
-    ap (λ k. node_by_kind k rules (node_read depth rules) (λ at text. text_or_properties (begins_properties text) rules (node_read depth rules) column at text)
-    no_properties (here || false) true (record { column = 0; text = codes "%" ++ t }) ending rest (record { text = codes "%" ++ t; ending = ending } ∷ rest))
-    (indicator_kind percent t rules)
-    ∙ indicator_text_read percent t ending rest rules column no_properties
-indicator_unread dashes t ending rest (suc depth) rules here column =
-    ap (λ k. node_by_kind k rules (node_read depth rules) (λ at text. text_or_properties (begins_properties text) rules (node_read depth rules) column at text)
-    no_properties (here || false) true (record { column = 0; text = codes "---" ++ t }) ending rest
-    (record { text = codes "---" ++ t; ending = ending } ∷ rest)) (indicator_kind dashes t rules)
-    ∙ indicator_text_read dashes t ending rest rules column no_properties
-indicator_unread dots t ending rest (suc depth) rules here column =
-    ap (λ k. node_by_kind k rules (node_read depth rules) (λ at text. text_or_properties (begins_properties text) rules (node_read depth rules) column at text)
-    no_properties (here || false) true (record { column = 0; text = codes "..." ++ t }) ending rest
-    (record { text = codes "..." ++ t; ending = ending } ∷ rest)) (indicator_kind dots t rules)
-    ∙ indicator_text_read dots t ending rest rules column no_properties
+indicator_unread symbol t ending rest depth rules here column = grind (arith, nat_tests, indicator_kind, indicator_text_read)
 
 -- First lines
 
 -- what begins with a marker
 marker_shape : (symbol : ℕ) (t : Text) → begins_with_marker symbol t ≡ true → (r : Text) × (t ≡ symbol ∷ symbol ∷ symbol ∷ r)
-marker_shape symbol [] h = absurd (false≢true h)
-marker_shape symbol (a ∷ []) h = absurd (false≢true h)
-marker_shape symbol (a ∷ b ∷ []) h = absurd (false≢true h)
-marker_shape symbol (a ∷ b ∷ c ∷ t) h =
-    let p = and_parts (a == symbol && b == symbol && c == symbol) (ends_indicator t) h in
-    let q = and_parts (a == symbol && b == symbol) (c == symbol) p.0 in
-    let r = and_parts (a == symbol) (b == symbol) q.0 in (
-      t,
-      ap (λ x. x ∷ b ∷ c ∷ t) (eqb-true a symbol r.0) ∙ ap (λ x. symbol ∷ x ∷ c ∷ t) (eqb-true b symbol r.1)
-          ∙ ap (λ x. symbol ∷ symbol ∷ x ∷ t) (eqb-true c symbol q.1),
-    )
+marker_shape symbol t h = grind (arith, nat_tests, false≢true, and_parts, eqb-true)
 
 -- the first line of what reads as a node is no marker
 pub read_unmarked : (line : Line) (rest : List Line) (depth : ℕ) (rules : Rules) (here : Bool) (column : Option ℕ) (tree : Tree)

@@ -35,14 +35,7 @@ marker_line false = (refl, refl)
 -- properties are on one line
 pub properties_line : (rules : Rules) (anchor tag : Option Text) (parsed : Option ParsedTag) → IsNamed anchor → IsTagged rules.directives tag parsed
     → OneLine rules.breaks12 (properties_text anchor tag)
-properties_line rules None None parsed named tagged = refl
-properties_line rules (Some name) None parsed named tagged =
-    one_line_both rules.breaks12 (0x26 ∷ []) name (marker_line rules.breaks12).0 (name_line rules.breaks12 name (name_letters name named))
-properties_line rules None (Some tag) (Some parsed) named tagged = shown_line rules.breaks12 tag tagged.no_white
-properties_line rules (Some name) (Some tag) (Some parsed) named tagged =
-    grind (arith, one_line_both, marker_line, name_line, name_letters, shown_line)
-properties_line rules None (Some tag) None named tagged = absurd tagged
-properties_line rules (Some name) (Some tag) None named tagged = absurd tagged
+properties_line rules anchor tag parsed h k = grind (arith, nat_tests, one_line_both, marker_line, name_line, name_letters, shown_line)
 
 -- with the space after them
 pub lead_line : (rules : Rules) (anchor tag : Option Text) (parsed : Option ParsedTag) → IsNamed anchor → IsTagged rules.directives tag parsed
@@ -68,11 +61,7 @@ properties_whole portable directives anchor tag cursor c t e = grind (arith, app
 properties_ended : (portable : Bool) (directives : List TagDirective) (anchor tag : Option Text) (cursor : Cursor) (c : ℕ) (t : Text)
     → properties_text anchor (tag_written portable directives tag false) ≡ c ∷ t
     → (render_properties portable directives anchor tag false cursor).cursor.indention ≡ false
-properties_ended portable directives None None cursor c t e = cc
-properties_ended portable directives (Some name) None cursor c t e = refl
-properties_ended portable directives None (Some tag) cursor c t e = (spelling_ended portable (spelling directives tag) cursor).indention
-properties_ended portable directives (Some name) (Some tag) cursor c t e =
-    (spelling_ended portable (spelling directives tag) (render_anchor (Some name) cursor).cursor).indention
+properties_ended portable directives anchor tag cursor c t h = grind (arith, nat_tests, spelling_ended)
 
 -- Reading
 

@@ -1,15 +1,15 @@
 -- An empty plain scalar in a block, of which its anchor and tag are written or nothing, fits.
-use Rattle.yaml_base.proofs.Common.{suc, zero, ℕ, ◌≤◌, if◌then◌else◌, option_map, Option, None, Some, Bool, false, not, true, ◌||◌, List, [], ◌++◌, ◌∷◌, refl}
-use Rattle.yaml_base.proofs.Common.{◌≡◌, append-nil, append_assoc, ap, sym, ◌∙◌, arith, false≢true, Text, line_feed, Cursor, Rendered, render_nothing, plain}
-use Rattle.yaml_base.proofs.Common.{TagDirective, render_properties, Place, Effective, ParsedTag, bare_parsed, name_parsed, stood_plain, scalar_tree, Line}
-use Rattle.yaml_base.proofs.Common.{lines_of, is_spaces, spaces, blanked, text_read, ReadsText, node_at, begins_properties, after_properties}
+use Rattle.yaml_base.proofs.Common.{nat_tests, suc, zero, ℕ, ◌≤◌, if◌then◌else◌, option_map, Option, None, Some, Bool, false, not, true, ◌||◌, List, [], ◌++◌}
+use Rattle.yaml_base.proofs.Common.{◌∷◌, refl, ◌≡◌, append-nil, append_assoc, ap, sym, ◌∙◌, arith, false≢true, Text, line_feed, Cursor, Rendered}
+use Rattle.yaml_base.proofs.Common.{render_nothing, plain, TagDirective, render_properties, Place, Effective, ParsedTag, bare_parsed, name_parsed, stood_plain}
+use Rattle.yaml_base.proofs.Common.{scalar_tree, Line, lines_of, is_spaces, spaces, blanked, text_read, ReadsText, node_at, begins_properties, after_properties}
 use Rattle.yaml_base.proofs.Common.{text_or_properties, node_read, Rules, no_properties, collection_tag_parsed, tagging_parsed}
-use Rattle.yaml_base.proofs.{stream_flow.StreamFlowScalars.rules_of, stream_flow.StreamFlowWords.scalar_in, stream_lines.StreamClosed.closed}
-use Rattle.yaml_base.proofs.{stream_lines.StreamClosed.spaces_line, stream_lines.StreamClosed.lines_broken, stream_lines.StreamCuts.none_not_some}
+use Rattle.yaml_base.proofs.{stream_flow.StreamFlowScalars.rules_of, stream_flow.StreamFlowWords.scalar_in, stream_lines.StreamCuts.none_not_some}
 use Rattle.yaml_base.proofs.{stream_lines.StreamInside.blank_spaces, stream_lines.StreamLineLaws.is_closed, stream_nodes.StreamAgrees.tagging_in}
-use Rattle.yaml_base.proofs.{stream_nodes.StreamBegun.begun_kind, stream_nodes.StreamFits.Fits, stream_nodes.StreamLeafFits.TextReads}
-use Rattle.yaml_base.proofs.{stream_nodes.StreamLeafFits.text_fits, stream_nodes.StreamProperties.IsNamed, stream_nodes.StreamScalarsFit.render_styled}
-use Rattle.yaml_base.proofs.{stream_nodes.StreamStands.TagStands}
+use Rattle.yaml_base.proofs.{stream_nodes.StreamBegun.begun_kind, stream_nodes.StreamFits.Fits, stream_nodes.StreamProperties.IsNamed}
+use Rattle.yaml_base.proofs.{stream_nodes.StreamScalarsFit.render_styled, stream_nodes.StreamStands.TagStands}
+use Rattle.yaml_base.proofs.stream_lines.StreamClosed.{closed, spaces_line, lines_broken}
+use Rattle.yaml_base.proofs.stream_nodes.StreamLeafFits.{TextReads, text_fits}
 use Rattle.yaml_base.proofs.stream_nodes.StreamBlocks.{Said, BegunKind, unsaid, is_parsed, below_ends}
 
 -- after an empty plain body white space has ended
@@ -39,9 +39,7 @@ nothing_fits rules place cursor = record {
 -- what properties say is how the scalar is tagged
 empty_tagging : (read : Option ParsedTag) (tag : Option Text) → collection_tag_parsed read ≡ Some tag
     → tagging_parsed read stood_plain ≡ Some (tagging_in tag (record { style = plain; bare = false }))
-empty_tagging None tag h = ap (option_map (λ t. tagging_in t (record { style = plain; bare = false }))) h
-empty_tagging (Some (name_parsed name)) tag h = ap (option_map (λ t. tagging_in t (record { style = plain; bare = false }))) h
-empty_tagging (Some bare_parsed) tag h = absurd (none_not_some h)
+empty_tagging read tag h = grind (arith, nat_tests, none_not_some)
 
 -- the words of properties alone are read as the empty scalar
 parsed_reads_nothing : (rules : Rules) (column : Option ℕ) (anchor tag : Option Text) (cursor : Cursor) (begun : Rendered)

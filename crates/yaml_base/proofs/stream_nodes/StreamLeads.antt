@@ -1,7 +1,7 @@
 -- The text of a node's anchor and tag as the layout puts it: a space where one is needed, and then each with a space after it.
-use Rattle.yaml_base.proofs.Common.{arith, ℕ, if◌then◌else◌, Option, None, Some, Bool, false, not, true, ◌&&◌, List, [], ◌++◌, ◌∷◌, refl, ◌≡◌, append-nil}
-use Rattle.yaml_base.proofs.Common.{append_assoc, ap, sym, Text, space, Cursor, Rendered, space_if, TagDirective, render_properties, suffix_escaped, Spelling}
-use Rattle.yaml_base.proofs.Common.{shorthand, verbatim, spelled, spaces}
+use Rattle.yaml_base.proofs.Common.{nat_tests, arith, ℕ, if◌then◌else◌, Option, None, Some, Bool, false, not, true, ◌&&◌, List, [], ◌++◌, ◌∷◌, refl, ◌≡◌}
+use Rattle.yaml_base.proofs.Common.{append-nil, append_assoc, ap, sym, Text, space, Cursor, Rendered, space_if, TagDirective, render_properties, suffix_escaped}
+use Rattle.yaml_base.proofs.Common.{Spelling, shorthand, verbatim, spelled, spaces}
 use Rattle.yaml_base.{proofs.stream_flow.StreamPropertyWords.lead, specs.Layout.render_spelling}
 use Rattle.yaml_base.proofs.stream_nodes.StreamProperties.{IsTagged, properties_text, has_properties}
 use Rattle.yaml_base.proofs.stream_nodes.StreamStands.{tag_written, tag_meant, TagStands}
@@ -28,26 +28,16 @@ space_after_text cursor ended = ap (λ x. if true && not x then space ∷ [] els
 pub lead_rendered : (portable : Bool) (directives : List TagDirective) (anchor tag : Option Text) (bare : Bool) (cursor : Cursor)
     → (let rendered : Rendered = render_properties portable directives anchor tag bare cursor in rendered.text ++ space_if true rendered.cursor)
     ≡ space_if true cursor ++ lead anchor (tag_written portable directives tag bare)
-lead_rendered portable directives None None false cursor = sym (append-nil (space_if true cursor))
-lead_rendered portable directives None None true cursor = append_assoc (space_if true cursor) (0x21 ∷ []) (space ∷ [])
-lead_rendered portable directives None (Some tag) bare cursor = grind (arith, spelling_text, space_after_text, spelling_ended, append_assoc)
-lead_rendered portable directives (Some name) None false cursor = grind (arith, append-nil, append_assoc)
-lead_rendered portable directives (Some name) None true cursor = grind (arith, append_assoc)
-lead_rendered portable directives (Some name) (Some tag) bare cursor = grind (arith, spelling_text, space_after_text, spelling_ended, append_assoc)
+lead_rendered portable directives anchor tag bare cursor = grind (arith, nat_tests, append-nil, append_assoc, spelling_text, space_after_text, spelling_ended)
 
 -- what follows them, after one space if they are there
 abbrev pub lead_spaces : Option Text → Option Text → ℕ
 lead_spaces anchor tag = if has_properties anchor tag then 1 else 0
 
 pub lead_then : (anchor tag : Option Text) (rest : Text) → lead anchor tag ++ rest ≡ properties_text anchor tag ++ (spaces (lead_spaces anchor tag) ++ rest)
-lead_then None None rest = refl
-lead_then (Some name) None rest = append_assoc (0x26 ∷ name) (space ∷ []) rest
-lead_then None (Some tag) rest = append_assoc tag (space ∷ []) rest
-lead_then (Some name) (Some tag) rest = append_assoc (0x26 ∷ (name ++ (space ∷ tag))) (space ∷ []) rest
+lead_then anchor tag rest = grind (arith, nat_tests, append_assoc)
 
 -- a tag that stands, or the bare tag, is a written tag
 pub tag_is_written : (portable : Bool) (own directives : List TagDirective) (tag : Option Text) (bare : Bool) → TagStands portable own directives tag
     → IsTagged own (tag_written portable directives tag bare) (tag_meant tag bare)
-tag_is_written portable own directives (Some tag) bare stands = stands
-tag_is_written portable own directives None true stands = record { rest = []; begins = refl; no_white = refl; says = refl }
-tag_is_written portable own directives None false stands = tt
+tag_is_written portable own directives tag bare h = grind (arith, nat_tests)

@@ -1,6 +1,6 @@
 -- A literal or folded scalar as its own text on the lines of a block.
-use Rattle.yaml_base.proofs.Common.{arith, ℕ, if◌then◌else◌, option_and_then, Option, None, Some, Bool, false, true, ◌||◌, List, [], ◌++◌, ◌∷◌, refl, ◌≡◌}
-use Rattle.yaml_base.proofs.Common.{append_assoc, ap, subst, sym, ◌∙◌, and_parts, and_from, or_parts, list_all-append, Text, ScalarStyle, literal, folded}
+use Rattle.yaml_base.proofs.Common.{nat_tests, arith, ℕ, if◌then◌else◌, option_and_then, Option, None, Some, Bool, false, true, ◌||◌, List, [], ◌++◌, ◌∷◌, refl}
+use Rattle.yaml_base.proofs.Common.{◌≡◌, append_assoc, ap, subst, sym, ◌∙◌, and_parts, and_from, or_parts, list_all-append, Text, ScalarStyle, literal, folded}
 use Rattle.yaml_base.proofs.Common.{is_read_break, elements, digit_first, after_digit, chomping_first, after_chomping, after_break, read_lines, read_block}
 use Rattle.yaml_base.proofs.Common.{ParsedTag, is_tidy, stood_quoted, Line, prepend_to_first_line, prepend_character, lines_of, word_of_alias, key_of_text}
 use Rattle.yaml_base.proofs.Common.{Rules, no_properties, scalar_parsed, a_scalar, kind_of_word}
@@ -26,30 +26,15 @@ header_alone breaks12 b one = grind (arith, or_parts)
 
 -- so one line alone is no block scalar
 no_block : (breaks12 l : Bool) (b : Text) → OneLine breaks12 b → read_block breaks12 None (block_indicator l ∷ b) ≡ None
-no_block breaks12 true b one =
-    ap (option_and_then (λ body. read_lines false (chomping_first (after_digit b)) (digit_first b) None (elements breaks12 body))) (header_alone breaks12 b one)
-no_block breaks12 false b one =
-    ap (option_and_then (λ body. read_lines true (chomping_first (after_digit b)) (digit_first b) None (elements breaks12 body))) (header_alone breaks12 b one)
+no_block breaks12 l b h = grind (arith, nat_tests, header_alone)
 
 -- a text that begins with such an indicator is a scalar
 block_kind : (l : Bool) (t : Text) → kind_of_word (block_indicator l ∷ t) ≡ a_scalar
-block_kind true [] = refl
-block_kind true (c ∷ []) = refl
-block_kind true (c ∷ d ∷ t) = refl
-block_kind false [] = refl
-block_kind false (c ∷ []) = refl
-block_kind false (c ∷ d ∷ t) = refl
+block_kind l t = grind (arith, nat_tests)
 
 -- and no alias
 block_no_alias : (rules : Rules) (l : Bool) (u : Text) → word_of_alias rules (block_indicator l ∷ u) ≡ None
-block_no_alias rules true [] =
-    scalar_no_alias no_properties stood_quoted (if is_tidy literal rules.breaks12 None (0x7C ∷ []) then read_block rules.breaks12 None (0x7C ∷ []) else None)
-block_no_alias rules true (c ∷ []) = grind (arith, scalar_no_alias)
-block_no_alias rules true (c ∷ d ∷ u) = grind (arith, scalar_no_alias)
-block_no_alias rules false [] =
-    scalar_no_alias no_properties stood_quoted (if is_tidy folded rules.breaks12 None (0x3E ∷ []) then read_block rules.breaks12 None (0x3E ∷ []) else None)
-block_no_alias rules false (c ∷ []) = grind (arith, scalar_no_alias)
-block_no_alias rules false (c ∷ d ∷ u) = grind (arith, scalar_no_alias)
+block_no_alias rules l u = grind (arith, nat_tests, scalar_no_alias)
 
 -- the beginning of a header is no key
 header_part : (rules : Rules) (l : Bool) (anchor tag : Option Text) (parsed : Option ParsedTag) (b : Text) → Given rules anchor tag parsed
@@ -88,10 +73,7 @@ header_nowhere rules l anchor tag parsed b (c ∷ u) given one =
 
 -- such an indicator breaks no line
 indicators_go_on : (breaks12 l : Bool) → is_read_break breaks12 (block_indicator l) ≡ false
-indicators_go_on true true = refl
-indicators_go_on true false = refl
-indicators_go_on false true = refl
-indicators_go_on false false = refl
+indicators_go_on breaks12 l = grind (arith, nat_tests)
 
 -- a tidy text that reads as a block scalar
 pub own_block : (rules : Rules) (column : Option ℕ) (l : Bool) (u v : Text) → is_tidy (block_style l) rules.breaks12 column (block_indicator l ∷ u) ≡ true

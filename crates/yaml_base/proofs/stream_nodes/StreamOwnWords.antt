@@ -1,4 +1,5 @@
 -- Quoted and plain scalars as their own text on the lines of a block.
+use Rattle.yaml_base.proofs.Common.{nat_tests}
 use Rattle.yaml_base.proofs.Common.{arith, suc, zero, ℕ, if◌then◌else◌, ◌==◌, option_and_then, Option, None, Some, Bool, false, not, true, ◌&&◌, ◌||◌, List, []}
 use Rattle.yaml_base.proofs.Common.{◌++◌, ◌∷◌, refl, ◌≡◌, eqb-true, append_assoc, ap, subst, sym, ◌∙◌, and_parts, and_from, false≢true, option_or, Text}
 use Rattle.yaml_base.proofs.Common.{line_feed, space, ScalarStyle, single_quoted, double_quoted, is_read_break, read_double, is_read_white, read_single}
@@ -34,16 +35,7 @@ spaces_more (suc n) (c ∷ t) h =
 
 -- a deep line stays deep
 deep_line_more : (breaks12 : Bool) (n : ℕ) (t : Text) → begins_with_deep_line breaks12 n t ≡ true → begins_with_deep_line breaks12 n (t ++ feed) ≡ true
-deep_line_more breaks12 n [] h = refl
-deep_line_more breaks12 n (c ∷ t) h = by (is_read_break breaks12 c) h
-  where
-    by : (x : Bool) → (x || (begins_with_spaces n (c ∷ t) && not (begins_with_blank_line breaks12 (c ∷ t)))) ≡ true
-        → (x || (begins_with_spaces n ((c ∷ t) ++ feed) && not (begins_with_blank_line breaks12 ((c ∷ t) ++ feed)))) ≡ true
-    by true h = refl
-    by false h =
-        let parts = and_parts (begins_with_spaces n (c ∷ t)) (not (begins_with_blank_line breaks12 (c ∷ t))) h in
-        and_from (begins_with_spaces n ((c ∷ t) ++ feed)) (not (begins_with_blank_line breaks12 ((c ∷ t) ++ feed)))
-        (spaces_more n (c ∷ t) parts.0) (ap not (blank_more breaks12 (c ∷ t)) ∙ parts.1)
+deep_line_more breaks12 n t h = grind (arith, nat_tests, and_parts, and_from, spaces_more, blank_more)
 
 -- so do all
 pub deep_more : (breaks12 : Bool) (n : ℕ) (t : Text) → has_deep_lines breaks12 n t ≡ true → has_deep_lines breaks12 n (t ++ feed) ≡ true

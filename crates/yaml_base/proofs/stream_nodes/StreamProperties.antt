@@ -1,9 +1,9 @@
 -- The anchor and the tag before a node, as they are written, are read as they were given, and spaces of their length stay.
-use Rattle.yaml_base.proofs.Common.{suc, zero, ℕ, ◌+◌, ◌==◌, option_and_then, Option, None, Some, length, Bool, false, not, true}
-use Rattle.yaml_base.proofs.Common.{◌&&◌, ◌||◌, List, [], ◌++◌, ◌∷◌, refl, ◌≡◌, eqb-true, length-append, append-nil, append_assoc, ap, sym, ◌∙◌, arith}
-use Rattle.yaml_base.proofs.Common.{and_parts, or_parts, false≢true, list_all, list_any, Text, space, is_alpha, is_blank, is_break, TagDirective, ParsedTag}
-use Rattle.yaml_base.proofs.Common.{CutText, tag_parsed, ends_indicator, Indented, indented_step, indented, spaces, Rules, no_properties, PropertiesRead}
-use Rattle.yaml_base.proofs.Common.{cut_before_space, name_read, anchor_of_word, tag_first, properties_read, word_after, word_read}
+use Rattle.yaml_base.proofs.Common.{nat_tests, suc, zero, ℕ, ◌+◌, ◌==◌, option_and_then, Option, None, Some, length, Bool, false, not, true, ◌&&◌, ◌||◌, List}
+use Rattle.yaml_base.proofs.Common.{[], ◌++◌, ◌∷◌, refl, ◌≡◌, eqb-true, length-append, append-nil, append_assoc, ap, sym, ◌∙◌, arith, and_parts, or_parts}
+use Rattle.yaml_base.proofs.Common.{false≢true, list_all, list_any, Text, space, is_alpha, is_blank, is_break, TagDirective, ParsedTag, CutText, tag_parsed}
+use Rattle.yaml_base.proofs.Common.{ends_indicator, Indented, indented_step, indented, spaces, Rules, no_properties, PropertiesRead, cut_before_space}
+use Rattle.yaml_base.proofs.Common.{name_read, anchor_of_word, tag_first, properties_read, word_after, word_read}
 use Rattle.yaml_base.{proofs.stream_lines.StreamCuts.none_not_some, specs.streams.StreamScalars.word_step, specs.streams.StreamScalars.anchor_first}
 
 -- a text holds a blank or a break
@@ -135,9 +135,7 @@ with_anchor name rest h ends = grind (arith, word_whole, letters_no_space, name_
 -- no anchor begins a text
 no_anchor : (n : ℕ) (rest : Text) → begins_content rest ≡ true
     → anchor_first (spaces n ++ rest) ≡ Some (record { properties = no_properties; text = spaces n ++ rest })
-no_anchor zero [] own = refl
-no_anchor zero (c ∷ rest) own = grind (arith, and_parts, not_true)
-no_anchor (suc n) rest own = refl
+no_anchor n rest h = grind (arith, nat_tests, and_parts, not_true)
 
 -- what follows the reading of an anchor
 abbrev then_tag : List TagDirective → Option PropertiesRead → Option PropertiesRead

@@ -1,4 +1,5 @@
 -- Scalars that stand in blocks fit: in each style, behind an anchor and a tag or without them, and where nothing is written.
+use Rattle.yaml_base.proofs.Common.{nat_tests}
 use Rattle.yaml_base.proofs.Common.{ℕ, ◌<◌, ◌≤◌, if◌then◌else◌, Option, None, Some, Bool, false, not, true, ◌&&◌, List, [], ◌++◌, ◌∷◌, refl, ◌≡◌, true≢false}
 use Rattle.yaml_base.proofs.Common.{append-nil, append_assoc, ap, subst, sym, ◌∙◌, arith, false≢true, Text, space, Cursor, Rendered, render_then}
 use Rattle.yaml_base.proofs.Common.{column_after, space_if, ScalarStyle, any_style, plain, single_quoted, double_quoted, literal, folded}
@@ -166,13 +167,7 @@ body_cursor s directives anchor tag bare style value cursor =
 -- a space stands before each body but an empty plain one
 pub separation_text : (style : ScalarStyle) (value : Text) (cursor : Cursor) → (is_plain style && is_empty value) ≡ false
     → (render_separation style false value cursor).text ≡ space_if true cursor
-separation_text plain [] cursor h = absurd (true≢false h)
-separation_text plain (c ∷ value) cursor h = refl
-separation_text single_quoted value cursor h = refl
-separation_text double_quoted value cursor h = refl
-separation_text any_style value cursor h = refl
-separation_text literal value cursor h = refl
-separation_text folded value cursor h = refl
+separation_text style value cursor h = grind (arith, nat_tests, true≢false)
 
 -- the text up to its last line's end
 styled_closed : (s : Effective) (directives : List TagDirective) (anchor tag : Option Text) (bare : Bool) (style : ScalarStyle) (limit : Option ℕ)
