@@ -1,8 +1,11 @@
 -- What the calls of a writer come to for what its caller has taken, and what is left.
-use Rattle.yaml_writer.proofs.Common.{ℕ, IfErr, OnOk, Option, None, Some, Result, Err, Ok, drop, length, true, List, [], ◌++◌, ◌∷◌, refl, ◌≡◌, ap, subst, sym}
+use Rattle.yaml_writer.proofs.Common.{ℕ, IfErr, OnOk, Option, None, Some, Result, Err, Ok, drop, length, Bool, false, true, ◌||◌, List, [], ◌++◌, ◌∷◌}
+use Rattle.yaml_writer.proofs.Common.{refl, ◌≡◌, ap, ap₂, subst, sym, inr, true≢false, is_some}
 use Rattle.yaml_writer.proofs.Common.{◌∙◌, prefix_then, Text, Event, Settings, some_from_result, StandsAfter, State, none_from_result, output_left}
 use Rattle.yaml_writer.proofs.Common.{result_of_error, Grows, WriterState, StandsTaken, AddsEvents, AddsEvent, PassedEvents, GaveEvent}
-use Rattle.yaml_emitter.proofs.Common.{with_all_taken, KeepsSet}
+use Rattle.std.specs.Prelude.{is_ok}
+use Rattle.yaml_base.proofs.Common.{inl, ◌⊎◌}
+use Rattle.yaml_emitter.{proofs.Common.with_all_taken, proofs.Common.KeepsSet, specs.EmitsEvent.EmitsEvent, specs.EmitsEvent.CopyFailed}
 use Rattle.yaml_base.{proofs.Prefixes.prefix_same, specs.declared.errors.yaml_error_t.yaml_error_t}
 use Rattle.yaml_writer.specs.Writing.{Failed}
 
@@ -82,6 +85,61 @@ module _ (inside before : WriterState) (emitter : State) (anchor tag : Option Te
   -- where it was given, and where it failed
   pub gave_either : OnOk answer (GaveEvent before event None after) × IfErr answer (λ error. GaveEvent before event (Some error) after)
   gave_either = (by_ok answer answered, by_failed answer answered)
+
+-- Calls that give a scalar, whose texts are borrowed
+
+if_given : (before given : WriterState) (event : Event) (answer : Result (Unit {0}) yaml_error_t)
+    → IfErr answer (λ error. GaveEvent before event (Some error) given) → IfErr answer (λ error. Failed before event error given)
+if_given before given event (Ok done) gave = tt
+if_given before given event (Err error) gave = inl gave
+
+-- it didn't where there was no memory to copy it, and then it has no error
+copy_untaken : {before after : State} {answer : Result (Unit {0}) yaml_error_t} → CopyFailed before answer after
+    → (is_ok answer || is_some after.error) ≡ false
+copy_untaken failed =
+    ap₂ (λ (a b : Bool). a || b) (ap is_ok failed.memory) (ap (λ (s : State). is_some s.error) failed.unchanged ∙ ap is_some failed.no_error)
+
+emits_taken : {before after : State} {event : Event} {answer : Result (Unit {0}) yaml_error_t} → EmitsEvent before event answer after
+    → (is_ok answer || is_some after.error) ≡ true
+emits_taken {before} {after} {event} {answer} emits =
+    ap (λ (r : Result (Unit {0}) yaml_error_t). is_ok r || is_some after.error) emits.answered ∙ either after.error
+  where
+    either : (error : Option yaml_error_t) → (is_ok (result_of_error error) || is_some error) ≡ true
+    either None = refl
+    either (Some error) = refl
+
+-- the emitter took it, and the properties are used up
+pub gave_taken : (inside before : WriterState) (emitter : State) (anchor tag : Option Text) (event : Event) (answer : Result (Unit {0}) yaml_error_t)
+    → inside ≡ before → EmitsEvent inside.emitter event answer emitter ⊎ CopyFailed inside.emitter answer emitter
+    → (is_ok answer || is_some emitter.error) ≡ true → anchor ≡ None → tag ≡ None
+    → OnOk answer (GaveEvent before event None (record inside { emitter = emitter; anchor = anchor; tag = tag }))
+    × IfErr answer (λ error. Failed before event error (record inside { emitter = emitter; anchor = anchor; tag = tag }))
+gave_taken inside before emitter anchor tag event answer view either taken no_anchor no_tag =
+    elim either [
+      | inl emits ↦
+          let both =
+          gave_either inside before emitter anchor tag event event answer view refl
+          (λ given all sent stands.
+          still_taken given all (all ++ event ∷ []) sent inside.emitter emitter stands emits.set emits.grows (emits.stands given all stands.stands))
+          emits.grows emits.answered no_anchor no_tag in
+          (both.0, if_given before (record inside { emitter = emitter; anchor = anchor; tag = tag }) event answer both.1)
+      | inr failed ↦ absurd (true≢false (sym taken ∙ copy_untaken failed))
+    ]
+
+pub gave_untaken : (inside before : WriterState) (emitter : State) (event : Event) (answer : Result (Unit {0}) yaml_error_t) → inside ≡ before
+    → EmitsEvent inside.emitter event answer emitter ⊎ CopyFailed inside.emitter answer emitter → (is_ok answer || is_some emitter.error) ≡ false
+    → OnOk answer (GaveEvent before event None (record inside { emitter = emitter }))
+    × IfErr answer (λ error. Failed before event error (record inside { emitter = emitter }))
+gave_untaken inside before emitter event answer view either untaken =
+    elim either [
+      | inl emits ↦ absurd (true≢false (sym (emits_taken emits) ∙ untaken))
+      | inr failed ↦
+          subst
+          (λ (r : Result (Unit {0}) yaml_error_t).
+          OnOk r (GaveEvent before event None (record inside { emitter = emitter }))
+          × IfErr r (λ error. Failed before event error (record inside { emitter = emitter })))
+          (sym failed.memory) (tt, inr (refl, ap (λ (e : State). record inside { emitter = e }) failed.unchanged ∙ view))
+    ]
 
 -- a call that gives the same event
 pub given_as : {given event : Event} (before after : WriterState) (answer : Result (Unit {0}) yaml_error_t) → given ≡ event

@@ -1,8 +1,10 @@
 //! Events given to an emitter.
-ghost use Rattle.std.specs.Prelude.{◌≡◌, IfOk, IfErr, OnOk, [], ◌∷◌, true, None, is_none, option_map};
-ghost use Rattle.yaml_base.specs.Event.{Event, alias, document_end, mapping_start, scalar, sequence_start};
+ghost use Rattle.std.specs.Prelude.{◌≡◌, ◌||◌, IfOk, IfErr, OnOk, [], ◌∷◌, true, None, chars, is_none, is_ok, is_some, option_map};
+ghost use Rattle.std.specs.Option.{option_or};
+ghost use Rattle.yaml_base.specs.Event.{alias, document_end, mapping_start, sequence_start};
 ghost use Rattle.yaml_base.specs.Seen.{seen_event, seen_mapping_style, seen_scalar_style, seen_sequence_style, seen_text};
 ghost use Rattle.yaml_base.specs.Settings.{Settings};
+ghost use Rattle.yaml_emitter.specs.BorrowedTexts.{seen_name, seen_scalar};
 ghost use Rattle.yaml_pen.specs.Page.{output_left, result_of_error};
 ghost use Rattle.yaml_pen.specs.Wrote.{Grows};
 ghost use Rattle.yaml_writer.specs.Unfinished.{IsUnfinishedBy};
@@ -13,11 +15,11 @@ use crate::kinds::{CollectionKind, DocumentEnd, is_implicit};
 use std::alloc::Allocator;
 use yaml_base::{
     YAML_ALIAS_EVENT, YAML_ANY_ENCODING, YAML_DOCUMENT_END_EVENT, YAML_DOCUMENT_START_EVENT,
-    YAML_MAPPING_END_EVENT, YAML_MAPPING_START_EVENT, YAML_SCALAR_EVENT, YAML_SEQUENCE_END_EVENT,
+    YAML_MAPPING_END_EVENT, YAML_MAPPING_START_EVENT, YAML_SEQUENCE_END_EVENT,
     YAML_SEQUENCE_START_EVENT, YAML_STREAM_END_EVENT, YAML_STREAM_START_EVENT, yaml_error_t,
     yaml_event_t, yaml_mapping_style_t, yaml_scalar_style_t, yaml_sequence_style_t,
 };
-use yaml_emitter::{yaml_emitter_emit, yaml_emitter_t, yaml_emitter_take_output};
+use yaml_emitter::{ScalarContent, yaml_emitter_emit, yaml_emitter_t, yaml_emitter_take_output};
 
 /// The start of a document without directives.
 pub(crate) fn plain_start<A: Allocator>(alloc: A) -> yaml_event_t<A>
@@ -60,41 +62,80 @@ pub(crate) fn begin<A: Allocator + Copy>(alloc: A, emitter: &mut yaml_emitter_t<
     let _ = give(emitter, plain_start(alloc));
 }
 
-/// Gives a scalar; where it has no tag, none need be written.
-pub(crate) fn give_scalar<A: Allocator + Copy>(
-    emitter: &mut yaml_emitter_t<A>,
-    anchor: Option<String<A>>,
-    tag: Option<String<A>>,
-    value: String<A>,
+/// A scalar, its texts borrowed: its anchor, a tag that was given or else its own, its value. Where it has no tag, none need be
+/// written.
+pub(crate) fn scalar_content<'a, A: Allocator>(
+    anchor: &'a Option<String<A>>,
+    tag: &'a Option<String<A>>,
+    own: Option<&'a str>,
+    value: &'a str,
     style: yaml_scalar_style_t,
-) -> Result<(), yaml_error_t>
-    requires output { emitter.old.has_output ≡ true }
-    ensures adds { AddsEvent emitter.old
-        (scalar (record {
-          anchor = option_map seen_text anchor;
-          tag = option_map seen_text tag;
-          value = seen_text value;
-          plain_implicit = is_none tag;
-          quoted_implicit = is_none tag;
+) -> ScalarContent<'a>
+    ensures { seen_scalar result
+        ≡ record {
+          anchor = option_map seen_text anchor.now;
+          tag = option_or (option_map seen_text tag.now) (seen_name own.entry);
+          value = chars value.now;
+          plain_implicit = is_none (option_or (option_map seen_text tag.now) (seen_name own.entry));
+          quoted_implicit = is_none (option_or (option_map seen_text tag.now) (seen_name own.entry));
           style = seen_scalar_style style;
-        }))
-        emitter.new }
-    ensures grows { Grows emitter.old.page emitter.new.page }
-    ensures answered { result ≡ result_of_error emitter.new.error }
-    ensures output { emitter.new.has_output ≡ true }
+        } }
 {
-    let implicit = tag.is_none();
-    give(
-        emitter,
-        YAML_SCALAR_EVENT {
-            anchor,
-            tag,
-            value,
-            plain_implicit: implicit,
-            quoted_implicit: implicit,
-            style,
-        },
-    )
+    let tag = borrowed_or(tag, own);
+    let implicit = lacks_tag(tag);
+    ScalarContent {
+        anchor: borrowed_text(anchor),
+        tag,
+        value,
+        plain_implicit: implicit,
+        quoted_implicit: implicit,
+        style,
+    }
+}
+
+/// A text, where there is one.
+fn borrowed_text<A: Allocator>(text: &Option<String<A>>) -> Option<&str>
+    ensures { seen_name result ≡ option_map seen_text text.now }
+{
+    match text {
+        Some(text) => Some(text.as_str()),
+        None => None,
+    }
+}
+
+/// A text, where there is one, else the other one.
+fn borrowed_or<'a, A: Allocator>(
+    text: &'a Option<String<A>>,
+    other: Option<&'a str>,
+) -> Option<&'a str>
+    ensures { seen_name result ≡ option_or (option_map seen_text text.now) (seen_name other.entry) }
+{
+    match text {
+        Some(text) => Some(text.as_str()),
+        None => other,
+    }
+}
+
+fn lacks_tag(tag: Option<&str>) -> bool
+    ensures { result ≡ is_none (seen_name tag.entry) }
+{
+    tag.is_none()
+}
+
+/// Whether an emitter took an event: it did but where there was no memory to copy it, which is no error of its own.
+pub(crate) fn was_taken(answer: &Result<(), yaml_error_t>, error: Option<yaml_error_t>) -> bool
+    ensures { result ≡ (is_ok answer.now || is_some error) }
+{
+    answer.is_ok() || error.is_some()
+}
+
+/// Uses up the anchor and the tag of a node that was given.
+pub(crate) fn use_up<A: Allocator>(anchor: &mut Option<String<A>>, tag: &mut Option<String<A>>)
+    ensures anchor { anchor.new ≡ None }
+    ensures tag { tag.new ≡ None }
+{
+    let _anchor = anchor.take();
+    let _tag = tag.take();
 }
 
 /// Gives the start of a mapping; where it has no tag, none need be written.

@@ -1,8 +1,9 @@
 //! Scalars of a writer.
-ghost use Rattle.std.specs.Prelude.{◌≡◌, IfOk, IfErr, OnOk, chars, option_map, None, Some, pos};
+ghost use Rattle.std.specs.Prelude.{◌≡◌, IfOk, IfErr, OnOk, chars, None, Some, pos};
 ghost use Rattle.std.specs.Fmt.{signed_decimal};
 ghost use Rattle.yaml_base.specs.Seen.{seen_scalar_style, seen_text};
 ghost use Rattle.yaml_base.specs.values.TypedValues.{bool_text};
+ghost use Rattle.yaml_emitter.specs.BorrowedTexts.{seen_name};
 ghost use Rattle.yaml_writer.specs.Writing.{Failed, GaveEvent, bool_event, int_event, null_event, number_event, number_tag, tag_or_default};
 ghost use Rattle.yaml_writer.specs.Writing.{style_asked, styled_event, text_event, text_style};
 ghost use Rattle.yaml_writer.specs.Writing.{word_event};
@@ -27,19 +28,10 @@ pub(crate) fn text_of<A: Allocator>(alloc: A, text: &str) -> Result<String<A>, y
 }
 
 /// The tag that a scalar of this type has in canonical form.
-fn canonical_tag<A: Allocator>(
-    alloc: A,
-    canonical: bool,
-    tag: &str,
-) -> Result<Option<String<A>>, yaml_error_t>
-    ensures tag { IfOk result (λ copy. option_map seen_text copy ≡ tag_or_default None canonical (chars tag.now)) }
-    ensures memory { IfErr result (λ error. error ≡ yaml_error_t.Memory) }
+fn canonical_tag(canonical: bool, tag: &str) -> Option<&str>
+    ensures { seen_name result ≡ tag_or_default None canonical (chars tag.now) }
 {
-    if canonical {
-        Ok(Some(text_of(alloc, tag)?))
-    } else {
-        Ok(None)
-    }
+    if canonical { Some(tag) } else { None }
 }
 
 /// `true` or `false`.
@@ -194,9 +186,7 @@ impl<A: Allocator + Copy> Writer<A> {
         ensures given { OnOk result (GaveEvent self.old (styled_event self.old (seen_scalar_style style) (chars value.now)) None self.new) }
         ensures failed { IfErr result (λ error. Failed self.old (styled_event self.old (seen_scalar_style style) (chars value.now)) error self.new) }
     {
-        let style = style_for(style, value);
-        let value = text_of(self.alloc, value)?;
-        self.scalar(None, value, style)
+        self.scalar(None, value, style_for(style, value))
     }
 
     /// Writes a word of a type of YAML, plain.
@@ -204,8 +194,7 @@ impl<A: Allocator + Copy> Writer<A> {
         ensures given { OnOk result (GaveEvent self.old (word_event self.old (chars tag.now) (chars word.now)) None self.new) }
         ensures failed { IfErr result (λ error. Failed self.old (word_event self.old (chars tag.now) (chars word.now)) error self.new) }
     {
-        let own = canonical_tag(self.alloc, self.canonical, tag)?;
-        let value = text_of(self.alloc, word)?;
-        self.scalar(own, value, YAML_PLAIN_SCALAR_STYLE)
+        let own = canonical_tag(self.canonical, tag);
+        self.scalar(own, word, YAML_PLAIN_SCALAR_STYLE)
     }
 }

@@ -1,21 +1,22 @@
 //! The writer: what it holds, and how it begins.
-ghost use Rattle.std.specs.Prelude.{◌≡◌, IfOk, IfErr, OnErr, OnOk, [], None, Some, Err, true, false, option_map};
+ghost use Rattle.std.specs.Prelude.{◌≡◌, IfOk, IfErr, OnErr, OnOk, [], None, Err, true, false, chars};
 ghost use Rattle.std.specs.Io.KnownBytes.{Appends};
-ghost use Rattle.yaml_base.specs.Seen.{seen_scalar_style, seen_text};
+ghost use Rattle.yaml_base.specs.Seen.{seen_scalar_style};
 ghost use Rattle.std.specs.Option.{option_or};
 ghost use Rattle.yaml_emitter.specs.Given.{seen_settings};
+ghost use Rattle.yaml_emitter.specs.BorrowedTexts.{seen_name};
 ghost use Rattle.yaml_emitter.specs.State.{with_all_taken};
 ghost use Rattle.yaml_pen.specs.Page.{output_left};
 ghost use Rattle.yaml_writer.specs.Unfinished.{IsUnfinished, IsUnfinishedBy};
-ghost use Rattle.yaml_writer.specs.Writing.{Finishes, FinishesBy, GaveEvent, StandsTaken, TakesBytes, awaits_node, is_implicit, opening, scalar_event};
+ghost use Rattle.yaml_writer.specs.Writing.{Failed, Finishes, FinishesBy, GaveEvent, StandsTaken, TakesBytes, awaits_node, is_implicit, opening, scalar_event};
 
-use crate::giving::{begin, finished, give_scalar};
+use crate::giving::{begin, finished, scalar_content, use_up, was_taken};
 use crate::kinds::{CollectionKind, DocumentEnd};
 use std::alloc::Allocator;
 use std::io;
 use std::marker::Model;
 use yaml_base::{yaml_error_t, yaml_scalar_style_t};
-use yaml_emitter::{Settings, yaml_emitter_t, yaml_emitter_take_output};
+use yaml_emitter::{Settings, yaml_emitter_emit_scalar, yaml_emitter_t, yaml_emitter_take_output};
 
 /// Writes values, one call each, into a vector of bytes.
 #[derive(Drop)]
@@ -64,21 +65,25 @@ impl<A: Allocator + Copy> Writer<A> {
         })
     }
 
-    /// Gives a scalar to the emitter, with the properties of the next node, and this tag where none was given.
+    /// Gives a scalar to the emitter, with the properties of the next node, and this tag where none was given. Where it has to
+    /// wait and there is no memory to copy it, nothing changes.
     pub(crate) fn scalar(
         &mut self,
-        own: Option<String<A>>,
-        value: String<A>,
+        own: Option<&str>,
+        value: &str,
         style: yaml_scalar_style_t,
     ) -> Result<(), yaml_error_t>
-        ensures given { OnOk result (GaveEvent self.old (scalar_event self.old (option_or self.old.tag (option_map seen_text own)) (seen_text value)
+        ensures given { OnOk result (GaveEvent self.old (scalar_event self.old (option_or self.old.tag (seen_name own.entry)) (chars value.now)
             (seen_scalar_style style)) None self.new) }
-        ensures failed { IfErr result (λ error. GaveEvent self.old (scalar_event self.old (option_or self.old.tag (option_map seen_text own)) (seen_text value)
-            (seen_scalar_style style)) (Some error) self.new) }
+        ensures failed { IfErr result (λ error. Failed self.old (scalar_event self.old (option_or self.old.tag (seen_name own.entry)) (chars value.now)
+            (seen_scalar_style style)) error self.new) }
     {
-        let anchor = self.anchor.take();
-        let tag = self.tag.take().or(own);
-        give_scalar(&mut self.emitter, anchor, tag, value, style)
+        let content = scalar_content(&self.anchor, &self.tag, own, value, style);
+        let answer = yaml_emitter_emit_scalar(&mut self.emitter, &content);
+        if was_taken(&answer, self.emitter.error()) {
+            use_up(&mut self.anchor, &mut self.tag);
+        }
+        answer
     }
 
     /// Whether an anchor or a tag was given whose node wasn't yet.
