@@ -81,6 +81,15 @@ pub fn place_of(text: &[u8], offset: usize) -> (usize, usize) {
     (line, column)
 }
 
+/// So many lines end. (A sum needs no branch for each byte.)
+fn line_breaks(bytes: &[u8]) -> usize {
+    let mut count: usize = 0;
+    for byte in bytes {
+        count = count.wrapping_add((*byte == b'\n') as usize);
+    }
+    count
+}
+
 /// A line and a column, both from 1.
 #[derive(Clone, Copy, PartialEq, Eq, Debug)]
 pub(crate) struct Place {
@@ -107,7 +116,7 @@ impl Place {
 
     /// The place that follows these bytes, the first of which is at this one.
     pub(crate) fn after(self, bytes: &[u8]) -> Place {
-        let lines = bytes.iter().filter(|byte| **byte == b'\n').count();
+        let lines = line_breaks(bytes);
         let last = bytes.iter().rev().take_while(|byte| **byte != b'\n');
         let characters = last.filter(|byte| begins_character(**byte)).count();
         let (line, column) = self.and(lines.saturating_add(1), characters.saturating_add(1));
