@@ -1,4 +1,5 @@
 //! Emitters from outside, step by step: values in each style, outputs that are taken, deep collections, growths that are refused.
+mod borrowed;
 mod depth;
 mod each_style;
 mod early;

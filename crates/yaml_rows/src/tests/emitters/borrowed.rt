@@ -1,0 +1,367 @@
+//! Scalars whose texts are borrowed stand as their events do; one that needn't wait takes no memory.
+use super::streams::Given::{
+    BlockMapping, Document, DocumentEnd, FlowSequence, MappingEnd, SequenceEnd, Stream, StreamEnd,
+};
+use super::streams::{Given, event};
+use super::{Answer, Setting, UNSET, flush_if_known, give, made};
+use crate::tests::{equal, owned, same};
+use Part::{Borrowed, Other};
+use std::alloc::{Allocator, Global};
+use std::process::Abort;
+use yaml_base::{
+    YAML_ANY_SCALAR_STYLE, YAML_DOUBLE_QUOTED_SCALAR_STYLE, YAML_FOLDED_SCALAR_STYLE,
+    YAML_LITERAL_SCALAR_STYLE, YAML_PLAIN_SCALAR_STYLE, YAML_SCALAR_EVENT,
+    YAML_SINGLE_QUOTED_SCALAR_STYLE, yaml_error_t, yaml_event_t,
+};
+use yaml_emitter::{ScalarContent, yaml_emitter_emit_scalar, yaml_emitter_t};
+use yaml_test_allocator::Refusing;
+
+/// A scalar, or another event.
+#[derive(Clone, Copy)]
+enum Part<'a> {
+    Borrowed(ScalarContent<'a>),
+    Other(Given<'a>),
+}
+
+/// A scalar of any style without anchor and tag.
+const TEXT: ScalarContent<'static> = ScalarContent {
+    anchor: None,
+    tag: None,
+    value: "a",
+    plain_implicit: true,
+    quoted_implicit: true,
+    style: YAML_ANY_SCALAR_STYLE,
+};
+
+/// A scalar whose tag is written.
+const TAGGED: ScalarContent<'static> = ScalarContent {
+    tag: Some("!city"),
+    plain_implicit: false,
+    quoted_implicit: false,
+    ..TEXT
+};
+
+/// Keys and values of each kind, of which the first ones of collections and the roots wait.
+const ENTRIES: &[Part] = &[
+    Other(Stream),
+    Other(Document),
+    Other(BlockMapping),
+    Borrowed(ScalarContent {
+        value: "usual",
+        ..TEXT
+    }),
+    Borrowed(ScalarContent {
+        value: "a value",
+        ..TEXT
+    }),
+    Borrowed(ScalarContent {
+        style: YAML_SINGLE_QUOTED_SCALAR_STYLE,
+        value: "quoted",
+        ..TEXT
+    }),
+    Borrowed(ScalarContent {
+        style: YAML_DOUBLE_QUOTED_SCALAR_STYLE,
+        value: "a\nb",
+        ..TEXT
+    }),
+    Borrowed(ScalarContent {
+        value: "Oslo",
+        ..TAGGED
+    }),
+    Borrowed(ScalarContent {
+        anchor: Some("place"),
+        value: "named",
+        ..TEXT
+    }),
+    Borrowed(ScalarContent {
+        value: "two\nlines",
+        ..TEXT
+    }),
+    Borrowed(ScalarContent {
+        style: YAML_LITERAL_SCALAR_STYLE,
+        value: "one\ntwo\n",
+        ..TEXT
+    }),
+    Other(MappingEnd),
+    Other(DocumentEnd),
+    Other(Document),
+    Other(FlowSequence),
+    Borrowed(ScalarContent {
+        anchor: Some("first"),
+        tag: Some("!item"),
+        value: ": no",
+        ..TAGGED
+    }),
+    Borrowed(ScalarContent {
+        style: YAML_FOLDED_SCALAR_STYLE,
+        value: "x y",
+        ..TEXT
+    }),
+    Borrowed(ScalarContent {
+        style: YAML_PLAIN_SCALAR_STYLE,
+        value: "last",
+        ..TEXT
+    }),
+    Other(SequenceEnd),
+    Other(DocumentEnd),
+    Other(Document),
+    Borrowed(ScalarContent {
+        plain_implicit: false,
+        value: "root",
+        ..TEXT
+    }),
+    Other(DocumentEnd),
+    Other(StreamEnd),
+];
+
+const ENTRIES_TEXT: &str = "usual: a value
+'quoted': \"a\\nb\"
+!city Oslo: &place named
+? 'two
+
+  lines'
+: |
+  one
+  two
+--- [&first !item ': no', \"x y\", last]
+--- 'root'
+";
+
+const ENTRIES_IN_CANONICAL_FORM: &str = "---
+{
+  ? \"usual\"
+  : \"a value\",
+  ? \"quoted\"
+  : \"a\\nb\",
+  ? !city \"Oslo\"
+  : &place \"named\",
+  ? \"two\\nlines\"
+  : \"one\\ntwo\\n\",
+}
+---
+[
+  &first !item \": no\",
+  \"x y\",
+  \"last\",
+]
+---
+\"root\"
+";
+
+/// A copy of a text, where there is one.
+fn owned_choice<A: Allocator>(
+    rt: &impl Abort,
+    alloc: A,
+    choice: Option<&str>,
+) -> Option<String<A>> {
+    match choice {
+        Some(text) => Some(owned(rt, alloc, text)),
+        None => None,
+    }
+}
+
+/// The event of a scalar, for which there is memory.
+fn event_of<A: Allocator + Copy>(
+    rt: &impl Abort,
+    alloc: A,
+    content: &ScalarContent,
+) -> yaml_event_t<A> {
+    YAML_SCALAR_EVENT {
+        anchor: owned_choice(rt, alloc, content.anchor),
+        tag: owned_choice(rt, alloc, content.tag),
+        value: owned(rt, alloc, content.value),
+        plain_implicit: content.plain_implicit,
+        quoted_implicit: content.quoted_implicit,
+        style: content.style,
+    }
+}
+
+fn give_owned<A: Allocator + Copy>(
+    rt: &impl Abort,
+    alloc: A,
+    emitter: &mut yaml_emitter_t<A>,
+    part: &Part,
+) -> Answer {
+    let next = match part {
+        Borrowed(content) => event_of(rt, alloc, content),
+        Other(given) => event(rt, alloc, given),
+    };
+    give(rt, emitter, next)
+}
+
+/// Emits a scalar whose texts are borrowed: an output is set.
+fn give_borrowed<A: Allocator + Copy>(
+    rt: &impl Abort,
+    emitter: &mut yaml_emitter_t<A>,
+    content: &ScalarContent,
+) -> Answer {
+    assert!(rt; emitter.has_output());
+    yaml_emitter_emit_scalar(emitter, content)
+}
+
+fn give_part<A: Allocator + Copy>(
+    rt: &impl Abort,
+    alloc: A,
+    emitter: &mut yaml_emitter_t<A>,
+    part: &Part,
+) -> Answer {
+    match part {
+        Borrowed(content) => give_borrowed(rt, emitter, content),
+        Other(given) => give(rt, emitter, event(rt, alloc, given)),
+    }
+}
+
+// Two emitters have flushed the same, as many events wait in either, and they have the same error.
+fn check_alike<A: Allocator>(
+    rt: &impl Abort,
+    first: &yaml_emitter_t<A>,
+    second: &yaml_emitter_t<A>,
+) {
+    same(rt, second.output(), first.output());
+    equal(rt, &second.held(), &first.held());
+    equal(rt, &second.error(), &first.error());
+}
+
+// One emitter is given events alone, the other borrowed scalars; both have this error in the end, if any, and write this.
+fn check_parts(
+    rt: &impl Abort,
+    alloc: Global,
+    setting: &Setting,
+    parts: &[Part],
+    (error, wanted): (Option<yaml_error_t>, &str),
+) {
+    let mut owning = made(rt, alloc, setting);
+    let mut borrowing = made(rt, alloc, setting);
+    for part in parts {
+        let answer = give_owned(rt, alloc, &mut owning, part);
+        equal(rt, &give_part(rt, alloc, &mut borrowing, part), &answer);
+        check_alike(rt, &owning, &borrowing);
+    }
+    let answer = flush_if_known(rt, &mut owning);
+    equal(rt, &flush_if_known(rt, &mut borrowing), &answer);
+    check_alike(rt, &owning, &borrowing);
+    equal(rt, &borrowing.error(), &error);
+    same(rt, borrowing.output(), wanted.as_bytes());
+}
+
+#[test]
+fn borrowed_scalars_stand_as_their_events_do(rt: HostRuntime) {
+    check_parts(&rt, rt.alloc(), &UNSET, ENTRIES, (None, ENTRIES_TEXT));
+    check_parts(
+        &rt,
+        rt.alloc(),
+        CANONICAL,
+        ENTRIES,
+        (None, ENTRIES_IN_CANONICAL_FORM),
+    );
+}
+
+const CANONICAL: &Setting = &Setting {
+    canonical: true,
+    ..UNSET
+};
+
+/// Events of which the last is refused, with its error.
+const REFUSED: &[(&[Part], yaml_error_t)] = &[
+    (&[Borrowed(TEXT)], yaml_error_t::ExpectedStreamStart),
+    (
+        &[Other(Stream), Borrowed(TEXT)],
+        yaml_error_t::ExpectedDocumentStart,
+    ),
+    (
+        &[
+            Other(Stream),
+            Other(Document),
+            Borrowed(TEXT),
+            Borrowed(ScalarContent { value: "b", ..TEXT }),
+        ],
+        yaml_error_t::ExpectedDocumentEnd,
+    ),
+    (
+        &[Other(Stream), Other(StreamEnd), Borrowed(TEXT)],
+        yaml_error_t::ExpectedNothing,
+    ),
+    (
+        &[
+            Other(Stream),
+            Other(Document),
+            Borrowed(ScalarContent {
+                anchor: Some(""),
+                ..TEXT
+            }),
+        ],
+        yaml_error_t::AnchorEmpty,
+    ),
+    (
+        &[
+            Other(Stream),
+            Borrowed(ScalarContent {
+                tag: Some(""),
+                ..TAGGED
+            }),
+        ],
+        yaml_error_t::TagEmpty,
+    ),
+    (
+        &[
+            Other(Stream),
+            Other(Document),
+            Other(BlockMapping),
+            Borrowed(TEXT),
+            Borrowed(ScalarContent { value: "b", ..TEXT }),
+            Borrowed(ScalarContent {
+                plain_implicit: false,
+                quoted_implicit: false,
+                value: "c",
+                ..TEXT
+            }),
+        ],
+        yaml_error_t::NoTagNorImplicit,
+    ),
+];
+
+#[test]
+fn borrowed_scalars_are_refused_as_their_events_are(rt: HostRuntime) {
+    for (parts, error) in REFUSED {
+        check_parts(&rt, rt.alloc(), &UNSET, parts, (Some(*error), ""));
+    }
+}
+
+// A scalar that can be written at once asks for no memory; where one has to wait and isn't granted any, nothing changes, and
+// it is taken when it comes again.
+fn give_sparingly(
+    rt: &impl Abort,
+    heap: &Refusing<Global>,
+    emitter: &mut yaml_emitter_t<&Refusing<Global>>,
+    content: &ScalarContent,
+) {
+    let held = emitter.held();
+    heap.refuse(1);
+    let answer = give_borrowed(rt, emitter, content);
+    if held == 0 {
+        equal(rt, &answer, &Ok(()));
+        equal(rt, &heap.left(), &1);
+        heap.refuse(0);
+    } else {
+        equal(rt, &answer, &Err(yaml_error_t::Memory));
+        equal(rt, &emitter.error(), &None);
+        equal(rt, &emitter.held(), &held);
+        equal(rt, &give_borrowed(rt, emitter, content), &Ok(()));
+    }
+}
+
+#[test]
+fn borrowed_scalars_take_memory_only_where_they_wait(rt: HostRuntime) {
+    let heap = Refusing::new(rt.alloc());
+    let mut emitter = made(&rt, &heap, &UNSET);
+    for part in ENTRIES {
+        match part {
+            Borrowed(content) => give_sparingly(&rt, &heap, &mut emitter, content),
+            Other(given) => {
+                let next = event(&rt, &heap, given);
+                equal(&rt, &give(&rt, &mut emitter, next), &Ok(()));
+            }
+        }
+    }
+    same(&rt, emitter.output(), ENTRIES_TEXT.as_bytes());
+}
