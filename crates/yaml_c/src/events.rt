@@ -77,7 +77,7 @@ fn flush_after<A: Allocator + Copy>(emitter: &mut yaml_emitter_t<A>, number: u64
     }
 }
 
-fn number_of(error: yaml_error_t) -> u32
+pub(crate) fn number_of(error: yaml_error_t) -> u32
     ensures { result ≡ error_number error }
 {
     error as u32 + 1

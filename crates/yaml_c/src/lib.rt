@@ -3,8 +3,11 @@
 
 mod arena;
 mod buffers;
+mod emitters;
 mod events;
+mod handle;
 mod json_texts;
+mod raw_box;
 mod records;
 mod results;
 mod scripts;

@@ -38,7 +38,7 @@ pub struct EventRecord {
 }
 
 /// An event of the allocator, or none where a record has no reading; or memory ran out.
-type EventOrNone<A> = Result<Option<yaml_event_t<A>>, AllocError>;
+pub(crate) type EventOrNone<A> = Result<Option<yaml_event_t<A>>, AllocError>;
 
 fn directive_from<A: Allocator>(
     handle: Option<String<A>>,

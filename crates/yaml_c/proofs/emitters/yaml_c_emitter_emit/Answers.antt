@@ -1,0 +1,18 @@
+use Rattle.yaml_c.proofs.Common.{Some, ℤ, ◌≡◌, rules, subst, sym, w32, of_z, to_z, event_of}
+use Rattle.yaml_c.proofs.KeptLemmas.{changed}
+use Rattle.yaml_c.specs.Kept.{GivesRecord}
+use Rattle.yaml_c.proofs.emitters.yaml_c_emitter_emit.Goals as goal
+
+pub returns : goal.returns
+returns c =
+    let read = event_of c.args.texts.now c.args.directives.now c.args.event.now in
+    let before = c.deref_mut.result.now in
+    let after = c.give-status.new.emitter in
+    let report = c.give-status.new.report in
+    let status = to_z w32 (of_z w32 c.give-status.result) in
+    let fits : status ≡ c.give-status.result = search rules in
+    let put : c.put.new.self.state ≡ Some after = search rules in
+    let taken : Some before ≡ c.args.emitter.now.state = search rules in
+    let given : GivesRecord read c.give-status.result report before after = c.give-status.ensures.given read c.event_of-event.ensures in
+    changed (GivesRecord read status report) c.args.emitter.now.state c.put.new.self.state before after taken put
+    c.give-status.ensures.output (subst (λ (returned : ℤ). GivesRecord read returned report before after) (sym fits) given)

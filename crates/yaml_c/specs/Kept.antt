@@ -1,0 +1,91 @@
+-- What the calls over an emitter return that a C program keeps, and what they leave of it.
+use Rattle.std.specs.Prelude.{◌≡◌, ℕ, ℤ, pos, true, Option, None, Some, IsSome, List, [], ◌∷◌, ◌++◌, length, nat_le, if◌then◌else◌}
+use Rattle.yaml_base.specs.Event.{Event}
+use Rattle.yaml_base.specs.Ready.{written}
+use Rattle.yaml_base.specs.Settings.{Settings}
+use Rattle.yaml_base.specs.declared.errors.yaml_error_t.{yaml_error_t}
+use Rattle.yaml_base.specs.declared.errors.yaml_error_t.TheVariants.{Memory}
+use Rattle.yaml_emitter.specs.Promises.{HasAllBytes, Promised}
+use Rattle.yaml_emitter.specs.StandsAfter.{StandsAfter}
+use Rattle.yaml_emitter.specs.State.{KeepsSet, State, with_all_taken}
+use Rattle.yaml_pen.specs.Page.{output_left}
+use Rattle.yaml_pen.specs.Wrote.{Grows}
+use Rattle.yaml_c.specs.Answers.{CopiesToCaller, nothing_reported, results_done}
+use Rattle.yaml_c.specs.Emission.{error_number}
+use Rattle.yaml_c.specs.declared.results.CallResult.{CallResult}
+
+-- a call was made over an open emitter, which stays open
+abbrev pub Changes : (State → State → Type 0) → Option State → Option State → Type 0
+Changes relation (Some before) (Some after) = (after.has_output ≡ true) × relation before after
+Changes relation before after = ⊥
+
+-- an emitter is open, and its output is set
+abbrev pub IsOpen : Option State → Type 0
+IsOpen None = ⊥
+IsOpen (Some state) = state.has_output ≡ true
+
+-- ---- what is returned
+
+abbrev pub status_of : Option yaml_error_t → ℤ
+status_of None = pos 0
+status_of (Some Memory) = pos 3
+status_of (Some error) = pos 1
+
+abbrev pub report_of : Option yaml_error_t → CallResult
+report_of None = nothing_reported
+report_of (Some error) = record nothing_reported { error = error_number error }
+
+-- a call tells the emitter's first error
+abbrev pub TellsError : Option yaml_error_t → (status : ℤ) → CallResult → Type 0
+TellsError error status report = (status ≡ status_of error) × (report ≡ report_of error)
+
+-- ---- the calls
+
+-- a new emitter with these settings: no event was given, nothing is written
+pub record IsNew (given : Settings) (state : State) : Type 0 where
+  pub stands : StandsAfter given [] state
+  pub has_output : state.has_output ≡ true
+  pub no_error : state.error ≡ None
+  pub nothing : state.page.output ≡ []
+  pub untaken : state.page.taken ≡ 0
+
+-- an emitter is made, or memory ran out; or there are no such settings
+abbrev pub MakesEmitter : Option Settings → (status : ℤ) → Option State → Type 0
+MakesEmitter None status made = (status ≡ pos 9) × (made ≡ None)
+MakesEmitter (Some given) status (Some state) = (status ≡ pos 0) × IsNew given state
+MakesEmitter (Some given) status None = status ≡ pos 3
+
+-- an emitter was given an event
+pub record TakesEvent (event : Event) (before after : State) : Type 0 where
+  pub stands : (given : Settings) (all : List Event) → StandsAfter given all before → StandsAfter given (all ++ event ∷ []) after
+  pub promised : (given : Settings) (all : List Event) → StandsAfter given all before → Promised given (all ++ event ∷ []) after
+  pub waits : (given : Settings) (all : List Event) → StandsAfter given all before → before.error ≡ None
+      → written (all ++ event ∷ []) ≡ written all → after.error ≡ None
+  pub grows : Grows before.page after.page
+  pub kept : IsSome before.error → after ≡ record before { started = true }
+  pub set : KeepsSet (record before { started = true }) after
+
+-- an emitter was given the event of a record; or nothing changed, since the record has no reading, or memory for its texts ran out
+pub data GivesRecord (read : Option Event) (status : ℤ) (report : CallResult) (before after : State) : Type 0 where
+  gives : (event : Event) → read ≡ Some event → TakesEvent event before after → TellsError after.error status report
+      → GivesRecord read status report before after
+  unreadable : read ≡ None → status ≡ pos 8 → report ≡ nothing_reported → after ≡ before → GivesRecord read status report before after
+  no_memory : status ≡ pos 3 → report ≡ nothing_reported → after ≡ before → GivesRecord read status report before after
+
+-- an emitter was flushed; where the output can't grow it stays as it was
+pub record Flushes (status : ℤ) (report : CallResult) (before after : State) : Type 0 where
+  pub tells : TellsError after.error status report
+  pub stands : (given : Settings) (all : List Event) → StandsAfter given all before → StandsAfter given all after
+  pub promised : (given : Settings) (all : List Event) → StandsAfter given all before → Promised given all after
+  pub grows : Grows before.page after.page
+  pub flushed : after.error ≡ None → (given : Settings) (all : List Event) → StandsAfter given all before → HasAllBytes given all after
+  pub unflushed : after.error ≡ Some Memory → after.page.output ≡ before.page.output
+  pub kept : IsSome before.error → after ≡ before
+  pub set : KeepsSet before after
+
+-- the flushed bytes not yet taken are copied to the caller's buffer, and taken if they fit
+pub record TakesOutput (old : List ℕ) (status : ℤ) (new : List ℕ) (report : CallResult) (before after : State) : Type 0 where
+  pub copied : CopiesToCaller (results_done (output_left before.page) 0 old) status new report
+  pub left : after ≡ (if nat_le (length (output_left before.page)) (length old) then with_all_taken before else before)
+  pub stands : (given : Settings) (all : List Event) → StandsAfter given all before → StandsAfter given all after
+  pub promised : (given : Settings) (all : List Event) → StandsAfter given all before → Promised given all after

@@ -1,0 +1,193 @@
+//! Emitters that a C program keeps from call to call.
+ghost use Rattle.std.specs.Prelude.{◌≡◌, List, Option, None, Some, option_map, pos, true, IfOk, length, nat_le, if◌then◌else◌};
+ghost use Rattle.yaml_base.specs.Event.{Event};
+ghost use Rattle.yaml_base.specs.Seen.{seen_event};
+ghost use Rattle.yaml_base.specs.Settings.{Settings};
+ghost use Rattle.yaml_base.specs.declared.errors.yaml_error_t.{yaml_error_t};
+ghost use Rattle.yaml_emitter.specs.Promises.{Promised};
+ghost use Rattle.yaml_emitter.specs.StandsAfter.{StandsAfter};
+ghost use Rattle.yaml_emitter.specs.State.{with_all_taken};
+ghost use Rattle.yaml_pen.specs.Page.{output_left, result_of_error};
+ghost use Rattle.yaml_c.specs.Answers.{CopiesToCaller, results_done};
+ghost use Rattle.yaml_c.specs.EventRecords as meaning;
+ghost use Rattle.yaml_c.specs.GivenSettings.{settings_given};
+ghost use Rattle.yaml_c.specs.Kept.{Changes, Flushes, GivesRecord, IsOpen, MakesEmitter, TakesOutput, TellsError, status_of};
+
+use crate::events::number_of;
+use crate::handle::EmitterHandle;
+use crate::records::{DirectiveRecord, EventOrNone, EventRecord, event_of};
+use crate::results::{CallResult, copy_to_caller};
+use crate::settings::{EmitterSettings, settings_from};
+use crate::statuses::{BAD_EVENT, BAD_SETTINGS, DONE, NO_MEMORY, REFUSED};
+use std::alloc::{Allocator, Global};
+use yaml_base::yaml_error_t;
+use yaml_emitter::{
+    standing_is_promised, yaml_emitter_emit, yaml_emitter_flush, yaml_emitter_t,
+    yaml_emitter_take_output,
+};
+
+/// Makes an emitter with these settings, but for their `skip`. See the header.
+#[unsafe(no_mangle)]
+pub extern "C" fn yaml_c_emitter_new(
+    alloc: Global,
+    settings: &EmitterSettings,
+    emitter: &mut EmitterHandle,
+) -> i32
+    ensures { MakesEmitter (settings_given settings.now) result emitter.new.state }
+{
+    *emitter = EmitterHandle::none();
+    let Some(given) = settings_from(settings) else {
+        return BAD_SETTINGS;
+    };
+    let Ok(made) = yaml_emitter_t::with_settings(alloc, given) else {
+        return NO_MEMORY;
+    };
+    let Ok(boxed) = Box::new(alloc, made) else {
+        return NO_MEMORY;
+    };
+    emitter.put(boxed);
+    DONE
+}
+
+/// Gives an event to an emitter. See the header.
+#[unsafe(no_mangle)]
+pub extern "C" fn yaml_c_emitter_emit(
+    alloc: Global,
+    emitter: &mut EmitterHandle,
+    event: &EventRecord,
+    directives: &[DirectiveRecord],
+    texts: &[u8],
+    report: &mut CallResult,
+) -> i32
+    requires is_open { IsOpen emitter.old.state }
+    ensures { Changes (GivesRecord (meaning.event_of texts.now directives.now event.now) result report.new) emitter.old.state emitter.new.state }
+{
+    let mut boxed = emitter.take(alloc);
+    let event = event_of(alloc, texts, directives, event);
+    let status = give(&mut *boxed, event, report);
+    emitter.put(boxed);
+    status
+}
+
+/// Flushes all that an emitter has written. See the header.
+#[unsafe(no_mangle)]
+pub extern "C" fn yaml_c_emitter_flush(
+    alloc: Global,
+    emitter: &mut EmitterHandle,
+    report: &mut CallResult,
+) -> i32
+    requires is_open { IsOpen emitter.old.state }
+    ensures { Changes (Flushes result report.new) emitter.old.state emitter.new.state }
+{
+    let mut boxed = emitter.take(alloc);
+    let status = flush(&mut *boxed, report);
+    emitter.put(boxed);
+    status
+}
+
+/// Takes the flushed bytes that were not taken before. See the header.
+#[unsafe(no_mangle)]
+pub extern "C" fn yaml_c_emitter_take_output(
+    alloc: Global,
+    emitter: &mut EmitterHandle,
+    out: &mut [u8],
+    report: &mut CallResult,
+) -> i32
+    requires is_open { IsOpen emitter.old.state }
+    ensures { Changes (TakesOutput out.old result out.new report.new) emitter.old.state emitter.new.state }
+{
+    let mut boxed = emitter.take(alloc);
+    let status = take_output(&mut *boxed, out, report);
+    emitter.put(boxed);
+    status
+}
+
+/// Frees an emitter. See the header.
+#[unsafe(no_mangle)]
+pub extern "C" fn yaml_c_emitter_delete(alloc: Global, emitter: &mut EmitterHandle)
+    requires is_open { IsOpen emitter.old.state }
+    ensures { emitter.new.state ≡ None }
+{
+    emitter.take(alloc).drop();
+}
+
+/// Gives an event to an emitter, if there is one.
+fn give<A: Allocator + Copy>(
+    emitter: &mut yaml_emitter_t<A>,
+    event: EventOrNone<A>,
+    report: &mut CallResult,
+) -> i32
+    requires output { emitter.old.has_output ≡ true }
+    ensures given { (read : Option Event) → IfOk event (λ made. option_map seen_event made ≡ read)
+        → GivesRecord read result report.new emitter.old emitter.new }
+    ensures output { emitter.new.has_output ≡ true }
+{
+    *report = CallResult::nothing();
+    match event {
+        Ok(Some(event)) => tell(yaml_emitter_emit(emitter, event), report),
+        Ok(None) => BAD_EVENT,
+        Err(_) => NO_MEMORY,
+    }
+}
+
+fn flush<A: Allocator + Copy>(emitter: &mut yaml_emitter_t<A>, report: &mut CallResult) -> i32
+    requires output { emitter.old.has_output ≡ true }
+    ensures flushed { Flushes result report.new emitter.old emitter.new }
+    ensures output { emitter.new.has_output ≡ true }
+{
+    tell(yaml_emitter_flush(emitter), report)
+}
+
+/// Copies the flushed bytes not yet taken to the caller's buffer, and takes them if they fit.
+fn take_output<A: Allocator + Copy>(
+    emitter: &mut yaml_emitter_t<A>,
+    out: &mut [u8],
+    report: &mut CallResult,
+) -> i32
+    ensures copied { CopiesToCaller (results_done (output_left emitter.old.page) 0 out.old) result out.new report.new }
+    ensures left { emitter.new ≡ (if nat_le (length (output_left emitter.old.page)) (length out.old) then with_all_taken emitter.old else emitter.old) }
+    ensures stands { (given : Settings) (all : List Event) → StandsAfter given all emitter.old → StandsAfter given all emitter.new }
+    ensures promised { (given : Settings) (all : List Event) → StandsAfter given all emitter.old → Promised given all emitter.new }
+    ensures output { emitter.new.has_output ≡ emitter.old.has_output }
+{
+    let status = copy_to_caller(emitter.output(), 0, out, report);
+    take_if_copied(emitter, status);
+    status
+}
+
+/// Takes the output, if it was copied.
+fn take_if_copied<A: Allocator + Copy>(emitter: &mut yaml_emitter_t<A>, status: i32)
+    ensures copied { status ≡ pos 0 → emitter.new ≡ with_all_taken emitter.old }
+    ensures not_copied { (status ≡ pos 0 → ⊥) → emitter.new ≡ emitter.old }
+    ensures stands { (given : Settings) (all : List Event) → StandsAfter given all emitter.old → StandsAfter given all emitter.new }
+    ensures promised { (given : Settings) (all : List Event) → StandsAfter given all emitter.old → Promised given all emitter.new }
+    ensures output { emitter.new.has_output ≡ emitter.old.has_output }
+{
+    standing_is_promised();
+    if status == DONE {
+        yaml_emitter_take_output(emitter).drop();
+    }
+}
+
+/// Reports the error that a call returned, if any, and returns the status that goes with it.
+fn tell(answer: Result<(), yaml_error_t>, report: &mut CallResult) -> i32
+    ensures { (error : Option yaml_error_t) → answer ≡ result_of_error error → TellsError error result report.new }
+{
+    *report = CallResult::nothing();
+    match answer {
+        Ok(()) => DONE,
+        Err(error) => {
+            report.error = number_of(error);
+            status_of(error)
+        }
+    }
+}
+
+fn status_of(error: yaml_error_t) -> i32
+    ensures { result ≡ status_of (Some error) }
+{
+    match error {
+        yaml_error_t::Memory => NO_MEMORY,
+        _ => REFUSED,
+    }
+}

@@ -1,0 +1,72 @@
+//! What a C program holds of an emitter: a pointer.
+ghost use Rattle.std.specs.Prelude.{◌≡◌, Option, None, Some, is_some, true};
+ghost use Rattle.yaml_emitter.specs.State.{State};
+ghost use Rattle.yaml_c.specs.Handle.{handle_owns};
+
+use crate::raw_box::RawBox;
+use std::alloc::Global;
+use std::marker::Model;
+use std::mem::replace;
+use std::ptr::null_mut;
+use yaml_emitter::yaml_emitter_t;
+
+pub(crate) type Emitter = yaml_emitter_t<Global>;
+
+/// An emitter that is kept between calls, or none. See the header.
+#[repr(C)]
+#[derive(Drop)]
+pub struct EmitterHandle {
+    address: *mut u8,
+    pub(crate) ghost state: { Option State },
+}
+
+impl Model for EmitterHandle {
+    ghost also_owns = { λ h. handle_owns h.address h.state };
+}
+
+impl EmitterHandle {
+    pub(crate) fn none() -> EmitterHandle
+        ensures { result.state ≡ None }
+    {
+        EmitterHandle {
+            address: null_mut(),
+        }
+    }
+
+    pub(crate) fn of(emitter: RawBox<Emitter>) -> EmitterHandle
+        ensures { result.state ≡ Some emitter.value }
+    {
+        let RawBox { address } = emitter;
+        EmitterHandle {
+            address: address as *mut u8,
+        }
+    }
+
+    pub(crate) fn into_raw_box(self) -> RawBox<Emitter>
+        requires { is_some self.state ≡ true }
+        ensures { Some result.value ≡ self.state }
+    {
+        let EmitterHandle { address } = self;
+        RawBox {
+            address: address as *mut Emitter,
+        }
+    }
+
+    /// Takes the emitter out.
+    pub(crate) fn take(&mut self, alloc: Global) -> Box<Emitter>
+        requires { is_some self.old.state ≡ true }
+        ensures emitter { Some result.value ≡ self.old.state }
+        ensures none { self.new.state ≡ None }
+    {
+        replace(self, EmitterHandle::none())
+            .into_raw_box()
+            .into_box(alloc)
+    }
+
+    /// Puts an emitter in. One that is there is forgotten.
+    pub(crate) fn put(&mut self, emitter: Box<Emitter>)
+        ensures { self.new.state ≡ Some emitter.value }
+    {
+        *self = EmitterHandle::of(RawBox::of(emitter));
+    }
+}

@@ -1,0 +1,40 @@
+/* Keeps an emitter from call to call: events are given one by one, and what is flushed is written after each document. */
+#include <stdio.h>
+#include <string.h>
+
+#include "yaml_c.h"
+
+enum { STREAM_START = 1, STREAM_END, DOCUMENT_START, DOCUMENT_END, ALIAS, SCALAR, SEQUENCE_START, SEQUENCE_END, MAPPING_START, MAPPING_END };
+
+static struct yaml_c_emitter emitter;
+static struct yaml_c_result result;
+
+/* Gives an event with this text for its value. */
+static int give(uint32_t kind, const char *text) {
+    static const struct yaml_c_directive none[1];
+    struct yaml_c_event event = {.kind = kind, .implicit = 1, .quoted_implicit = 1};
+    event.value.length = strlen(text);
+    return yaml_c_emitter_emit(&emitter, &event, none, 0, (const uint8_t *)text, event.value.length, &result) == YAML_DONE;
+}
+
+/* Writes what is flushed. */
+static int write_flushed(void) {
+    uint8_t out[64];
+    if (yaml_c_emitter_take_output(&emitter, out, sizeof out, &result) != YAML_DONE) return 0;
+    printf("%zu bytes\n", result.length);
+    return fwrite(out, 1, result.length, stdout) == result.length;
+}
+
+static int give_document(const char *first, const char *second) {
+    return give(DOCUMENT_START, "") && give(SEQUENCE_START, "") && give(SCALAR, first) && give(SCALAR, second) && give(SEQUENCE_END, "")
+        && give(DOCUMENT_END, "");
+}
+
+int main(void) {
+    static const struct yaml_c_settings settings; /* zeros: those of a new emitter */
+    if (yaml_c_emitter_new(&settings, &emitter) != YAML_DONE) return 1;
+    int done = give(STREAM_START, "") && give_document("one", "yes") && write_flushed() && give_document("two", "x: y") && write_flushed();
+    if (done && !give(SCALAR, "three")) printf("refused: %s\n", yaml_error_text(result.error));
+    yaml_c_emitter_delete(&emitter);
+    return !done;
+}

@@ -1,0 +1,177 @@
+/* Emitters that are kept from call to call: what each call returns, what it writes, and what the emitter does after an error; a line
+ * for each call that isn't as written. */
+#include <stdio.h>
+#include <string.h>
+
+#include "yaml_c.h"
+
+enum { STREAM_START = 1, STREAM_END, DOCUMENT_START, DOCUMENT_END, ALIAS, SCALAR, SEQUENCE_START, SEQUENCE_END, MAPPING_START, MAPPING_END };
+
+static int failures;
+static int calls;
+
+static struct yaml_c_emitter kept[2];
+static struct yaml_c_emitter *emitter = &kept[0];
+static struct yaml_c_settings settings;
+static struct yaml_c_directive directives[2];
+static struct yaml_c_result result;
+
+static void check(const char *name, int32_t got, int32_t status, size_t length, uint32_t error) {
+    calls++;
+    if (got == status && result.length == length && result.error == error && result.event == 0 && result.line == 0 && result.column == 0) return;
+    failures++;
+    printf("%s: status %d, length %lu, error %lu\n", name, (int)got, (unsigned long)result.length, (unsigned long)result.error);
+}
+
+static void make(const char *name, int32_t status) {
+    memset(&result, 0, sizeof result);
+    check(name, yaml_c_emitter_new(&settings, emitter), status, 0, 0);
+}
+
+/* Gives an event whose value is this text. */
+static void give(uint32_t kind, const char *text, int32_t status, uint32_t error) {
+    struct yaml_c_event event;
+    memset(&event, 0, sizeof event);
+    memset(&result, 0xff, sizeof result);
+    event.kind = kind;
+    event.implicit = event.quoted_implicit = 1;
+    event.value.length = strlen(text);
+    check(text, yaml_c_emitter_emit(emitter, &event, directives, 0, (const uint8_t *)text, event.value.length, &result), status, 0, error);
+}
+
+static void begin(void) {
+    make("a new emitter", YAML_DONE);
+    give(STREAM_START, "", YAML_DONE, 0);
+    give(DOCUMENT_START, "", YAML_DONE, 0);
+}
+
+/* Takes the output into a buffer of `capacity` bytes: these bytes, or with YAML_TOO_SMALL only their number. */
+static void take(const char *name, size_t capacity, const char *bytes) {
+    uint8_t out[128];
+    size_t i, length = strlen(bytes), written = length <= capacity ? length : 0;
+    memset(out, 0xa5, sizeof out);
+    memset(&result, 0xff, sizeof result);
+    check(name, yaml_c_emitter_take_output(emitter, out, capacity, &result), length <= capacity ? YAML_DONE : YAML_TOO_SMALL, length, 0);
+    for (i = written; i < sizeof out && out[i] == 0xa5; i++) {}
+    if (i == sizeof out && memcmp(out, bytes, written) == 0) return;
+    failures++;
+    printf("%s: other bytes\n", name);
+}
+
+static void flush(int32_t status, uint32_t error) {
+    memset(&result, 0xff, sizeof result);
+    check("a flush", yaml_c_emitter_flush(emitter, &result), status, 0, error);
+}
+
+static void written(void) {
+    begin();
+    take("nothing is written", 0, "");
+    give(SEQUENCE_START, "", YAML_DONE, 0);
+    give(SCALAR, "one", YAML_DONE, 0);
+    give(SCALAR, "two", YAML_DONE, 0);
+    take("nothing is flushed", 128, "");
+    flush(YAML_DONE, 0);
+    take("one byte too few", 10, "- one\n- two");
+    take("just enough", 11, "- one\n- two");
+    take("nothing is left", 0, "");
+    give(SCALAR, "three", YAML_DONE, 0);
+    give(SEQUENCE_END, "", YAML_DONE, 0);
+    give(DOCUMENT_END, "", YAML_DONE, 0);
+    give(STREAM_END, "", YAML_DONE, 0);
+    take("the rest", 128, "\n- three\n");
+    give(SCALAR, "late", YAML_REFUSED, YAML_EXPECTED_NOTHING);
+    yaml_c_emitter_delete(emitter);
+}
+
+/* A version, a directive, an anchor and a tag. */
+static void named(void) {
+    static const char texts[] = "!e!" "tag:e,2000:" "a1" "tag:e,2000:city" "Oslo";
+    struct yaml_c_event start, city;
+    memset(&start, 0, sizeof start);
+    memset(&city, 0, sizeof city);
+    start.kind = DOCUMENT_START;
+    start.has_version = start.directives.length = 1;
+    start.major = start.minor = 1;
+    directives[0].handle.length = 3;
+    directives[0].prefix.start = 3;
+    directives[0].prefix.length = 11;
+    city.kind = SCALAR;
+    city.has_anchor = city.has_tag = 1;
+    city.anchor.start = 14;
+    city.anchor.length = 2;
+    city.tag.start = 16;
+    city.tag.length = 15;
+    city.value.start = 31;
+    city.value.length = 4;
+    make("a new emitter", YAML_DONE);
+    give(STREAM_START, "", YAML_DONE, 0);
+    check("a start", yaml_c_emitter_emit(emitter, &start, directives, 1, (const uint8_t *)texts, sizeof texts - 1, &result), YAML_DONE, 0, 0);
+    check("a city", yaml_c_emitter_emit(emitter, &city, directives, 0, (const uint8_t *)texts, sizeof texts - 1, &result), YAML_DONE, 0, 0);
+    city.value.length = 5;
+    check("a text past the arena", yaml_c_emitter_emit(emitter, &city, directives, 0, (const uint8_t *)texts, sizeof texts - 1, &result),
+          YAML_BAD_EVENT, 0, 0);
+    give(DOCUMENT_END, "", YAML_DONE, 0);
+    take("a document", 128, "%YAML 1.1\n%TAG !e! tag:e,2000:\n--- &a1 !e!city Oslo\n");
+    yaml_c_emitter_delete(emitter);
+}
+
+static void refused(void) {
+    begin();
+    give(11, "", YAML_BAD_EVENT, 0);
+    give(SCALAR, "\xff", YAML_BAD_EVENT, 0);
+    give(SCALAR, "one", YAML_DONE, 0);
+    give(DOCUMENT_END, "", YAML_DONE, 0);
+    give(SCALAR, "two", YAML_REFUSED, YAML_EXPECTED_DOCUMENT_START);
+    give(DOCUMENT_START, "", YAML_REFUSED, YAML_EXPECTED_DOCUMENT_START);
+    flush(YAML_REFUSED, YAML_EXPECTED_DOCUMENT_START);
+    take("what stands before the refused event", 128, "one\n");
+    yaml_c_emitter_delete(emitter);
+}
+
+static void set(void) {
+    settings.encoding = 4;
+    make("an unknown encoding", YAML_BAD_SETTINGS);
+    settings.encoding = 0;
+    settings.line_break = 3;
+    settings.limit = 5;
+    settings.skip = 2; /* not read */
+    begin();
+    give(SCALAR, "one", YAML_DONE, 0);
+    give(DOCUMENT_END, "", YAML_DONE, 0);
+    take("CR and LF", 5, "one\r\n");
+    give(STREAM_END, "", YAML_DONE, 0);
+    yaml_c_emitter_delete(emitter);
+    settings.limit = 4;
+    begin();
+    give(SCALAR, "one", YAML_DONE, 0);
+    give(DOCUMENT_END, "", YAML_REFUSED, YAML_PAST_LIMIT);
+    take("up to the limit", 128, "one\r");
+    yaml_c_emitter_delete(emitter);
+    memset(&settings, 0, sizeof settings);
+}
+
+/* Two emitters, by turns. */
+static void two(void) {
+    begin();
+    give(SCALAR, "first", YAML_DONE, 0);
+    emitter = &kept[1];
+    begin();
+    give(SCALAR, "second", YAML_DONE, 0);
+    give(DOCUMENT_END, "", YAML_DONE, 0);
+    take("the second", 128, "second\n");
+    yaml_c_emitter_delete(emitter);
+    emitter = &kept[0];
+    give(DOCUMENT_END, "", YAML_DONE, 0);
+    take("the first", 128, "first\n");
+    yaml_c_emitter_delete(emitter);
+}
+
+int main(void) {
+    written();
+    named();
+    refused();
+    set();
+    two();
+    printf("%d calls, %d not as written\n", calls, failures);
+    return failures != 0;
+}
