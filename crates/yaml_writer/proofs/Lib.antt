@@ -12,4 +12,5 @@ pub mod Finishing
 pub mod WaitingStarts
 pub mod PlainLemmas
 pub mod PlainNumbers
+pub mod DateLemmas
 pub mod rows

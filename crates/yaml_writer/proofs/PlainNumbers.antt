@@ -19,7 +19,7 @@ abbrev narrowest : Charset
 narrowest = record { unicode = false; breaks12 = true }
 
 -- a character that may stand anywhere in plain text, whatever follows it
-abbrev is_harmless : ℕ → Bool
+abbrev pub is_harmless : ℕ → Bool
 is_harmless c = not (is_special narrowest c || is_break c || is_space c || c == 58 || is_gap c || is_among (codes ",?:[]{}") c)
 
 -- one that begins no mark and is no sign
@@ -27,7 +27,7 @@ abbrev begins_plain : ℕ → Bool
 begins_plain c = not (is_space c || (c == 45 || c == 46) || is_indicator c || is_among (codes "?:-") c)
 
 -- what ten digits pass, each does
-digits_pass : (test : ℕ → Bool) → agree_below (λ c. not (is_decimal c) || test c) (λ _. true) 58 ≡ true → (c : ℕ) → is_decimal c ≡ true → test c ≡ true
+pub digits_pass : (test : ℕ → Bool) → agree_below (λ c. not (is_decimal c) || test c) (λ _. true) 58 ≡ true → (c : ℕ) → is_decimal c ≡ true → test c ≡ true
 digits_pass test all c digit =
     let within = digit_from_value c (ltb-true (digit_value c) 10 digit) in
     sym (ap (λ x. not x || test c) digit) ∙ agree_below_at (λ c. not (is_decimal c) || test c) (λ _. true) 58 c all (omega (arith, within))
@@ -106,7 +106,7 @@ no_exponent_letter_after : (c : ℕ) (rest : Text) → (c == 45) ≡ false → b
 no_exponent_letter_after c [] h = refl
 no_exponent_letter_after c (d ∷ rest) h = and_left (c == 45) (d == 45) h
 
-begins_as_plain : (negative : Bool) (c : ℕ) (rest : Text) → is_decimal c ≡ true → begins_unlike_plain (minus negative ++ (c ∷ rest)) ≡ false
+pub begins_as_plain : (negative : Bool) (c : ℕ) (rest : Text) → is_decimal c ≡ true → begins_unlike_plain (minus negative ++ (c ∷ rest)) ≡ false
 begins_as_plain true c rest digit =
     or_from (begins_like_marker (0x2D ∷ c ∷ rest) || false) (is_gap c)
     (or_from (begins_like_marker (0x2D ∷ c ∷ rest)) false (no_exponent_letter_after c rest (digit_unlike c 45 refl digit)) refl)
@@ -166,7 +166,7 @@ module _ (text : Text) (harmless : list_all is_harmless text ≡ true) (filled :
       by true = allows charset true
       by false = allows charset false
 
-  stands_plain : (charset : Charset) (tag_written plain_implicit quoted_implicit flow simple_key : Bool) → (tag_written || plain_implicit) ≡ true
+  pub stands_plain : (charset : Charset) (tag_written plain_implicit quoted_implicit flow simple_key : Bool) → (tag_written || plain_implicit) ≡ true
       → (chosen (allowances charset text) plain (is_empty text) tag_written plain_implicit quoted_implicit flow simple_key false).style ≡ plain
   stands_plain charset tag_written plain_implicit quoted_implicit flow simple_key told =
       ap (λ double. fitting_style allowed fit block (requested_style double plain)) (and_right simple_key (list_any is_break text) (unbroken text harmless))

@@ -9,3 +9,4 @@ pub mod Floats
 pub mod Inside
 pub mod PlainTexts
 pub mod ReadNumbers
+pub mod Dates

@@ -1,6 +1,7 @@
 //! Laws of the definitions, each the contract of a function that does nothing.
 ghost use Rattle.yaml_base.specs.values.JsonNumbers.{NumbersAreRead};
 ghost use Rattle.yaml_base.specs.values.SurelyText.{SurelyTextIsText};
+ghost use Rattle.yaml_writer.specs.Dates.{DatesAreRead, WrittenDatesArePlain};
 ghost use Rattle.yaml_writer.specs.Floats.{SpecialFloatsAreRead};
 ghost use Rattle.yaml_writer.specs.PlainTexts.{PlainTextsAreTexts};
 ghost use Rattle.yaml_writer.specs.ReadNumbers.{WrittenNumbersAreRead};
@@ -29,4 +30,14 @@ pub fn written_numbers_are_read()
 /// Both schemas read `.inf`, `-.inf` and `.nan` as exactly these floats.
 pub fn special_floats_are_read()
     ensures { SpecialFloatsAreRead }
+{}
+
+/// The text of every date means a timestamp by the type repository of YAML 1.1, and its parts are that date's.
+pub fn dates_are_read()
+    ensures { DatesAreRead }
+{}
+
+/// The text of every date, asked for plain, is written so outside canonical form, in flow, too, and as a key.
+pub fn written_dates_are_plain()
+    ensures { WrittenDatesArePlain }
 {}

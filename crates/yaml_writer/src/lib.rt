@@ -19,8 +19,8 @@ mod writer;
 pub use floats::SpecialFloat;
 pub use kinds::{CollectionKind, DocumentEnd};
 pub use laws::{
-    numbers_are_read, plain_texts_are_texts, special_floats_are_read, surely_text_is_text,
-    written_numbers_are_read,
+    dates_are_read, numbers_are_read, plain_texts_are_texts, special_floats_are_read,
+    surely_text_is_text, written_dates_are_plain, written_numbers_are_read,
 };
 pub use numbers::{Number, number_of};
 pub use settings::value_settings;
