@@ -393,7 +393,6 @@ fn with_break(barred: BarredStyles, rest: &str) -> BarredStyles
 }
 
 /// What the characters of a value bar, as far as it was read, and the rest: none unless all is barred.
-#[inline(always)]
 fn barred_before(value: &str, charset: CharacterSet) -> (BarredStyles, &str)
     ensures same { record (seen_barred result.0) { multiline = result.0.multiline || list_any class.is_break (chars result.1.now) }
         ≡ barred_in (seen_charset charset) (chars value.now) }

@@ -25,7 +25,6 @@ fn is_batched(c: char, unicode: bool) -> bool
 }
 
 /// Appends bytes that fit.
-#[inline(always)]
 fn append(bytes: &mut BatchBytes, text: &[u8])
     requires { length bytes.old.items + length text.now ≤ most_bytes }
     ensures { bytes.new.items ≡ bytes.old.items ++ text.now }
@@ -81,7 +80,6 @@ fn next_batched(text: &str, room: usize, unicode: bool) -> Option<(char, &str)>
 }
 
 /// Fills a batch with the texts of the next characters, as many as fit. Returns the last one and the rest.
-#[inline(always)]
 pub(crate) fn fill_batch<'a>(
     bytes: &mut BatchBytes,
     before: char,

@@ -42,7 +42,6 @@ static CLASSES: [u8; 256] = [
 ];
 
 /// Whether a byte is of none of these classes.
-#[inline(always)]
 pub(crate) fn is_free(byte: u8, classes: u8) -> bool
     ensures { result ≡ is_free classes byte }
 {
@@ -97,7 +96,6 @@ pub(crate) fn free_length(text: &str, classes: u8) -> usize
 }
 
 /// The last character of a text, or the one before it where it is empty.
-#[inline(always)]
 pub(crate) fn last_of(before: char, text: &str) -> char
     ensures { result ≡ last_from before (chars text.now) }
 {

@@ -257,7 +257,6 @@ fn run_after(before: char, text: &str, quoting: Quoting) -> Run
 }
 
 /// The texts of characters that were batched.
-#[inline(always)]
 fn write_batch<A: Allocator>(pen: &mut Pen<A>, bytes: &BatchBytes) -> Result<(), yaml_error_t>
     requires ready { IsReady pen.old }
     requires plain { list_all is_plain bytes.now.items ≡ true }
@@ -304,7 +303,6 @@ fn begins_with_escape(text: &str, unicode: bool) -> bool
 }
 
 /// Writes the next characters in one call. Returns the last one and the rest.
-#[inline(never)]
 fn write_escapes<'a, A: Allocator>(
     pen: &mut Pen<A>,
     before: char,
