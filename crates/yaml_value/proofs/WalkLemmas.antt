@@ -1,11 +1,11 @@
 -- A walk over a value: what it has left to visit holds the values, the events and the depth that the value has left.
-use Rattle.yaml_value.proofs.Common.{max, min, ℕ, suc, ◌+◌, ◌≤◌, nat_le, length, Bool, true, List, [], map, ◌++◌, ◌∷◌, refl, ◌≡◌, append_assoc, ap, ap₂, sym}
+use Rattle.yaml_value.proofs.Common.{max, ℕ, suc, ◌+◌, ◌≤◌, nat_le, length, Bool, true, List, [], map, ◌++◌, ◌∷◌, refl, ◌≡◌, append_assoc, ap, ap₂, sym}
 use Rattle.yaml_value.proofs.Common.{◌∙◌, arith, nat_tests, le-max_left, le-max_right, Event, node_events, nodes_events, pairs_events, TypedValue, null_value}
 use Rattle.yaml_value.proofs.Common.{bool_value, int_value, text_value, TypedValues, list_value, TypedPairs, map_value, no_values, values_and, no_value_pairs}
 use Rattle.yaml_value.proofs.Common.{value_pairs_and, values_count, value_pairs_count, nesting, values_nesting, value_pairs_nesting, most_nested, Has64Bits}
 use Rattle.yaml_value.proofs.Common.{Have64Bits, PairsHave64Bits, value_node, value_nodes, value_pairs, values_of, pairs_of, seen_value, seen_values, seen_pairs}
 use Rattle.yaml_value.proofs.Common.{◌<◌, subst, map-append}
-use Rattle.yaml_base.proofs.Common.{append-nil, length-append, None, Some, Option, is_some, option_map, false, true≢false}
+use Rattle.yaml_base.proofs.Common.{append-nil, length-append, Option, false}
 use Rattle.yaml_base.specs.Event.{sequence_end, mapping_end}
 use Rattle.yaml_base.specs.values.TypedValues.{value_count}
 use Rattle.yaml_value.specs.{declared.value.Value.Value, declared.walk.Rest.Rest}
@@ -111,20 +111,6 @@ work_fewer outer (value ∷ values) end =
     let inside = count_entered value in
     let one = entered_one value in
     omega (arith, counts, lengths, counts_after, lengths_after, inside, one)
-
--- the values that a step and what it leaves come to
-abbrev told_count : Option TypedValue → List Left → ℕ
-told_count None after = count_left after
-told_count (Some value) after = 1 + count_left after
-
-count_by : (outer : List Left) (values : List TypedValue) (end : Event)
-    → told_count (after_step outer values end).0 (after_step outer values end).1 ≡ count_left (with_left outer values end)
-count_by outer [] end = let counts = count_left-append outer (record { values = []; end = end } ∷ []) in omega (arith, counts)
-count_by outer (value ∷ values) end =
-    let counts = count_left-append outer (record { values = value ∷ values; end = end } ∷ []) in
-    let counts_after = count_left-append outer (record { values = values; end = end } ∷ entered value) in
-    let inside = count_entered value in
-    omega (arith, counts, counts_after, inside)
 
 -- ---- events
 
@@ -300,40 +286,6 @@ pub step_smaller : (levels outer : List Left) (left : Left) (after : List Left) 
     → work after < work levels
 step_smaller levels outer left after is so =
     subst (λ levels. work after < work levels) (sym is) (subst (λ after. work after < work (outer ++ left ∷ [])) (sym so) (work_fewer outer left.values left.end))
-
--- the values that a step and what it leaves come to
-pub step_counts : (levels outer : List Left) (left : Left) (next : Option TypedValue) (after : List Left) → levels ≡ outer ++ left ∷ []
-    → (next, after) ≡ stepped outer left → told_count next after ≡ count_left levels
-step_counts levels outer left next after is so =
-    ap (λ (made : Option TypedValue × List Left). told_count made.0 made.1) so ∙ count_by outer left.values left.end ∙ ap count_left (sym is)
-
--- a step that enters a value, and one that enters none
-pub told_some : {X : Type 0} (seen : X → TypedValue) (next : Option X) (after : List Left) → is_some next ≡ true
-    → told_count (option_map seen next) after ≡ 1 + count_left after
-told_some seen None after is = absurd (true≢false (sym is))
-told_some seen (Some x) after is = refl
-
-pub told_none : {X : Type 0} (seen : X → TypedValue) (next : Option X) (after : List Left) → is_some next ≡ false
-    → told_count (option_map seen next) after ≡ count_left after
-told_none seen None after is = refl
-told_none seen (Some x) after is = absurd (true≢false is)
-
--- a capped count of what was entered, and what is left
-pub record Counts (count left all most : ℕ) : Type 0 where
-  pub fits : count ≤ most
-  pub sum : min (count + left) most ≡ min all most
-
-pub counts_more : (count left all most grown after : ℕ) → grown ≡ min (count + 1) most → 1 + after ≡ left → Counts count left all most
-    → Counts grown after all most
-counts_more count left all most grown after is so counts =
-    let sum = counts.sum in
-    record { fits = omega (arith, is); sum = omega (arith, is, so, sum) }
-
-pub counts_same : (count left all most after : ℕ) → after ≡ left → Counts count left all most → Counts count after all most
-counts_same count left all most after is counts = subst (λ left. Counts count left all most) (sym is) counts
-
-pub counts_all : (count left all most : ℕ) → left ≡ 0 → Counts count left all most → count ≡ min all most
-counts_all count left all most none counts = let fits = counts.fits in let sum = counts.sum in omega (arith, none, fits, sum)
 
 -- some events were pushed after those before, and what is left has the others of a value
 pub record Stands (before now : List Event) (value : TypedValue) (levels : List Left) : Type 0 where

@@ -1,34 +1,54 @@
 //! How many values a value holds, and how deep they lie.
-ghost use Rattle.std.specs.Prelude.{◌≡◌, ◌++◌, ◌∷◌, ◌<◌, ◌≤◌, min, nat_le, map, option_map, true, false, IfOk, length};
-ghost use Rattle.yaml_base.specs.values.TypedValues.{most_nested, nesting, value_count};
-ghost use Rattle.yaml_value.specs.SeenValues.{seen_value};
+ghost use Rattle.std.specs.Prelude.{◌≡◌, ◌+◌, ◌++◌, ◌<◌, ◌≤◌, min, nat_le, map, true, false, length};
+ghost use Rattle.yaml_base.specs.values.TypedValues.{most_nested, nesting, value_count, value_pairs_count, values_count};
+ghost use Rattle.yaml_value.specs.SeenValues.{seen_value, seen_values, seen_pairs};
 ghost use Rattle.yaml_value.specs.Walk.{entered, seen_rest, stepped};
 ghost use Rattle.yaml_base.specs.Settings.{largest_usize};
 
 use crate::value::Value;
-use crate::walk::{Rest, enter, step};
+use crate::walk::Rest;
 use arrayvec::ArrayVec;
-use std::alloc::{AllocError, Allocator};
+use std::alloc::Allocator;
 
 /// The maximum nesting depth of lists and maps.
 const MOST_NESTED: usize = 1_000;
 
 /// The number of values in a value, itself included; `u64::MAX` where there are more.
-pub(crate) fn count_values<A: Allocator + Copy>(
-    alloc: A,
-    value: &Value<A>,
-) -> Result<u64, AllocError>
-    ensures { IfOk result (λ count. count ≡ min (value_count (seen_value value.now)) largest_usize) }
+#[cycle(count_values)]
+pub(crate) fn count_values<A: Allocator>(value: &Value<A>) -> u64
+    ensures { result ≡ min (value_count (seen_value value.now)) largest_usize }
+{
+    match value {
+        Value::List(items) => count_items(items),
+        Value::Map(pairs) => count_pairs(pairs),
+        _ => 1,
+    }
+}
+
+/// A list of these items counts as one more.
+#[cycle(count_values)]
+fn count_items<A: Allocator>(items: &Vec<Value<A>, A>) -> u64
+    ensures { result ≡ min (1 + values_count (seen_values items.now.items)) largest_usize }
 {
     let mut count = 1u64;
-    let mut levels = Vec::new(alloc);
-    enter(&mut levels, value)?;
-    while let Some(rest) = levels.pop() {
-        if step(&mut levels, rest)?.is_some() {
-            count = count.saturating_add(1);
-        }
+    for item in items {
+        count = count.saturating_add(count_values(item));
     }
-    Ok(count)
+    count
+}
+
+/// A map of these pairs counts as one more.
+#[cycle(count_values)]
+fn count_pairs<A: Allocator>(pairs: &Vec<(Value<A>, Value<A>), A>) -> u64
+    ensures { result ≡ min (1 + value_pairs_count (seen_pairs pairs.now.items)) largest_usize }
+{
+    let mut count = 1u64;
+    for (key, value) in pairs {
+        count = count
+            .saturating_add(count_values(key))
+            .saturating_add(count_values(value));
+    }
+    count
 }
 
 /// Enters a value, unless it lies too deep.
