@@ -3,7 +3,7 @@ use super::streams::Given::{
     BlockMapping, Document, DocumentEnd, FlowSequence, MappingEnd, SequenceEnd, Stream, StreamEnd,
 };
 use super::streams::{Given, event};
-use super::{Answer, Setting, UNSET, flush_if_known, give, made};
+use super::{Answer, UNSET, flush_if_known, give, made};
 use crate::tests::{equal, owned, same};
 use Part::{Borrowed, Other};
 use std::alloc::{Allocator, Global};
@@ -13,7 +13,7 @@ use yaml_base::{
     YAML_LITERAL_SCALAR_STYLE, YAML_PLAIN_SCALAR_STYLE, YAML_SCALAR_EVENT,
     YAML_SINGLE_QUOTED_SCALAR_STYLE, yaml_error_t, yaml_event_t,
 };
-use yaml_emitter::{ScalarContent, yaml_emitter_emit_scalar, yaml_emitter_t};
+use yaml_emitter::{ScalarContent, Settings, yaml_emitter_emit_scalar, yaml_emitter_t};
 use yaml_test_allocator::Refusing;
 
 /// A scalar, or another event.
@@ -226,12 +226,12 @@ fn check_alike<A: Allocator>(
 fn check_parts(
     rt: &impl Abort,
     alloc: Global,
-    setting: &Setting,
+    settings: &Settings,
     parts: &[Part],
     (error, wanted): (Option<yaml_error_t>, &str),
 ) {
-    let mut owning = made(rt, alloc, setting);
-    let mut borrowing = made(rt, alloc, setting);
+    let mut owning = made(rt, alloc, settings);
+    let mut borrowing = made(rt, alloc, settings);
     for part in parts {
         let answer = give_owned(rt, alloc, &mut owning, part);
         equal(rt, &give_part(rt, alloc, &mut borrowing, part), &answer);
@@ -256,7 +256,7 @@ fn borrowed_scalars_stand_as_their_events_do(rt: HostRuntime) {
     );
 }
 
-const CANONICAL: &Setting = &Setting {
+const CANONICAL: &Settings = &Settings {
     canonical: true,
     ..UNSET
 };
