@@ -88,10 +88,6 @@ open_less outer now kind fewer is =
     let few : length outer ≤ length now = omega (arith, fewer, length-append now (kind ∷ [])) in
     sym (take-append-le (length outer) now (kind ∷ []) few) ∙ is
 
--- as many are the same
-pub same_open : {A : Type 0} (outer now : List A) → length now ≡ length outer → take (length outer) now ≡ outer → now ≡ outer
-same_open outer now count is = sym (take-length now) ∙ ap (λ n. take n now) count ∙ is
-
 -- ---- the document
 
 module _ {W : Type 0} (contents : W → Option (List ℕ)) (held : Option (List ℕ)) (keeps : Bool) (start : WriterState) where

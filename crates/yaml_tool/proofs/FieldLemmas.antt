@@ -1,7 +1,7 @@
 -- A line is cut at its first separator, character by character, and read field by field.
 use Rattle.yaml_tool.proofs.Common.{ℕ, ◌≤◌, if◌then◌else◌, ◌==◌, Option, None, Some, length, Bool, false, true, List, [], ◌++◌, ◌∷◌, refl, ◌≡◌, ap, subst}
 use Rattle.yaml_tool.proofs.Common.{sym, ◌∙◌, arith, nat_tests, onto_first, IsUtf8, chars, Text, outside, separates, pieces_from, field_read, field_and}
-use Rattle.yaml_tool.proofs.Common.{fields_read, IsFree, prefix_of, SkipsTo, prepend_to_first_piece, SkipsRunTo, later_fields, prepend_field, HasField}
+use Rattle.yaml_tool.proofs.Common.{fields_read, IsFree, prefix_of, SkipsTo, prepend_to_first_piece, SkipsRunTo, later_fields, HasField}
 use Rattle.std.specs.{Borrow.Bor, Option.is_some}
 use Rattle.yaml_base.specs.scripts.Script.{inside, escaped, state_after, cut_before, read_fields}
 use Rattle.yaml_tool.proofs.CharacterLemmas.{ends_in_itself, PassedEvents, passed_to, empty_prefix, run_passed, run_prefix}
@@ -120,11 +120,6 @@ pub run_within : (standing : notation.FieldState) (text end : List ℕ) → Skip
 run_within standing text end runs = runs.ends.within
 
 -- ---- fields
-
--- a field that has a reading, before others
-pub field_leads : (field : notation.Field) (fields : Option (List notation.Field)) → field_and (Some field) fields ≡ prepend_field field fields
-field_leads field None = refl
-field_leads field (Some others) = refl
 
 -- where the line ends at its first separator
 pub field_before : (line field rest : Text) → pieces_from outside line ≡ field ∷ pieces_from outside rest

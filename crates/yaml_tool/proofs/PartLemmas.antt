@@ -1,6 +1,6 @@
 -- A script that is read part by part: what is left with what was read is the whole.
-use Rattle.yaml_tool.proofs.Common.{ℕ, IfSome, Option, None, Some, List, [], ◌++◌, ◌≡◌, ap, subst, sym, ◌∙◌, Script, script_of, ReadsAll, IsFault, IsFaultOf}
-use Rattle.std.specs.{Io.KnownBytes.Keeps, Io.KnownBytes.Consumes, Io.KnownBytes.IsAtEnd, Prelude.⊤}
+use Rattle.yaml_tool.proofs.Common.{ℕ, IfSome, Option, None, Some, List, [], ◌≡◌, ap, subst, sym, ◌∙◌, Script, script_of, ReadsAll, IsFault, IsFaultOf}
+use Rattle.std.specs.{Io.KnownBytes.IsAtEnd, Prelude.⊤}
 use Rattle.yaml_tool.specs.Scripts.{script_with, ContinuesScript}
 use Rattle.yaml_tool.specs.declared.{answers.run_answer_t.run_answer_t, parts.ScriptPrefix.ScriptPrefix, scripts.ScriptError.ScriptError}
 use Rattle.yaml_tool.specs.declared.answers.run_answer_t.TheVariants.{BadLine, Done, NoMemory, ReadFailed, Refused, WriteFailed}
@@ -52,25 +52,3 @@ pub bad_prefix : {A : Type 0} (given left : Option (List ℕ)) (prefix : ScriptP
 bad_prefix None left prefix answer says bad = tt
 bad_prefix (Some all) None prefix answer says bad = absurd says
 bad_prefix (Some all) (Some left) prefix answer says bad = subst (IsFault answer) (sym says) bad
-
--- a part that was read and taken
-pub goes_past : {A : Type 0} (left next : Option (List ℕ)) (part : List ℕ) (old new : ScriptPrefix A) → Consumes left next part
-    → ((more : List ℕ) → script_with old (part ++ more) ≡ script_with new more) → ContinuesScript old left new next
-goes_past None next part old new consumes taken = tt
-goes_past (Some before) None part old new consumes taken = absurd consumes
-goes_past (Some before) (Some after) part old new consumes taken = ap (script_with old) consumes ∙ taken after
-
--- one that wasn't read
-pub goes_nowhere : {A : Type 0} (left next : Option (List ℕ)) (prefix : ScriptPrefix A) → Keeps left next → ContinuesScript prefix left prefix next
-goes_nowhere None next prefix keeps = tt
-goes_nowhere (Some before) None prefix keeps = absurd keeps
-goes_nowhere (Some before) (Some after) prefix keeps = ap (script_with prefix) (sym keeps)
-
--- one in which a line is bad
-pub bad_past : {A : Type 0} (left next : Option (List ℕ)) (part : List ℕ) (prefix : ScriptPrefix A) (error : ScriptError) (answer : run_answer_t)
-    → Consumes left next part → ((more : List ℕ) → IsFaultOf error (script_with prefix (part ++ more)))
-    → ((script : Script) → IsFaultOf error script → IsFault answer script) → IfSome left (λ bytes. IsFault answer (script_with prefix bytes))
-bad_past None next part prefix error answer consumes bad reported = tt
-bad_past (Some before) None part prefix error answer consumes bad reported = absurd consumes
-bad_past (Some before) (Some after) part prefix error answer consumes bad reported =
-    subst (λ bytes. IsFault answer (script_with prefix bytes)) (sym consumes) (reported (script_with prefix (part ++ after)) (bad after))

@@ -1,8 +1,8 @@
 -- A walk over a value: what it has left to visit holds the values, the events and the depth that the value has left.
-use Rattle.yaml_value.proofs.Common.{max, ℕ, suc, ◌+◌, ◌≤◌, nat_le, length, Bool, true, List, [], map, ◌++◌, ◌∷◌, refl, ◌≡◌, append_assoc, ap, ap₂, sym}
-use Rattle.yaml_value.proofs.Common.{◌∙◌, arith, nat_tests, le-max_left, le-max_right, Event, node_events, nodes_events, pairs_events, TypedValue, null_value}
+use Rattle.yaml_value.proofs.Common.{max, ℕ, suc, ◌+◌, ◌≤◌, nat_le, length, List, [], map, ◌++◌, ◌∷◌, refl, ◌≡◌, append_assoc, ap, ap₂, sym}
+use Rattle.yaml_value.proofs.Common.{◌∙◌, arith, nat_tests, Event, node_events, nodes_events, pairs_events, TypedValue, null_value}
 use Rattle.yaml_value.proofs.Common.{bool_value, int_value, text_value, TypedValues, list_value, TypedPairs, map_value, no_values, values_and, no_value_pairs}
-use Rattle.yaml_value.proofs.Common.{value_pairs_and, values_count, value_pairs_count, nesting, values_nesting, value_pairs_nesting, most_nested, Has64Bits}
+use Rattle.yaml_value.proofs.Common.{value_pairs_and, values_count, value_pairs_count, nesting, values_nesting, value_pairs_nesting, Has64Bits}
 use Rattle.yaml_value.proofs.Common.{Have64Bits, PairsHave64Bits, value_node, value_nodes, value_pairs, values_of, pairs_of, seen_value, seen_values, seen_pairs}
 use Rattle.yaml_value.proofs.Common.{◌<◌, subst, map-append}
 use Rattle.yaml_base.proofs.Common.{append-nil, length-append, Option, false}
@@ -329,12 +329,6 @@ pub step_exceeds : (levels outer : List Left) (left : Left) (most : ℕ) → lev
 step_exceeds levels outer left most is room passes =
     let deep = levels_deep (stepped outer left).1 in
     sym (step_fits levels outer left most is room) ∙ grind (arith, nat_tests, deep, passes)
-
--- nothing is left
-pub stands_whole : (before now : List Event) (value : TypedValue) (levels : List Left) → levels ≡ [] → Stands before now value levels
-    → (now ≡ before ++ node_events (value_node value)) × Has64Bits value
-stands_whole before now value levels none stands =
-    (sym (append-nil now) ∙ ap (λ levels. now ++ events_left levels) (sym none) ∙ stands.events, stands.bits (subst BitsLeft (sym none) tt))
 
 -- a new list that a value was entered in
 pub first_level : {A : Type 0} (empty levels : List (Rest A)) (value : TypedValue) → empty ≡ [] → map (seen_rest {A = A}) levels ≡ map (seen_rest {A = A}) empty ++ entered value

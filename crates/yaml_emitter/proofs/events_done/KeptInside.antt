@@ -66,9 +66,6 @@ kept_without e directives first none at kept =
     }
 
 -- what is seen of a machine, of its fields
-pub error_inside : {A : Type 0} (e : Inside A) {seen : MachineState} → machine_state e ≡ seen → seen.error ≡ None → (machine_state e).error ≡ None
-error_inside e is none = ap (λ (s : MachineState). s.error) is ∙ none
-
 pub stage_inside : {A : Type 0} (e : Inside A) {seen : MachineState} {at : Stage} → machine_state e ≡ seen → seen.stage ≡ at → (machine_state e).stage ≡ at
 stage_inside e is stage = ap (λ (s : MachineState). s.stage) is ∙ stage
 

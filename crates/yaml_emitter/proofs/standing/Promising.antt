@@ -1,10 +1,10 @@
 -- All that an emitter promises where it stands.
-use Rattle.yaml_emitter.proofs.Common.{suc, zero, ℕ, ◌≤◌, IsSome, OnOk, Option, None, Some, Result, Err, Ok, length, take, Bool, true, List, [], ◌++◌, ◌∷◌}
+use Rattle.yaml_emitter.proofs.Common.{suc, zero, ℕ, ◌≤◌, IsSome, Option, None, Some, length, take, Bool, true, List, [], ◌++◌, ◌∷◌}
 use Rattle.yaml_emitter.proofs.Common.{refl, ◌≡◌, length-take-le, ap, subst, sym, ◌∙◌, list_all, written_within, Text, encode, Event, stream_start}
 use Rattle.yaml_emitter.proofs.Common.{stream_end, documents_events, Piece, has_scalar_texts, encoding_asked, settings_for, text_written, last_flushes}
 use Rattle.yaml_emitter.proofs.Common.{list_layout, pieces, written, IsAccepted, seen_event, Settings, Effective, progress, reads_alike, HoldsRaw}
 use Rattle.yaml_emitter.proofs.Common.{canonical_content, agrees, stream_trees, ends_stream, EndsExactly, Promised, HoldsPieces, StandsWithoutError}
-use Rattle.yaml_emitter.proofs.Common.{MachineStands, StateStands, StandsAfter, State, machine_of, IsUncut, none_from_result, Page, encoded, result_of_error}
+use Rattle.yaml_emitter.proofs.Common.{MachineStands, StateStands, StandsAfter, State, machine_of, IsUncut, Page, encoded}
 use Rattle.yaml_base.specs.declared.{errors.yaml_error_t.yaml_error_t, events.yaml_event_t.yaml_event_t}
 use Rattle.yaml_emitter.proofs.{canonical.CanonicalOutput.output_reads, events_done.SeenTexts.seen_scalars, events_done.SeenTexts.texts_more}
 use Rattle.yaml_emitter.proofs.{events_done.SeenTexts.values_of_texts, layouts.Meaning.meaning_is_kept, layouts.RawTexts.texts_hold_raw}
@@ -126,25 +126,11 @@ promised given all state h =
       whole = promises_whole given all state h;
     }
 
--- A call that adds no event.
-pub stands_on : (given : Settings) (all : List Event) (before after : State) → (StateStands given all before → StateStands given all after)
-    → StandsAfter given all before → StandsAfter given all after
-stands_on given all before after on h = record { texts = h.texts; so = on h.so }
-
 -- A call that adds an event.
 pub stands_with : {A : Type 0} (given : Settings) (all : List Event) (event : yaml_event_t A) (after : State)
     → StateStands given (all ++ seen_event event ∷ []) after → list_all has_scalar_texts all ≡ true
     → StandsAfter given (all ++ seen_event event ∷ []) after
 stands_with given all event after so texts = record { texts = texts_more all (seen_event event) texts (seen_scalars event); so = so }
-
--- A flush without an error flushes all.
-pub flushed_all : (answer : Result (Unit {0}) yaml_error_t) (before after : State) → answer ≡ result_of_error after.error
-    → OnOk answer (after.page.output ≡ encoded after.page)
-    → ((given : Settings) (all : List Event) → StateStands given all before → StateStands given all after)
-    → OnOk answer ((given : Settings) (all : List Event) → StandsAfter given all before → HasAllBytes given all after)
-flushed_all (Ok _) before after is sound_output stands =
-    λ given all h. promises_bytes given all after (stands given all h.so) (none_from_result after.error is) sound_output
-flushed_all (Err error) before after is sound_output stands = tt
 
 -- Where all bytes of the pieces are flushed, so are all of the text, and the page has no error.
 page_encoded : (prefix : List Event) (n : ℕ) (s : Effective) (rendered : List Piece) (text : Text) (page : Page) → length prefix ≡ n
