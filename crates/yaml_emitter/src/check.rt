@@ -79,7 +79,6 @@ fn check_properties(
     if tag_written { check_tag(tag) } else { Ok(()) }
 }
 
-#[inline(always)]
 fn check_anchor(anchor: Option<&str>) -> Result<(), yaml_error_t>
     ensures { refused result ≡ option_and_then anchor_fault (seen_name anchor.entry) }
 {
@@ -89,7 +88,6 @@ fn check_anchor(anchor: Option<&str>) -> Result<(), yaml_error_t>
     }
 }
 
-#[inline(always)]
 fn check_anchor_name(name: &str) -> Result<(), yaml_error_t>
     ensures { refused result ≡ anchor_fault (chars name.now) }
 {
@@ -97,7 +95,6 @@ fn check_anchor_name(name: &str) -> Result<(), yaml_error_t>
     analyze_anchor(name, alias)
 }
 
-#[inline(always)]
 fn check_alias(name: &str) -> Result<(), yaml_error_t>
     ensures { refused result ≡ alias_fault (chars name.now) }
 {
@@ -114,7 +111,6 @@ fn check_tag(tag: Option<&str>) -> Result<(), yaml_error_t>
     }
 }
 
-#[inline(never)]
 fn check_tag_text(tag: &str) -> Result<(), yaml_error_t>
     ensures { refused result ≡ tag_fault (chars tag.now) }
 {

@@ -117,7 +117,6 @@ pub fn yaml_emitter_take_output<A: Allocator + Copy>(emitter: &mut yaml_emitter_
 
 impl<A: Allocator + Copy> Machine<A> {
     /// Writes an event that needn't wait, where none waits.
-    #[inline(always)]
     fn write_alone(&mut self, event: &yaml_event_t<A>) -> Result<(), yaml_error_t>
         requires no_error { self.old.error ≡ None }
         requires ready { is_head_ready (seen_event event.now ∷ []) ≡ true }
@@ -129,7 +128,6 @@ impl<A: Allocator + Copy> Machine<A> {
     }
 
     /// Keeps the error of a call, where it has one, for good. Returns what the call returned.
-    #[inline(always)]
     pub(crate) fn keep_error(
         &mut self,
         answer: Result<(), yaml_error_t>,
@@ -168,7 +166,6 @@ fn write_ready<A: Allocator + Copy>(
 }
 
 /// Writes the first of the events that wait.
-#[inline(always)]
 fn write_next<A: Allocator + Copy>(
     machine: &mut Machine<A>,
     waiting: &[yaml_event_t<A>],

@@ -82,7 +82,6 @@ impl<A: Allocator> Frames<A> {
     }
 
     /// Goes on after a node of the innermost collection, which may have been a simple key. Returns what comes next.
-    #[inline(always)]
     pub(crate) fn advance(&mut self, simple: bool) -> Stage
         ensures frames { self.new ≡ advanced simple self.old }
         ensures stage { (directives : List TagDirective) → seen_stage result directives self.new ≡ steps.stage_after directives self.old simple }

@@ -72,7 +72,6 @@ impl<A: Allocator + Copy> Machine<A> {
 
 impl<A: Allocator> Machine<A> {
     /// The first error.
-    #[inline(always)]
     pub(crate) fn error(&self) -> Option<yaml_error_t>
         ensures { result ≡ self.now.error }
     {

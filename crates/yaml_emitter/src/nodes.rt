@@ -91,7 +91,6 @@ impl<A: Allocator + Copy> Machine<A> {
         }
     }
 
-    #[inline(never)]
     fn put_alias(&mut self, name: &str) -> Result<(), yaml_error_t>
         requires stage { is_at_node self.old.stage ≡ true }
         requires names { name_or_tag_fault self.old.given.canonical (alias (chars name.now)) ≡ None }
@@ -123,9 +122,7 @@ impl<A: Allocator + Copy> Machine<A> {
         }
     }
 
-    /// A scalar that stands plain as it is, by its value. Not inlined, so that what it calls has one copy and is inlined
-    /// here.
-    #[inline(never)]
+    /// A scalar that stands plain as it is, by its value: what it calls then has one copy, which can be inlined here.
     fn put_usual(&mut self, value: &str) -> Result<(), yaml_error_t>
         requires stage { is_at_node self.old.stage ≡ true }
         requires usual { IsUsual value.now }
@@ -170,7 +167,6 @@ impl<A: Allocator + Copy> Machine<A> {
     }
 
     /// Memory for what is open is asked for first: where it is refused, nothing of the start is written.
-    #[inline(never)]
     fn start_collection(
         &mut self,
         content: &CollectionContent,
@@ -218,7 +214,6 @@ impl<A: Allocator + Copy> Machine<A> {
         Ok(())
     }
 
-    #[inline(never)]
     fn end_collection(&mut self, kind: CollectionKind) -> Result<(), yaml_error_t>
         requires stage { is_at_node self.old.stage ≡ true }
         ensures { (empty : Bool) → Processed (end_event (is_mapping kind)) empty self.old self.new result }
@@ -244,7 +239,6 @@ impl<A: Allocator + Copy> Machine<A> {
 }
 
 /// Whether a scalar whose tag isn't written has no flag, although it needs one.
-#[inline(always)]
 fn lacks_flag(content: &ScalarContent, canonical: bool) -> bool
     ensures { result ≡ style.lacks_tag_and_flags
         (is_some (scalar_tag canonical (seen_scalar content.now))) content.now.plain_implicit content.now.quoted_implicit }
@@ -254,7 +248,6 @@ fn lacks_flag(content: &ScalarContent, canonical: bool) -> bool
 }
 
 /// What a scalar's event holds; its tag may be left out in plain style, and in others.
-#[inline(always)]
 fn scalar_content<'a, A: Allocator>(
     anchor: &'a Option<String<A>>,
     tag: &'a Option<String<A>>,

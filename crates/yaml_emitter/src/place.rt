@@ -124,7 +124,6 @@ impl Place {
     }
 
     /// This place with `column` filled in: 0 at the root.
-    #[inline(always)]
     pub(crate) fn at_line(&self) -> Place
         ensures role { result.role ≡ self.now.role }
         ensures column { result.column ≡ Some (line_column (seen_place self.now).column) }

@@ -51,7 +51,6 @@ impl<A: Allocator + Copy> Machine<A> {
         }
     }
 
-    #[inline(never)]
     fn process_other(&mut self, event: &yaml_event_t<A>, empty: bool) -> Result<(), yaml_error_t>
         ensures { Processed (seen_event event.now) empty self.old self.new result }
     {
@@ -74,7 +73,6 @@ impl<A: Allocator + Copy> Machine<A> {
     }
 
     /// Where the stream must start.
-    #[inline(never)]
     pub(crate) fn expect_stream_start(
         &mut self,
         event: &yaml_event_t<A>,
@@ -90,7 +88,6 @@ impl<A: Allocator + Copy> Machine<A> {
     }
 
     /// Where a document or the stream's end must stand.
-    #[inline(never)]
     pub(crate) fn expect_document(
         &mut self,
         first: bool,
@@ -117,7 +114,6 @@ impl<A: Allocator + Copy> Machine<A> {
     }
 
     /// Where a document must end.
-    #[inline(never)]
     pub(crate) fn expect_document_end(
         &mut self,
         event: &yaml_event_t<A>,
@@ -133,7 +129,6 @@ impl<A: Allocator + Copy> Machine<A> {
     }
 
     /// Behind the stream's end.
-    #[inline(never)]
     pub(crate) fn expect_nothing(&mut self, event: &yaml_event_t<A>) -> Result<(), yaml_error_t>
         requires stage { self.old.stage ≡ at_nothing }
         requires names { name_or_tag_fault self.old.given.canonical (seen_event event.now) ≡ None }

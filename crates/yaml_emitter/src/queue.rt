@@ -90,7 +90,6 @@ pub(crate) fn is_next_ready<A: Allocator>(events: &[yaml_event_t<A>]) -> bool
 }
 
 /// Whether no event waits.
-#[inline(always)]
 pub(crate) fn nothing_waits<A: Allocator>(queue: &WaitingEvents<A>) -> bool
     ensures { result ≡ (length queue.now.items == 0) }
 {
@@ -141,7 +140,6 @@ fn begins_with_mapping_end<A: Allocator>(rest: &[yaml_event_t<A>]) -> bool
 }
 
 /// The first of the events that wait, which is ready, and those behind it.
-#[inline(always)]
 pub(crate) fn first_and_rest<A: Allocator>(
     waiting: &[yaml_event_t<A>],
 ) -> (&yaml_event_t<A>, &[yaml_event_t<A>])
@@ -164,7 +162,6 @@ pub(crate) fn drop_written<A: Allocator>(queue: &mut WaitingEvents<A>, count: us
     }
 }
 
-#[inline(never)]
 fn drop_one_by_one<A: Allocator>(queue: &mut WaitingEvents<A>, count: usize)
     requires { count ≤ vec_len queue.old }
     ensures rest { seen_events queue.new.items ≡ drop count (seen_events queue.old.items) }

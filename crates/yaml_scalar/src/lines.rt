@@ -267,7 +267,6 @@ pub(crate) fn write_lines<A: Allocator>(
 }
 
 /// Writes the lines of a value run by run, the flags of the cursor left as they are.
-#[inline(never)]
 pub(crate) fn write_runs<A: Allocator>(
     pen: &mut Pen<A>,
     value: &str,

@@ -22,7 +22,6 @@ use yaml_pen::Pen;
 /// # Errors
 /// `WriteError` where the output passes its limit, `Memory` where a growth was refused, else the pen's first
 /// error.
-#[inline(always)]
 pub fn write_plain_scalar<A: Allocator>(
     pen: &mut Pen<A>,
     value: &str,
@@ -50,7 +49,6 @@ pub fn write_plain_scalar<A: Allocator>(
     )
 }
 
-#[inline(always)]
 fn write_after_space<A: Allocator>(
     pen: &mut Pen<A>,
     value: &str,

@@ -30,7 +30,6 @@ pub fn is_usual(text: &str) -> bool
 }
 
 /// Whether a text begins with a letter or a digit and ends with no space.
-#[inline(always)]
 fn has_usual_ends(bytes: &[u8]) -> bool
     ensures { result ≡ has_usual_ends bytes.now }
 {
@@ -41,7 +40,6 @@ fn has_usual_ends(bytes: &[u8]) -> bool
 }
 
 /// Whether a byte is a letter or a digit.
-#[inline(always)]
 fn is_ordinary_byte(byte: u8) -> bool
     ensures { result ≡ is_ordinary byte }
 {

@@ -8,7 +8,6 @@ ghost use Rattle.yaml_tool.specs.Cuts.{IsFree, IsCut, EndsIn, SkipsTo, prefix_of
 use memchr::memchr2;
 
 /// The first character, and the text after it.
-#[inline(always)]
 pub fn first_character(text: &str) -> Option<(char, &str)>
     ensures characters { MatchOption result (chars text.now ≡ []) (λ parts. chars text.now ≡ parts.0 ∷ chars parts.1.now) }
     ensures bytes { IfSome result (λ parts. text.now ≡ encode_utf8 parts.0 ++ parts.1.now) }
@@ -23,7 +22,6 @@ pub fn first_character(text: &str) -> Option<(char, &str)>
 }
 
 /// The part of `text` before `end`, in which it ends.
-#[inline(always)]
 pub fn prefix_before<'a>(text: &'a str, end: &str) -> &'a str
     requires { EndsIn text.now end.now }
     ensures { result.now ≡ prefix_of text.now end.now }
@@ -44,7 +42,6 @@ pub fn from_delimiter(first: u8, second: u8, text: &str) -> &str
 }
 
 /// The place of the first of two bytes, looked for byte by byte.
-#[inline(always)]
 fn first_place_by_bytes(first: u8, second: u8, bytes: &[u8]) -> Option<usize>
     ensures { IsFirstByte (is_byte2 first second) bytes.now result }
 {
@@ -57,7 +54,6 @@ fn first_place_by_bytes(first: u8, second: u8, bytes: &[u8]) -> Option<usize>
 }
 
 /// The text from the first space or quotation mark on; empty if it contains neither. Words are too short for a wide search.
-#[inline(always)]
 pub fn skip_word(text: &str) -> &str
     ensures { SkipsTo 0x20 0x22 text.now result.now }
 {

@@ -27,7 +27,6 @@ fn alone<A: Allocator>(event: yaml_event_t<A>, rest: Option<&str>) -> Option<yam
 }
 
 /// `+STR`: an encoding.
-#[inline(always)]
 fn stream_start_of<A: Allocator>(rest: Option<&str>) -> Option<yaml_event_t<A>>
     ensures { option_map seen_event result ≡ option_and_then notation.stream_start_of (later_fields rest.entry) }
 {
@@ -69,7 +68,6 @@ fn document_start_of<A: Allocator + Copy>(
 }
 
 /// `-DOC`: whether it is implicit.
-#[inline(always)]
 fn document_end_of<A: Allocator>(rest: Option<&str>) -> Option<yaml_event_t<A>>
     ensures { option_map seen_event result ≡ option_and_then notation.document_end_of (later_fields rest.entry) }
 {
@@ -232,7 +230,6 @@ fn collection_with<A: Allocator>(
 }
 
 /// `+SEQ` and `+MAP`: a style, whether it is implicit, an anchor, a tag.
-#[inline(never)]
 fn collection_start_of<A: Allocator + Copy>(
     alloc: A,
     kind: CollectionKind,

@@ -26,7 +26,6 @@ enum FieldState {
 
 impl FieldState {
     /// Whether a character in this state separates two fields.
-    #[inline(always)]
     fn separates(self, character: char) -> bool
         ensures { result ≡ notation.separates (seen_field_state self) character }
     {
@@ -34,7 +33,6 @@ impl FieldState {
     }
 
     /// Skips characters that separate no fields and leave the state as it is.
-    #[inline(always)]
     fn skip_run(self, text: &str) -> &str
         ensures { SkipsRunTo (seen_field_state self) text.now result.now }
     {
@@ -46,7 +44,6 @@ impl FieldState {
     }
 
     /// The state after a character.
-    #[inline(always)]
     fn after(self, character: char) -> FieldState
         ensures { seen_field_state result ≡ notation.state_after (seen_field_state self) character }
     {

@@ -84,7 +84,6 @@ fn write_atom<A: Allocator>(pen: &mut Pen<A>, site: &Site, atom: Atom) -> Result
 }
 
 /// A new line at the column of the entries around a place.
-#[inline(always)]
 pub(crate) fn write_new_line<A: Allocator>(
     pen: &mut Pen<A>,
     place: &Place,
@@ -95,8 +94,7 @@ pub(crate) fn write_new_line<A: Allocator>(
     pen.write_indent(place.line_column() as i32)
 }
 
-/// Begins a new line at the place's column. It isn't inlined, since new lines are rare where it is called.
-#[inline(never)]
+/// Begins a new line at the place's column.
 fn write_rare_new_line<A: Allocator>(pen: &mut Pen<A>, place: &Place) -> Result<(), yaml_error_t>
     requires { IsReady pen.old }
     ensures { Wrote (new_line (line_column place.now.column)) pen.old pen.new result }

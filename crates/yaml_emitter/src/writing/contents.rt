@@ -53,7 +53,6 @@ pub(crate) fn writes_collection_tag(canonical: bool, implicit: bool) -> bool
 }
 
 /// The tag that a scalar is written with, where there is one.
-#[inline(always)]
 pub(crate) fn written_scalar_tag<'a>(
     content: &ScalarContent<'a>,
     canonical: bool,
@@ -82,7 +81,6 @@ pub(crate) fn written_collection_tag<'a>(
 }
 
 /// A text of an event, where there is one.
-#[inline(always)]
 pub(crate) fn borrowed_text<A: Allocator>(text: &Option<String<A>>) -> Option<&str>
     ensures { seen_name result ≡ option_map seen_text text.now }
 {

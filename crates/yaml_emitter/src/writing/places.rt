@@ -103,7 +103,6 @@ fn write_simple_key<A: Allocator>(
 }
 
 /// Writes what precedes any other key in flow: a bracket or a comma, a new line where one is due, and `?`.
-#[inline(always)]
 fn write_long_key<A: Allocator>(
     pen: &mut Pen<A>,
     settings: &EffectiveSettings,
@@ -158,7 +157,6 @@ fn write_block_place<A: Allocator>(
 }
 
 /// A new line, and an atom on it.
-#[inline(never)]
 fn write_line_and_indicator<A: Allocator>(
     pen: &mut Pen<A>,
     place: Place,
@@ -172,7 +170,6 @@ fn write_line_and_indicator<A: Allocator>(
 }
 
 /// A new line without an atom.
-#[inline(always)]
 fn write_line_alone<A: Allocator>(pen: &mut Pen<A>, place: &Place) -> Result<(), yaml_error_t>
     requires { IsReady pen.old }
     ensures { Wrote (λ cursor. render_then (new_line (line_column place.now.column) cursor) render_nothing) pen.old pen.new result }

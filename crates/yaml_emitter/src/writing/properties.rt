@@ -21,7 +21,6 @@ use yaml_base::yaml_error_t;
 use yaml_pen::Pen;
 
 /// Whether an anchor, a tag or the bare tag is written.
-#[inline(always)]
 pub(crate) fn has_properties(anchor: Option<&str>, tag: Option<SpelledTag>, bare: bool) -> bool
     ensures { result ≡ false → (portable : Bool) (cursor : Cursor)
         → render_then (render_anchor (seen_name anchor.entry) cursor) (render_spelled_tag portable (seen_tag tag.entry) bare) ≡ render_nothing cursor }
@@ -30,7 +29,6 @@ pub(crate) fn has_properties(anchor: Option<&str>, tag: Option<SpelledTag>, bare
 }
 
 /// Writes a node's anchor and its tag, or the bare tag.
-#[inline(never)]
 pub(crate) fn write_properties<A: Allocator>(
     pen: &mut Pen<A>,
     site: &Site,

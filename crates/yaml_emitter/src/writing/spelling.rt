@@ -30,7 +30,6 @@ pub(crate) fn spell<'a, A: Allocator>(
     }
 }
 
-#[inline(never)]
 fn spell_text<'a, A: Allocator>(tag: &'a str, directives: &'a Directives<A>) -> SpelledTag<'a>
     ensures { seen_spelling result ≡ spelling directives.now (chars tag.now) }
 {

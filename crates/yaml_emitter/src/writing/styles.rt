@@ -30,7 +30,6 @@ use yaml_scalar::{
 };
 
 /// Writes a scalar's text in a style, and returns the open-ended state that it leaves.
-#[inline(always)]
 pub(crate) fn write_text<A: Allocator>(
     pen: &mut Pen<A>,
     site: &Site,
@@ -54,7 +53,6 @@ pub(crate) fn write_text<A: Allocator>(
     }
 }
 
-#[inline(always)]
 fn write_plain<A: Allocator>(
     pen: &mut Pen<A>,
     site: &Site,
@@ -98,7 +96,6 @@ fn write_single<A: Allocator>(
     Ok(open_ended)
 }
 
-#[inline(always)]
 fn write_double<A: Allocator>(
     pen: &mut Pen<A>,
     site: &Site,
@@ -124,7 +121,6 @@ fn write_double<A: Allocator>(
     Ok(open_ended)
 }
 
-#[inline(never)]
 fn write_literal<A: Allocator>(
     pen: &mut Pen<A>,
     site: &Site,
@@ -143,7 +139,6 @@ fn write_literal<A: Allocator>(
     Ok(OpenEnded::after_header(open_ended))
 }
 
-#[inline(never)]
 fn write_folded<A: Allocator>(
     pen: &mut Pen<A>,
     site: &Site,

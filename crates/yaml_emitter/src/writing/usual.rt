@@ -35,7 +35,6 @@ pub(crate) fn stands_plain(settings: &EffectiveSettings, content: &ScalarContent
 }
 
 /// Whether nothing but its value may keep a scalar from being plain.
-#[inline(always)]
 fn is_asked_plain(canonical: bool, content: &ScalarContent) -> bool
     ensures { result ≡ is_asked_plain canonical content.now }
 {
@@ -45,14 +44,12 @@ fn is_asked_plain(canonical: bool, content: &ScalarContent) -> bool
         && lacks_anchor(content.anchor)
 }
 
-#[inline(always)]
 fn asks_plain(style: yaml_scalar_style_t) -> bool
     ensures { result ≡ asks_plain (seen_scalar_style style) }
 {
     matches!(style, YAML_ANY_SCALAR_STYLE | YAML_PLAIN_SCALAR_STYLE)
 }
 
-#[inline(always)]
 fn lacks_anchor(anchor: Option<&str>) -> bool
     ensures { result ≡ not (is_some (seen_name anchor.entry)) }
 {
@@ -60,7 +57,6 @@ fn lacks_anchor(anchor: Option<&str>) -> bool
 }
 
 /// Writes a scalar that stands plain as it is, by its value; the open-ended state stays.
-#[inline(always)]
 pub(crate) fn write_usual<A: Allocator>(
     pen: &mut Pen<A>,
     site: &Site,
@@ -82,7 +78,6 @@ pub(crate) fn write_usual<A: Allocator>(
     write_usual_text(pen, site, value)
 }
 
-#[inline(always)]
 fn write_usual_text<A: Allocator>(
     pen: &mut Pen<A>,
     site: &Site,
