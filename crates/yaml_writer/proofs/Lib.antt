@@ -13,4 +13,6 @@ pub mod WaitingStarts
 pub mod PlainLemmas
 pub mod PlainNumbers
 pub mod DateLemmas
+pub mod TimeLemmas
+pub mod TimesPlain
 pub mod rows

@@ -15,7 +15,7 @@ use Rattle.yaml_writer.specs.ReadNumbers.{WrittenNumbersAreRead}
 -- Characters
 
 -- the narrowest set of characters
-abbrev narrowest : Charset
+abbrev pub narrowest : Charset
 narrowest = record { unicode = false; breaks12 = true }
 
 -- a character that may stand anywhere in plain text, whatever follows it
@@ -32,22 +32,22 @@ digits_pass test all c digit =
     let within = digit_from_value c (ltb-true (digit_value c) 10 digit) in
     sym (ap (λ x. not x || test c) digit) ∙ agree_below_at (λ c. not (is_decimal c) || test c) (λ _. true) 58 c all (omega (arith, within))
 
-digit_harmless : (c : ℕ) → is_decimal c ≡ true → is_harmless c ≡ true
+pub digit_harmless : (c : ℕ) → is_decimal c ≡ true → is_harmless c ≡ true
 digit_harmless c digit = digits_pass is_harmless refl c digit
 
 harmless_passes : PassesNumbers is_harmless
 harmless_passes = record { digit = digit_harmless; minus_sign = refl; plus_sign = refl; point = refl; small = refl; capital = refl }
 
 -- what such a character isn't
-record Harmless (c : ℕ) : Type 0 where
-  special : is_special narrowest c ≡ false
-  breaks : is_break c ≡ false
-  space : is_space c ≡ false
-  colon : (c == 58) ≡ false
-  gap : is_gap c ≡ false
-  sign : is_among (codes ",?:[]{}") c ≡ false
+pub record Harmless (c : ℕ) : Type 0 where
+  pub special : is_special narrowest c ≡ false
+  pub breaks : is_break c ≡ false
+  pub space : is_space c ≡ false
+  pub colon : (c == 58) ≡ false
+  pub gap : is_gap c ≡ false
+  pub sign : is_among (codes ",?:[]{}") c ≡ false
 
-no_harm : (c : ℕ) → is_harmless c ≡ true → Harmless c
+pub no_harm : (c : ℕ) → is_harmless c ≡ true → Harmless c
 no_harm c h =
     let signs = or_parts (is_special narrowest c || is_break c || is_space c || c == 58 || is_gap c) (is_among (codes ",?:[]{}") c) (not-true _ h) in
     let gaps = or_parts (is_special narrowest c || is_break c || is_space c || c == 58) (is_gap c) signs.0 in
@@ -57,7 +57,7 @@ no_harm c h =
     record { special = breaks.0; breaks = breaks.1; space = spaces.1; colon = colons.1; gap = gaps.1; sign = signs.1 }
 
 -- what is special in no set of characters
-never_special : (charset : Charset) (c : ℕ) → is_special narrowest c ≡ false → is_special charset c ≡ false
+pub never_special : (charset : Charset) (c : ℕ) → is_special narrowest c ≡ false → is_special charset c ≡ false
 never_special charset c h =
     or_from (not (is_printable c) || (not charset.unicode && not (is_ascii c))) (charset.breaks12 && (c == line_separator || c == paragraph_separator))
     (or_from (not (is_printable c)) (not charset.unicode && not (is_ascii c)) first.0 (and_right (not charset.unicode) (not (is_ascii c)) first.1))
@@ -71,7 +71,7 @@ never_special charset c h =
 
 -- Texts
 
-unbarred : (charset : Charset) (flow : Bool) (c : ℕ) (rest : Text) → Harmless c → bars_plain charset flow c rest ≡ false
+pub unbarred : (charset : Charset) (flow : Bool) (c : ℕ) (rest : Text) → Harmless c → bars_plain charset flow c rest ≡ false
 unbarred charset flow c rest h =
     or_from _ _
     (or_from _ _
@@ -79,7 +79,7 @@ unbarred charset flow c rest h =
     (or_from _ _ (and_left (c == 58) (ends_word rest) h.colon) (and_left (is_gap c) (begins_with (λ d. d == 35) rest) h.gap)))
     (and_right flow (is_among (codes ",?:[]{}") c) h.sign)
 
-nowhere_barred : (charset : Charset) (flow : Bool) (text : Text) → list_all is_harmless text ≡ true → somewhere (bars_plain charset flow) text ≡ false
+pub nowhere_barred : (charset : Charset) (flow : Bool) (text : Text) → list_all is_harmless text ≡ true → somewhere (bars_plain charset flow) text ≡ false
 nowhere_barred charset flow [] h = refl
 nowhere_barred charset flow (c ∷ rest) h =
     or_from (bars_plain charset flow c rest) (somewhere (bars_plain charset flow) rest) (unbarred charset flow c rest (no_harm c both.0))
@@ -141,36 +141,47 @@ begins_digits negative (c ∷ whole) rest h = by negative
     by true = (refl, begins_as_plain true c (whole ++ rest) digit)
     by false = (refl, begins_as_plain false c (whole ++ rest) digit)
 
+-- a text before what holds nothing that bars plain text
+pub harmless_before : (charset : Charset) (flow : Bool) (text rest : Text) → list_all is_harmless text ≡ true
+    → somewhere (bars_plain charset flow) rest ≡ false → somewhere (bars_plain charset flow) (text ++ rest) ≡ false
+harmless_before charset flow [] rest h free = free
+harmless_before charset flow (c ∷ text) rest h free =
+    let both = and_parts (is_harmless c) (list_all is_harmless text) h in
+    or_from (bars_plain charset flow c (text ++ rest)) (somewhere (bars_plain charset flow) (text ++ rest))
+    (unbarred charset flow c (text ++ rest) (no_harm c both.0))
+    (harmless_before charset flow text rest both.1 free)
+
 -- All
 
-module _ (text : Text) (harmless : list_all is_harmless text ≡ true) (filled : is_empty text ≡ false) (begins : begins_unlike_plain text ≡ false) where
-  allows : (charset : Charset) (flow : Bool) → allows_plain charset flow text ≡ true
-  allows charset flow =
+module _ (text : Text) (flow : Bool) (free : (charset : Charset) → somewhere (bars_plain charset flow) text ≡ false) (one_line : list_any is_break text ≡ false)
+    (filled : is_empty text ≡ false) (begins : begins_unlike_plain text ≡ false) where
+  allows : (charset : Charset) → allows_plain charset flow text ≡ true
+  allows charset =
       and_from (not (is_empty text && flow)) (not (begins_unlike_plain text || somewhere (bars_plain charset flow) text))
       (not_from_false (is_empty text && flow) (and_left (is_empty text) flow filled))
       (not_from_false (begins_unlike_plain text || somewhere (bars_plain charset flow) text)
-      (or_from (begins_unlike_plain text) (somewhere (bars_plain charset flow) text) begins (nowhere_barred charset flow text harmless)))
+      (or_from (begins_unlike_plain text) (somewhere (bars_plain charset flow) text) begins (free charset)))
 
-  fits : (charset : Charset) (tag_written plain_implicit flow simple_key : Bool) → (tag_written || plain_implicit) ≡ true
+  fits : (charset : Charset) (tag_written plain_implicit simple_key : Bool) → (tag_written || plain_implicit) ≡ true
       → fits_plain (allowances charset text) (is_empty text) tag_written plain_implicit flow simple_key ≡ true
-  fits charset tag_written plain_implicit flow simple_key told =
+  fits charset tag_written plain_implicit simple_key told =
       and_from (allowed flow && not (is_empty text && (flow || simple_key))) (tag_written || plain_implicit)
-      (and_from (allowed flow) (not (is_empty text && (flow || simple_key))) (by flow)
+      (and_from (allowed flow) (not (is_empty text && (flow || simple_key))) (by flow ∙ allows charset)
       (not_from_false (is_empty text && (flow || simple_key)) (and_left (is_empty text) (flow || simple_key) filled)))
       told
     where
       allowed : Bool → Bool
       allowed x = if x then allows_plain charset true text else allows_plain charset false text
 
-      by : (x : Bool) → allowed x ≡ true
-      by true = allows charset true
-      by false = allows charset false
+      by : (x : Bool) → allowed x ≡ allows_plain charset x text
+      by true = refl
+      by false = refl
 
-  pub stands_plain : (charset : Charset) (tag_written plain_implicit quoted_implicit flow simple_key : Bool) → (tag_written || plain_implicit) ≡ true
+  pub stands_plain_there : (charset : Charset) (tag_written plain_implicit quoted_implicit simple_key : Bool) → (tag_written || plain_implicit) ≡ true
       → (chosen (allowances charset text) plain (is_empty text) tag_written plain_implicit quoted_implicit flow simple_key false).style ≡ plain
-  stands_plain charset tag_written plain_implicit quoted_implicit flow simple_key told =
-      ap (λ double. fitting_style allowed fit block (requested_style double plain)) (and_right simple_key (list_any is_break text) (unbroken text harmless))
-      ∙ ap (λ x. if x then plain else quoted_style allowed) (fits charset tag_written plain_implicit flow simple_key told)
+  stands_plain_there charset tag_written plain_implicit quoted_implicit simple_key told =
+      ap (λ double. fitting_style allowed fit block (requested_style double plain)) (and_right simple_key (list_any is_break text) one_line)
+      ∙ ap (λ x. if x then plain else quoted_style allowed) (fits charset tag_written plain_implicit simple_key told)
     where
       allowed : Allowances
       allowed = allowances charset text
@@ -180,6 +191,14 @@ module _ (text : Text) (harmless : list_all is_harmless text ≡ true) (filled :
 
       block : Bool
       block = allowed.block && not flow && not simple_key
+
+-- a text without such characters, in block and in flow
+pub stands_plain : (text : Text) → list_all is_harmless text ≡ true → is_empty text ≡ false → begins_unlike_plain text ≡ false
+    → (charset : Charset) (tag_written plain_implicit quoted_implicit flow simple_key : Bool) → (tag_written || plain_implicit) ≡ true
+    → (chosen (allowances charset text) plain (is_empty text) tag_written plain_implicit quoted_implicit flow simple_key false).style ≡ plain
+stands_plain text harmless filled begins charset tag_written plain_implicit quoted_implicit flow simple_key told =
+    stands_plain_there text flow (λ charset. nowhere_barred charset flow text harmless) (unbroken text harmless) filled begins
+    charset tag_written plain_implicit quoted_implicit simple_key told
 
 -- a number is written plain, and both schemas read it
 pub written_numbers : WrittenNumbersAreRead

@@ -1,2 +1,3 @@
 pub mod RowsKeptDocuments
 pub mod RowsDates
+pub mod RowsTimes

@@ -10,3 +10,6 @@ pub mod Inside
 pub mod PlainTexts
 pub mod ReadNumbers
 pub mod Dates
+pub mod SeenDates
+pub mod Times
+pub mod SeenTimes

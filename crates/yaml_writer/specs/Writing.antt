@@ -19,6 +19,7 @@ use Rattle.yaml_pen.specs.Wrote.{Grows}
 use Rattle.yaml_emitter.specs.State.{State}
 use Rattle.yaml_emitter.specs.StandsAfter.{StandsAfter}
 use Rattle.yaml_emitter.specs.Promises.{IsWritten}
+use Rattle.yaml_writer.specs.Times.{Moment, timestamp_text}
 use Rattle.yaml_writer.specs.declared.kinds.CollectionKind.{CollectionKind}
 use Rattle.yaml_writer.specs.declared.kinds.CollectionKind.TheVariants.{Mapping, Sequence}
 use Rattle.yaml_writer.specs.declared.kinds.DocumentEnd.{DocumentEnd}
@@ -94,6 +95,15 @@ number_tag number = if is_json_integer number then int_tag else float_tag
 -- a number of JSON, spelled for YAML
 abbrev pub number_event : WriterState → JsonNumber → Event
 number_event writer number = word_event writer (number_tag number) (yaml_number number)
+
+-- the tag of timestamps
+abbrev pub timestamp_tag : Text
+timestamp_tag = codes "tag:yaml.org,2002:timestamp"
+
+-- a timestamp; one with a time of day has its tag everywhere, since a `:` keeps it from standing plain in flow
+abbrev pub timestamp_event : WriterState → Moment → Event
+timestamp_event writer moment =
+    scalar_event writer (tag_or_default writer.tag (writer.canonical || is_some moment.time) timestamp_tag) (timestamp_text moment) plain
 
 -- a text of several lines stands literally, where it may; any other stands plain only where it is surely read as a text
 abbrev pub text_style : Text → ScalarStyle

@@ -5,6 +5,7 @@ ghost use Rattle.yaml_writer.specs.Dates.{DatesAreRead, WrittenDatesArePlain};
 ghost use Rattle.yaml_writer.specs.Floats.{SpecialFloatsAreRead};
 ghost use Rattle.yaml_writer.specs.PlainTexts.{PlainTextsAreTexts};
 ghost use Rattle.yaml_writer.specs.ReadNumbers.{WrittenNumbersAreRead};
+ghost use Rattle.yaml_writer.specs.Times.{TimestampsAreRead, WrittenTimestampsArePlain};
 
 /// A text that is surely one means a text by the type repository of YAML 1.1 and by the core schema of YAML 1.2.
 pub fn surely_text_is_text()
@@ -40,4 +41,15 @@ pub fn dates_are_read()
 /// The text of every date, asked for plain, is written so outside canonical form, in flow, too, and as a key.
 pub fn written_dates_are_plain()
     ensures { WrittenDatesArePlain }
+{}
+
+/// The text of every timestamp, with a time of day or without, means a timestamp by the type repository of YAML 1.1, and its
+/// parts are that timestamp's.
+pub fn timestamps_are_read()
+    ensures { TimestampsAreRead }
+{}
+
+/// The text of every timestamp, asked for plain, is written so in block outside canonical form.
+pub fn written_timestamps_are_plain()
+    ensures { WrittenTimestampsArePlain }
 {}

@@ -2,6 +2,8 @@
 #![tactic(auto)]
 
 mod collections;
+mod dates;
+mod digits;
 mod floats;
 mod giving;
 mod kinds;
@@ -13,19 +15,25 @@ mod settings;
 mod spelling;
 mod tags;
 mod texts;
+mod times;
+mod timestamps;
 mod words;
 mod writer;
 
+pub use dates::Date;
 pub use floats::SpecialFloat;
 pub use kinds::{CollectionKind, DocumentEnd};
 pub use laws::{
     dates_are_read, numbers_are_read, plain_texts_are_texts, special_floats_are_read,
-    surely_text_is_text, written_dates_are_plain, written_numbers_are_read,
+    surely_text_is_text, timestamps_are_read, written_dates_are_plain, written_numbers_are_read,
+    written_timestamps_are_plain,
 };
-pub use numbers::{Number, number_of};
+pub use numbers::{Number, Sign, number_of};
 pub use settings::value_settings;
 pub use spelling::{Spelling, number_spelling};
 pub use texts::is_surely_text;
+pub use times::{Offset, Time};
+pub use timestamps::Timestamp;
 pub use writer::Writer;
 pub use yaml_base::{
     YAML_ANY_BREAK, YAML_ANY_ENCODING, YAML_ANY_MAPPING_STYLE, YAML_ANY_SCALAR_STYLE,

@@ -8,8 +8,8 @@ ghost use Rattle.yaml_writer.specs.SeenNumbers.{is_minus, seen_exponent, seen_pa
 
 use std::marker::Model;
 
-/// The sign of an exponent.
-#[derive(Clone, Copy)]
+/// The sign of an exponent, or of a clock's offset from UTC.
+#[derive(Clone, Copy, PartialEq, Eq, Debug)]
 pub enum Sign {
     Plus,
     Minus,

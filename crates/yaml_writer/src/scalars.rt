@@ -27,11 +27,11 @@ pub(crate) fn text_of<A: Allocator>(alloc: A, text: &str) -> Result<String<A>, y
     String::from_str(alloc, text).map_err(|_| yaml_error_t::Memory)
 }
 
-/// The tag that a scalar of this type has in canonical form.
-fn canonical_tag(canonical: bool, tag: &str) -> Option<&str>
-    ensures { seen_name result ≡ tag_or_default None canonical (chars tag.now) }
+/// The tag of a scalar's type, where one is written.
+pub(crate) fn own_tag(is_written: bool, tag: &str) -> Option<&str>
+    ensures { seen_name result ≡ tag_or_default None is_written (chars tag.now) }
 {
-    if canonical { Some(tag) } else { None }
+    if is_written { Some(tag) } else { None }
 }
 
 /// `true` or `false`.
@@ -194,7 +194,7 @@ impl<A: Allocator + Copy> Writer<A> {
         ensures given { OnOk result (GaveEvent self.old (word_event self.old (chars tag.now) (chars word.now)) None self.new) }
         ensures failed { IfErr result (λ error. Failed self.old (word_event self.old (chars tag.now) (chars word.now)) error self.new) }
     {
-        let own = canonical_tag(self.canonical, tag);
+        let own = own_tag(self.canonical, tag);
         self.scalar(own, word, YAML_PLAIN_SCALAR_STYLE)
     }
 }

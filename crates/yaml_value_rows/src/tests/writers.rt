@@ -6,13 +6,15 @@ mod refused;
 mod sending;
 mod styles;
 mod texts;
+mod timestamps;
 
 use crate::tests::{Answer, answers, equal, finished};
 use std::alloc::Global;
 use std::process::Abort;
 use yaml_writer::{
-    DocumentEnd, Settings, Writer, YAML_BLOCK_MAPPING_STYLE, YAML_BLOCK_SEQUENCE_STYLE,
-    YAML_FLOW_SEQUENCE_STYLE, number_of, value_settings, yaml_error_t, yaml_scalar_style_t,
+    Date, DocumentEnd, Settings, Time, Timestamp, Writer, YAML_BLOCK_MAPPING_STYLE,
+    YAML_BLOCK_SEQUENCE_STYLE, YAML_FLOW_SEQUENCE_STYLE, number_of, value_settings, yaml_error_t,
+    yaml_scalar_style_t,
 };
 
 /// A call of a writer.
@@ -39,12 +41,28 @@ enum Call {
     Styled(yaml_scalar_style_t, &'static str),
     /// The number of JSON that a text is.
     Number(&'static str),
+    /// A year, a month and a day.
+    Date(u16, u8, u8),
+    /// 14 December 2001 at this hour, minute and second of UTC.
+    Time(u8, u8, u8),
 }
 
 /// The number of JSON that a text is; nothing where it is none.
 fn give_number(writer: &mut Writer<Global>, text: &str) -> Result<(), yaml_error_t> {
     match number_of(text) {
         Some(number) => writer.number(&number),
+        None => Ok(()),
+    }
+}
+
+/// A date, alone or with a time; nothing where there is no such date.
+fn give_timestamp(
+    writer: &mut Writer<Global>,
+    date: Option<Date>,
+    time: Option<Time>,
+) -> Result<(), yaml_error_t> {
+    match date {
+        Some(date) => writer.timestamp(&Timestamp { date, time }),
         None => Ok(()),
     }
 }
@@ -67,6 +85,14 @@ fn give(writer: &mut Writer<Global>, call: &Call) -> Result<(), yaml_error_t> {
         Call::Text(text) => writer.text(text),
         Call::Styled(style, text) => writer.text_styled(*style, text),
         Call::Number(text) => give_number(writer, text),
+        Call::Date(year, month, day) => {
+            give_timestamp(writer, Date::new(*year, *month, *day), None)
+        }
+        Call::Time(hour, minute, second) => give_timestamp(
+            writer,
+            Date::new(2001, 12, 14),
+            Time::new(*hour, *minute, *second, 0, None),
+        ),
     }
 }
 

@@ -3,7 +3,8 @@ use crate::tests::{answers, equal, finished, gives, same};
 use std::alloc::Global;
 use std::process::Abort;
 use yaml_writer::{
-    Writer, YAML_BLOCK_MAPPING_STYLE, YAML_FLOW_SEQUENCE_STYLE, value_settings, yaml_error_t,
+    Date, Time, Timestamp, Writer, YAML_BLOCK_MAPPING_STYLE, YAML_FLOW_SEQUENCE_STYLE,
+    value_settings, yaml_error_t,
 };
 
 /// A mapping of a text and of a sequence of values.
@@ -39,6 +40,29 @@ fn give_shared(writer: &mut Writer<Global>) -> Result<(), yaml_error_t> {
     writer.end()
 }
 
+/// A day, and a minute of it; `None` where the clock shows no such time.
+fn minute(date: Date, hour: u8, minute: u8) -> Option<Timestamp> {
+    let time = Time::new(hour, minute, 0, 0, None)?;
+    Some(Timestamp {
+        date,
+        time: Some(time),
+    })
+}
+
+/// A mapping of a day and of a minute.
+fn give_times(
+    writer: &mut Writer<Global>,
+    date: Date,
+    minute: &Timestamp,
+) -> Result<(), yaml_error_t> {
+    writer.begin_mapping(YAML_BLOCK_MAPPING_STYLE)?;
+    writer.text("day")?;
+    writer.timestamp(&Timestamp { date, time: None })?;
+    writer.text("at")?;
+    writer.timestamp(minute)?;
+    writer.end()
+}
+
 /// Ends a document, begins the next, and sends what was flushed since the last call.
 fn send_document(writer: &mut Writer<Global>, sent: &mut Vec<u8>) -> Result<(), yaml_error_t> {
     writer.next_document()?;
@@ -63,6 +87,17 @@ fn an_alias_stands_for_a_value(rt: HostRuntime) {
     equal(&rt, &give_shared(&mut writer), &Ok(()));
     let expected = "---\nfrom: &place !city Oslo\nto: *place\n";
     gives(&rt, finished(writer), expected);
+}
+
+#[test]
+fn dates_and_times_are_written(rt: HostRuntime) {
+    let mut writer = writer(&rt, rt.alloc());
+    let date = Date::new(2001, 12, 14).expect(&rt, "there is such a date");
+    let at = minute(date, 21, 59).expect(&rt, "there is such a time");
+    equal(&rt, &give_times(&mut writer, date, &at), &Ok(()));
+    let expected = "---\nday: 2001-12-14\nat: !!timestamp 2001-12-14T21:59:00Z\n";
+    gives(&rt, finished(writer), expected);
+    equal(&rt, &Date::new(2001, 2, 29), &None);
 }
 
 /// A document of one text is sent, and a second begun.

@@ -1,0 +1,266 @@
+//! Dates and times of day, against texts written by hand.
+use super::{Call, canonical, check_portable, check_written};
+use crate::tests::{equal, same};
+use std::alloc::Global;
+use std::process::Abort;
+use yaml_writer::{Date, Offset, Sign, Time, Timestamp};
+
+fn check_text(rt: &impl Abort, alloc: Global, timestamp: &Timestamp, wanted: &str) {
+    let text = timestamp.text(alloc).expect(rt, "no memory");
+    same(rt, text.as_bytes(), wanted.as_bytes());
+}
+
+fn date(rt: &impl Abort, year: u16, month: u8, day: u8) -> Date {
+    Date::new(year, month, day).expect(rt, "there is such a date")
+}
+
+/// A year, a month and a day, and their text.
+type DateRow = (u16, u8, u8, &'static str);
+
+fn check_date(rt: &impl Abort, alloc: Global, row: &DateRow) {
+    let date = date(rt, row.0, row.1, row.2);
+    check_text(rt, alloc, &Timestamp { date, time: None }, row.3);
+}
+
+fn check_dates(rt: &impl Abort, alloc: Global, rows: &[DateRow]) {
+    for row in rows {
+        check_date(rt, alloc, row);
+    }
+}
+
+const DATES: &[DateRow] = &[
+    (2002, 12, 14, "2002-12-14"),
+    (1, 1, 1, "0001-01-01"),
+    (999, 10, 9, "0999-10-09"),
+    (9999, 12, 31, "9999-12-31"),
+    (2001, 1, 31, "2001-01-31"),
+    (2001, 2, 1, "2001-02-01"),
+    (2001, 2, 28, "2001-02-28"),
+    (2001, 3, 31, "2001-03-31"),
+    (2001, 4, 30, "2001-04-30"),
+    (2001, 5, 31, "2001-05-31"),
+    (2001, 6, 30, "2001-06-30"),
+    (2001, 7, 31, "2001-07-31"),
+    (2001, 8, 31, "2001-08-31"),
+    (2001, 9, 30, "2001-09-30"),
+    (2001, 10, 31, "2001-10-31"),
+    (2001, 11, 30, "2001-11-30"),
+    (2001, 12, 31, "2001-12-31"),
+];
+
+#[test]
+fn dates_have_ten_characters(rt: HostRuntime) {
+    check_dates(&rt, rt.alloc(), DATES);
+}
+
+const LEAP_DAYS: &[DateRow] = &[
+    (1900, 2, 28, "1900-02-28"),
+    (2000, 2, 29, "2000-02-29"),
+    (2004, 2, 29, "2004-02-29"),
+    (4, 2, 29, "0004-02-29"),
+    (9996, 2, 29, "9996-02-29"),
+];
+
+#[test]
+fn leap_years_have_a_day_more(rt: HostRuntime) {
+    check_dates(&rt, rt.alloc(), LEAP_DAYS);
+}
+
+const NO_DATES: &[(u16, u8, u8)] = &[
+    (0, 1, 1),
+    (0, 12, 31),
+    (10000, 1, 1),
+    (65535, 12, 31),
+    (2001, 0, 1),
+    (2001, 13, 1),
+    (2001, 255, 1),
+    (2001, 1, 0),
+    (2001, 1, 32),
+    (2001, 2, 29),
+    (1900, 2, 29),
+    (2100, 2, 29),
+    (2000, 2, 30),
+    (2004, 2, 30),
+    (2001, 3, 32),
+    (2001, 4, 31),
+    (2001, 6, 31),
+    (2001, 9, 31),
+    (2001, 11, 31),
+    (2001, 12, 32),
+    (2001, 12, 255),
+];
+
+#[test]
+fn the_calendar_lacks_other_days(rt: HostRuntime) {
+    for (year, month, day) in NO_DATES {
+        equal(&rt, &Date::new(*year, *month, *day), &None);
+    }
+}
+
+/// A plus or a minus, hours and minutes.
+type OffsetRow = (Sign, u8, u8);
+
+fn offset(rt: &impl Abort, row: Option<OffsetRow>) -> Option<Offset> {
+    match row {
+        None => None,
+        Some((sign, hours, minutes)) => {
+            Some(Offset::new(sign, hours, minutes).expect(rt, "there is such an offset"))
+        }
+    }
+}
+
+/// An hour, a minute, a second and nanoseconds, with an offset, and what stands behind the date.
+type TimeRow = (u8, u8, u8, u32, Option<OffsetRow>, &'static str);
+
+fn check_time(rt: &impl Abort, alloc: Global, row: &TimeRow) {
+    let time = Time::new(row.0, row.1, row.2, row.3, offset(rt, row.4));
+    let time = Some(time.expect(rt, "there is such a time"));
+    let date = date(rt, 2001, 12, 14);
+    check_text(rt, alloc, &Timestamp { date, time }, row.5);
+}
+
+const TIMES: &[TimeRow] = &[
+    (0, 0, 0, 0, None, "2001-12-14T00:00:00Z"),
+    (9, 5, 7, 0, None, "2001-12-14T09:05:07Z"),
+    (
+        23,
+        59,
+        59,
+        999_999_999,
+        None,
+        "2001-12-14T23:59:59.999999999Z",
+    ),
+    (21, 59, 43, 100_000_000, None, "2001-12-14T21:59:43.100Z"),
+    (21, 59, 43, 1_000_000, None, "2001-12-14T21:59:43.001Z"),
+    (21, 59, 43, 120_034_000, None, "2001-12-14T21:59:43.120034Z"),
+    (21, 59, 43, 1_000, None, "2001-12-14T21:59:43.000001Z"),
+    (
+        21,
+        59,
+        43,
+        120_034_005,
+        None,
+        "2001-12-14T21:59:43.120034005Z",
+    ),
+    (21, 59, 43, 1, None, "2001-12-14T21:59:43.000000001Z"),
+    (
+        21,
+        59,
+        43,
+        0,
+        Some((Sign::Minus, 5, 0)),
+        "2001-12-14T21:59:43-05:00",
+    ),
+    (
+        21,
+        59,
+        43,
+        10_000_000,
+        Some((Sign::Plus, 5, 30)),
+        "2001-12-14T21:59:43.010+05:30",
+    ),
+    (
+        21,
+        59,
+        43,
+        0,
+        Some((Sign::Plus, 0, 0)),
+        "2001-12-14T21:59:43+00:00",
+    ),
+    (
+        21,
+        59,
+        43,
+        0,
+        Some((Sign::Minus, 23, 59)),
+        "2001-12-14T21:59:43-23:59",
+    ),
+];
+
+#[test]
+fn times_have_as_many_decimals_as_they_take(rt: HostRuntime) {
+    for row in TIMES {
+        check_time(&rt, rt.alloc(), row);
+    }
+}
+
+const NO_TIMES: &[(u8, u8, u8, u32)] = &[
+    (24, 0, 0, 0),
+    (0, 60, 0, 0),
+    (23, 59, 60, 0),
+    (0, 0, 0, 1_000_000_000),
+    (255, 255, 255, u32::MAX),
+];
+
+#[test]
+fn no_clock_shows_other_times(rt: HostRuntime) {
+    for (hour, minute, second, nanosecond) in NO_TIMES {
+        equal(
+            &rt,
+            &Time::new(*hour, *minute, *second, *nanosecond, None),
+            &None,
+        );
+    }
+}
+
+#[test]
+fn offsets_are_less_than_a_day(rt: HostRuntime) {
+    equal(&rt, &Offset::new(Sign::Plus, 24, 0), &None);
+    equal(&rt, &Offset::new(Sign::Minus, 0, 60), &None);
+}
+
+/// Dates and times as keys and values, in block and in flow.
+const TIMESTAMPS: &[Call] = &[
+    Call::Mapping,
+    Call::Date(2001, 1, 1),
+    Call::Date(9999, 12, 31),
+    Call::Time(0, 0, 0),
+    Call::Time(21, 59, 43),
+    Call::Text("flow"),
+    Call::Flow,
+    Call::Date(2000, 2, 29),
+    Call::Time(21, 59, 43),
+    Call::Text("2000-02-29"),
+    Call::End,
+    Call::End,
+];
+
+#[test]
+fn dates_stand_plain_and_times_have_their_tag(rt: HostRuntime) {
+    let expected = "---\n2001-01-01: 9999-12-31\n\
+        !!timestamp 2001-12-14T00:00:00Z: !!timestamp 2001-12-14T21:59:43Z\n\
+        flow: [2000-02-29, !!timestamp '2001-12-14T21:59:43Z', '2000-02-29']\n";
+    check_portable(&rt, rt.alloc(), TIMESTAMPS, expected);
+}
+
+const PROPERTIES: &[Call] = &[
+    Call::Sequence,
+    Call::Anchored("a"),
+    Call::Date(2002, 12, 14),
+    Call::Tagged("!day"),
+    Call::Date(2002, 12, 14),
+    Call::Anchored("b"),
+    Call::Tagged("!time"),
+    Call::Time(12, 0, 0),
+    Call::End,
+];
+
+#[test]
+fn timestamps_take_the_properties_of_the_next_node(rt: HostRuntime) {
+    let expected = "---\n- &a 2002-12-14\n- !day 2002-12-14\n- &b !time 2001-12-14T12:00:00Z\n";
+    check_portable(&rt, rt.alloc(), PROPERTIES, expected);
+}
+
+const DATE_AND_TIME: &[Call] = &[
+    Call::Sequence,
+    Call::Date(2002, 12, 14),
+    Call::Time(12, 0, 0),
+    Call::End,
+];
+
+#[test]
+fn canonical_timestamps_have_tags(rt: HostRuntime) {
+    let expected =
+        b"---\n[\n  !!timestamp \"2002-12-14\",\n  !!timestamp \"2001-12-14T12:00:00Z\",\n]\n";
+    check_written(&rt, rt.alloc(), canonical(), DATE_AND_TIME, &Ok(expected));
+}

@@ -1,0 +1,28 @@
+use Rattle.yaml_writer.proofs.Common.{chars, Bool, Option, None, Some, is_some, ◌||◌, refl, ◌≡◌, ap, ap₂, ◌∙◌, chars-literal, option_or, Text, plain}
+use Rattle.yaml_writer.proofs.Common.{WriterState}
+use Rattle.yaml_emitter.specs.BorrowedTexts.{seen_name}
+use Rattle.yaml_writer.proofs.Taken.{given_as}
+use Rattle.yaml_writer.specs.SeenTimes.{seen_timestamp}
+use Rattle.yaml_writer.specs.Times.{Moment, timestamp_text}
+use Rattle.yaml_writer.specs.Writing.{scalar_event, tag_or_default, timestamp_tag}
+use Rattle.yaml_writer.proofs.writer.Writer.timestamp.Goals as goal
+
+or_own : (tag : Option Text) (is_written : Bool) (own : Text) → option_or tag (tag_or_default None is_written own) ≡ tag_or_default tag is_written own
+or_own None is_written own = refl
+or_own (Some tag) is_written own = refl
+
+pub returns-in-Ok : goal.returns-in-Ok
+returns-in-Ok g c =
+    let before : WriterState = c.args.self.now in
+    let moment : Moment = seen_timestamp c.args.timestamp.now in
+    let needed : c.needs_tag.result ≡ (before.canonical || is_some moment.time) =
+    c.needs_tag.ensures ∙ ap (λ (writer : WriterState). writer.canonical || is_some moment.time) c.self.view_is in
+    let own : seen_name c.own_tag-tag.result ≡ tag_or_default None (before.canonical || is_some moment.time) timestamp_tag =
+    c.own_tag-tag.ensures ∙ ap₂ (tag_or_default None) needed (chars-literal timestamp_tag refl) in
+    let text : chars c.as_str.result.now ≡ timestamp_text moment = ap chars c.as_str.ensures.value ∙ c.in-Ok.ensures.text in
+    let both =
+    given_as before c.scalar.new.self c.scalar.result
+    (ap₂ (λ (tag : Option Text) (text : Text). scalar_event before tag text plain)
+    (ap (option_or before.tag) own ∙ or_own before.tag (before.canonical || is_some moment.time) timestamp_tag) text)
+    c.scalar.ensures.given c.scalar.ensures.failed in
+    record { given = both.0; failed = both.1 }

@@ -1,0 +1,50 @@
+//! Decimal digits, pushed one by one.
+ghost use Rattle.std.specs.Prelude.{◌≡◌, ◌++◌, ◌∷◌, [], IfOk, string_bytes};
+ghost use Rattle.yaml_writer.specs.Dates as dates;
+ghost use Rattle.yaml_writer.specs.Times as times;
+
+use std::alloc::{AllocError, Allocator};
+
+/// Appends the last digit of a number.
+fn push_digit<A: Allocator>(text: &mut String<A>, number: u16) -> Result<(), AllocError>
+    ensures { IfOk result (λ _. string_bytes text.new ≡ string_bytes text.old ++ dates.last_digit number ∷ []) }
+{
+    text.push(char::from(b'0' + (number % 10) as u8))
+}
+
+/// Appends the last two digits of a number.
+pub(crate) fn push_two_digits<A: Allocator>(
+    text: &mut String<A>,
+    number: u8,
+) -> Result<(), AllocError>
+    ensures { IfOk result (λ _. string_bytes text.new ≡ string_bytes text.old ++ dates.two_digits number) }
+{
+    let number = u16::from(number);
+    push_digit(text, number / 10)?;
+    push_digit(text, number)
+}
+
+/// Appends the last four digits of a number.
+pub(crate) fn push_four_digits<A: Allocator>(
+    text: &mut String<A>,
+    number: u16,
+) -> Result<(), AllocError>
+    ensures { IfOk result (λ _. string_bytes text.new ≡ string_bytes text.old ++ dates.four_digits number) }
+{
+    push_digit(text, number / 1000)?;
+    push_digit(text, number / 100)?;
+    push_digit(text, number / 10)?;
+    push_digit(text, number)
+}
+
+/// Appends the last three digits of a number.
+pub(crate) fn push_three_digits<A: Allocator>(
+    text: &mut String<A>,
+    number: u16,
+) -> Result<(), AllocError>
+    ensures { IfOk result (λ _. string_bytes text.new ≡ string_bytes text.old ++ times.three_digits number) }
+{
+    push_digit(text, number / 100)?;
+    push_digit(text, number / 10)?;
+    push_digit(text, number)
+}

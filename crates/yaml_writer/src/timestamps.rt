@@ -1,0 +1,157 @@
+//! Timestamps of YAML 1.1, and their texts.
+ghost use Rattle.std.specs.Prelude.{◌≡◌, ◌||◌, ◌++◌, IfErr, IfOk, None, OnOk, Some, if◌then◌else◌, is_some, option_map, string_bytes};
+ghost use Rattle.yaml_base.specs.Seen.{seen_text};
+ghost use Rattle.yaml_writer.specs.SeenNumbers.{is_minus};
+ghost use Rattle.yaml_writer.specs.SeenTimes.{seen_offset, seen_time, seen_timestamp};
+ghost use Rattle.yaml_writer.specs.Times as times;
+ghost use Rattle.yaml_writer.specs.Writing.{Failed, GaveEvent, timestamp_event};
+
+use crate::dates::Date;
+use crate::digits::{push_three_digits, push_two_digits};
+use crate::numbers::Sign;
+use crate::scalars::own_tag;
+use crate::tags::YAML_TIMESTAMP_TAG;
+use crate::times::{Offset, Time};
+use crate::writer::Writer;
+use std::alloc::{AllocError, Allocator};
+use yaml_base::{YAML_PLAIN_SCALAR_STYLE, yaml_error_t};
+
+/// A timestamp of YAML 1.1: a date, alone or with a time of that day.
+#[derive(Clone, Copy, PartialEq, Eq, Debug)]
+pub struct Timestamp {
+    pub date: Date,
+    pub time: Option<Time>,
+}
+
+/// Appends nanoseconds as decimals of a second.
+fn push_decimals<A: Allocator>(text: &mut String<A>, nanosecond: u32) -> Result<(), AllocError>
+    ensures { IfOk result (λ _. string_bytes text.new ≡ string_bytes text.old ++ times.decimals nanosecond) }
+{
+    push_three_digits(text, (nanosecond / 1_000_000) as u16)?;
+    if nanosecond % 1_000_000 == 0 {
+        return Ok(());
+    }
+    push_three_digits(text, (nanosecond / 1000 % 1000) as u16)?;
+    if nanosecond % 1000 == 0 {
+        return Ok(());
+    }
+    push_three_digits(text, (nanosecond % 1000) as u16)
+}
+
+/// Appends a point and the decimals, where there are any.
+fn push_fraction<A: Allocator>(text: &mut String<A>, nanosecond: u32) -> Result<(), AllocError>
+    ensures { IfOk result (λ _. string_bytes text.new ≡ string_bytes text.old ++ times.fraction_text nanosecond) }
+{
+    if nanosecond == 0 {
+        return Ok(());
+    }
+    text.push('.')?;
+    push_decimals(text, nanosecond)
+}
+
+fn sign_char(sign: Sign) -> char
+    ensures { result ≡ (if is_minus sign then 0x2D else 0x2B) }
+{
+    match sign {
+        Sign::Plus => '+',
+        Sign::Minus => '-',
+    }
+}
+
+/// Appends a sign, hours and minutes.
+fn push_offset<A: Allocator>(text: &mut String<A>, offset: &Offset) -> Result<(), AllocError>
+    ensures { IfOk result (λ _. string_bytes text.new ≡ string_bytes text.old ++ times.zone_text (Some (seen_offset offset.now))) }
+{
+    text.push(sign_char(offset.sign))?;
+    push_two_digits(text, offset.hours)?;
+    text.push(':')?;
+    push_two_digits(text, offset.minutes)
+}
+
+/// Appends an offset, or `Z` for UTC.
+fn push_zone<A: Allocator>(text: &mut String<A>, offset: &Option<Offset>) -> Result<(), AllocError>
+    ensures { IfOk result (λ _. string_bytes text.new ≡ string_bytes text.old ++ times.zone_text (option_map seen_offset offset.now)) }
+{
+    match offset {
+        None => text.push('Z'),
+        Some(offset) => push_offset(text, offset),
+    }
+}
+
+/// Appends hours, minutes and seconds.
+fn push_clock<A: Allocator>(text: &mut String<A>, time: &Time) -> Result<(), AllocError>
+    ensures { IfOk result (λ _. string_bytes text.new ≡ string_bytes text.old ++ times.clock_text (seen_time time.now)) }
+{
+    push_two_digits(text, time.hour)?;
+    text.push(':')?;
+    push_two_digits(text, time.minute)?;
+    text.push(':')?;
+    push_two_digits(text, time.second)?;
+    push_fraction(text, time.nanosecond)
+}
+
+/// Appends `T` and a time, where there is one.
+fn push_time<A: Allocator>(text: &mut String<A>, time: &Option<Time>) -> Result<(), AllocError>
+    ensures { IfOk result (λ _. string_bytes text.new ≡ string_bytes text.old ++ times.time_text (option_map seen_time time.now)) }
+{
+    match time {
+        None => Ok(()),
+        Some(time) => {
+            text.push('T')?;
+            push_clock(text, time)?;
+            push_zone(text, &time.offset)
+        }
+    }
+}
+
+impl Timestamp {
+    /// Its bytes, which are ASCII.
+    fn spelled<A: Allocator>(&self, alloc: A) -> Result<String<A>, AllocError>
+        ensures { IfOk result (λ text. string_bytes text ≡ times.timestamp_text (seen_timestamp self.now)) }
+    {
+        let mut text = String::new(alloc);
+        self.date.push(&mut text)?;
+        push_time(&mut text, &self.time)?;
+        Ok(text)
+    }
+
+    /// Its text, as `2002-12-14` or `2001-12-14T21:59:43.100Z`, which the type repository of YAML 1.1 reads as a timestamp, and
+    /// as this one. A second has no decimals, or three, six or nine, as it takes.
+    ///
+    /// # Errors
+    /// `AllocError` if an allocation fails.
+    pub fn text<A: Allocator>(&self, alloc: A) -> Result<String<A>, AllocError>
+        ensures text { IfOk result (λ text. seen_text text ≡ times.timestamp_text (seen_timestamp self.now)) }
+        ensures reads { IfOk result (λ text. times.moment_in (seen_text text) ≡ Some (seen_timestamp self.now)) }
+    {
+        let text = self.spelled(alloc)?;
+        Ok(text)
+    }
+}
+
+/// Whether a timestamp's tag is written.
+fn needs_tag(canonical: bool, timestamp: &Timestamp) -> bool
+    ensures { result ≡ (canonical || is_some (seen_timestamp timestamp.now).time) }
+{
+    canonical || timestamp.time.is_some()
+}
+
+impl<A: Allocator + Copy> Writer<A> {
+    /// Writes a timestamp of YAML 1.1, in its `text`: a date plain, and one with a time of day with the tag
+    /// `tag:yaml.org,2002:timestamp`, as in flow its `:` keeps it from standing plain.
+    ///
+    /// # Errors
+    /// Those of the emitter, and `Memory`.
+    pub fn timestamp(&mut self, timestamp: &Timestamp) -> Result<(), yaml_error_t>
+        ensures given { OnOk result (GaveEvent self.old (timestamp_event self.old (seen_timestamp timestamp.now)) None self.new) }
+        ensures failed { IfErr result (λ error. Failed self.old (timestamp_event self.old (seen_timestamp timestamp.now)) error self.new) }
+    {
+        match timestamp.text(self.alloc) {
+            Ok(text) => {
+                let tag = own_tag(needs_tag(self.canonical, timestamp), YAML_TIMESTAMP_TAG);
+                self.scalar(tag, text.as_str(), YAML_PLAIN_SCALAR_STYLE)
+            }
+            Err(_) => Err(yaml_error_t::Memory),
+        }
+    }
+}
