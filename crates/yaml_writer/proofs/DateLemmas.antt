@@ -1,7 +1,7 @@
 -- Dates are read as themselves, and are written plain.
 use Rattle.yaml_writer.proofs.Common.{ℕ, ◌<◌, ◌==◌, Option, Some, codes, length, Bool, false, not, true, ◌&&◌, ◌||◌, List, [], ◌++◌, ◌∷◌, refl, ◌≡◌}
 use Rattle.yaml_writer.proofs.Common.{eqb-true, ap, ap₂, ◌∙◌, arith, and_parts, and_from, list_all-append, take_while-cons, list_all, take_while}
-use Rattle.yaml_writer.proofs.Common.{Text, is_decimal, first_meets, digit_unlike, nat_lt, plain, is_break}
+use Rattle.yaml_writer.proofs.Common.{Text, is_decimal, first_meets, digit_unlike, nat_lt, is_break}
 use Rattle.yaml_base.proofs.Common.{agree_below_at, nat_tests, slice_split, past, is_hyphen, in_date, is_date, is_time_after_date, meant_timestamp}
 use Rattle.yaml_base.proofs.Common.{Resolved, first_reading, resolved_by_11, numbers_11, past_sign, is_negative}
 use Rattle.std.proofs.lemmas.List.{Splits.slice_split_at, Sums.AllPass-from_list_all}

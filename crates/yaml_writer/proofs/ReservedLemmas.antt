@@ -1,9 +1,9 @@
 -- The reserved words in groups, by their first characters, and by the first bytes of a text.
 use Rattle.yaml_writer.proofs.Common.{suc, zero, ℕ, ◌<◌, if◌then◌else◌, ◌==◌, nat_lt, length, take, Bool, false, true, ◌&&◌, ◌||◌, List, [], map, ◌++◌, ◌∷◌}
-use Rattle.yaml_writer.proofs.Common.{refl, ◌≡◌, ltb-true, true≢false, ap, sym, ◌∙◌, arith, and_parts, or_from, take_while-cons, to_ascii_lowercase, list_all}
-use Rattle.yaml_writer.proofs.Common.{list_any, take_while, Text, is_ascii, is_space, is_word, first_meets, reserved_words, ascii_prefix, is_reserved_word}
-use Rattle.yaml_base.proofs.Common.{bytes_eq, list_any-append, bytes_eq-Decides, slice_split}
-use Rattle.yaml_writer.specs.Words.{is_one_of, begins_reserved, null_words, truth_words, answer_words, key_words, float_words, plus_words, minus_words}
+use Rattle.yaml_writer.proofs.Common.{refl, ◌≡◌, ltb-true, ap, sym, ◌∙◌, arith, and_parts, take_while-cons, to_ascii_lowercase, list_all}
+use Rattle.yaml_writer.proofs.Common.{list_any, take_while, Text, is_ascii, is_space, is_word, reserved_words, ascii_prefix, is_reserved_word}
+use Rattle.yaml_base.proofs.Common.{bytes_eq, list_any-append, slice_split}
+use Rattle.yaml_writer.specs.Words.{is_one_of, null_words, truth_words, answer_words, key_words, float_words, plus_words, minus_words}
 
 -- ---- groups
 
@@ -67,28 +67,3 @@ short_words text (word ∷ words) h =
 -- the first bytes tell a reserved word
 pub reserved_by_head : (text : Text) → is_reserved_word (lowered (take_while is_ascii (take 10 text))) ≡ list_any (is_word (ascii_prefix text)) reserved_words
 reserved_by_head text = sym (in_groups (lowered (take_while is_ascii (take 10 text)))) ∙ short_words text reserved_words refl
-
--- ---- the first byte
-
-no_word : (words : List Text) (text : Text) → list_all (first_meets begins_reserved) words ≡ true → first_meets begins_reserved text ≡ false
-    → list_any (is_word text) words ≡ false
-no_word [] text all other = refl
-no_word (word ∷ words) text all other = or_from (is_word text word) _ (by (is_word text word) refl) (no_word words text both.1 other)
-  where
-    both : (first_meets begins_reserved word ≡ true) × (list_all (first_meets begins_reserved) words ≡ true)
-    both = and_parts (first_meets begins_reserved word) (list_all (first_meets begins_reserved) words) all
-
-    by : (x : Bool) → is_word text word ≡ x → x ≡ false
-    by true e = absurd (true≢false (sym both.0 ∙ ap (first_meets begins_reserved) (sym ((bytes_eq-Decides text word).0 e)) ∙ other))
-    by false e = refl
-
--- a text whose first byte begins no reserved word is none
-pub none_by_first : (c : ℕ) (rest : Text) → begins_reserved (to_ascii_lowercase c) ≡ false
-    → list_any (is_word (ascii_prefix (c ∷ rest))) reserved_words ≡ false
-none_by_first c rest h =
-    no_word reserved_words (ascii_prefix (c ∷ rest)) refl
-    (ap (λ t. first_meets begins_reserved (lowered t)) (take_while-cons is_ascii c rest) ∙ by (is_ascii c))
-  where
-    by : (x : Bool) → first_meets begins_reserved (lowered (if x then c ∷ take_while is_ascii rest else [])) ≡ false
-    by true = h
-    by false = refl

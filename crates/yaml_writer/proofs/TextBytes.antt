@@ -3,7 +3,7 @@
 use Rattle.yaml_base.proofs.Common.{ℕ, if◌then◌else◌, ◌==◌, codes, length, Bool, false, not, true, ◌&&◌, ◌||◌, List, [], map, ◌++◌, ◌∷◌, refl, ◌≡◌, eqb-true}
 use Rattle.yaml_base.proofs.Common.{le-leb, leb-true, ltb-true, length-append, true≢false, ap, subst, sym, ◌∙◌, arith, and_parts, and_left, and_right}
 use Rattle.yaml_base.proofs.Common.{or_from, take_while-cons, length-encode, len_utf8_bounds, digit_value, list_all, list_any, take_while, chars}
-use Rattle.yaml_base.proofs.Common.{encode_utf8_all, Text, is_among, is_ascii, is_blank, is_word, is_point, is_plus_or_minus, is_decimal, first_meets}
+use Rattle.yaml_base.proofs.Common.{encode_utf8_all, Text, is_among, is_ascii, is_blank, is_word, is_plus_or_minus, is_decimal, first_meets}
 use Rattle.yaml_base.proofs.Common.{is_colon, past, is_reserved, is_symbol, is_based, is_number_letter, in_number, is_numeric}
 use Rattle.std.{proofs.lemmas.Str.encode_ascii, proofs.lemmas.Str.char_from_byte, proofs.lemmas.Str.encodes-chars, proofs.lemmas.Str.Parse.digit_from_value}
 use Rattle.std.{specs.Char.encode_utf8, specs.Char.to_ascii_lowercase, specs.Str.IsUtf8}
@@ -74,12 +74,6 @@ no_digit c h = by (is_decimal c) refl
 not_before_number : (c : ℕ) → is_ascii c ≡ false → precedes_number c ≡ false
 not_before_number c h =
     or_from (is_plus_or_minus c) _ (or_from (c == 0x2B) _ (unlike 0x2B c refl h) (unlike 0x2D c refl h)) (unlike 0x5F c refl h)
-
-not_first : (c : ℕ) → is_ascii c ≡ false → begins_number c ≡ false
-not_first c h =
-    or_from (is_decimal c || is_point c || precedes_number c) _
-    (or_from (is_decimal c || is_point c) _ (or_from (is_decimal c) _ (no_digit c h) (unlike 0x2E c refl h)) (not_before_number c h))
-    (or_from (c == 0x65) _ (unlike 0x65 c refl h) (unlike 0x45 c refl h))
 
 not_within : (c : ℕ) → is_ascii c ≡ false → in_number c ≡ false
 not_within c h =

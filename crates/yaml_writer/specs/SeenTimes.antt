@@ -1,5 +1,5 @@
 -- What contracts see of a timestamp: its parts.
-use Rattle.std.specs.Prelude.{ℕ, Option, option_map}
+use Rattle.std.specs.Prelude.{ℕ, option_map}
 use Rattle.yaml_writer.specs.SeenDates.{seen_date}
 use Rattle.yaml_writer.specs.SeenNumbers.{is_minus}
 use Rattle.yaml_writer.specs.Times.{ClockOffset, ClockTime, Moment, clock_time}
