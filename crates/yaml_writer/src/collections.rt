@@ -4,7 +4,7 @@ ghost use Rattle.yaml_base.specs.Seen.{seen_mapping_style, seen_sequence_style};
 ghost use Rattle.yaml_writer.specs.Writing.{EndsInnermost, Failed, GaveEvent, NodeExpected, awaits_node, with_collection, mapping_event, sequence_event};
 ghost use Rattle.yaml_writer.specs.declared.kinds.CollectionKind.TheVariants.{Mapping, Sequence};
 
-use crate::giving::{give_end, give_mapping, give_sequence};
+use crate::giving::{give, give_end, start_of_mapping, start_of_sequence};
 use crate::kinds::CollectionKind;
 use crate::writer::Writer;
 use std::alloc::Allocator;
@@ -79,7 +79,7 @@ impl<A: Allocator + Copy> Writer<A> {
     {
         let anchor = self.anchor.take();
         let tag = self.tag.take();
-        give_mapping(&mut self.emitter, anchor, tag, style)
+        give(&mut self.emitter, start_of_mapping(anchor, tag, style))
     }
 
     /// Gives the start of a sequence to the emitter, with the properties of the next node.
@@ -89,6 +89,6 @@ impl<A: Allocator + Copy> Writer<A> {
     {
         let anchor = self.anchor.take();
         let tag = self.tag.take();
-        give_sequence(&mut self.emitter, anchor, tag, style)
+        give(&mut self.emitter, start_of_sequence(anchor, tag, style))
     }
 }

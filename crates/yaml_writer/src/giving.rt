@@ -34,7 +34,7 @@ pub(crate) fn plain_start<A: Allocator>(alloc: A) -> yaml_event_t<A>
 
 /// Gives an event.
 #[inline(always)]
-fn give<A: Allocator + Copy>(
+pub(crate) fn give<A: Allocator + Copy>(
     emitter: &mut yaml_emitter_t<A>,
     event: yaml_event_t<A>,
 ) -> Result<(), yaml_error_t>
@@ -138,60 +138,42 @@ pub(crate) fn use_up<A: Allocator>(anchor: &mut Option<String<A>>, tag: &mut Opt
     let _tag = tag.take();
 }
 
-/// Gives the start of a mapping; where it has no tag, none need be written.
-pub(crate) fn give_mapping<A: Allocator + Copy>(
-    emitter: &mut yaml_emitter_t<A>,
+/// The start of a mapping; where it has no tag, none need be written.
+pub(crate) fn start_of_mapping<A: Allocator>(
     anchor: Option<String<A>>,
     tag: Option<String<A>>,
     style: yaml_mapping_style_t,
-) -> Result<(), yaml_error_t>
-    requires output { emitter.old.has_output ≡ true }
-    ensures adds { AddsEvent emitter.old
-        (mapping_start
-        (record { anchor = option_map seen_text anchor; tag = option_map seen_text tag; implicit = is_none tag; style = seen_mapping_style style }))
-        emitter.new }
-    ensures grows { Grows emitter.old.page emitter.new.page }
-    ensures answered { result ≡ result_of_error emitter.new.error }
-    ensures output { emitter.new.has_output ≡ true }
+) -> yaml_event_t<A>
+    ensures { seen_event result
+        ≡ mapping_start
+        (record { anchor = option_map seen_text anchor; tag = option_map seen_text tag; implicit = is_none tag; style = seen_mapping_style style }) }
 {
     let implicit = tag.is_none();
-    give(
-        emitter,
-        YAML_MAPPING_START_EVENT {
-            anchor,
-            tag,
-            implicit,
-            style,
-        },
-    )
+    YAML_MAPPING_START_EVENT {
+        anchor,
+        tag,
+        implicit,
+        style,
+    }
 }
 
-/// Gives the start of a sequence; where it has no tag, none need be written.
-pub(crate) fn give_sequence<A: Allocator + Copy>(
-    emitter: &mut yaml_emitter_t<A>,
+/// The start of a sequence; where it has no tag, none need be written.
+pub(crate) fn start_of_sequence<A: Allocator>(
     anchor: Option<String<A>>,
     tag: Option<String<A>>,
     style: yaml_sequence_style_t,
-) -> Result<(), yaml_error_t>
-    requires output { emitter.old.has_output ≡ true }
-    ensures adds { AddsEvent emitter.old
-        (sequence_start
-        (record { anchor = option_map seen_text anchor; tag = option_map seen_text tag; implicit = is_none tag; style = seen_sequence_style style }))
-        emitter.new }
-    ensures grows { Grows emitter.old.page emitter.new.page }
-    ensures answered { result ≡ result_of_error emitter.new.error }
-    ensures output { emitter.new.has_output ≡ true }
+) -> yaml_event_t<A>
+    ensures { seen_event result
+        ≡ sequence_start
+        (record { anchor = option_map seen_text anchor; tag = option_map seen_text tag; implicit = is_none tag; style = seen_sequence_style style }) }
 {
     let implicit = tag.is_none();
-    give(
-        emitter,
-        YAML_SEQUENCE_START_EVENT {
-            anchor,
-            tag,
-            implicit,
-            style,
-        },
-    )
+    YAML_SEQUENCE_START_EVENT {
+        anchor,
+        tag,
+        implicit,
+        style,
+    }
 }
 
 /// Gives the end of a collection.
