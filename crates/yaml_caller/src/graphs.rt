@@ -9,13 +9,10 @@ ghost use Rattle.yaml_caller.specs.GraphBytes.{IsRefused, WritesGraph};
 
 use super::copied;
 use std::alloc::Allocator;
-use yaml_base::{YAML_LN_BREAK, YAML_UTF8_ENCODING, yaml_document_t, yaml_error_t};
+use yaml_base::{yaml_document_t, yaml_error_t};
 use yaml_dump::{yaml_emitter_close, yaml_emitter_dump};
-use yaml_emitter::{
-    yaml_emitter_initialize, yaml_emitter_set_break, yaml_emitter_set_canonical,
-    yaml_emitter_set_encoding, yaml_emitter_set_indent, yaml_emitter_set_output_string,
-    yaml_emitter_set_unicode, yaml_emitter_set_width, yaml_emitter_t,
-};
+use yaml_emitter::yaml_emitter_t;
+use yaml_value::canonical_settings;
 
 /// Whether two documents have the same canonical bytes, their directives and marks aside: exactly where the parts of their
 /// graphs that the roots reach are isomorphic. The numbers and the styles of nodes don't count; which nodes are shared, does.
@@ -72,7 +69,7 @@ fn graph_bytes<A: Allocator + Copy>(
     ensures written { IfOk result (λ bytes. WritesGraph (graph_of document) bytes.items) }
     ensures failed { IfErr result (λ error. (error ≡ yaml_error_t.Memory) ⊎ IsRefused (graph_of document) error) }
 {
-    let mut emitter = graph_emitter(alloc)?;
+    let mut emitter = yaml_emitter_t::with_settings(alloc, canonical_settings())?;
     let answer = dump_graph(alloc, &mut emitter, document.bare());
     let output = emitter.output();
     // A law: no output reaches the limit.
@@ -105,27 +102,6 @@ fn dump_graph<A: Allocator + Copy>(
     document.numbers_name_nodes();
     yaml_emitter_dump(alloc, emitter, document)?;
     yaml_emitter_close(emitter)
-}
-
-/// An emitter of canonical form in UTF-8, without a width, whose output has no limit that a vector reaches.
-fn graph_emitter<A: Allocator + Copy>(alloc: A) -> Result<yaml_emitter_t<A>, yaml_error_t>
-    ensures stands { IfOk result (λ emitter. StandsAfter typed_settings [] emitter) }
-    ensures output { IfOk result (λ emitter. emitter.has_output ≡ true) }
-    ensures no_error { IfOk result (λ emitter. emitter.error ≡ None) }
-    ensures untaken { IfOk result (λ emitter. emitter.page.taken ≡ 0) }
-    ensures unopened { IfOk result (λ emitter. emitter.opened ≡ false) }
-    ensures unclosed { IfOk result (λ emitter. emitter.closed ≡ false) }
-    ensures memory { IfErr result (λ error. error ≡ yaml_error_t.Memory) }
-{
-    let mut emitter = yaml_emitter_initialize(alloc)?;
-    yaml_emitter_set_output_string(&mut emitter, usize::MAX);
-    yaml_emitter_set_encoding(&mut emitter, YAML_UTF8_ENCODING);
-    yaml_emitter_set_canonical(&mut emitter, true);
-    yaml_emitter_set_unicode(&mut emitter, true);
-    yaml_emitter_set_indent(&mut emitter, 2);
-    yaml_emitter_set_width(&mut emitter, -1);
-    yaml_emitter_set_break(&mut emitter, YAML_LN_BREAK);
-    Ok(emitter)
 }
 
 /// A law: a slice has fewer bytes than the largest limit.

@@ -11,6 +11,7 @@ mod writing;
 
 pub use laws::equal_bytes_equal_values;
 pub use value::Value;
+pub use writing::canonical_settings;
 pub use writing::write_canonical;
 pub use yaml_dump::Directives;
 pub use yaml_dump::Indicator;

@@ -1,7 +1,7 @@
 //! Values written.
-ghost use Rattle.std.specs.Prelude.{◌≡◌, ◌↔◌, ◌⊎◌, ◌<◌, ◌≤◌, true, None, [], Err, IfOk, IfErr, length};
+ghost use Rattle.std.specs.Prelude.{◌≡◌, ◌↔◌, ◌⊎◌, ◌<◌, ◌≤◌, Err, IfOk, IfErr, length};
 ghost use Rattle.yaml_base.specs.values.TypedValues.{WritesValue, most_nested, nesting, typed_settings};
-ghost use Rattle.yaml_emitter.specs.StandsAfter.{StandsAfter};
+ghost use Rattle.yaml_emitter.specs.Given.{seen_settings};
 ghost use Rattle.yaml_value.specs.SeenValues.{seen_value};
 ghost use Rattle.yaml_base.specs.Settings.{largest_usize};
 
@@ -11,11 +11,7 @@ use crate::value::Value;
 use std::alloc::Allocator;
 use yaml_base::{YAML_LN_BREAK, YAML_UTF8_ENCODING, yaml_error_t};
 use yaml_dump::emit_each;
-use yaml_emitter::{
-    yaml_emitter_initialize, yaml_emitter_set_break, yaml_emitter_set_canonical,
-    yaml_emitter_set_encoding, yaml_emitter_set_indent, yaml_emitter_set_output_string,
-    yaml_emitter_set_unicode, yaml_emitter_set_width, yaml_emitter_t,
-};
+use yaml_emitter::{Settings, yaml_emitter_t};
 
 /// The canonical YAML of a value: one document in UTF-8, each node with its tag. The canonical reader of the definitions
 /// finds in these bytes this value and no other.
@@ -44,7 +40,7 @@ fn written<A: Allocator + Copy>(alloc: A, value: &Value<A>) -> Result<Vec<u8, A>
     ensures memory { IfErr result (λ error. error ≡ yaml_error_t.Memory) }
 {
     let events = events_of(alloc, value)?;
-    let mut emitter = canonical_emitter(alloc)?;
+    let mut emitter = yaml_emitter_t::with_settings(alloc, canonical_settings())?;
     let answer = emit_each(&mut emitter, events);
     let output = emitter.output();
     // A law: no output reaches the limit.
@@ -55,23 +51,20 @@ fn written<A: Allocator + Copy>(alloc: A, value: &Value<A>) -> Result<Vec<u8, A>
     }
 }
 
-/// An emitter of canonical form in UTF-8, without a width, whose output has no limit that a vector reaches.
-fn canonical_emitter<A: Allocator + Copy>(alloc: A) -> Result<yaml_emitter_t<A>, yaml_error_t>
-    ensures stands { IfOk result (λ emitter. StandsAfter typed_settings [] emitter) }
-    ensures output { IfOk result (λ emitter. emitter.has_output ≡ true) }
-    ensures no_error { IfOk result (λ emitter. emitter.error ≡ None) }
-    ensures untaken { IfOk result (λ emitter. emitter.page.taken ≡ 0) }
-    ensures memory { IfErr result (λ error. error ≡ yaml_error_t.Memory) }
+/// The settings of canonical values: canonical form in UTF-8 and with LF, an indent of 2, no width, printable characters as
+/// themselves, and no limit that a vector reaches.
+pub fn canonical_settings() -> Settings
+    ensures { seen_settings result ≡ typed_settings }
 {
-    let mut emitter = yaml_emitter_initialize(alloc)?;
-    yaml_emitter_set_output_string(&mut emitter, usize::MAX);
-    yaml_emitter_set_encoding(&mut emitter, YAML_UTF8_ENCODING);
-    yaml_emitter_set_canonical(&mut emitter, true);
-    yaml_emitter_set_unicode(&mut emitter, true);
-    yaml_emitter_set_indent(&mut emitter, 2);
-    yaml_emitter_set_width(&mut emitter, -1);
-    yaml_emitter_set_break(&mut emitter, YAML_LN_BREAK);
-    Ok(emitter)
+    Settings {
+        encoding: YAML_UTF8_ENCODING,
+        canonical: true,
+        unicode: true,
+        indent: Some(2),
+        width: Some(-1),
+        line_break: YAML_LN_BREAK,
+        ..Settings::default()
+    }
 }
 
 /// A law: a slice has fewer bytes than the largest limit.
