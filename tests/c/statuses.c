@@ -317,9 +317,49 @@ static void deep(void) {
     printf("sequences in sequences: length %lu, event %lu\n", (unsigned long)result.length, (unsigned long)result.event);
 }
 
+/* A scalar of many letters, by a buffer of just the length: without its first `skip` letters, or with a byte too few for it. */
+static int is_long(size_t letters, const uint8_t *text, size_t skip, size_t missing, uint8_t *buffer) {
+    size_t i, length = letters + 1 - skip, written = missing == 0 ? length : 0;
+    int32_t status = missing == 0 ? YAML_DONE : YAML_TOO_SMALL;
+    int good;
+    memset(buffer, 0xa5, letters + 2);
+    calls++;
+    settings.skip = skip;
+    good = yaml_emit(events, 5, directives, 0, text, letters, &settings, buffer, length - missing, &result) == status
+        && result.length == letters + 1;
+    for (i = 0; i < written; i++) good = good && buffer[i] == (i + 1 == length ? '\n' : text[skip + i]);
+    for (i = written; i < letters + 2; i++) good = good && buffer[i] == 0xa5;
+    return good;
+}
+
+/* An output that is moved to the buffer in several parts. */
+static void long_output(void) {
+    const size_t letters = 4000000;
+    uint8_t *text = (uint8_t *)malloc(letters), *buffer = (uint8_t *)malloc(letters + 2);
+    size_t i;
+    int good = text != NULL && buffer != NULL;
+    begin();
+    memset(events + 1, 0, 2 * sizeof *events);
+    events[1].kind = 3;
+    events[1].implicit = 1;
+    events[2].kind = 6;
+    events[2].implicit = 1;
+    events[2].value.length = letters;
+    settings.width = -1;
+    for (i = 0; good && i < letters; i++) text[i] = (uint8_t)('a' + i % 23);
+    good = good && is_long(letters, text, 0, 0, buffer) && is_long(letters, text, 100000, 0, buffer) && is_long(letters, text, letters, 0, buffer)
+        && is_long(letters, text, 0, 1, buffer) && is_long(letters, text, 100000, 1, buffer);
+    free(text);
+    free(buffer);
+    if (good) return;
+    failures++;
+    printf("a long output: length %lu, event %lu\n", (unsigned long)result.length, (unsigned long)result.event);
+}
+
 int main(void) {
     if (yaml_c_version() != YAML_C_VERSION) return 1;
     done();
+    long_output();
     bad_settings();
     bad_numbers();
     bad_spans();

@@ -4,5 +4,6 @@ pub mod DirectiveLemmas
 pub mod EmissionLemmas
 pub mod JsonLemmas
 pub mod KeptLemmas
+pub mod MovingLemmas
 pub mod Pointers
 pub mod rows

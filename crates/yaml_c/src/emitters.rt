@@ -16,9 +16,9 @@ ghost use Rattle.yaml_c.specs.Kept.{Changes, Flushes, GivesRecord, IsOpen, Makes
 use crate::events::number_of;
 use crate::handle::EmitterHandle;
 use crate::records::{DirectiveRecord, EventOrNone, EventRecord, event_of};
-use crate::results::{CallResult, copy_to_caller};
+use crate::results::{CallResult, move_to_caller};
 use crate::settings::{EmitterSettings, settings_from};
-use crate::statuses::{BAD_EVENT, BAD_SETTINGS, DONE, NO_MEMORY, REFUSED};
+use crate::statuses::{BAD_EVENT, BAD_SETTINGS, DONE, NO_MEMORY, REFUSED, TOO_SMALL};
 use std::alloc::{Allocator, Global};
 use yaml_base::yaml_error_t;
 use yaml_emitter::{
@@ -138,7 +138,7 @@ fn flush<A: Allocator + Copy>(emitter: &mut yaml_emitter_t<A>, report: &mut Call
     tell(yaml_emitter_flush(emitter), report)
 }
 
-/// Copies the flushed bytes not yet taken to the caller's buffer, and takes them if they fit.
+/// Moves the flushed bytes not yet taken to the caller's buffer, if they fit.
 fn take_output<A: Allocator + Copy>(
     emitter: &mut yaml_emitter_t<A>,
     out: &mut [u8],
@@ -150,23 +150,14 @@ fn take_output<A: Allocator + Copy>(
     ensures promised { (given : Settings) (all : List Event) → StandsAfter given all emitter.old → Promised given all emitter.new }
     ensures output { emitter.new.has_output ≡ emitter.old.has_output }
 {
-    let status = copy_to_caller(emitter.output(), 0, out, report);
-    take_if_copied(emitter, status);
-    status
-}
-
-/// Takes the output, if it was copied.
-fn take_if_copied<A: Allocator + Copy>(emitter: &mut yaml_emitter_t<A>, status: i32)
-    ensures copied { status ≡ pos 0 → emitter.new ≡ with_all_taken emitter.old }
-    ensures not_copied { (status ≡ pos 0 → ⊥) → emitter.new ≡ emitter.old }
-    ensures stands { (given : Settings) (all : List Event) → StandsAfter given all emitter.old → StandsAfter given all emitter.new }
-    ensures promised { (given : Settings) (all : List Event) → StandsAfter given all emitter.old → Promised given all emitter.new }
-    ensures output { emitter.new.has_output ≡ emitter.old.has_output }
-{
     standing_is_promised();
-    if status == DONE {
-        yaml_emitter_take_output(emitter).drop();
+    let length = emitter.output().len();
+    if length > out.len() {
+        *report = CallResult::nothing();
+        report.length = length;
+        return TOO_SMALL;
     }
+    move_to_caller(yaml_emitter_take_output(emitter), 0, out, report)
 }
 
 /// Reports the error that a call returned, if any, and returns the status that goes with it.

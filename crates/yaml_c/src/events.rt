@@ -7,12 +7,15 @@ ghost use Rattle.yaml_c.specs.Emission.{EmitsRecords, FlushesAfter, IsEmission, 
 ghost use Rattle.yaml_c.specs.EventRecords.{events_from};
 
 use crate::records::{DirectiveRecord, EventRecord, event_of};
-use crate::results::{CallResult, copy_to_caller};
+use crate::results::{CallResult, move_to_caller};
 use crate::settings::{EmitterSettings, settings_from};
 use crate::statuses::{BAD_EVENT, BAD_SETTINGS, NO_MEMORY, REFUSED};
 use std::alloc::{Allocator, Global};
 use yaml_base::yaml_error_t;
-use yaml_emitter::{standing_is_promised, yaml_emitter_emit, yaml_emitter_flush, yaml_emitter_t};
+use yaml_emitter::{
+    standing_is_promised, yaml_emitter_emit, yaml_emitter_flush, yaml_emitter_t,
+    yaml_emitter_take_output,
+};
 
 /// How the events of an array were emitted.
 #[derive(Clone, Copy)]
@@ -84,18 +87,18 @@ pub(crate) fn number_of(error: yaml_error_t) -> u32
 }
 
 /// Returns how an emission ended, and of its output what the caller doesn't have.
-fn copy_emission(
+fn move_emission<A: Allocator>(
     emission: Emission,
-    yaml: &[u8],
+    yaml: Vec<u8, A>,
     skip: usize,
     out: &mut [u8],
     report: &mut CallResult,
 ) -> i32
-    ensures { CopiesToCaller (emit_results emission yaml.now skip out.old) result out.new report.new }
+    ensures { CopiesToCaller (emit_results emission yaml.items skip out.old) result out.new report.new }
 {
     *report = CallResult::nothing();
     match emission {
-        Emission::Done => copy_to_caller(yaml, skip, out, report),
+        Emission::Done => move_to_caller(yaml, skip, out, report),
         Emission::Refused(_, yaml_error_t::Memory) => NO_MEMORY,
         Emission::Refused(number, error) => {
             report.event = number;
@@ -131,5 +134,6 @@ pub extern "C" fn yaml_emit(
         return NO_MEMORY;
     };
     let emission = emit_records(alloc, &mut emitter, texts, directives, events);
-    copy_emission(emission, emitter.output(), settings.skip, out, report)
+    let yaml = yaml_emitter_take_output(&mut emitter);
+    move_emission(emission, yaml, settings.skip, out, report)
 }

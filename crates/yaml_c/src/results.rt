@@ -1,9 +1,10 @@
 //! What a call returns beside its status.
-ghost use Rattle.std.specs.Prelude.{◌≡◌, drop};
+ghost use Rattle.std.specs.Prelude.{◌≡◌};
 ghost use Rattle.yaml_c.specs.Answers.{CopiesToCaller, nothing_reported, results_done};
 
-use crate::buffers::copy_out;
+use crate::buffers::move_out;
 use crate::statuses::{DONE, TOO_SMALL};
+use std::alloc::Allocator;
 
 /// What a call came to, beside its status. See the header.
 #[repr(C)]
@@ -30,29 +31,18 @@ impl CallResult {
     }
 }
 
-/// The bytes behind the first so many.
-fn bytes_after(bytes: &[u8], skip: usize) -> &[u8]
-    ensures { result.now ≡ drop skip bytes.now }
-{
-    if skip < bytes.len() {
-        &bytes[skip..]
-    } else {
-        &[]
-    }
-}
-
-/// Copies the YAML to the caller's buffer, but for its first `skip` bytes, which the caller has.
-pub(crate) fn copy_to_caller(
-    yaml: &[u8],
+/// Moves the YAML to the caller's buffer, but for its first `skip` bytes, which the caller has.
+pub(crate) fn move_to_caller<A: Allocator>(
+    yaml: Vec<u8, A>,
     skip: usize,
     out: &mut [u8],
     report: &mut CallResult,
 ) -> i32
-    ensures { CopiesToCaller (results_done yaml.now skip out.old) result out.new report.new }
+    ensures { CopiesToCaller (results_done yaml.items skip out.old) result out.new report.new }
 {
     *report = CallResult::nothing();
     report.length = yaml.len();
-    if copy_out(bytes_after(yaml, skip), out) {
+    if move_out(yaml, skip, out) {
         DONE
     } else {
         TOO_SMALL
