@@ -1,5 +1,5 @@
 -- What the function over events returns to its caller.
-use Rattle.std.specs.Prelude.{◌≡◌, ◌⊎◌, ⊤, ◌<◌, ℕ, ℤ, pos, Option, None, Some, List, drop, length, nat_le, if◌then◌else◌}
+use Rattle.std.specs.Prelude.{◌≡◌, ◌⊎◌, ⊤, ◌<◌, ℕ, ℤ, Option, None, Some, List, length}
 use Rattle.yaml_base.specs.Settings.{Settings}
 use Rattle.yaml_base.specs.scripts.Script.{Numbered}
 use Rattle.yaml_base.specs.declared.errors.yaml_error_t.{yaml_error_t}

@@ -1,7 +1,6 @@
 -- The pointer goes from one struct to the other, with what it owns.
 use Rattle.std.proofs.Common.{◌≡◌, [], ◌∷◌, Option, refl, sym, is_some, true}
 use Rattle.std.proofs.raw_atomic.Walks.{proved}
-use base.Fml.{ftrue}
 use contract.Monad.{fact}
 use denote.Steps.{heard}
 use types.Kit.{rewrite, ‵, raw, ◌⊛◌, ◌$◌, ◌∵◌, !, qed, done, drop, fsplit, fjoin, join, move, split, suffices}
@@ -9,13 +8,9 @@ use types.Run.{enter, fld, stop, no_more, and_then, of_opd, returns}
 use types.Part.{agg, sub, whole}
 use types.ByLocal.{alloc_all, pass_all, free_all, look_at, get, get_in, sets}
 use denote.Exit.{yes}
-use denote.Laws.{Is}
 use denote.RattleType.{owns}
-use denote.RawPtr.{ptr_val}
 use denote.Signature.{plain, types_at}
-use denote.Steps.{nothing, owned}
-use denote.Struct.Owning.{shape}
-use denote.Struct.Struct.{Struct, Struct-Makes}
+use denote.Steps.{nothing}
 use denote.Triple.Entry.{alive}
 use denote.Triple.Walked.{Stays, stay_dropped, Goes-dropped, walk_of, says, ends_at}
 use Rattle.yaml_c.specs.contracts.raw_box.RawBox as raw_box

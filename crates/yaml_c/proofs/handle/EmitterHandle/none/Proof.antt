@@ -2,16 +2,12 @@
 use Rattle.std.proofs.Common.{[], ◌∷◌, refl, None, lit<}
 use Rattle.std.proofs.raw_atomic.Walks.{proved}
 use base.Fml.{ftrue}
-use mir.Val.{vint}
 use types.Kit.{‵, raw, ◌⊛◌, ◌$◌, ◌∵◌, !, qed, done, drop, fjoin, move, split, suffices}
 use types.Run.{enter, no_more, and_then, lit, returns}
 use types.Part.{agg}
 use types.ByLocal.{alloc_all, pass_all, free_all, look_at, sets}
-use denote.Laws.{Is}
-use denote.RawPtr.{null_ptr, ptr_val}
-use denote.Steps.{nothing, owned}
-use denote.Struct.Owning.{shape}
-use denote.Struct.Struct.{Struct, Struct-Makes}
+use denote.RawPtr.{null_ptr}
+use denote.Steps.{nothing}
 use Rattle.yaml_c.specs.contracts.handle.EmitterHandle as handle
 use denote.RattleType.{owns}
 use denote.Triple.Entry.{alive}

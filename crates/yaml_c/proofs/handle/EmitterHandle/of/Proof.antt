@@ -7,13 +7,9 @@ use types.Run.{enter, fld, stop, no_more, and_then, of_opd, returns}
 use types.Part.{agg, sub, whole}
 use types.ByLocal.{alloc_all, pass_all, free_all, look_at, get, get_in, sets}
 use denote.Exit.{yes}
-use denote.Laws.{Is}
 use denote.RattleType.{owns}
-use denote.RawPtr.{ptr_val}
 use denote.Signature.{plain, types_at}
-use denote.Steps.{nothing, owned}
-use denote.Struct.Owning.{shape}
-use denote.Struct.Struct.{Struct, Struct-Makes}
+use denote.Steps.{nothing}
 use denote.Triple.Entry.{alive}
 use denote.Triple.Walked.{Stays, stay_dropped, Goes-dropped, walk_of, says, ends_at}
 use Rattle.yaml_c.specs.contracts.raw_box.RawBox as raw_box

@@ -1,5 +1,5 @@
 -- A box is made of a pointer again.
-use Rattle.std.proofs.Common.{◌≡◌, List, [], ◌∷◌, refl, ap}
+use Rattle.std.proofs.Common.{◌≡◌, List, [], ◌∷◌, refl}
 use Rattle.std.proofs.raw_atomic.Walks.{proved}
 use base.Fraction.{full_share}
 use base.Logic.{id⊢, emp}
@@ -13,14 +13,11 @@ use denote.Param.{arg, bounded, layout, param}
 use denote.Param.Laws.{arg_laws, param_laws}
 use denote.Param.NoDrop.{glues}
 use denote.RattleType.{Valss, owns}
-use denote.RawPtr.{Ptr, RawPtr, ptr_val}
+use denote.RawPtr.{ptr_val}
 use denote.Signature.{plain, types_at}
-use denote.Steps.{heard, nothing, only, owned, peeks}
-use denote.Struct.Owning.{shape}
-use denote.Struct.Struct.{Struct, Struct-Makes}
+use denote.Steps.{heard, nothing, peeks}
 use denote.Triple.Call.{calls_at_last}
 use denote.Triple.Clauses.{Lasts, lasts}
-use denote.Triple.Entry.{alive}
 use denote.Triple.Spec.{triple_of}
 use denote.Triple.Table.{framed}
 use denote.Triple.Walked.{Stays, stay_dropped, Goes-dropped, walk_of, says, ends_at}
@@ -29,13 +26,11 @@ use mir.Raw.{raw as bare}
 use mir.Val.{Val}
 use mir.Syntax.{a_type, dcons, dnil, impl, tcons, tnil}
 use types.ByLocal.{alloc_all, pass_all, free_all, lands_last, look_at, get, get_in, sets, env}
-use types.Kit.{at_ret, feq_i, fsplit, ‵, raw, ◌⊛◌, some, later, ◌$◌, ◌∵◌, !, await, qed, done, drop, feq_l, fjoin, join, move, pick, split, suffices, use0, use1}
+use types.Kit.{at_ret, feq_i, fsplit, ‵, raw, ◌⊛◌, some, later, ◌$◌, ◌∵◌, !, await, qed, done, drop, fjoin, join, move, pick, split, suffices, use0, use1}
 use types.Part.{sub, whole}
 use types.Run.{blocks, enter, exec, first, fld, no_more, and_then, of_opd, returns, stop}
 use Rattle.std.proofs.alloc.Calls.{Goes-blank}
 use Rattle.std.proofs.VecSteps.Shapes.{after}
-use Rattle.yaml_c.specs.Handle.{block_token}
-use Rattle.std.specs.Box.Ownership.{box_owns}
 use Rattle.std.specs.contracts.alloc.Global as global
 use Rattle.std.specs.contracts.boxed.Box as box
 use Rattle.std.specs.contracts.boxed.Box.from_raw as callee
@@ -48,7 +43,7 @@ use Rattle.yaml_c.specs.contracts.raw_box.RawBox as raw_box
 use Rattle.yaml_c.specs.contracts.raw_box.RawBox.into_box as f
 use Rattle.yaml_c.proofs.Destruct++none.drop.Code as none_code
 use Rattle.yaml_c.proofs.raw_box.RawBox.TheLaws as raw_box_laws
-use Rattle.yaml_c.proofs.Pointers.{pointer_in, pointer_val, pointer_fits, struct_fits}
+use Rattle.yaml_c.proofs.Pointers.{pointer_val, pointer_fits, struct_fits}
 use Rattle.yaml_c.proofs.raw_box.RawBox.into_box.Statement.{statement}
 use Rattle.yaml_c.proofs.raw_box.RawBox.into_box.Code as code
 

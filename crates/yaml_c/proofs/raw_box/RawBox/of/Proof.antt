@@ -8,19 +8,15 @@ use contract.BorrowLft.{◌⊑◌}
 use contract.Monad.{fact, fact_i}
 use contract.Running.{tables}
 use denote.Exit.{no}
-use denote.Laws.{Is}
 use denote.Param.{arg, bounded, layout, param}
 use denote.Param.Laws.{arg_laws, param_laws}
 use denote.Param.NoDrop.{glues}
 use denote.RattleType.{owns}
-use denote.RawPtr.{Ptr, RawPtr, ptr_val}
+use denote.RawPtr.{Ptr, RawPtr}
 use denote.Signature.{plain, types_at}
-use denote.Steps.{heard, nothing, only, owned}
-use denote.Struct.Owning.{shape}
-use denote.Struct.Struct.{Struct, Struct-Makes}
+use denote.Steps.{heard, nothing, only}
 use denote.Triple.Call.{calls_at}
 use denote.Triple.Clauses.{Lasts, lasts}
-use denote.Triple.Entry.{alive}
 use denote.Triple.Spec.{triple_of}
 use denote.Triple.Table.{framed}
 use denote.Triple.Walked.{Stays, stay_dropped, walk_of, says, ends_at}
