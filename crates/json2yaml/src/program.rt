@@ -11,7 +11,6 @@ use std::alloc::Global;
 use std::io::{BufWriter, ErrorKind, IsTerminal, Write};
 use std::rt::Runtime;
 use std::{fs, io};
-use thiserror::Error;
 use yaml_json::{JsonError, JsonSettings, StreamError, Writer, send_json_texts, yaml_error_t};
 
 /// The name that means standard input, or standard output for the file that is written.
@@ -20,64 +19,33 @@ const STREAM: &str = "-";
 /// So many bytes are written at once.
 const BUFFER_SIZE: usize = 65_536;
 
-/// Why not all was written.
-#[derive(Clone, Copy, Debug, Drop, Error)]
-enum Fault {
-    #[error("{0}")]
-    Refused(JsonError),
-    #[error("line {line}, column {column}: not UTF-8")]
-    NotText { line: usize, column: usize },
-    #[error("line 1, column 1: a byte order mark")]
-    Marked,
-    #[error("cannot read: {0}")]
-    ReadFailed(io::Error),
-    #[error("cannot write: {0}")]
-    WriteFailed(io::Error),
-    #[error("out of memory")]
-    NoMemory,
-}
+/// What is reported where no memory is left.
+const NO_MEMORY: StreamError = StreamError::Refused(JsonError::Emitter(yaml_error_t::Memory));
 
 /// The program's status: 1 where a text isn't written as YAML, 3 where reading, writing or memory failed.
-fn status_of(fault: &Fault) -> u8
-    ensures { result ≡ statuses.status_of fault.now }
+fn status_of(error: &StreamError) -> u8
+    ensures { result ≡ statuses.status_of error.now }
 {
-    match fault {
-        Fault::Refused(_) | Fault::NotText { .. } | Fault::Marked => 1,
-        Fault::ReadFailed(_) | Fault::WriteFailed(_) | Fault::NoMemory => 3,
-    }
-}
-
-/// What an error of the texts is for the program.
-fn fault_of(error: StreamError) -> Fault {
     match error {
-        StreamError::Refused(JsonError::Emitter(yaml_error_t::Memory)) => Fault::NoMemory,
-        StreamError::Refused(error) => Fault::Refused(error),
-        StreamError::NotText { line, column } => Fault::NotText { line, column },
-        StreamError::Marked => Fault::Marked,
-        StreamError::ReadFailed(error) => Fault::ReadFailed(error),
-        StreamError::WriteFailed(error) => write_fault_of(error),
+        StreamError::Refused(JsonError::Emitter(yaml_error_t::Memory)) => 3,
+        StreamError::Refused(_) | StreamError::NotText { .. } | StreamError::Marked => 1,
+        StreamError::ReadFailed(_) | StreamError::WriteFailed(_) => 3,
     }
 }
 
-fn emitter_fault(error: yaml_error_t) -> Fault {
-    fault_of(StreamError::Refused(JsonError::Emitter(error)))
+/// What an error of the writer is for the program.
+fn writer_error(error: yaml_error_t) -> StreamError {
+    StreamError::Refused(JsonError::Emitter(error))
 }
 
-/// What an error of a reader is for the program.
-fn read_fault(error: io::Error) -> Fault {
-    if error.kind() == ErrorKind::OutOfMemory {
-        Fault::NoMemory
-    } else {
-        Fault::ReadFailed(error)
-    }
-}
-
-/// What an error of what is written is for the program.
-fn write_fault_of(error: io::Error) -> Fault {
-    if error.kind() == ErrorKind::OutOfMemory {
-        Fault::NoMemory
-    } else {
-        Fault::WriteFailed(error)
+/// Whether no memory was left.
+fn is_out_of_memory(error: &StreamError) -> bool {
+    match error {
+        StreamError::Refused(JsonError::Emitter(yaml_error_t::Memory)) => true,
+        StreamError::ReadFailed(error) | StreamError::WriteFailed(error) => {
+            error.kind() == ErrorKind::OutOfMemory
+        }
+        _ => false,
     }
 }
 
@@ -88,26 +56,24 @@ fn send_file<R: Runtime + AllocGlobal, W: Write>(
     name: &str,
     sink: &mut W,
     settings: &JsonSettings,
-) -> Result<(), Fault>
+) -> Result<(), StreamError>
     requires { IsBare writer.old }
     ensures { OnOk result (IsBare writer.new) }
 {
     if name == STREAM {
-        return send_json_texts(rt.alloc(), writer, &mut rt.reader(), sink, *settings).map_err(
-            fault_of,
-        );
+        return send_json_texts(rt.alloc(), writer, &mut rt.reader(), sink, *settings);
     }
-    let mut file = fs::open(rt, name).map_err(read_fault)?;
-    send_json_texts(rt.alloc(), writer, &mut file, sink, *settings).map_err(fault_of)
+    let mut file = fs::open(rt, name).map_err(StreamError::ReadFailed)?;
+    send_json_texts(rt.alloc(), writer, &mut file, sink, *settings)
 }
 
 /// Begins the next document of a writer, and sends on those before it.
-fn begin_next<W: Write>(writer: &mut Writer<Global>, sink: &mut W) -> Result<(), Fault>
+fn begin_next<W: Write>(writer: &mut Writer<Global>, sink: &mut W) -> Result<(), StreamError>
     requires { IsBare writer.old }
     ensures { IsBare writer.new }
 {
-    writer.next_document().map_err(emitter_fault)?;
-    writer.send(sink).map_err(write_fault_of)
+    writer.next_document().map_err(writer_error)?;
+    writer.send(sink).map_err(StreamError::WriteFailed)
 }
 
 /// Sends on the YAML of the JSON texts of some files. Returns the file at which it failed, and why.
@@ -117,16 +83,16 @@ fn send_files<'a, R: Runtime + AllocGlobal, W: Write>(
     names: &[&'a str],
     sink: &mut W,
     settings: &JsonSettings,
-) -> Result<(), (Option<&'a str>, Fault)>
+) -> Result<(), (Option<&'a str>, StreamError)>
     requires { IsBare writer.old }
 {
     let mut first = true;
     for name in names {
         if !first {
-            begin_next(writer, sink).map_err(|fault| (Some(*name), fault))?;
+            begin_next(writer, sink).map_err(|error| (Some(*name), error))?;
         }
         first = false;
-        send_file(rt, writer, name, sink, settings).map_err(|fault| (Some(*name), fault))?;
+        send_file(rt, writer, name, sink, settings).map_err(|error| (Some(*name), error))?;
     }
     Ok(())
 }
@@ -136,22 +102,22 @@ fn send_all<'a, R: Runtime + AllocGlobal, W: Write>(
     rt: &R,
     conversion: &Conversion<'a>,
     sink: &mut W,
-) -> Result<(), (Option<&'a str>, Fault)> {
+) -> Result<(), (Option<&'a str>, StreamError)> {
     let mut writer = match Writer::new(rt.alloc(), conversion.settings.writer) {
         Ok(writer) => writer,
-        Err(error) => return Err((None, emitter_fault(error))),
+        Err(error) => return Err((None, writer_error(error))),
     };
     let settings = &conversion.settings;
     if conversion.files.is_empty() {
-        send_file(rt, &mut writer, STREAM, sink, settings).map_err(|fault| (None, fault))?;
+        send_file(rt, &mut writer, STREAM, sink, settings).map_err(|error| (None, error))?;
     } else {
         send_files(rt, &mut writer, conversion.files.as_slice(), sink, settings)?;
     }
     match writer.finish() {
         Ok(bytes) => sink
             .write_all(bytes.as_slice())
-            .map_err(|error| (None, write_fault_of(error))),
-        Err(error) => Err((None, emitter_fault(error))),
+            .map_err(|error| (None, StreamError::WriteFailed(error))),
+        Err(error) => Err((None, writer_error(error))),
     }
 }
 
@@ -160,15 +126,15 @@ fn send_buffered<'a, R: Runtime + AllocGlobal, W: Write + Drop>(
     rt: &R,
     conversion: &Conversion<'a>,
     sink: W,
-) -> Result<(), (Option<&'a str>, Fault)> {
+) -> Result<(), (Option<&'a str>, StreamError)> {
     let mut buffer = match BufWriter::with_capacity(rt.alloc(), BUFFER_SIZE, sink) {
         Ok(buffer) => buffer,
-        Err(error) => return Err((None, write_fault_of(error))),
+        Err(error) => return Err((None, StreamError::WriteFailed(error))),
     };
     let sent = send_all(rt, conversion, &mut buffer);
     let flushed = buffer.flush();
     sent?;
-    flushed.map_err(|error| (None, write_fault_of(error)))
+    flushed.map_err(|error| (None, StreamError::WriteFailed(error)))
 }
 
 /// Writes to a file what is to be converted, which appears whole or not at all. (Not inlined: the names of files that it makes
@@ -178,21 +144,21 @@ fn send_to_file<'a, R: Runtime + AllocGlobal>(
     rt: &R,
     conversion: &Conversion<'a>,
     name: &str,
-) -> Result<(), (Option<&'a str>, Fault)> {
+) -> Result<(), (Option<&'a str>, StreamError)> {
     if is_written_in_place(rt, name) {
         return match fs::create(rt, name) {
             Ok(file) => send_buffered(rt, conversion, file),
-            Err(error) => Err((None, write_fault_of(error))),
+            Err(error) => Err((None, StreamError::WriteFailed(error))),
         };
     }
     let (file, beside) = match Beside::create(rt, name) {
         Ok(made) => made,
-        Err(error) => return Err((None, write_fault_of(error))),
+        Err(error) => return Err((None, StreamError::WriteFailed(error))),
     };
     match send_buffered(rt, conversion, file) {
         Ok(()) => beside
             .replace(rt)
-            .map_err(|error| (None, write_fault_of(error))),
+            .map_err(|error| (None, StreamError::WriteFailed(error))),
         Err(stop) => {
             beside.remove(rt);
             Err(stop)
@@ -204,7 +170,7 @@ fn send_to_file<'a, R: Runtime + AllocGlobal>(
 fn send<'a, R: Runtime + AllocGlobal>(
     rt: &R,
     conversion: &Conversion<'a>,
-) -> Result<(), (Option<&'a str>, Fault)> {
+) -> Result<(), (Option<&'a str>, StreamError)> {
     match conversion.output {
         Some(name) if name != STREAM => send_to_file(rt, conversion, name),
         _ => send_buffered(rt, conversion, io::writer(rt)),
@@ -220,32 +186,39 @@ fn shown<'a>(name: Option<&'a str>, stream: &'a str) -> &'a str {
 }
 
 /// Says in a line what went wrong, with the name of the file that can't be read or written, or whose text is refused.
-fn write_fault<W: Write>(fault: &Fault, name: Option<&str>, faults: &mut W) -> io::Result<()> {
-    match (fault, name) {
-        (Fault::ReadFailed(error), name) => {
+fn write_error<W: Write>(
+    error: &StreamError,
+    name: Option<&str>,
+    faults: &mut W,
+) -> io::Result<()> {
+    if is_out_of_memory(error) {
+        return writeln!(faults, "json2yaml: out of memory");
+    }
+    match (error, name) {
+        (StreamError::ReadFailed(error), name) => {
             let name = shown(name, "standard input");
             writeln!(faults, "json2yaml: cannot read {name}: {error}")
         }
-        (Fault::WriteFailed(error), name) => {
+        (StreamError::WriteFailed(error), name) => {
             let name = shown(name, "standard output");
             writeln!(faults, "json2yaml: cannot write {name}: {error}")
         }
-        (Fault::Refused(_) | Fault::NotText { .. } | Fault::Marked, Some(name)) => {
+        (_, Some(name)) => {
             let name = shown(Some(name), "standard input");
-            writeln!(faults, "json2yaml: {name}: {fault}")
+            writeln!(faults, "json2yaml: {name}: {error}")
         }
-        _ => writeln!(faults, "json2yaml: {fault}"),
+        (_, None) => writeln!(faults, "json2yaml: {error}"),
     }
 }
 
 /// Says what went wrong, unless it is that nobody reads what is written, and returns the status.
-fn give_up<W: Write>(fault: &Fault, name: Option<&str>, faults: &mut W) -> u8
-    ensures { result ≡ statuses.status_of fault.now }
+fn give_up<W: Write>(error: &StreamError, name: Option<&str>, faults: &mut W) -> u8
+    ensures { result ≡ statuses.status_of error.now }
 {
-    if !matches!(fault, Fault::WriteFailed(error) if error.kind() == ErrorKind::BrokenPipe) {
-        let _reported = write_fault(fault, name, faults);
+    if !matches!(error, StreamError::WriteFailed(error) if error.kind() == ErrorKind::BrokenPipe) {
+        let _reported = write_error(error, name, faults);
     }
-    status_of(fault)
+    status_of(error)
 }
 
 /// Converts, says what went wrong, and returns the status.
@@ -258,8 +231,8 @@ fn convert<R: Runtime + AllocGlobal, W: Write>(
 {
     match send(rt, conversion) {
         Ok(()) => 0,
-        Err((_, fault @ Fault::WriteFailed(_))) => give_up(&fault, conversion.output, faults),
-        Err((name, fault)) => give_up(&fault, name, faults),
+        Err((_, error @ StreamError::WriteFailed(_))) => give_up(&error, conversion.output, faults),
+        Err((name, error)) => give_up(&error, name, faults),
     }
 }
 
@@ -279,7 +252,7 @@ pub fn refuse_arguments<W: Write>(error: &io::Error, faults: &mut W) -> u8
     ensures { result ≤ 3 }
 {
     if error.kind() == ErrorKind::OutOfMemory {
-        return give_up(&Fault::NoMemory, None, faults);
+        return give_up(&NO_MEMORY, None, faults);
     }
     let _reported = writeln!(faults, "json2yaml: an argument isn't UTF-8");
     2
@@ -290,10 +263,10 @@ fn answer<R: Runtime, W: Write>(rt: &R, error: &UsageError, faults: &mut W) -> u
     ensures { result ≤ 3 }
 {
     match error.kind() {
-        UsageKind::OutOfMemory => give_up(&Fault::NoMemory, None, faults),
+        UsageKind::OutOfMemory => give_up(&NO_MEMORY, None, faults),
         UsageKind::DisplayHelp | UsageKind::DisplayVersion => match print!(rt; "{error}") {
             Ok(()) => 0,
-            Err(error) => give_up(&write_fault_of(error), None, faults),
+            Err(error) => give_up(&StreamError::WriteFailed(error), None, faults),
         },
         _ => {
             let _reported = write!(faults, "{error}");
