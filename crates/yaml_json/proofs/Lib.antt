@@ -23,3 +23,9 @@ pub mod OnlyDepth
 pub mod Unfailed
 pub mod WhyFailed
 pub mod Cutting
+pub mod Boundaries
+pub mod LexSteps
+pub mod ContentSteps
+pub mod PunctuateSteps
+pub mod Lanes
+pub mod Stepping

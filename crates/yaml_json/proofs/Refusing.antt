@@ -1,5 +1,5 @@
 -- Why the walk over the tokens of a value is stopped by them.
-use Rattle.yaml_json.proofs.Common.{suc, ℕ, ◌+◌, ◌-◌, ◌<◌, ◌≤◌, IfErr, None, Some, Result, Err, Ok, length, Bool, true, List, [], ◌++◌, ◌∷◌, ◌⊎◌, refl, ◌≡◌}
+use Rattle.yaml_json.proofs.Common.{suc, ℕ, ◌-◌, ◌<◌, ◌≤◌, IfErr, None, Some, Result, Err, Ok, length, Bool, true, List, [], ◌++◌, ◌∷◌, ◌⊎◌, refl, ◌≡◌}
 use Rattle.yaml_json.proofs.Common.{append-nil, append_assoc, inl, inr, ap, subst, sym, ◌∙◌, arith, le-max_left, le-max_right, append_cancel_right, left}
 use Rattle.yaml_json.proofs.Common.{value_is, members_no_key, value-depth, Json, read_key, value, skip_value, tokens, Token, json_tokens, depth as nesting}
 use Rattle.yaml_json.proofs.Common.{IsPrefix, NoneGoesOn, IsNewName, inner_names, NamesOnce, all_names_after, RefusesText, BreaksOff, OpensTooDeep}

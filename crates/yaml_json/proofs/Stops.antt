@@ -4,6 +4,7 @@ use Rattle.yaml_json.proofs.Common.{RefusesToken, RefusesFirst, WhyStopped, Refu
 use Rattle.yaml_json.proofs.KeepingNames.{keeps_name, name_again, names_once}
 use Rattle.yaml_json.proofs.Refusing.{first_refused, IsNoKey, no_member_left, key_refused, name_refused}
 use Rattle.yaml_json.proofs.Walking.{awaiting_item, awaiting_no_item, awaiting_named}
+use Rattle.yaml_base.specs.declared.errors.yaml_error_t.{yaml_error_t}
 use Rattle.yaml_json.specs.declared.{names.Names.Names, values.Spot.Spot, values.Stop.Stop}
 use Rattle.yaml_writer.specs.declared.kinds.{CollectionKind.CollectionKind, CollectionKind.TheVariants.Mapping, CollectionKind.TheVariants.Sequence}
 use Rattle.yaml_json.specs.declared.values.Stop.TheVariants as stops
@@ -13,6 +14,10 @@ use Rattle.yaml_json.specs.declared.values.Stop.TheVariants as stops
 pub first_none : (depth : ℕ) (levels : List CollectionKind) (ahead : List Token) (spot : Spot) → ahead ≡ []
     → RefusesFirst depth levels ahead (stops.NotJson spot)
 first_none depth levels ahead spot none = subst (λ (all : List Token). RefusesFirst depth levels all (stops.NotJson spot)) (sym none) tt
+
+pub first_unread : (depth : ℕ) (levels : List CollectionKind) (ahead : List Token) (error : yaml_error_t) → RefusesFirst depth levels ahead (stops.Failed error)
+first_unread depth levels [] error = tt
+first_unread depth levels (token ∷ after) error = tt
 
 pub first_stopped : (depth : ℕ) (levels : List CollectionKind) (ahead : List Token) (token : Token) (after : List Token) → ahead ≡ token ∷ after
     → (stop : Stop) → RefusesToken depth levels token stop → RefusesFirst depth levels ahead stop

@@ -279,7 +279,10 @@ module _ (depth : ℕ) (in_flow : Bool) (levels outer : List CollectionKind) (is
 
     pub step_no_member : (error : yaml_error_t) (now : WriterState) → FirstFailed depth in_flow inner levels named error now
         → StepFailed depth in_flow ahead levels before error now
-    step_no_member error now failed =
+    step_no_member error now (inl memory) =
+        subst (λ (code : yaml_error_t). StepFailed depth in_flow ahead levels before code now) (sym memory)
+        (step_without_memory depth in_flow ahead levels before now)
+    step_no_member error now (inr failed) =
         record {
           taken = Token.key key ∷ failed.token ∷ [];
           left = failed.after;
@@ -319,7 +322,8 @@ module _ (depth : ℕ) (in_flow : Bool) (start : List Token) (was : WriterState)
 
   pub first_failed : (error : yaml_error_t) (now : WriterState) → IsBare was → FirstFailed depth in_flow start [] was error now
       → FailedInValue depth in_flow start was error now
-  first_failed error now bare failed =
+  first_failed error now bare (inl memory) = inl memory
+  first_failed error now bare (inr failed) =
       failed_so (failed.token ∷ []) failed.after error now (sym failed.first)
       (value_begins depth (failed.token ∷ []) failed.failed.opened
       (next_stands depth [] [] failed.failed.opened failed.token failed.after (awaiting_whole depth (failed.token ∷ failed.after)) failed.failed.begins))

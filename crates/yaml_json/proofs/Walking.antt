@@ -1,5 +1,5 @@
 -- The walk over the tokens of a value: the grammar, with the collections that are open in a list.
-use Rattle.yaml_json.proofs.Common.{suc, zero, ℕ, ◌+◌, ◌-◌, ◌<◌, ◌≤◌, option_and_then, Option, None, Some, length, Bool, true, List, [], ◌++◌, ◌∷◌, refl, ◌≡◌}
+use Rattle.yaml_json.proofs.Common.{suc, zero, ℕ, ◌-◌, ◌<◌, ◌≤◌, option_and_then, Option, None, Some, length, Bool, true, List, [], ◌++◌, ◌∷◌, refl, ◌≡◌}
 use Rattle.yaml_json.proofs.Common.{append-nil, append_assoc, inl, inr, ap, subst, sym, ◌∙◌, arith, left, value_is, members_no_key, left_some, value-depth}
 use Rattle.yaml_json.proofs.Common.{Json, array, object, item, member, parse_map, after_end_array, read_key, value, skip_value, Token, json_tokens}
 use Rattle.yaml_json.proofs.Common.{depth as nesting, BeginsValue, NamesOnce, all_names_after, unwind, Stands, IsScalar, opener, closer}

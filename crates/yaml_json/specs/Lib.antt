@@ -3,6 +3,8 @@ pub mod TokenEvents
 pub mod Means
 pub mod Texts
 pub mod Cuts
+pub mod Lexemes
+pub mod Ahead
 pub mod Wrote
 pub mod Begins
 pub mod Refused

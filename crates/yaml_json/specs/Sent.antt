@@ -1,12 +1,10 @@
 -- JSON texts that come part by part: what was given of them, and what was sent on.
-use Rattle.std.specs.Prelude.{◌≡◌, ◌⊎◌, ℕ, ◌-◌, ◌≤◌, Bool, true, Option, None, Some, Result, Ok, Err, List, [], ◌∷◌, ◌++◌}
-use Rattle.std.specs.Prelude.{IfSome, IsUtf8, drop, flat_map, length, map}
+use Rattle.std.specs.Prelude.{◌≡◌, ◌⊎◌, ℕ, ◌-◌, ◌≤◌, Bool, Option, List, [], ◌∷◌, ◌++◌}
+use Rattle.std.specs.Prelude.{IsUtf8, drop, flat_map, length, map}
 use Rattle.std.specs.Io.KnownBytes.{Appends, Consumes}
-use Rattle.json.specs.Json.{Json, value}
-use Rattle.json.specs.Lex.{tokens}
+use Rattle.json.specs.Json.{Json}
 use Rattle.yaml_base.specs.Event.{Event}
 use Rattle.yaml_base.specs.Settings.{Settings}
-use Rattle.yaml_base.specs.Prefix.{IsPrefix}
 use Rattle.yaml_emitter.specs.State.{State}
 use Rattle.yaml_writer.specs.Writing.{Finishes, StandsTaken, WriterState, opening}
 use Rattle.yaml_json.specs.Cuts.{HasScanned}
@@ -15,7 +13,6 @@ use Rattle.yaml_json.specs.Refused.{ExplainsError, HaveNamesOnce, IsOfText, Refu
 use Rattle.yaml_json.specs.Texts.{texts_in}
 use Rattle.yaml_json.specs.Wrote.{AreJson, IsBare, IsYamlOfTexts, parts_events}
 use Rattle.yaml_json.specs.declared.cuts.Cut.{Cut}
-use Rattle.yaml_json.specs.declared.error.JsonError.{JsonError}
 use Rattle.yaml_json.specs.declared.stream.Incoming.{Incoming}
 use Rattle.yaml_json.specs.declared.error.StreamError.{StreamError}
 use Rattle.yaml_json.specs.declared.error.StreamError.TheVariants as faults

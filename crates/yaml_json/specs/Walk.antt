@@ -1,5 +1,5 @@
 -- The walk over the tokens of a value: which arrays and objects are open after some of them, and what was given until there.
-use Rattle.std.specs.Prelude.{◌≡◌, ◌⊎◌, ℕ, ◌-◌, ◌<◌, ◌≤◌, Bool, true, Option, None, Some, option_and_then, List, [], ◌∷◌, ◌++◌, length}
+use Rattle.std.specs.Prelude.{◌≡◌, ◌⊎◌, ℕ, ◌-◌, ◌<◌, ◌≤◌, Bool, true, Option, Some, option_and_then, List, [], ◌∷◌, ◌++◌, length}
 use Rattle.json.specs.Token.{Token}
 use Rattle.json.specs.Json.{skip_value}
 use Rattle.json.specs.Reads.{skip_items, skip_members}
@@ -160,12 +160,16 @@ pub record BeganFirstValue (depth : ℕ) (in_flow : Bool) (ahead : List Token) (
   pub began : BeganValue depth in_flow token levels before opened now
 
 -- the writer failed at the first of these tokens, with which a value begins
-pub record FirstFailed (depth : ℕ) (in_flow : Bool) (ahead : List Token) (levels : List CollectionKind) (before : WriterState) (error : yaml_error_t)
+pub record FailedAtFirst (depth : ℕ) (in_flow : Bool) (ahead : List Token) (levels : List CollectionKind) (before : WriterState) (error : yaml_error_t)
     (now : WriterState) : Type 0 where
   pub token : Token
   pub after : List Token
   pub first : ahead ≡ token ∷ after
   pub failed : BeginFailed depth in_flow token levels before error now
+
+-- an allocation failed, or that
+abbrev pub FirstFailed : (depth : ℕ) → (in_flow : Bool) → List Token → List CollectionKind → WriterState → yaml_error_t → WriterState → Type 0
+FirstFailed depth in_flow ahead levels before error now = (error ≡ Memory) ⊎ FailedAtFirst depth in_flow ahead levels before error now
 
 -- the text isn't said to nest too deep
 abbrev pub IsNotDeep : Stop → Type 0

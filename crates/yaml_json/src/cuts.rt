@@ -1,9 +1,11 @@
 //! Where a JSON text ends that others follow.
 ghost use Rattle.std.specs.Prelude.{◌≡◌, ℕ, List, ◌+◌, ◌<◌, ◌≤◌, ◌^◌, ◌++◌, ◌||◌, ◌==◌, true, length, MatchOption};
 ghost use Rattle.json.specs.Ascii as ascii;
-ghost use Rattle.json.specs.Word.{is_operator, is_space};
 ghost use Rattle.yaml_json.specs.Texts.{CutsFirstText, after_byte, scan_first_byte, scan_in_string, is_closer, is_inner_byte, is_opener, scan_within};
 ghost use Rattle.yaml_json.specs.Cuts.{CutsAt, HasScanned};
+
+use crate::lexemes::plain_end;
+use crate::words::{is_blank, is_operator};
 
 /// What a scan has before it.
 #[derive(Clone, Copy, PartialEq, Eq, Debug)]
@@ -29,12 +31,6 @@ pub(crate) struct Scan {
     pub(crate) levels: usize,
 }
 
-fn is_blank(byte: u8) -> bool
-    ensures { result ≡ is_space byte }
-{
-    (byte == b' ') | (byte == b'\t') | (byte == b'\n') | (byte == b'\r')
-}
-
 fn opens(byte: u8) -> bool
     ensures { result ≡ is_opener byte }
 {
@@ -45,17 +41,6 @@ fn closes(byte: u8) -> bool
     ensures { result ≡ is_closer byte }
 {
     (byte == b'}') | (byte == b']')
-}
-
-fn is_operator(byte: u8) -> bool
-    ensures { result ≡ is_operator byte }
-{
-    (byte == b'{')
-        | (byte == b'}')
-        | (byte == b'[')
-        | (byte == b']')
-        | (byte == b':')
-        | (byte == b',')
 }
 
 /// Whether a character doesn't begin with this byte.
@@ -243,11 +228,7 @@ fn pass_in_string(text: &[u8], cut: Cut) -> usize
     ensures scanned { HasScanned text.now (record cut { scanned = result }) }
     ensures further { cut.scanned ≤ result }
 {
-    let mut at = cut.scanned;
-    'bytes: while at < text.len() && text[at] != b'"' && text[at] != b'\\' {
-        at += 1;
-    }
-    at
+    plain_end(text, cut.scanned)
 }
 
 /// Passes bytes with which a text goes on as before.

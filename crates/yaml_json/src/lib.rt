@@ -3,7 +3,9 @@
 
 mod cuts;
 mod error;
+mod escapes;
 mod laws;
+mod lexemes;
 mod names;
 mod places;
 mod scalars;
@@ -11,7 +13,9 @@ mod settings;
 mod several;
 mod stream;
 mod texts;
+mod tokens;
 mod values;
+mod words;
 
 pub use error::{JsonError, StreamError};
 pub use laws::faults_differ;

@@ -1,9 +1,6 @@
 //! Where in a text an offset is.
 use crate::values::Spot;
-
-fn is_blank(byte: u8) -> bool {
-    matches!(byte, b' ' | b'\t' | b'\n' | b'\r')
-}
+use crate::words::is_blank;
 
 /// The first byte from an offset on that is no blank; the text's end where there is none.
 fn skip_blanks(bytes: &[u8], from: usize) -> usize {

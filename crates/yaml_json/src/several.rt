@@ -9,7 +9,6 @@ use crate::cuts::first_cut;
 use crate::error::JsonError;
 use crate::settings::JsonSettings;
 use crate::texts::{error_of, write_text_by};
-use json::Scratch;
 use std::alloc::Allocator;
 use yaml_writer::Writer;
 
@@ -42,11 +41,10 @@ pub fn write_json_texts<A: Allocator + Copy>(
     ensures failed { IfErr result (λ error. IfSome (writers_error error)
         (λ code. FailedInTexts settings.depth settings.flow text.now writer.old code writer.new)) }
 {
-    let mut scratch = Scratch::new(alloc);
     let mut rest = text;
     'texts: loop {
         let (first, more) = first_cut(rest);
-        if let Err(stop) = write_text_by(alloc, writer, &mut scratch, first, &settings) {
+        if let Err(stop) = write_text_by(alloc, writer, first, &settings) {
             return Err(error_of(text, text.len().saturating_sub(rest.len()), stop));
         }
         if more.is_empty() {

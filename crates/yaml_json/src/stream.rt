@@ -15,7 +15,6 @@ use crate::error::{JsonError, StreamError};
 use crate::places::{Place, place_of};
 use crate::settings::JsonSettings;
 use crate::texts::{error_of, write_text_by};
-use json::Scratch;
 use std::alloc::Allocator;
 use std::io::{ErrorKind, Read, Write};
 use std::{io, str};
@@ -31,25 +30,23 @@ const NO_MEMORY: StreamError = StreamError::Refused(JsonError::Emitter(yaml_erro
 
 /// How far the texts are read.
 #[derive(Drop)]
-pub(crate) struct Reading<'s, A: Allocator> {
+pub(crate) struct Reading<A: Allocator> {
     alloc: A,
     pub(crate) cut: Cut,
     /// Where what came and isn't written yet begins.
     place: Place,
-    /// Borrowed, since it is large: each move would take as much stack again.
-    scratch: &'s mut Scratch<A>,
 }
 
 /// What came and isn't written yet.
 #[derive(Drop)]
-pub(crate) struct Incoming<'s, A: Allocator> {
+pub(crate) struct Incoming<A: Allocator> {
     pub(crate) held: Vec<u8, A>,
-    pub(crate) reading: Reading<'s, A>,
+    pub(crate) reading: Reading<A>,
 }
 
-impl<'s, A: Allocator + Copy> Incoming<'s, A> {
+impl<A: Allocator + Copy> Incoming<A> {
     /// Before anything came.
-    fn new(alloc: A, scratch: &'s mut Scratch<A>) -> Self
+    fn new(alloc: A) -> Self
         ensures scanned { IsScanned result }
         ensures nothing { result.held.items ≡ [] }
     {
@@ -59,7 +56,6 @@ impl<'s, A: Allocator + Copy> Incoming<'s, A> {
                 alloc,
                 cut: new_cut(),
                 place: Place::first(),
-                scratch,
             },
         }
     }
@@ -69,7 +65,7 @@ impl<'s, A: Allocator + Copy> Incoming<'s, A> {
 fn read_part<A: Allocator + Copy, R: Read>(
     reader: &mut R,
     part: &mut [u8],
-    incoming: &mut Incoming<'_, A>,
+    incoming: &mut Incoming<A>,
 ) -> Result<bool, StreamError>
     requires room { 0 < length part.old }
     requires scanned { IsScanned incoming.old }
@@ -97,7 +93,7 @@ fn read_part<A: Allocator + Copy, R: Read>(
 fn read_more<A: Allocator + Copy, R: Read>(
     alloc: A,
     reader: &mut R,
-    incoming: &mut Incoming<'_, A>,
+    incoming: &mut Incoming<A>,
 ) -> Result<bool, StreamError>
     requires { IsScanned incoming.old }
     ensures come { OnOk result (HasCome incoming.old (R.remaining reader.old) incoming.new (R.remaining reader.new)) }
@@ -117,7 +113,6 @@ fn read_more<A: Allocator + Copy, R: Read>(
 fn write_bytes<A: Allocator + Copy>(
     alloc: A,
     writer: &mut Writer<A>,
-    scratch: &mut Scratch<A>,
     bytes: &[u8],
     settings: &JsonSettings,
 ) -> Result<(), StreamError>
@@ -133,7 +128,7 @@ fn write_bytes<A: Allocator + Copy>(
             return Err(StreamError::NotText { line, column });
         }
     };
-    match write_text_by(alloc, writer, scratch, text, settings) {
+    match write_text_by(alloc, writer, text, settings) {
         Ok(()) => Ok(()),
         Err(stop) => Err(StreamError::Refused(error_of(text, 0, stop))),
     }
@@ -185,7 +180,7 @@ fn begin_next<A: Allocator + Copy, W: Write>(
 
 /// Keeps the last so many bytes of what came.
 fn keep_last<A: Allocator + Copy>(
-    incoming: &mut Incoming<'_, A>,
+    incoming: &mut Incoming<A>,
     count: usize,
 ) -> Result<(), StreamError>
     requires { count ≤ length incoming.old.held.items }
@@ -214,7 +209,7 @@ fn write_texts<A: Allocator + Copy, W: Write>(
     writer: &mut Writer<A>,
     sink: &mut W,
     held: &[u8],
-    reading: &mut Reading<'_, A>,
+    reading: &mut Reading<A>,
     settings: &JsonSettings,
 ) -> Result<usize, StreamError>
     requires bare { IsBare writer.old }
@@ -229,7 +224,7 @@ fn write_texts<A: Allocator + Copy, W: Write>(
     let mut rest = held;
     'texts: while let Some(end) = find_end(rest, &mut reading.cut) {
         let (first, more) = rest.split_at(end);
-        if let Err(error) = write_bytes(reading.alloc, writer, reading.scratch, first, settings) {
+        if let Err(error) = write_bytes(reading.alloc, writer, first, settings) {
             let done = &held[..held.len() - rest.len()];
             return Err(placed(error, reading.place.after(done), first));
         }
@@ -246,7 +241,7 @@ fn write_texts<A: Allocator + Copy, W: Write>(
 fn write_complete<A: Allocator + Copy, W: Write>(
     writer: &mut Writer<A>,
     sink: &mut W,
-    incoming: &mut Incoming<'_, A>,
+    incoming: &mut Incoming<A>,
     settings: &JsonSettings,
 ) -> Result<(), StreamError>
     requires bare { IsBare writer.old }
@@ -271,7 +266,7 @@ fn write_complete<A: Allocator + Copy, W: Write>(
 /// Gives a writer the last text.
 fn write_last<A: Allocator + Copy>(
     writer: &mut Writer<A>,
-    incoming: &mut Incoming<'_, A>,
+    incoming: &mut Incoming<A>,
     settings: &JsonSettings,
 ) -> Result<(), StreamError>
     requires { IsBare writer.old }
@@ -282,7 +277,7 @@ fn write_last<A: Allocator + Copy>(
 {
     let text = incoming.held.as_slice();
     let reading = &mut incoming.reading;
-    match write_bytes(reading.alloc, writer, reading.scratch, text, settings) {
+    match write_bytes(reading.alloc, writer, text, settings) {
         Ok(()) => Ok(()),
         Err(error) => Err(placed(error, reading.place, text)),
     }
@@ -302,8 +297,6 @@ fn write_last<A: Allocator + Copy>(
 ///
 /// `Refused` as by `write_json_texts`; `NotText` and `Marked` where a text isn't UTF-8, or begins with a byte order mark;
 /// `ReadFailed` and `WriteFailed`. Until then the sink was given whole documents, those of the texts before the one that is refused.
-// (Not inlined, since `Scratch` is large: else a caller holds one on its stack for each call, also while it opens a file.)
-#[inline(never)]
 pub fn send_json_texts<A: Allocator + Copy, R: Read, W: Write>(
     alloc: A,
     writer: &mut Writer<A>,
@@ -323,8 +316,7 @@ pub fn send_json_texts<A: Allocator + Copy, R: Read, W: Write>(
     ensures sent { IfErr result (λ error. IsSent error → IfSome (R.remaining reader.old) (λ text.
         SentDocuments settings.depth settings.flow settings.unique_names text writer.old (W.contents sink.old) error (W.contents sink.new))) }
 {
-    let mut scratch = Scratch::new(alloc);
-    let mut incoming = Incoming::new(alloc, &mut scratch);
+    let mut incoming = Incoming::new(alloc);
     // No reader promises to end, so the reads are counted.
     let mut turns = u64::MAX;
     'parts: while turns > 0 {

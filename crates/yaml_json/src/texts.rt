@@ -11,8 +11,9 @@ ghost use Rattle.yaml_json.specs.Wrote.{IsBare, IsYamlOf, WroteText};
 use crate::error::JsonError;
 use crate::places::{offset_of, place_of};
 use crate::settings::JsonSettings;
+use crate::tokens::Tokens;
 use crate::values::{Stop, write_document};
-use json::{Reader, Scratch};
+use bumpalo::Bump;
 use std::alloc::Allocator;
 use yaml_writer::{Writer, yaml_error_t};
 
@@ -40,7 +41,6 @@ pub(crate) fn error_of(text: &str, offset: usize, stop: Stop) -> JsonError
 pub(crate) fn write_text_by<A: Allocator + Copy>(
     alloc: A,
     writer: &mut Writer<A>,
-    scratch: &mut Scratch<A>,
     text: &str,
     settings: &JsonSettings,
 ) -> Result<(), Stop>
@@ -50,10 +50,9 @@ pub(crate) fn write_text_by<A: Allocator + Copy>(
     ensures refused { IfErr result (WhyStopped settings.now.depth settings.now.unique_names (tokens text.now)) }
     ensures stopped { IfSome (failure result) (λ error. FailedInText settings.now.depth settings.now.flow text.now writer.old error writer.new) }
 {
-    let Ok(mut reader) = Reader::new(text, scratch) else {
-        return Err(Stop::Failed(yaml_error_t::Memory));
-    };
-    write_document(alloc, writer, &mut reader, settings)
+    let arena = Bump::new(alloc);
+    let mut tokens = Tokens::new(alloc, &arena, text);
+    write_document(alloc, writer, &mut tokens, settings)
 }
 
 /// Gives a writer the events of a JSON text, by all of these settings but those of a writer. Arrays and objects may nest
@@ -82,8 +81,7 @@ pub fn write_json<A: Allocator + Copy>(
     ensures failed { IfErr result (λ error. IfSome (writers_error error)
         (λ code. FailedInText settings.depth settings.flow text.now writer.old code writer.new)) }
 {
-    let mut scratch = Scratch::new(alloc);
-    match write_text_by(alloc, writer, &mut scratch, text, &settings) {
+    match write_text_by(alloc, writer, text, &settings) {
         Ok(()) => Ok(()),
         Err(stop) => Err(error_of(text, 0, stop)),
     }

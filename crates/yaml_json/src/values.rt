@@ -15,7 +15,8 @@ ghost use Rattle.yaml_json.specs.Wrote.{Ends, IsBare, WroteDocument, WroteValue}
 use crate::names::Names;
 use crate::scalars::{end, start, write_bool, write_null, write_number, write_text};
 use crate::settings::JsonSettings;
-use json::{Reader, Token};
+use crate::tokens::Tokens;
+use json::Token;
 use std::alloc::Allocator;
 use yaml_writer::{CollectionKind, Writer, yaml_error_t};
 
@@ -112,7 +113,7 @@ fn write_token<'a, A: Allocator + Copy>(
 /// The first token of a value.
 fn write_first<'a, A: Allocator + Copy>(
     writer: &mut Writer<A>,
-    reader: &mut Reader<'a>,
+    reader: &mut Tokens<'a, A>,
     nest: &mut Nesting<'a, A>,
     settings: &JsonSettings,
 ) -> Result<(), Stop>
@@ -127,8 +128,10 @@ fn write_first<'a, A: Allocator + Copy>(
         writer.new) }
 {
     let offset = reader.offset();
-    let Some(token) = reader.next() else {
-        return Err(Stop::NotJson(Spot::At(offset)));
+    let token = match reader.next() {
+        Ok(Some(token)) => token,
+        Ok(None) => return Err(Stop::NotJson(Spot::At(offset))),
+        Err(_) => return Err(Stop::Failed(yaml_error_t::Memory)),
     };
     write_token(writer, nest, token, offset, settings)
 }
@@ -153,7 +156,7 @@ fn leave<'a, A: Allocator + Copy>(
 /// The next token within an array.
 fn write_item<'a, A: Allocator + Copy>(
     writer: &mut Writer<A>,
-    reader: &mut Reader<'a>,
+    reader: &mut Tokens<'a, A>,
     nest: &mut Nesting<'a, A>,
     settings: &JsonSettings,
 ) -> Result<(), Stop>
@@ -169,8 +172,10 @@ fn write_item<'a, A: Allocator + Copy>(
         writer.new) }
 {
     let offset = reader.offset();
-    let Some(token) = reader.next() else {
-        return Err(Stop::NotJson(Spot::At(offset)));
+    let token = match reader.next() {
+        Ok(Some(token)) => token,
+        Ok(None) => return Err(Stop::NotJson(Spot::At(offset))),
+        Err(_) => return Err(Stop::Failed(yaml_error_t::Memory)),
     };
     match token {
         Token::EndArray => leave(writer, nest),
@@ -181,7 +186,7 @@ fn write_item<'a, A: Allocator + Copy>(
 /// The next key within an object and the token after it, or the object's end.
 fn write_member<'a, A: Allocator + Copy>(
     writer: &mut Writer<A>,
-    reader: &mut Reader<'a>,
+    reader: &mut Tokens<'a, A>,
     nest: &mut Nesting<'a, A>,
     settings: &JsonSettings,
 ) -> Result<(), Stop>
@@ -197,8 +202,10 @@ fn write_member<'a, A: Allocator + Copy>(
         writer.new) }
 {
     let offset = reader.offset();
-    let Some(token) = reader.next() else {
-        return Err(Stop::NotJson(Spot::At(offset)));
+    let token = match reader.next() {
+        Ok(Some(token)) => token,
+        Ok(None) => return Err(Stop::NotJson(Spot::At(offset))),
+        Err(_) => return Err(Stop::Failed(yaml_error_t::Memory)),
     };
     match token {
         Token::EndObject => leave(writer, nest),
@@ -222,7 +229,7 @@ fn write_member<'a, A: Allocator + Copy>(
 /// The next tokens within the innermost collection, which is of this kind.
 fn write_next<'a, A: Allocator + Copy>(
     writer: &mut Writer<A>,
-    reader: &mut Reader<'a>,
+    reader: &mut Tokens<'a, A>,
     nest: &mut Nesting<'a, A>,
     kind: CollectionKind,
     settings: &JsonSettings,
@@ -255,7 +262,7 @@ fn innermost<A: Allocator>(levels: &Vec<CollectionKind, A>) -> Option<Collection
 fn write_value<'a, A: Allocator + Copy>(
     alloc: A,
     writer: &mut Writer<A>,
-    reader: &mut Reader<'a>,
+    reader: &mut Tokens<'a, A>,
     settings: &JsonSettings,
 ) -> Result<(), Stop>
     requires { IsBare writer.old }
@@ -283,7 +290,7 @@ fn write_value<'a, A: Allocator + Copy>(
 pub(crate) fn write_document<'a, A: Allocator + Copy>(
     alloc: A,
     writer: &mut Writer<A>,
-    reader: &mut Reader<'a>,
+    reader: &mut Tokens<'a, A>,
     settings: &JsonSettings,
 ) -> Result<(), Stop>
     requires { IsBare writer.old }
@@ -297,7 +304,8 @@ pub(crate) fn write_document<'a, A: Allocator + Copy>(
     }
     let offset = reader.offset();
     match reader.next() {
-        None => Ok(()),
-        Some(_token) => Err(Stop::NotJson(Spot::PastValue(offset))),
+        Ok(None) => Ok(()),
+        Ok(Some(_token)) => Err(Stop::NotJson(Spot::PastValue(offset))),
+        Err(_) => Err(Stop::Failed(yaml_error_t::Memory)),
     }
 }

@@ -1,4 +1,4 @@
-use Rattle.yaml_json.proofs.Common.{◌<◌, None, Some, length, arith}
+use Rattle.yaml_json.proofs.Common.{◌<◌, length, arith}
 use Rattle.yaml_json.proofs.Cutting.{one_scanned, one_cut}
 use Rattle.yaml_json.proofs.cuts.find_end.Goals as goal
 

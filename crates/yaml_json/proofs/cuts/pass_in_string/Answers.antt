@@ -1,12 +1,14 @@
-use Rattle.yaml_json.proofs.Common.{◌<◌, ◌≤◌, Some, length, slice_index_or as get_or, ◌≡◌, arith, after_byte}
-use Rattle.yaml_json.proofs.Cutting.{string_stays, one_scanned}
+use Rattle.yaml_json.proofs.Common.{ℕ, ◌+◌, ◌-◌, ◌≡◌, arith, subst, HasScanned}
+use Rattle.yaml_json.proofs.Cutting.{string_over}
 use Rattle.yaml_json.proofs.cuts.pass_in_string.Goals as goal
 
-pub bytes-preserved : goal.bytes-preserved
-bytes-preserved c =
-    let text = c.args.text.now in
-    let less : c.bytes.at < length text = grind arith in
-    let further : c.args.cut.scanned ≤ c.bytes.at = c.bytes.invariant.1 in
-    let stays : after_byte c.args.cut.scan (get_or text c.bytes.at 0) ≡ Some c.args.cut.scan =
-    string_stays c.args.cut.scan (get_or text c.bytes.at 0) c.requires.within (grind arith) (grind arith) in
-    (one_scanned text (record c.args.cut { scanned = c.bytes.at }) c.bytes.invariant.0 less c.args.cut.scan stays, omega (arith, further))
+pub returns-clause-scanned : goal.returns-clause-scanned
+returns-clause-scanned c =
+    let cut = c.args.cut in
+    let plain = c.plain_end.ensures in
+    let further = plain.ordered in
+    let within = plain.within in
+    let back : cut.scanned + (c.plain_end.result - cut.scanned) ≡ c.plain_end.result = omega (arith, further) in
+    subst (λ (at : ℕ). HasScanned c.args.text.now (record cut { scanned = at })) back
+    (string_over c.args.text.now cut (c.plain_end.result - cut.scanned) c.requires.within c.requires.scanned (omega (arith, further, within))
+    (λ k low high. plain.plain k low (omega (arith, further, high))))

@@ -2,7 +2,7 @@ use Rattle.yaml_json.proofs.Common.{[], ◌∷◌, refl, ◌≡◌, ap, ◌∙�
 use Rattle.json.specs.declared.token.Token.{Token}
 use Rattle.yaml_json.{proofs.KeepingNames.keeps_closer, proofs.Refusing.unrefused, proofs.Stopping.if_some, proofs.Stops.item_none, proofs.Stops.item_stopped}
 use Rattle.yaml_json.{proofs.WroteLemmas.on_ok, proofs.WroteLemmas.always, proofs.WroteLemmas.on_err, specs.declared.values.Spot.TheVariants.At}
-use Rattle.yaml_json.proofs.Taking.{step_closes, step_unclosed, step_item, step_no_item}
+use Rattle.yaml_json.proofs.Taking.{step_without_memory, step_closes, step_unclosed, step_item, step_no_item}
 use Rattle.yaml_writer.specs.declared.kinds.CollectionKind.TheVariants.{Sequence}
 use Rattle.json.specs.Token as tokens
 use Rattle.json.specs.declared.token.Token.TheVariants as variants
@@ -21,12 +21,18 @@ no_end (variants.Bool flag) isn't is = cc
 no_end variants.Null isn't is = cc
 no_end variants.Bad isn't is = cc
 
-pub returns-in_default-clause-refused : goal.returns-in_default-clause-refused
-returns-in_default-clause-refused g c =
+pub returns-in-Ok-None-clause-refused : goal.returns-in-Ok-None-clause-refused
+returns-in-Ok-None-clause-refused g c =
     let a = c.args in
+    let none = rw c.in-Ok-None.field-0-is at c.in-Ok-None.ensures.value in
     let inner = c.requires.innermost in
     item_none a.settings.now.depth a.settings.now.unique_names a.nest.now.kinds.items inner.outer a.nest.now.names c.requires.fits.1 a.reader.now
-    inner.is (At c.offset-offset.result) c.in_default.ensures.value.0
+    inner.is (At c.offset-offset.result) none.0
+
+pub returns-in-Err-clause-stopped : goal.returns-in-Err-clause-stopped
+returns-in-Err-clause-stopped g c =
+    let a = c.args in
+    step_without_memory a.settings.now.depth a.settings.now.flow a.reader.now a.nest.now.kinds.items a.writer.now a.writer.now
 
 -- The end of the array
 
@@ -34,8 +40,9 @@ pub returns-in-EndArray-clause-stepped : goal.returns-in-EndArray-clause-stepped
 returns-in-EndArray-clause-stepped g c =
     let a = c.args in
     let inner = c.requires.innermost in
+    let read = rw c.in-Ok-Some.field-0-is at c.in-Ok-Some.ensures.value in
     let first : a.reader.now ≡ tokens.end_array ∷ c.next.new.self =
-    c.in-Some.ensures.value ∙ ap (λ (t : Token). token_of t ∷ c.next.new.self) c.in-EndArray.is in
+    read ∙ ap (λ (t : Token). token_of t ∷ c.next.new.self) c.in-EndArray.is in
     on_ok c.leave.result
     (step_closes a.settings.now.depth a.settings.now.flow a.reader.now a.nest.now.kinds.items inner.outer Sequence inner.is a.writer.now
     c.next.new.self c.leave.new.nest.kinds.items c.leave.new.writer first c.leave.ensures.left)
@@ -44,8 +51,9 @@ returns-in-EndArray-clause-stepped g c =
 pub returns-in-EndArray-clause-names : goal.returns-in-EndArray-clause-names
 returns-in-EndArray-clause-names g c =
     let a = c.args in
+    let read = rw c.in-Ok-Some.field-0-is at c.in-Ok-Some.ensures.value in
     let first : a.reader.now ≡ tokens.end_array ∷ c.next.new.self =
-    c.in-Some.ensures.value ∙ ap (λ (t : Token). token_of t ∷ c.next.new.self) c.in-EndArray.is in
+    read ∙ ap (λ (t : Token). token_of t ∷ c.next.new.self) c.in-EndArray.is in
     always c.leave.result
     (record {
       taken = tokens.end_array ∷ [];
@@ -63,8 +71,9 @@ pub returns-in-EndArray-clause-stopped : goal.returns-in-EndArray-clause-stopped
 returns-in-EndArray-clause-stopped g c =
     let a = c.args in
     let inner = c.requires.innermost in
+    let read = rw c.in-Ok-Some.field-0-is at c.in-Ok-Some.ensures.value in
     let first : a.reader.now ≡ tokens.end_array ∷ c.next.new.self =
-    c.in-Some.ensures.value ∙ ap (λ (t : Token). token_of t ∷ c.next.new.self) c.in-EndArray.is in
+    read ∙ ap (λ (t : Token). token_of t ∷ c.next.new.self) c.in-EndArray.is in
     if_some (failure c.leave.result)
     (λ error. step_unclosed a.settings.now.depth a.settings.now.flow a.reader.now a.nest.now.kinds.items inner.outer Sequence inner.is a.writer.now
     c.next.new.self error c.leave.new.writer first)
@@ -72,13 +81,14 @@ returns-in-EndArray-clause-stopped g c =
 
 -- An item
 
-pub returns-in_default-token : goal.returns-in_default-token
-returns-in_default-token g c =
+pub returns-in_default : goal.returns-in_default
+returns-in_default g c =
     let a = c.args in
     let inner = c.requires.innermost in
-    let token = token_of c.in-Some.token in
-    let isn't = no_end c.in-Some.token c.in_default-token.not-EndArray in
-    let first : a.reader.now ≡ token ∷ c.next.new.self = c.in-Some.ensures.value in
+    let token = token_of c.in-Ok-Some.token in
+    let isn't = no_end c.in-Ok-Some.token c.in_default.not-EndArray in
+    let read = rw c.in-Ok-Some.field-0-is at c.in-Ok-Some.ensures.value in
+    let first : a.reader.now ≡ token ∷ c.next.new.self = read in
     record {
       stepped = on_ok c.write_token.result
           (step_item a.settings.now.depth a.settings.now.flow a.nest.now.kinds.items inner.outer inner.is token isn't a.writer.now a.reader.now

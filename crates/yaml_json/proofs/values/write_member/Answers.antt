@@ -23,12 +23,18 @@ no_key (variants.Bool flag) isn't none = ((λ text is. cc), (λ is. cc))
 no_key variants.Null isn't none = ((λ text is. cc), (λ is. cc))
 no_key variants.Bad isn't none = ((λ text is. cc), (λ is. cc))
 
-pub returns-in_default-clause-refused : goal.returns-in_default-clause-refused
-returns-in_default-clause-refused g c =
+pub returns-in-Ok-None-clause-refused : goal.returns-in-Ok-None-clause-refused
+returns-in-Ok-None-clause-refused g c =
     let a = c.args in
+    let none = rw c.in-Ok-None.field-0-is at c.in-Ok-None.ensures.value in
     let inner = c.requires.innermost in
     member_none a.settings.now.depth a.settings.now.unique_names a.nest.now.kinds.items inner.outer a.nest.now.names c.requires.fits.1 a.reader.now
-    inner.is (At c.offset-offset.result) c.in_default.ensures.value.0
+    inner.is (At c.offset-offset.result) none.0
+
+pub returns-in-Err-clause-stopped : goal.returns-in-Err-clause-stopped
+returns-in-Err-clause-stopped g c =
+    let a = c.args in
+    step_without_memory a.settings.now.depth a.settings.now.flow a.reader.now a.nest.now.kinds.items a.writer.now a.writer.now
 
 -- The end of the object
 
@@ -36,8 +42,9 @@ pub returns-in-EndObject-clause-stepped : goal.returns-in-EndObject-clause-stepp
 returns-in-EndObject-clause-stepped g c =
     let a = c.args in
     let inner = c.requires.innermost in
+    let read = rw c.in-Ok-Some.field-0-is at c.in-Ok-Some.ensures.value in
     let first : a.reader.now ≡ tokens.end_object ∷ c.next.new.self =
-    c.in-Some.ensures.value ∙ ap (λ (t : Token). token_of t ∷ c.next.new.self) c.in-EndObject.is in
+    read ∙ ap (λ (t : Token). token_of t ∷ c.next.new.self) c.in-EndObject.is in
     on_ok c.leave.result
     (step_closes a.settings.now.depth a.settings.now.flow a.reader.now a.nest.now.kinds.items inner.outer Mapping inner.is a.writer.now
     c.next.new.self c.leave.new.nest.kinds.items c.leave.new.writer first c.leave.ensures.left)
@@ -46,8 +53,9 @@ returns-in-EndObject-clause-stepped g c =
 pub returns-in-EndObject-clause-names : goal.returns-in-EndObject-clause-names
 returns-in-EndObject-clause-names g c =
     let a = c.args in
+    let read = rw c.in-Ok-Some.field-0-is at c.in-Ok-Some.ensures.value in
     let first : a.reader.now ≡ tokens.end_object ∷ c.next.new.self =
-    c.in-Some.ensures.value ∙ ap (λ (t : Token). token_of t ∷ c.next.new.self) c.in-EndObject.is in
+    read ∙ ap (λ (t : Token). token_of t ∷ c.next.new.self) c.in-EndObject.is in
     always c.leave.result
     (record {
       taken = tokens.end_object ∷ [];
@@ -59,8 +67,9 @@ pub returns-in-EndObject-clause-stopped : goal.returns-in-EndObject-clause-stopp
 returns-in-EndObject-clause-stopped g c =
     let a = c.args in
     let inner = c.requires.innermost in
+    let read = rw c.in-Ok-Some.field-0-is at c.in-Ok-Some.ensures.value in
     let first : a.reader.now ≡ tokens.end_object ∷ c.next.new.self =
-    c.in-Some.ensures.value ∙ ap (λ (t : Token). token_of t ∷ c.next.new.self) c.in-EndObject.is in
+    read ∙ ap (λ (t : Token). token_of t ∷ c.next.new.self) c.in-EndObject.is in
     if_some (failure c.leave.result)
     (λ error. step_unclosed a.settings.now.depth a.settings.now.flow a.reader.now a.nest.now.kinds.items inner.outer Mapping inner.is a.writer.now
     c.next.new.self error c.leave.new.writer first)
@@ -68,8 +77,8 @@ returns-in-EndObject-clause-stopped g c =
 
 -- A name
 
-pub returns-in-Err-clause-stopped : goal.returns-in-Err-clause-stopped
-returns-in-Err-clause-stopped g c =
+pub returns-in-Err-add-clause-stopped : goal.returns-in-Err-add-clause-stopped
+returns-in-Err-add-clause-stopped g c =
     let a = c.args in
     step_without_memory a.settings.now.depth a.settings.now.flow a.reader.now a.nest.now.kinds.items a.writer.now a.writer.now
 
@@ -77,8 +86,9 @@ pub returns-then-not-new-clause-refused : goal.returns-then-not-new-clause-refus
 returns-then-not-new-clause-refused g c =
     let a = c.args in
     let inner = c.requires.innermost in
+    let read = rw c.in-Ok-Some.field-0-is at c.in-Ok-Some.ensures.value in
     let first : a.reader.now ≡ tokens.key c.in-Key.key.now ∷ c.next.new.self =
-    c.in-Some.ensures.value ∙ ap (λ (t : Token). token_of t ∷ c.next.new.self) c.in-Key.is in
+    read ∙ ap (λ (t : Token). token_of t ∷ c.next.new.self) c.in-Key.is in
     let old : c.in-Ok.new ≡ false = grind arith in
     again_stopped a.settings.now.depth a.settings.now.unique_names a.nest.now.kinds.items inner.outer a.nest.now.names c.requires.fits.1 a.reader.now
     inner.is c.in-Key.key.now c.next.new.self first c.add.new.self c.in-Ok.ensures.kept c.in-Ok.new c.in-Ok.ensures.adds c.offset-offset.result old
@@ -88,8 +98,9 @@ returns-in-Err-write_text-clause-stopped g c =
     let a = c.args in
     let inner = c.requires.innermost in
     let key = c.in-Key.key.now in
+    let read = rw c.in-Ok-Some.field-0-is at c.in-Ok-Some.ensures.value in
     let first : a.reader.now ≡ tokens.key key ∷ c.next.new.self =
-    c.in-Some.ensures.value ∙ ap (λ (t : Token). token_of t ∷ c.next.new.self) c.in-Key.is in
+    read ∙ ap (λ (t : Token). token_of t ∷ c.next.new.self) c.in-Key.is in
     if_some (failure_of c.in-Err-write_text.stop)
     (λ error failed. step_unnamed a.settings.now.depth a.settings.now.flow a.nest.now.kinds.items inner.outer inner.is key a.writer.now a.reader.now
     c.next.new.self first error c.write_text.new.writer
@@ -102,8 +113,9 @@ returns-in_default-write_text-clause-stepped g c =
     let a = c.args in
     let inner = c.requires.innermost in
     let key = c.in-Key.key.now in
+    let read = rw c.in-Ok-Some.field-0-is at c.in-Ok-Some.ensures.value in
     let first : a.reader.now ≡ tokens.key key ∷ c.next.new.self =
-    c.in-Some.ensures.value ∙ ap (λ (t : Token). token_of t ∷ c.next.new.self) c.in-Key.is in
+    read ∙ ap (λ (t : Token). token_of t ∷ c.next.new.self) c.in-Key.is in
     let gave = gives_scalar a.settings.now.flow a.nest.now.kinds.items a.writer.now c.write_text.new.writer (tokens.key key)
     (λ k. scalar (text_content (chars key))) (λ k. refl) c.in_default-write_text.ensures.written in
     on_ok c.write_first.result
@@ -116,8 +128,9 @@ returns-in_default-write_text-clause-names g c =
     let a = c.args in
     let inner = c.requires.innermost in
     let key = c.in-Key.key.now in
+    let read = rw c.in-Ok-Some.field-0-is at c.in-Ok-Some.ensures.value in
     let first : a.reader.now ≡ tokens.key key ∷ c.next.new.self =
-    c.in-Some.ensures.value ∙ ap (λ (t : Token). token_of t ∷ c.next.new.self) c.in-Key.is in
+    read ∙ ap (λ (t : Token). token_of t ∷ c.next.new.self) c.in-Key.is in
     let fresh : c.in-Ok.new ≡ true = grind arith in
     let named = keeps_name a.nest.now.kinds.items inner.outer Mapping inner.is a.settings.now.unique_names key a.nest.now.names c.add.new.self
     c.requires.fits.1 c.in-Ok.ensures.kept c.in-Ok.new c.in-Ok.ensures.adds fresh in
@@ -134,8 +147,9 @@ returns-in_default-write_text-clause-refused g c =
     let a = c.args in
     let inner = c.requires.innermost in
     let key = c.in-Key.key.now in
+    let read = rw c.in-Ok-Some.field-0-is at c.in-Ok-Some.ensures.value in
     let first : a.reader.now ≡ tokens.key key ∷ c.next.new.self =
-    c.in-Some.ensures.value ∙ ap (λ (t : Token). token_of t ∷ c.next.new.self) c.in-Key.is in
+    read ∙ ap (λ (t : Token). token_of t ∷ c.next.new.self) c.in-Key.is in
     let fresh : c.in-Ok.new ≡ true = grind arith in
     on_err c.write_first.result
     (named_stopped a.settings.now.depth a.settings.now.unique_names a.nest.now.kinds.items inner.outer a.nest.now.names c.requires.fits.1 a.reader.now
@@ -147,8 +161,9 @@ returns-in_default-write_text-clause-stopped g c =
     let a = c.args in
     let inner = c.requires.innermost in
     let key = c.in-Key.key.now in
+    let read = rw c.in-Ok-Some.field-0-is at c.in-Ok-Some.ensures.value in
     let first : a.reader.now ≡ tokens.key key ∷ c.next.new.self =
-    c.in-Some.ensures.value ∙ ap (λ (t : Token). token_of t ∷ c.next.new.self) c.in-Key.is in
+    read ∙ ap (λ (t : Token). token_of t ∷ c.next.new.self) c.in-Key.is in
     let gave = gives_scalar a.settings.now.flow a.nest.now.kinds.items a.writer.now c.write_text.new.writer (tokens.key key)
     (λ k. scalar (text_content (chars key))) (λ k. refl) c.in_default-write_text.ensures.written in
     if_some (failure c.write_first.result)
@@ -163,21 +178,23 @@ returns-in-String-clause-refused g c =
     let a = c.args in
     let inner = c.requires.innermost in
     let text = c.in-String.field-0.now in
+    let read = rw c.in-Ok-Some.field-0-is at c.in-Ok-Some.ensures.value in
     let first : a.reader.now ≡ tokens.string text ∷ c.next.new.self =
-    c.in-Some.ensures.value ∙ ap (λ (t : Token). token_of t ∷ c.next.new.self) c.in-String.is in
+    read ∙ ap (λ (t : Token). token_of t ∷ c.next.new.self) c.in-String.is in
     member_stopped a.settings.now.depth a.settings.now.unique_names a.nest.now.kinds.items inner.outer a.nest.now.names c.requires.fits.1 a.reader.now
     inner.is (PastString c.offset-offset.result) (tokens.string text) c.next.new.self first ((λ key is. cc), (λ is. cc))
 
-pub returns-in_default-token : goal.returns-in_default-token
-returns-in_default-token g c =
+pub returns-in_default : goal.returns-in_default
+returns-in_default g c =
     let a = c.args in
+    let read = rw c.in-Ok-Some.field-0-is at c.in-Ok-Some.ensures.value in
     let inner = c.requires.innermost in
     record {
       stepped = tt;
       fits = tt;
       names = tt;
       refused = member_stopped a.settings.now.depth a.settings.now.unique_names a.nest.now.kinds.items inner.outer a.nest.now.names
-          c.requires.fits.1 a.reader.now inner.is (At c.offset-offset.result) (token_of c.in-Some.token) c.next.new.self c.in-Some.ensures.value
-          (no_key c.in-Some.token c.in_default-token.not-Key c.in_default-token.not-EndObject);
+          c.requires.fits.1 a.reader.now inner.is (At c.offset-offset.result) (token_of c.in-Ok-Some.token) c.next.new.self read
+          (no_key c.in-Ok-Some.token c.in_default.not-Key c.in_default.not-EndObject);
       stopped = tt;
     }

@@ -1,0 +1,74 @@
+use Rattle.std.proofs.Common.{◌≡◌, ◌+◌, ◌-◌, ◌<◌, ◌++◌, None, Some, drop, get_or, length, List, ℕ, subst, sym, ap, ◌∙◌, arith}
+use Rattle.std.proofs.lemmas.Str.{IsCharBoundary-after_ascii}
+use Rattle.std.specs.Str.{IsCharBoundary}
+use Rattle.std.specs.String.{string_bytes}
+use Rattle.json.specs.Text.{after_backslash, content, plain, prepend}
+use Rattle.std.specs.Char.{encode_utf8}
+use Rattle.yaml_json.specs.Lexemes.{ArePlain, Unescapes}
+use Rattle.yaml_json.proofs.ContentSteps.{closes_here, content-backslash, content-control, content-end, escape_more, none_more, run_more}
+use Rattle.yaml_json.proofs.escapes.unescape.Goals as goal
+
+pub returns-then-stop-bytes : goal.returns-then-stop-bytes
+returns-then-stop-bytes g c =
+    let d = c.args.text.now in
+    let l = c.runs in
+    let stop = c.plain_end-stop.result in
+    let same = c.as_bytes-bytes.ensures.value in
+    let so_far = run_more d (string_bytes l.string) c.range.result.now c.args.from l.at stop (subst (λ (t : List ℕ). ArePlain t l.at stop) same c.plain_end-stop.ensures) c.range.ensures.value l.invariant.1 in
+    none_more d _ c.args.from stop so_far (content-end plain d stop (omega (arith, ap length same)))
+
+pub returns-then-bytes-stop-eq34 : goal.returns-then-bytes-stop-eq34
+returns-then-bytes-stop-eq34 g c =
+    let d = c.args.text.now in
+    let l = c.runs in
+    let stop = c.plain_end-stop.result in
+    let same = c.as_bytes-bytes.ensures.value in
+    let are = subst (λ (t : List ℕ). ArePlain t l.at stop) same c.plain_end-stop.ensures in
+    let so_far = run_more d (string_bytes l.string) c.range.result.now c.args.from l.at stop are c.range.ensures.value l.invariant.1 in
+    let within : stop < length d = omega (arith, ap length same, are.within) in
+    closes_here d _ c.args.from stop so_far within (ap (λ t. get_or t stop 0) (sym same) ∙ c.if-bytes-stop-eq34.true) ∙ ap Some (sym c.in_ok-push_str.ensures.bytes)
+
+pub returns-then-bytes-stop-ne92 : goal.returns-then-bytes-stop-ne92
+returns-then-bytes-stop-ne92 g c =
+    let d = c.args.text.now in
+    let l = c.runs in
+    let stop = c.plain_end-stop.result in
+    let same = c.as_bytes-bytes.ensures.value in
+    let are = subst (λ (t : List ℕ). ArePlain t l.at stop) same c.plain_end-stop.ensures in
+    let so_far = run_more d (string_bytes l.string) c.range.result.now c.args.from l.at stop are c.range.ensures.value l.invariant.1 in
+    let within : stop < length d = omega (arith, ap length same, are.within) in
+    let byte : get_or c.as_bytes-bytes.result.now stop 0 ≡ get_or d stop 0 = ap (λ t. get_or t stop 0) same in
+    none_more d _ c.args.from stop so_far
+    (content-control d stop within (are.stops within) (λ e. c.if-bytes-stop-eq34.false (byte ∙ e)) (λ e. c.if-bytes-stop-ne92.true (byte ∙ e)))
+
+pub returns-in-None : goal.returns-in-None
+returns-in-None g c =
+    let d = c.args.text.now in
+    let l = c.runs in
+    let stop = c.plain_end-stop.result in
+    let same = c.as_bytes-bytes.ensures.value in
+    let are = subst (λ (t : List ℕ). ArePlain t l.at stop) same c.plain_end-stop.ensures in
+    let so_far = run_more d (string_bytes l.string) c.range.result.now c.args.from l.at stop are c.range.ensures.value l.invariant.1 in
+    let within : stop < length d = omega (arith, ap length same, are.within) in
+    let slash = ap (λ t. get_or t stop 0) (sym same) ∙ c.if-bytes-stop-ne92.false in
+    let read : content after_backslash (drop (stop + 1) d) ≡ None = ap (λ t. content after_backslash (drop (stop + 1) t)) (sym same) ∙ c.in-None.ensures in
+    none_more d _ c.args.from stop so_far (content-backslash d stop within slash ∙ read)
+
+pub runs-preserved : goal.runs-preserved
+runs-preserved g c =
+    let d = c.args.text.now in
+    let l = c.runs in
+    let stop = c.plain_end-stop.result in
+    let same = c.as_bytes-bytes.ensures.value in
+    let are = subst (λ (t : List ℕ). ArePlain t l.at stop) same c.plain_end-stop.ensures in
+    let so_far = run_more d (string_bytes l.string) c.range.result.now c.args.from l.at stop are c.range.ensures.value l.invariant.1 in
+    let within : stop < length d = omega (arith, ap length same, are.within) in
+    let slash = ap (λ t. get_or t stop 0) (sym same) ∙ c.if-bytes-stop-ne92.false in
+    let next = c.in-Some.next in
+    let read = subst (λ (t : List ℕ). Unescapes t after_backslash (stop + 1) (Some (c.in-Some.character, next))) same c.in-Some.ensures in
+    let back : next - 1 + 1 ≡ next = omega (arith, read.1) in
+    let all = escape_more d _ _ c.args.from stop next so_far within slash read.0 in (
+      subst (IsCharBoundary d) back (IsCharBoundary-after_ascii d (next - 1) c.utf8.text (omega (arith, read.1, read.2)) read.3),
+      all ∙ ap (λ s. prepend s (content plain (drop next d)))
+          (sym (c.in_ok-push-in-Some.ensures.bytes ∙ ap (λ b. b ++ encode_utf8 c.in-Some.character) c.in_ok-push_str.ensures.bytes)),
+    )

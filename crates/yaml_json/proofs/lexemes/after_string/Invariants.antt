@@ -1,0 +1,9 @@
+use Rattle.std.proofs.Common.{◌≡◌, ◌-◌, drop, length}
+use Rattle.json.specs.Lex.{in_string, lex}
+use Rattle.yaml_json.proofs.lexemes.after_string.Given as goal
+
+abbrev pub invariant-bytes : goal.invariant-bytes
+invariant-bytes l = lex in_string (drop l.at l.text) ≡ lex in_string (drop l.from l.text)
+
+abbrev pub decreases-bytes : goal.decreases-bytes
+decreases-bytes l = length l.text - l.at

@@ -1,0 +1,27 @@
+use Rattle.std.proofs.Common.{◌≡◌, [], ◌∷◌, drop, true, inl, inr, sym, ap, ◌∙◌}
+use Rattle.json.specs.Lex.{Place, between, in_word, lex, may_begin, punctuate}
+use Rattle.json.specs.Token.{bad}
+use Rattle.json.specs.Word.{head}
+use Rattle.yaml_json.proofs.PunctuateSteps.{lex-colon, lex-comma, lex-stray, put-bad, stray-colon, stray-comma}
+use Rattle.yaml_json.proofs.Stepping.{opens_array, opens_object, refused}
+use Rattle.yaml_json.proofs.tokens.beginning.Goals as goal
+
+pub returns-in-123 : goal.returns-in-123
+returns-in-123 g c = opens_object c.args.text.now c.opening.result (ap head (sym c.as_bytes.ensures.value) ∙ sym c.byte_at.ensures ∙ c.in-123.is) c.opening.ensures
+
+pub returns-in-91 : goal.returns-in-91
+returns-in-91 g c = opens_array c.args.text.now c.opening-in-91.result (ap head (sym c.as_bytes.ensures.value) ∙ sym c.byte_at.ensures ∙ c.in-91.is) c.opening-in-91.ensures
+
+pub returns-in-44 : goal.returns-in-44
+returns-in-44 g c =
+    let d = c.args.text.now in
+    let seen = ap head (sym c.as_bytes.ensures.value) ∙ sym c.byte_at.ensures in
+    let stray = λ (none : (p : Place) → may_begin p ≡ true → punctuate p (lex between d) ≡ bad ∷ []).
+    refused may_begin (lex between d) c.bad.result none c.bad.ensures.token c.bad.ensures.over c.bad.ensures.tidy in
+    elim c.in-44.is [
+      | inl comma ↦ stray (λ p e. ap (punctuate p) (lex-comma d (seen ∙ comma)) ∙ stray-comma p (lex between (drop 1 d)) e)
+      | inr more ↦ elim more [
+        | inl colon ↦ stray (λ p e. ap (punctuate p) (lex-colon d (seen ∙ colon)) ∙ stray-colon p (lex between (drop 1 d)) e)
+        | inr slash ↦ stray (λ p e. ap (punctuate p) (lex-stray d (seen ∙ slash)) ∙ put-bad p (lex in_word (drop 1 d)))
+      ]
+    ]

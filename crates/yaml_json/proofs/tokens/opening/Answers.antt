@@ -1,0 +1,5 @@
+use Rattle.std.proofs.lemmas.Str.{IsCharBoundary-after_ascii}
+use Rattle.yaml_json.proofs.tokens.opening.Goals as goal
+
+pub range_from-requires : goal.range_from-requires
+range_from-requires c positive = IsCharBoundary-after_ascii c.args.text.now 0 c.utf8.text c.requires.0 c.requires.1

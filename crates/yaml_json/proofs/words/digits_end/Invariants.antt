@@ -1,0 +1,12 @@
+use Rattle.std.proofs.Common.{◌≡◌, ◌+◌, ◌-◌, ◌≤◌, drop, length}
+use Rattle.std.specs.List.{prefix_len}
+use Rattle.std.specs.Char.{is_ascii_digit}
+use Rattle.yaml_json.proofs.words.digits_end.Given as goal
+
+abbrev pub invariant-digits : goal.invariant-digits
+invariant-digits l =
+    (l.from ≤ l.at) × (l.at ≤ length l.text)
+    × (prefix_len is_ascii_digit (drop l.from l.text) ≡ l.at - l.from + prefix_len is_ascii_digit (drop l.at l.text))
+
+abbrev pub decreases-digits : goal.decreases-digits
+decreases-digits l = length l.text - l.at

@@ -1,0 +1,7 @@
+use Rattle.std.proofs.Common.{arith}
+use Rattle.std.proofs.lemmas.Grind.{common_steps}
+use Rattle.std.proofs.lemmas.List.{drop-drop}
+use Rattle.yaml_json.proofs.words.exponent_end.Goals as goal
+
+pub returns-then-byte : goal.returns-then-byte
+returns-then-byte c = grind (arith, common_steps, drop-drop 1 c.args.from c.args.text.now)

@@ -1,0 +1,27 @@
+-- Where parts of a JSON text end.
+use Rattle.std.specs.Prelude.{◌≡◌, ℕ, ◌-◌, ◌<◌, ◌≤◌, Bool, true, false, ◌||◌, ◌==◌, nat_lt, Option, option_map, IfSome, MatchOption, None, List, drop, get_or, length}
+use Rattle.std.specs.Char.{encode_utf8}
+use Rattle.json.specs.Ascii as ascii
+use Rattle.json.specs.Text.{Within, content, plain, prepend}
+
+-- a byte of a string's content that doesn't stand for itself, or none of it
+abbrev pub is_stop : ℕ → Bool
+is_stop byte = (byte == ascii.quote) || (byte == ascii.backslash) || nat_lt byte ascii.space
+
+-- the bytes between two places stand for themselves, and the one that follows doesn't
+pub record ArePlain (text : List ℕ) (from to : ℕ) : Type 0 where
+  pub ordered : from ≤ to
+  pub within : to ≤ length text
+  pub plain : (k : ℕ) → from ≤ k → k < to → is_stop (get_or text k 0) ≡ false
+  pub stops : to < length text → is_stop (get_or text to 0) ≡ true
+
+-- what is left begins at this place
+abbrev pub LeavesAt : (text : List ℕ) → Option ℕ → (rest : Option (List ℕ)) → Type 0
+LeavesAt text place rest = (option_map (λ at. drop at text) place ≡ rest) × IfSome place (λ at. at ≤ length text)
+
+-- an escape is read from this place on: its character, and the place after it, which follows an ASCII byte
+abbrev pub Unescapes : (text : List ℕ) → Within → ℕ → Option (ℕ × ℕ) → Type 0
+Unescapes text within at found =
+    MatchOption found (content within (drop at text) ≡ None)
+    (λ part. (content within (drop at text) ≡ prepend (encode_utf8 part.0) (content plain (drop part.1 text)))
+    × (at < part.1) × (part.1 ≤ length text) × (get_or text (part.1 - 1) 0 < 128))

@@ -1,0 +1,87 @@
+//! Where the parts of a JSON text end: blanks, words and strings.
+ghost use Rattle.std.specs.Prelude.{◌≡◌, ℕ, ◌+◌, ◌<◌, ◌≤◌, [], Bool, drop, false, get_or, length, map, true};
+ghost use Rattle.std.specs.Str.{IsCharBoundary};
+ghost use Rattle.std.specs.Simd.Lanes.{mask_l};
+ghost use Rattle.json.specs.Lex.{between, in_string, in_word, lex};
+ghost use Rattle.json.specs.Word.{head, is_space};
+ghost use Rattle.yaml_json.specs.Lexemes.{ArePlain, is_stop};
+
+use crate::words::{is_blank, is_delimiter};
+use std::simd::prelude::*;
+
+/// What follows the blanks that a text begins with.
+pub(crate) fn skip_blanks(text: &str) -> &str
+    ensures same { lex between result.now ≡ lex between text.now }
+    ensures past { is_space (head result.now) ≡ true → result.now ≡ [] }
+{
+    let bytes = text.as_bytes();
+    let mut at: usize = 0;
+    'blanks: while at < bytes.len() && is_blank(bytes[at]) {
+        at += 1;
+    }
+    &text[at..]
+}
+
+/// What follows the word that a text begins with.
+pub(crate) fn after_word(text: &str) -> &str
+    requires { 0 < length text.now }
+    ensures { lex between result.now ≡ lex in_word (drop 1 text.now) }
+{
+    let bytes = text.as_bytes();
+    let mut at: usize = 1;
+    'bytes: while at < bytes.len() && !is_delimiter(bytes[at]) {
+        at += 1;
+    }
+    &text[at..]
+}
+
+/// The bytes of a vector at which the plain text of a string stops.
+fn stops(bytes: u8x16) -> u64
+    ensures { result ≡ mask_l (map is_stop bytes) }
+{
+    (bytes.simd_eq(u8x16::splat(b'"'))
+        | bytes.simd_eq(u8x16::splat(b'\\'))
+        | bytes.simd_lt(u8x16::splat(0x20))).to_bitmask()
+}
+
+fn is_stop(byte: u8) -> bool
+    ensures { result ≡ is_stop byte }
+{
+    (byte == b'"') | (byte == b'\\') | (byte < 0x20)
+}
+
+/// The first quote, backslash or control byte from a place on; the text's end where there is none.
+pub(crate) fn plain_end(text: &[u8], from: usize) -> usize
+    requires { from ≤ length text.now }
+    ensures { ArePlain text.now from result }
+{
+    let mut at = from;
+    'vectors: while text.len() - at >= 16 {
+        let found = stops(u8x16::from_slice(&text[at..]));
+        if found != 0 {
+            return at + found.trailing_zeros() as usize;
+        }
+        at += 16;
+    }
+    'bytes: while at < text.len() && !is_stop(text[at]) {
+        at += 1;
+    }
+    at
+}
+
+/// What follows the string whose content begins at a place; nothing where it isn't closed.
+pub(crate) fn after_string(text: &str, from: usize) -> &str
+    requires { from ≤ length text.now }
+    ensures { lex between result.now ≡ lex in_string (drop from text.now) }
+{
+    let bytes = text.as_bytes();
+    let mut at = from;
+    'bytes: while at < bytes.len() {
+        let byte = bytes[at];
+        if byte == b'"' {
+            return &text[at + 1..];
+        }
+        at += if byte == b'\\' { 2 } else { 1 };
+    }
+    &text[bytes.len()..]
+}

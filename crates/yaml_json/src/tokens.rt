@@ -1,0 +1,307 @@
+//! The tokens of a JSON text, one after the other.
+ghost use Rattle.std.specs.Prelude.{◌≡◌, ◌≢◌, ◌⊎◌, ℕ, ◌<◌, ◌∷◌, [], IfOk, IfSome, MatchOption, Some, true, false, length, drop, get_or};
+ghost use Rattle.json.specs.Lex.{between, class, in_string, lex, may_begin, may_close, other, token, tokens};
+ghost use Rattle.json.specs.Print.{IsPrintable};
+ghost use Rattle.json.specs.Reads.{token_of};
+ghost use Rattle.json.specs.Token as spec;
+ghost use Rattle.json.specs.Word.{head};
+ghost use Rattle.yaml_json.specs.Ahead.{Ends, IsTidy, IsTrimmed, Opens, Reads, StepsFrom, ahead, begins_here, closes_here};
+
+use crate::escapes::unescape;
+use crate::lexemes::{after_string, after_word, plain_end, skip_blanks};
+use crate::words::{byte_at, word};
+use bumpalo::Bump;
+use json::Token;
+use std::alloc::{AllocError, Allocator};
+use std::marker::Model;
+
+/// What may come next.
+#[derive(Clone, Copy, PartialEq, Eq, Debug)]
+pub(crate) enum Stage {
+    /// A value or a key, or what closes.
+    Open,
+    /// What closes: a value stands before, and no comma follows it.
+    Behind,
+    /// A value or a key: a comma stands before.
+    Owed,
+    /// Nothing: a token was bad.
+    Over,
+}
+
+impl Stage {
+    fn may_begin(self) -> bool
+        ensures { result ≡ begins_here self }
+    {
+        matches!(self, Stage::Open | Stage::Owed)
+    }
+
+    fn may_close(self) -> bool
+        ensures { result ≡ closes_here self }
+    {
+        matches!(self, Stage::Open | Stage::Behind)
+    }
+}
+
+/// A token, and what follows it and the blanks, the colon or the comma after it.
+#[derive(Clone, Copy, Drop)]
+pub(crate) struct Step<'a> {
+    pub(crate) token: Token<'a>,
+    pub(crate) rest: &'a str,
+    pub(crate) stage: Stage,
+}
+
+/// Tokens of a JSON text. A clause sees those that are still to come.
+#[derive(Drop)]
+pub(crate) struct Tokens<'a, A: Allocator> {
+    alloc: A,
+    /// Where strings with escapes go.
+    arena: &'a Bump<A>,
+    /// So many bytes has the whole text.
+    size: usize,
+    rest: &'a str,
+    stage: Stage,
+}
+
+impl<'a, A: Allocator> Model for Tokens<'a, A> {
+    ghost use Rattle.std.specs.Prelude.{List};
+    ghost use Rattle.json.specs.Token.{Token as SpecToken, tokens_code};
+
+    ghost Value = { List SpecToken };
+
+    ghost coded = { tokens_code };
+
+    ghost use Rattle.yaml_json.specs.Ahead.{IsTidy, ahead};
+
+    ghost view = { λ a. ahead a.stage a.rest.now };
+
+    ghost invariant = { λ a. IsTidy a.stage a.rest.now };
+}
+
+/// No token, and none after it.
+fn bad<'a>(text: &'a str) -> Step<'a>
+    requires { IsTrimmed text.now }
+    ensures token { token_of result.token ≡ spec.bad }
+    ensures over { result.stage ≡ Stage.Over }
+    ensures tidy { IsTidy result.stage result.rest.now }
+{
+    Step {
+        token: Token::Bad,
+        rest: text,
+        stage: Stage::Over,
+    }
+}
+
+/// A token after which a value or a key may begin. It ends with the first byte.
+fn opening<'a>(token: Token<'a>, text: &'a str) -> Step<'a>
+    requires { (0 < length text.now) × (get_or text.now 0 0 < 128) }
+    ensures { Opens (token_of token.entry) (drop 1 text.now) result }
+{
+    Step {
+        token,
+        rest: skip_blanks(&text[1..]),
+        stage: Stage::Open,
+    }
+}
+
+/// A token that ends a value, and what follows the blanks after it.
+fn ending<'a>(token: Token<'a>, text: &'a str) -> Step<'a>
+    requires { IsTrimmed text.now }
+    ensures { Ends (token_of token.entry) text.now result }
+{
+    if byte_at(text.as_bytes(), 0) == b',' {
+        Step {
+            token,
+            rest: skip_blanks(&text[1..]),
+            stage: Stage::Owed,
+        }
+    } else {
+        Step {
+            token,
+            rest: text,
+            stage: Stage::Behind,
+        }
+    }
+}
+
+/// A string with this content, and what follows it.
+fn string_step<'a>(content: &'a str, after: &'a str) -> Step<'a>
+    ensures { StepsFrom may_begin (token (spec.string content.now) ∷ lex between after.now) result }
+{
+    let rest = skip_blanks(after);
+    if byte_at(rest.as_bytes(), 0) == b':' {
+        opening(Token::Key(content), rest)
+    } else {
+        ending(Token::String(content), rest)
+    }
+}
+
+/// A string with escapes, or one that is none.
+#[inline(never)]
+fn escaped<'a, A: Allocator + Copy>(
+    alloc: A,
+    arena: &'a Bump<A>,
+    text: &'a str,
+) -> Result<Step<'a>, AllocError>
+    requires quote { head text.now ≡ 34 }
+    requires trimmed { IsTrimmed text.now }
+    ensures { IfOk result (StepsFrom may_begin (lex between text.now)) }
+{
+    match unescape(alloc, text, 1) {
+        Err(_) => Err(AllocError),
+        Ok(None) => Ok(bad(text)),
+        Ok(Some(string)) => match arena.try_alloc_str(string.as_str()) {
+            Err(_) => Err(AllocError),
+            Ok(content) => Ok(string_step(content, after_string(text, 1))),
+        },
+    }
+}
+
+/// The string that a text begins with, or none.
+fn string<'a, A: Allocator + Copy>(
+    alloc: A,
+    arena: &'a Bump<A>,
+    text: &'a str,
+) -> Result<Step<'a>, AllocError>
+    requires quote { head text.now ≡ 34 }
+    requires trimmed { IsTrimmed text.now }
+    ensures { IfOk result (StepsFrom may_begin (lex between text.now)) }
+{
+    let bytes = text.as_bytes();
+    let end = plain_end(bytes, 1);
+    if byte_at(bytes, end) == b'"' {
+        Ok(string_step(&text[1..end], &text[end + 1..]))
+    } else {
+        escaped(alloc, arena, text)
+    }
+}
+
+/// The word that a text begins with, or none.
+fn word_step<'a>(text: &'a str) -> Step<'a>
+    requires other { class (head text.now) ≡ other }
+    requires trimmed { IsTrimmed text.now }
+    ensures { StepsFrom may_begin (lex between text.now) result }
+{
+    match word(text) {
+        Token::Bad => bad(text),
+        token => ending(token, skip_blanks(after_word(text))),
+    }
+}
+
+/// A bracket that closes.
+fn closing<'a>(text: &'a str, byte: u8) -> Step<'a>
+    requires { (head text.now ≡ byte) × ((byte ≡ 125) ⊎ (byte ≡ 93)) }
+    ensures { StepsFrom may_close (lex between text.now) result }
+{
+    let rest = skip_blanks(&text[1..]);
+    if byte == b'}' {
+        ending(Token::EndObject, rest)
+    } else {
+        ending(Token::EndArray, rest)
+    }
+}
+
+/// A token with which a value or a key begins.
+fn beginning<'a, A: Allocator + Copy>(
+    alloc: A,
+    arena: &'a Bump<A>,
+    text: &'a str,
+) -> Result<Step<'a>, AllocError>
+    requires some { text.now ≢ [] }
+    requires trimmed { IsTrimmed text.now }
+    requires opens { (head text.now ≢ 125) × (head text.now ≢ 93) }
+    ensures { IfOk result (StepsFrom may_begin (lex between text.now)) }
+{
+    match byte_at(text.as_bytes(), 0) {
+        b'"' => string(alloc, arena, text),
+        b'{' => Ok(opening(Token::BeginObject, text)),
+        b'[' => Ok(opening(Token::BeginArray, text)),
+        b',' | b':' | b'\\' => Ok(bad(text)),
+        _ => Ok(word_step(text)),
+    }
+}
+
+/// What comes where no text is left: a bad token where a value or a key is owed.
+fn at_end<'a>(text: &'a str, stage: Stage) -> Option<Step<'a>>
+    requires over { stage ≢ Stage.Over }
+    requires none { text.now ≡ [] }
+    ensures { Reads stage text.now result }
+{
+    if stage.may_close() {
+        None
+    } else {
+        Some(bad(text))
+    }
+}
+
+/// The next token, which may be bad; `None` where there is none.
+fn read<'a, A: Allocator + Copy>(
+    alloc: A,
+    arena: &'a Bump<A>,
+    text: &'a str,
+    stage: Stage,
+) -> Result<Option<Step<'a>>, AllocError>
+    requires over { stage ≢ Stage.Over }
+    requires tidy { IsTidy stage text.now }
+    ensures { IfOk result (Reads stage text.now) }
+{
+    if text.is_empty() {
+        return Ok(at_end(text, stage));
+    }
+    let byte = byte_at(text.as_bytes(), 0);
+    if (byte == b'}') | (byte == b']') {
+        if stage.may_close() {
+            return Ok(Some(closing(text, byte)));
+        }
+        return Ok(Some(bad(text)));
+    }
+    if !stage.may_begin() {
+        return Ok(Some(bad(text)));
+    }
+    match beginning(alloc, arena, text) {
+        Ok(step) => Ok(Some(step)),
+        Err(_) => Err(AllocError),
+    }
+}
+
+impl<'a, A: Allocator + Copy> Tokens<'a, A> {
+    /// Strings with escapes go to the arena; all others are borrowed from the text.
+    pub(crate) fn new(alloc: A, arena: &'a Bump<A>, text: &'a str) -> Self
+        ensures { result ≡ tokens text.now }
+    {
+        Tokens {
+            alloc,
+            arena,
+            size: text.len(),
+            rest: skip_blanks(text),
+            stage: Stage::Open,
+        }
+    }
+
+    /// Where the next token begins, by an offset in bytes; the text's end where there is none.
+    pub(crate) fn offset(&self) -> usize {
+        self.size.saturating_sub(self.rest.len())
+    }
+
+    /// The next token; `None` where there is none.
+    ///
+    /// # Errors
+    ///
+    /// Where an allocation fails.
+    pub(crate) fn next(&mut self) -> Result<Option<Token<'a>>, AllocError>
+        ensures value { IfOk result (λ found. MatchOption found ((self.old ≡ []) × (self.new ≡ [])) (λ t. self.old ≡ token_of t ∷ self.new)) }
+        ensures printable { IfOk result (λ found. IfSome found (λ t. t ≢ Token.Bad → IsPrintable (token_of t))) }
+    {
+        if let Stage::Over = self.stage {
+            return Ok(None);
+        }
+        match read(self.alloc, self.arena, self.rest, self.stage) {
+            Err(_) => Err(AllocError),
+            Ok(None) => Ok(None),
+            Ok(Some(step)) => {
+                self.rest = step.rest;
+                self.stage = step.stage;
+                Ok(Some(step.token))
+            }
+        }
+    }
+}

@@ -1,0 +1,152 @@
+//! Words of a JSON text: numbers, and the names of three values. Each part of a number is taken by a text and a place in it, and
+//! returns where what follows begins.
+ghost use Rattle.std.specs.Prelude.{◌≡◌, ℕ, ◌<◌, ◌≤◌, ◌||◌, Bool, drop, length};
+ghost use Rattle.json.specs.Reads.{token_of};
+ghost use Rattle.json.specs.Word.{after_digits, after_exponent, after_fraction, after_minus, after_number, after_sign, after_whole, ends_word, head, is_operator, is_space, literal, number_before, word};
+ghost use Rattle.yaml_json.specs.Lexemes.{LeavesAt};
+
+use json::Token;
+
+/// The byte at a place of a text; a blank past its end.
+pub(crate) fn byte_at(text: &[u8], at: usize) -> u8
+    ensures { result ≡ head (drop at text.now) }
+{
+    if at < text.len() { text[at] } else { b' ' }
+}
+
+pub(crate) fn is_blank(byte: u8) -> bool
+    ensures { result ≡ is_space byte }
+{
+    byte <= b' ' && ((byte == b' ') | (byte == b'\n') | (byte == b'\r') | (byte == b'\t'))
+}
+
+pub(crate) fn is_operator(byte: u8) -> bool
+    ensures { result ≡ is_operator byte }
+{
+    (byte == b',')
+        | (byte == b'}')
+        | (byte == b']')
+        | (byte == b'{')
+        | (byte == b'[')
+        | (byte == b':')
+}
+
+/// Whether a word ends before this byte.
+pub(crate) fn is_delimiter(byte: u8) -> bool
+    ensures { result ≡ (is_operator byte || is_space byte) }
+{
+    is_operator(byte) || is_blank(byte)
+}
+
+fn digits_end(text: &[u8], from: usize) -> Option<usize>
+    requires { from ≤ length text.now }
+    ensures { LeavesAt text.now result (after_digits (drop from text.now)) }
+{
+    let mut at = from;
+    'digits: while at < text.len() && text[at].is_ascii_digit() {
+        at += 1;
+    }
+    if at == from { None } else { Some(at) }
+}
+
+fn whole_end(text: &[u8], from: usize) -> Option<usize>
+    requires { from ≤ length text.now }
+    ensures { LeavesAt text.now result (after_whole (drop from text.now)) }
+{
+    if byte_at(text, from) == b'0' {
+        Some(from + 1)
+    } else {
+        digits_end(text, from)
+    }
+}
+
+fn fraction_end(text: &[u8], from: usize) -> Option<usize>
+    requires { from ≤ length text.now }
+    ensures { LeavesAt text.now result (after_fraction (drop from text.now)) }
+{
+    if byte_at(text, from) == b'.' {
+        digits_end(text, from + 1)
+    } else {
+        Some(from)
+    }
+}
+
+fn sign_end(text: &[u8], from: usize) -> usize
+    requires { from ≤ length text.now }
+    ensures sign { drop result text.now ≡ after_sign (drop from text.now) }
+    ensures within { result ≤ length text.now }
+{
+    let byte = byte_at(text, from);
+    if (byte == b'-') | (byte == b'+') {
+        from + 1
+    } else {
+        from
+    }
+}
+
+fn exponent_end(text: &[u8], from: usize) -> Option<usize>
+    requires { from ≤ length text.now }
+    ensures { LeavesAt text.now result (after_exponent (drop from text.now)) }
+{
+    let byte = byte_at(text, from);
+    if (byte == b'e') | (byte == b'E') {
+        digits_end(text, sign_end(text, from + 1))
+    } else {
+        Some(from)
+    }
+}
+
+fn minus_end(text: &[u8]) -> usize
+    ensures minus { drop result text.now ≡ after_minus text.now }
+    ensures within { result ≤ length text.now }
+{
+    if byte_at(text, 0) == b'-' { 1 } else { 0 }
+}
+
+/// Where a number ends.
+fn number_end(text: &[u8]) -> Option<usize>
+    ensures { LeavesAt text.now result (after_number text.now) }
+{
+    let point = whole_end(text, minus_end(text))?;
+    let power = fraction_end(text, point)?;
+    exponent_end(text, power)
+}
+
+fn number<'a>(text: &'a str) -> Token<'a>
+    ensures { token_of result ≡ number_before text.now (after_number text.now) }
+{
+    let bytes = text.as_bytes();
+    match number_end(bytes) {
+        Some(end) => {
+            if is_delimiter(byte_at(bytes, end)) {
+                Token::Number(&text[..end])
+            } else {
+                Token::Bad
+            }
+        }
+        None => Token::Bad,
+    }
+}
+
+fn literal<'a>(text: &[u8], name: &[u8], token: Token<'a>) -> Token<'a>
+    ensures { token_of result ≡ literal name.now (token_of token.entry) text.now }
+{
+    if text.starts_with(name) && is_delimiter(byte_at(text, name.len())) {
+        token
+    } else {
+        Token::Bad
+    }
+}
+
+/// The token of the word that a text begins with.
+pub(crate) fn word<'a>(text: &'a str) -> Token<'a>
+    ensures { token_of result ≡ word text.now }
+{
+    let bytes = text.as_bytes();
+    match byte_at(bytes, 0) {
+        b't' => literal(bytes, b"true", Token::Bool(true)),
+        b'f' => literal(bytes, b"false", Token::Bool(false)),
+        b'n' => literal(bytes, b"null", Token::Null),
+        _ => number(text),
+    }
+}
