@@ -29,12 +29,14 @@ pub(crate) enum Stage {
 }
 
 impl Stage {
+    #[inline(always)]
     fn may_begin(self) -> bool
         ensures { result ≡ begins_here self }
     {
         matches!(self, Stage::Open | Stage::Owed)
     }
 
+    #[inline(always)]
     fn may_close(self) -> bool
         ensures { result ≡ closes_here self }
     {
@@ -78,6 +80,7 @@ impl<'a, A: Allocator> Model for Tokens<'a, A> {
 }
 
 /// No token, and none after it.
+#[inline(always)]
 fn bad<'a>(text: &'a str) -> Step<'a>
     requires { IsTrimmed text.now }
     ensures token { token_of result.token ≡ spec.bad }
@@ -92,6 +95,7 @@ fn bad<'a>(text: &'a str) -> Step<'a>
 }
 
 /// A token after which a value or a key may begin. It ends with the first byte.
+#[inline(always)]
 fn opening<'a>(token: Token<'a>, text: &'a str) -> Step<'a>
     requires { (0 < length text.now) × (get_or text.now 0 0 < 128) }
     ensures { Opens (token_of token.entry) (drop 1 text.now) result }
@@ -104,6 +108,7 @@ fn opening<'a>(token: Token<'a>, text: &'a str) -> Step<'a>
 }
 
 /// A token that ends a value, and what follows the blanks after it.
+#[inline(always)]
 fn ending<'a>(token: Token<'a>, text: &'a str) -> Step<'a>
     requires { IsTrimmed text.now }
     ensures { Ends (token_of token.entry) text.now result }
@@ -124,6 +129,7 @@ fn ending<'a>(token: Token<'a>, text: &'a str) -> Step<'a>
 }
 
 /// A string with this content, and what follows it.
+#[inline(always)]
 fn string_step<'a>(content: &'a str, after: &'a str) -> Step<'a>
     ensures { StepsFrom may_begin (token (spec.string content.now) ∷ lex between after.now) result }
 {
@@ -157,6 +163,7 @@ fn escaped<'a, A: Allocator + Copy>(
 }
 
 /// The string that a text begins with, or none.
+#[inline(always)]
 fn string<'a, A: Allocator + Copy>(
     alloc: A,
     arena: &'a Bump<A>,
@@ -176,6 +183,7 @@ fn string<'a, A: Allocator + Copy>(
 }
 
 /// The word that a text begins with, or none.
+#[inline(always)]
 fn word_step<'a>(text: &'a str) -> Step<'a>
     requires other { class (head text.now) ≡ other }
     requires trimmed { IsTrimmed text.now }
@@ -188,6 +196,7 @@ fn word_step<'a>(text: &'a str) -> Step<'a>
 }
 
 /// A bracket that closes.
+#[inline(always)]
 fn closing<'a>(text: &'a str, byte: u8) -> Step<'a>
     requires { (head text.now ≡ byte) × ((byte ≡ 125) ⊎ (byte ≡ 93)) }
     ensures { StepsFrom may_close (lex between text.now) result }
@@ -201,6 +210,7 @@ fn closing<'a>(text: &'a str, byte: u8) -> Step<'a>
 }
 
 /// A token with which a value or a key begins.
+#[inline(always)]
 fn beginning<'a, A: Allocator + Copy>(
     alloc: A,
     arena: &'a Bump<A>,
@@ -234,6 +244,7 @@ fn at_end<'a>(text: &'a str, stage: Stage) -> Option<Step<'a>>
 }
 
 /// The next token, which may be bad; `None` where there is none.
+#[inline(always)]
 fn read<'a, A: Allocator + Copy>(
     alloc: A,
     arena: &'a Bump<A>,

@@ -8,18 +8,21 @@ ghost use Rattle.yaml_json.specs.Lexemes.{LeavesAt};
 use json::Token;
 
 /// The byte at a place of a text; a blank past its end.
+#[inline(always)]
 pub(crate) fn byte_at(text: &[u8], at: usize) -> u8
     ensures { result ≡ head (drop at text.now) }
 {
     if at < text.len() { text[at] } else { b' ' }
 }
 
+#[inline(always)]
 pub(crate) fn is_blank(byte: u8) -> bool
     ensures { result ≡ is_space byte }
 {
     byte <= b' ' && ((byte == b' ') | (byte == b'\n') | (byte == b'\r') | (byte == b'\t'))
 }
 
+#[inline(always)]
 pub(crate) fn is_operator(byte: u8) -> bool
     ensures { result ≡ is_operator byte }
 {
@@ -32,12 +35,14 @@ pub(crate) fn is_operator(byte: u8) -> bool
 }
 
 /// Whether a word ends before this byte.
+#[inline(always)]
 pub(crate) fn is_delimiter(byte: u8) -> bool
     ensures { result ≡ (is_operator byte || is_space byte) }
 {
     is_operator(byte) || is_blank(byte)
 }
 
+#[inline(always)]
 fn digits_end(text: &[u8], from: usize) -> Option<usize>
     requires { from ≤ length text.now }
     ensures { LeavesAt text.now result (after_digits (drop from text.now)) }
@@ -49,6 +54,7 @@ fn digits_end(text: &[u8], from: usize) -> Option<usize>
     if at == from { None } else { Some(at) }
 }
 
+#[inline(always)]
 fn whole_end(text: &[u8], from: usize) -> Option<usize>
     requires { from ≤ length text.now }
     ensures { LeavesAt text.now result (after_whole (drop from text.now)) }
@@ -60,6 +66,7 @@ fn whole_end(text: &[u8], from: usize) -> Option<usize>
     }
 }
 
+#[inline(always)]
 fn fraction_end(text: &[u8], from: usize) -> Option<usize>
     requires { from ≤ length text.now }
     ensures { LeavesAt text.now result (after_fraction (drop from text.now)) }
@@ -71,6 +78,7 @@ fn fraction_end(text: &[u8], from: usize) -> Option<usize>
     }
 }
 
+#[inline(always)]
 fn sign_end(text: &[u8], from: usize) -> usize
     requires { from ≤ length text.now }
     ensures sign { drop result text.now ≡ after_sign (drop from text.now) }
@@ -84,6 +92,7 @@ fn sign_end(text: &[u8], from: usize) -> usize
     }
 }
 
+#[inline(always)]
 fn exponent_end(text: &[u8], from: usize) -> Option<usize>
     requires { from ≤ length text.now }
     ensures { LeavesAt text.now result (after_exponent (drop from text.now)) }
@@ -96,6 +105,7 @@ fn exponent_end(text: &[u8], from: usize) -> Option<usize>
     }
 }
 
+#[inline(always)]
 fn minus_end(text: &[u8]) -> usize
     ensures minus { drop result text.now ≡ after_minus text.now }
     ensures within { result ≤ length text.now }
@@ -104,6 +114,7 @@ fn minus_end(text: &[u8]) -> usize
 }
 
 /// Where a number ends.
+#[inline(always)]
 fn number_end(text: &[u8]) -> Option<usize>
     ensures { LeavesAt text.now result (after_number text.now) }
 {
@@ -112,6 +123,7 @@ fn number_end(text: &[u8]) -> Option<usize>
     exponent_end(text, power)
 }
 
+#[inline(always)]
 fn number<'a>(text: &'a str) -> Token<'a>
     ensures { token_of result ≡ number_before text.now (after_number text.now) }
 {
@@ -128,6 +140,7 @@ fn number<'a>(text: &'a str) -> Token<'a>
     }
 }
 
+#[inline(always)]
 fn literal<'a>(text: &[u8], name: &[u8], token: Token<'a>) -> Token<'a>
     ensures { token_of result ≡ literal name.now (token_of token.entry) text.now }
 {
@@ -139,6 +152,7 @@ fn literal<'a>(text: &[u8], name: &[u8], token: Token<'a>) -> Token<'a>
 }
 
 /// The token of the word that a text begins with.
+#[inline(always)]
 pub(crate) fn word<'a>(text: &'a str) -> Token<'a>
     ensures { token_of result ≡ word text.now }
 {
