@@ -298,6 +298,7 @@ impl<'a, A: Allocator + Copy> Tokens<'a, A> {
     /// # Errors
     ///
     /// Where an allocation fails.
+    #[inline(always)]
     pub(crate) fn next(&mut self) -> Result<Option<Token<'a>>, AllocError>
         ensures value { IfOk result (λ found. MatchOption found ((self.old ≡ []) × (self.new ≡ [])) (λ t. self.old ≡ token_of t ∷ self.new)) }
         ensures printable { IfOk result (λ found. IfSome found (λ t. t ≢ Token.Bad → IsPrintable (token_of t))) }
