@@ -11,7 +11,7 @@ use Rattle.yaml_base.proofs.Common.{somewhere, bars_block, allows_block}
 use Rattle.yaml_scalar.proofs.Common.{limit_of, limit_where}
 use Rattle.std.{proofs.Common.◌≤ℤ◌, proofs.lemmas.Bool.cases_Bool, specs.Result.IfOk, specs.Result.MatchResult, specs.Str.IsUtf8}
 use Rattle.yaml_base.specs.declared.errors.yaml_error_t.{yaml_error_t}
-use Rattle.yaml_base.specs.scalars.{DoubleQuoted.render_double_quoted, Folded.render_folded, Plain.render_plain, SingleQuoted.render_single_quoted}
+use Rattle.yaml_base.specs.scalars.{Folded.render_folded, Plain.render_plain}
 use Rattle.yaml_emitter.proofs.pieces.AtomsWritten.{lead-spelled}
 use Rattle.yaml_emitter.specs.{Given.seen_width, ScalarTexts.without_answer, declared.effective.EffectiveSettings.EffectiveSettings}
 use Rattle.yaml_mark.proofs.HandleLemmas.{no_characters, characters_begin}
@@ -34,6 +34,11 @@ line_limit : (simple : Bool) (width : ℤ) → pos 0 ≤ℤ width → limit_wher
 line_limit true width low = refl
 line_limit false width low = width_limit width low
 
+-- a simple key isn't folded
+folded_long : (value : Text) (simple : Bool) → style_fits folded value simple ≡ true → simple ≡ false
+folded_long value false fits = refl
+folded_long value true fits = let wrong : false ≡ true = (and_parts (not (is_empty value)) false fits).1 in cc
+
 module _ (settings : EffectiveSettings) (in_flow simple : Bool) (value : Text) {indent width : ℤ} {column : ℕ} (is : indent ≡ pos column)
     (width_is : width ≡ settings.width) (low : pos 0 ≤ℤ settings.width) where
   limit_is : limit_where (not simple) width ≡ (if simple then None else seen_width settings.width)
@@ -51,34 +56,19 @@ module _ (settings : EffectiveSettings) (in_flow simple : Bool) (value : Text) {
       ∙ ap (λ (i : ℤ). render_plain in_flow (if simple then None else seen_width settings.width) (natural i) value before.cursor) is)
       wrote
 
-  pub wrote_single : {before after : Page} {answer : Result (Unit {0}) yaml_error_t}
-      → Wrote (render_single_quoted (limit_where (not simple) width) (natural indent) value) before after answer
-      → Wrote (render_scalar_text single_quoted (seen_effective settings) in_flow simple column value) before after answer
-  wrote_single {before} wrote =
-      wrote_as (text single_quoted)
-      (ap (λ (l : Option ℕ). render_single_quoted l (natural indent) value before.cursor) limit_is
-      ∙ ap (λ (i : ℤ). render_single_quoted (if simple then None else seen_width settings.width) (natural i) value before.cursor) is)
-      wrote
-
-  pub wrote_double : {before after : Page} {answer : Result (Unit {0}) yaml_error_t}
-      → Wrote (render_double_quoted settings.unicode (limit_where (not simple) width) (natural indent) value) before after answer
-      → Wrote (render_scalar_text double_quoted (seen_effective settings) in_flow simple column value) before after answer
-  wrote_double {before} wrote =
-      wrote_as (text double_quoted)
-      (ap (λ (l : Option ℕ). render_double_quoted settings.unicode l (natural indent) value before.cursor) limit_is
-      ∙ ap (λ (i : ℤ). render_double_quoted settings.unicode (if simple then None else seen_width settings.width) (natural i) value before.cursor) is)
-      wrote
-
-  pub wrote_folded : {best : ℤ} → best ≡ pos settings.indent → simple ≡ false → {before after : Page} {answer : Result (Unit {0}) yaml_error_t}
+  pub wrote_folded : {best : ℤ} {style : ScalarStyle} → best ≡ pos settings.indent → style ≡ folded → style_fits style value simple ≡ true
+      → {before after : Page} {answer : Result (Unit {0}) yaml_error_t}
       → Wrote (render_folded (limit_of width) (natural indent) (natural best) value) before after answer
-      → Wrote (render_scalar_text folded (seen_effective settings) in_flow simple column value) before after answer
-  wrote_folded {best} best_is long {before} wrote =
-      wrote_as (text folded)
+      → Wrote (render_scalar_text style (seen_effective settings) in_flow simple column value) before after answer
+  wrote_folded {best} {style} best_is style_is fits {before} {after} {answer} wrote =
+      let long : simple ≡ false = folded_long value simple (subst (λ (s : ScalarStyle). style_fits s value simple ≡ true) style_is fits) in
+      subst (λ (s : ScalarStyle). Wrote (render_scalar_text s (seen_effective settings) in_flow simple column value) before after answer) (sym style_is)
+      (wrote_as (text folded)
       (ap (λ (l : Option ℕ). render_folded l (natural indent) (natural best) value before.cursor) (ap limit_of width_is ∙ width_limit settings.width low)
       ∙ ap (λ (i : ℤ). render_folded (seen_width settings.width) (natural i) (natural best) value before.cursor) is
       ∙ ap (λ (i : ℤ). render_folded (seen_width settings.width) column (natural i) value before.cursor) best_is
       ∙ ap (λ (b : Bool). render_folded (if b then None else seen_width settings.width) column settings.indent value before.cursor) (sym long))
-      wrote
+      wrote)
 
 quoted_fits : (allowed : Allowances) (value : Text) (simple : Bool) → style_fits (quoted_style allowed) value simple ≡ true
 quoted_fits allowed value simple =

@@ -1,9 +1,6 @@
 //! A scalar's text in its style (YAML 1.1, sections 9.1 and 9.3).
 
-ghost use Rattle.std.specs.Prelude.{◌≡◌, ◌+◌, ◌≤ℤ◌, pos, true, false, IfOk, chars};
-ghost use Rattle.yaml_base.specs.scalars.BlockHeader.{header_open_ended};
-ghost use Rattle.yaml_base.specs.scalars.Analysis as analysis;
-ghost use Rattle.yaml_base.specs.Event.{plain, single_quoted, double_quoted, literal, folded};
+ghost use Rattle.std.specs.Prelude.{◌≡◌, ◌+◌, ◌≤ℤ◌, pos, true, IfOk, chars};
 ghost use Rattle.yaml_base.specs.Layout.{deeper, open_ended_after};
 ghost use Rattle.yaml_base.specs.Seen.{seen_scalar_style};
 ghost use Rattle.yaml_pen.specs.Page.{IsReady};
@@ -44,123 +41,27 @@ pub(crate) fn write_text<A: Allocator>(
         pen.old pen.new (without_answer result) }
     ensures open_ended { IfOk result (λ after. seen_open_ended after ≡ open_ended_after (seen_scalar_style style) (chars value.now) (seen_open_ended open_ended)) }
 {
+    let settings = site.settings;
+    let indent = line_indent(settings, &site.place);
+    let (width, breaks) = (settings.width, !site.simple);
     match style {
-        YAML_LITERAL_SCALAR_STYLE => write_literal(pen, site, value),
-        YAML_FOLDED_SCALAR_STYLE => write_folded(pen, site, value),
-        YAML_PLAIN_SCALAR_STYLE => write_plain(pen, site, value, open_ended),
-        YAML_SINGLE_QUOTED_SCALAR_STYLE => write_single(pen, site, value, open_ended),
-        _ => write_double(pen, site, value, open_ended),
+        YAML_PLAIN_SCALAR_STYLE => {
+            write_plain_scalar(pen, value, breaks, site.place.in_flow, indent, width)?
+        }
+        YAML_SINGLE_QUOTED_SCALAR_STYLE => {
+            write_single_quoted_scalar(pen, value, breaks, indent, width)?
+        }
+        YAML_LITERAL_SCALAR_STYLE => {
+            let header = write_literal_scalar(pen, value, indent, settings.indent as i32)?;
+            return Ok(OpenEnded::after_header(header));
+        }
+        YAML_FOLDED_SCALAR_STYLE => {
+            let header = write_folded_scalar(pen, value, indent, settings.indent as i32, width)?;
+            return Ok(OpenEnded::after_header(header));
+        }
+        _ => write_double_quoted_scalar(pen, value, breaks, settings.unicode, indent, width)?,
     }
-}
-
-fn write_plain<A: Allocator>(
-    pen: &mut Pen<A>,
-    site: &Site,
-    value: &str,
-    open_ended: OpenEnded,
-) -> Result<OpenEnded, yaml_error_t>
-    requires ready { IsReady pen.old }
-    ensures written { Wrote
-        (text_at plain (seen_effective site.now.settings.now) (seen_place site.now.place) site.now.simple (chars value.now))
-        pen.old pen.new (without_answer result) }
-    ensures open_ended { IfOk result (λ after. after ≡ open_ended) }
-{
-    let settings = site.settings;
-    let indent = line_indent(settings, &site.place);
-    write_plain_scalar(
-        pen,
-        value,
-        !site.simple,
-        site.place.in_flow,
-        indent,
-        settings.width,
-    )?;
     Ok(open_ended)
-}
-
-fn write_single<A: Allocator>(
-    pen: &mut Pen<A>,
-    site: &Site,
-    value: &str,
-    open_ended: OpenEnded,
-) -> Result<OpenEnded, yaml_error_t>
-    requires ready { IsReady pen.old }
-    ensures written { Wrote
-        (text_at single_quoted (seen_effective site.now.settings.now) (seen_place site.now.place) site.now.simple (chars value.now))
-        pen.old pen.new (without_answer result) }
-    ensures open_ended { IfOk result (λ after. after ≡ open_ended) }
-{
-    let settings = site.settings;
-    let indent = line_indent(settings, &site.place);
-    write_single_quoted_scalar(pen, value, !site.simple, indent, settings.width)?;
-    Ok(open_ended)
-}
-
-fn write_double<A: Allocator>(
-    pen: &mut Pen<A>,
-    site: &Site,
-    value: &str,
-    open_ended: OpenEnded,
-) -> Result<OpenEnded, yaml_error_t>
-    requires ready { IsReady pen.old }
-    ensures written { Wrote
-        (text_at double_quoted (seen_effective site.now.settings.now) (seen_place site.now.place) site.now.simple (chars value.now))
-        pen.old pen.new (without_answer result) }
-    ensures open_ended { IfOk result (λ after. after ≡ open_ended) }
-{
-    let settings = site.settings;
-    let indent = line_indent(settings, &site.place);
-    write_double_quoted_scalar(
-        pen,
-        value,
-        !site.simple,
-        settings.unicode,
-        indent,
-        settings.width,
-    )?;
-    Ok(open_ended)
-}
-
-fn write_literal<A: Allocator>(
-    pen: &mut Pen<A>,
-    site: &Site,
-    value: &str,
-) -> Result<OpenEnded, yaml_error_t>
-    requires ready { IsReady pen.old }
-    requires some { analysis.is_empty (chars value.now) ≡ false }
-    ensures written { Wrote
-        (text_at literal (seen_effective site.now.settings.now) (seen_place site.now.place) false (chars value.now))
-        pen.old pen.new (without_answer result) }
-    ensures open_ended { IfOk result (λ after. seen_open_ended after ≡ header_open_ended (chars value.now)) }
-{
-    let settings = site.settings;
-    let indent = line_indent(settings, &site.place);
-    let open_ended = write_literal_scalar(pen, value, indent, settings.indent as i32)?;
-    Ok(OpenEnded::after_header(open_ended))
-}
-
-fn write_folded<A: Allocator>(
-    pen: &mut Pen<A>,
-    site: &Site,
-    value: &str,
-) -> Result<OpenEnded, yaml_error_t>
-    requires ready { IsReady pen.old }
-    requires some { analysis.is_empty (chars value.now) ≡ false }
-    ensures written { Wrote
-        (text_at folded (seen_effective site.now.settings.now) (seen_place site.now.place) false (chars value.now))
-        pen.old pen.new (without_answer result) }
-    ensures open_ended { IfOk result (λ after. seen_open_ended after ≡ header_open_ended (chars value.now)) }
-{
-    let settings = site.settings;
-    let indent = line_indent(settings, &site.place);
-    let open_ended = write_folded_scalar(
-        pen,
-        value,
-        indent,
-        settings.indent as i32,
-        settings.width,
-    )?;
-    Ok(OpenEnded::after_header(open_ended))
 }
 
 /// Where a scalar's further lines begin, in columns.
