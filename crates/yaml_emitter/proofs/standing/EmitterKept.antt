@@ -51,16 +51,10 @@ pub kept_limited : {A : Type 0} (e : Inside A) (after : MachineState) → IsEmit
 kept_limited e after kept =
     record { untouched = λ none. cc; begun = λ begun. refl; opened = λ opened. refl; room = kept.room; waits = kept.waits }
 
-pub indent_set : {A : Type 0} (e : Inside A) {after : MachineState} {n : ℤ} {seen : State}
-    → after ≡ record e.machine { given = record e.machine.given { indent = Some n } } → state_of e ≡ seen
-    → state_of (record e { machine = after }) ≡ record seen { given = record seen.given { indent = Some n } }
-indent_set e {after} {n} {seen} set is =
-    ap (λ (m : MachineState). state_of (record e { machine = m })) set
-    ∙ ap (λ (s : State). let made : State = record s { given = record s.given { indent = Some n } } in made) is
-
-pub width_set : {A : Type 0} (e : Inside A) {after : MachineState} {n : ℤ} {seen : State}
-    → after ≡ record e.machine { given = record e.machine.given { width = Some n } } → state_of e ≡ seen
-    → state_of (record e { machine = after }) ≡ record seen { given = record seen.given { width = Some n } }
-width_set e {after} {n} {seen} set is =
-    ap (λ (m : MachineState). state_of (record e { machine = m })) set
-    ∙ ap (λ (s : State). let made : State = record s { given = record s.given { width = Some n } } in made) is
+-- a setter changes what is given
+pub given_set : {A : Type 0} (e : Inside A) (set : Settings → Settings) {after : MachineState} {seen : State}
+    → after ≡ record e.machine { given = set e.machine.given } → state_of e ≡ seen
+    → state_of (record e { machine = after }) ≡ record seen { given = set seen.given }
+given_set e set {after} {seen} is view_is =
+    ap (λ (m : MachineState). state_of (record e { machine = m })) is
+    ∙ ap (λ (s : State). let made : State = record s { given = set s.given } in made) view_is

@@ -1,5 +1,5 @@
-use Rattle.yaml_emitter.proofs.Common.{refl, ap, ◌∙◌, state_of, State, MachineState}
-use Rattle.yaml_emitter.proofs.standing.{EmitterKept.kept_given, StandingSet.stands_given}
+use Rattle.yaml_emitter.proofs.Common.{refl, Settings}
+use Rattle.yaml_emitter.proofs.standing.{EmitterKept.kept_given, EmitterKept.given_set, StandingSet.stands_given}
 use Rattle.yaml_emitter.proofs.setters.yaml_emitter_set_indented_sequences.Goals as goal
 
 pub invariant_of-emitter : goal.invariant_of-emitter
@@ -7,8 +7,7 @@ invariant_of-emitter g c = kept_given c.emitter.inside c.set_indented_sequences.
 
 pub returns-clause-set : goal.returns-clause-set
 returns-clause-set g c =
-    ap (λ (m : MachineState). state_of (record c.emitter.inside { machine = m })) c.set_indented_sequences.ensures
-    ∙ ap (λ (s : State). let made : State = record s { given = record s.given { indented_sequences = c.args.indented } } in made) c.emitter.view_is
+    given_set c.emitter.inside (λ (s : Settings). record s { indented_sequences = c.args.indented }) c.set_indented_sequences.ensures c.emitter.view_is
 
 pub returns-clause-stands : goal.returns-clause-stands
 returns-clause-stands g c stands = stands_given c.args.emitter.now _ _ _ (returns-clause-set g c) refl stands

@@ -1,14 +1,12 @@
-use Rattle.yaml_emitter.proofs.Common.{refl, ap, ◌∙◌, state_of, State, MachineState}
-use Rattle.yaml_emitter.proofs.standing.{EmitterKept.kept_given, StandingSet.stands_given}
+use Rattle.yaml_emitter.proofs.Common.{refl, Settings}
+use Rattle.yaml_emitter.proofs.standing.{EmitterKept.kept_given, EmitterKept.given_set, StandingSet.stands_given}
 use Rattle.yaml_emitter.proofs.setters.yaml_emitter_set_unicode.Goals as goal
 
 pub invariant_of-emitter : goal.invariant_of-emitter
 invariant_of-emitter g c = kept_given c.emitter.inside c.set_unicode.new.self _ _ c.set_unicode.ensures c.emitter.invariant
 
 pub returns-clause-set : goal.returns-clause-set
-returns-clause-set g c =
-    ap (λ (m : MachineState). state_of (record c.emitter.inside { machine = m })) c.set_unicode.ensures
-    ∙ ap (λ (s : State). let made : State = record s { given = record s.given { unicode = c.args.unicode } } in made) c.emitter.view_is
+returns-clause-set g c = given_set c.emitter.inside (λ (s : Settings). record s { unicode = c.args.unicode }) c.set_unicode.ensures c.emitter.view_is
 
 pub returns-clause-stands : goal.returns-clause-stands
 returns-clause-stands g c stands = stands_given c.args.emitter.now _ _ _ (returns-clause-set g c) refl stands
