@@ -1,5 +1,5 @@
 -- What an emitter keeps true.
-use Rattle.yaml_emitter.proofs.Common.{ℕ, ◌<◌, ◌≤◌, Some, vec_len, vec_capacity, ℤ, length, false, true, List, [], map, ◌++◌, ◌∷◌, refl, ◌≡◌, ap, subst, sym}
+use Rattle.yaml_emitter.proofs.Common.{ℕ, ◌<◌, ◌≤◌, vec_len, vec_capacity, length, false, true, List, [], map, ◌++◌, ◌∷◌, refl, ◌≡◌, ap, subst, sym}
 use Rattle.yaml_emitter.proofs.Common.{◌∙◌, arith, length-map, map-append, Event, seen_event, seen_events, Settings, Effective, state_of, IsEmitter}
 use Rattle.yaml_emitter.proofs.Common.{is_head_ready, State, MachineState}
 use Rattle.yaml_emitter.proofs.standing.StandingPromises.{held_few, most_few}

@@ -1,6 +1,6 @@
-use Rattle.std.{proofs.Common.ap, proofs.Common.sym, proofs.Common.◌∙◌, specs.Prelude.chars}
+use Rattle.std.proofs.Common.{ap, sym, ◌∙◌}
 use Rattle.yaml_base.specs.{Refusal.name_or_tag_fault, Seen.seen_sequence_style, Seen.seen_mapping_style, Seen.seen_event}
-use Rattle.yaml_base.specs.Event.{any_layout, Collection, alias, scalar, sequence_start, sequence_end, mapping_start, mapping_end}
+use Rattle.yaml_base.specs.Event.{any_layout, Collection, scalar, sequence_start, mapping_start}
 use Rattle.yaml_emitter.{proofs.events_done.ProcessedBy.processed_as, specs.BorrowedTexts.seen_scalar, specs.BorrowedTexts.seen_collection}
 use Rattle.yaml_emitter.proofs.machine.Machine.expect_node.Goals as goal
 
@@ -37,10 +37,7 @@ returns-in-YAML_MAPPING_START_EVENT g c =
     (c.start_collection-in-YAML_MAPPING_START_EVENT.ensures (seen_mapping_style c.in-YAML_MAPPING_START_EVENT.style) (sym c.is_flow_mapping.ensures))
 
 pub returns-in-YAML_ALIAS_EVENT : goal.returns-in-YAML_ALIAS_EVENT
-returns-in-YAML_ALIAS_EVENT g c =
-    processed_as (seen_event c.args.event.now) (alias (chars c.as_str.result.now)) c.args.empty c.args.self.now c.put_alias.new.self c.put_alias.result
-    (ap seen_event c.in-YAML_ALIAS_EVENT.is ∙ ap (λ bytes. alias (chars bytes)) (sym c.as_str.ensures.value))
-    (c.put_alias.ensures c.args.empty)
+returns-in-YAML_ALIAS_EVENT g c = rw (c.in-YAML_ALIAS_EVENT.is, ← c.as_str.ensures.value) (c.put_alias.ensures c.args.empty)
 
 pub returns-in-YAML_SCALAR_EVENT : goal.returns-in-YAML_SCALAR_EVENT
 returns-in-YAML_SCALAR_EVENT g c =
@@ -50,12 +47,7 @@ returns-in-YAML_SCALAR_EVENT g c =
     (c.put_scalar.ensures c.args.empty)
 
 pub returns-in-YAML_SEQUENCE_END_EVENT : goal.returns-in-YAML_SEQUENCE_END_EVENT
-returns-in-YAML_SEQUENCE_END_EVENT g c =
-    processed_as (seen_event c.args.event.now) sequence_end c.args.empty c.args.self.now c.end_collection.new.self c.end_collection.result
-    (ap seen_event c.in-YAML_SEQUENCE_END_EVENT.is) (c.end_collection.ensures c.args.empty)
+returns-in-YAML_SEQUENCE_END_EVENT g c = rw c.in-YAML_SEQUENCE_END_EVENT.is (c.end_collection.ensures c.args.empty)
 
 pub returns-in-YAML_MAPPING_END_EVENT : goal.returns-in-YAML_MAPPING_END_EVENT
-returns-in-YAML_MAPPING_END_EVENT g c =
-    processed_as (seen_event c.args.event.now) mapping_end c.args.empty c.args.self.now c.end_collection-in-YAML_MAPPING_END_EVENT.new.self
-    c.end_collection-in-YAML_MAPPING_END_EVENT.result
-    (ap seen_event c.in-YAML_MAPPING_END_EVENT.is) (c.end_collection-in-YAML_MAPPING_END_EVENT.ensures c.args.empty)
+returns-in-YAML_MAPPING_END_EVENT g c = rw c.in-YAML_MAPPING_END_EVENT.is (c.end_collection-in-YAML_MAPPING_END_EVENT.ensures c.args.empty)
