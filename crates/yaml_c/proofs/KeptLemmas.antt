@@ -3,7 +3,9 @@ use Rattle.yaml_c.proofs.Common.{Option, None, Some, true, ◌≡◌, refl, subs
 use Rattle.std.specs.Prelude.{IsOk, Result}
 use Rattle.yaml_base.specs.declared.errors.yaml_error_t.{yaml_error_t}
 use Rattle.yaml_pen.specs.Page.{result_of_error}
-use Rattle.yaml_c.specs.Kept.{Changes}
+use Rattle.yaml_base.specs.Event.{Event}
+use Rattle.yaml_emitter.specs.EmitsEvent.{EmitsEvent}
+use Rattle.yaml_c.specs.Kept.{Changes, TakesEvent}
 
 -- a call over what was taken out, which was put in again
 pub changed : (relation : State → State → Type 0) (old new : Option State) (before after : State) → Some before ≡ old → new ≡ Some after
@@ -16,3 +18,15 @@ changed relation old new before after taken put output related =
 pub none_of_ok : (error : Option yaml_error_t) (answer : Result (Unit {0}) yaml_error_t) → answer ≡ result_of_error error → IsOk answer → error ≡ None
 none_of_ok None answer told is = refl
 none_of_ok (Some error) answer told is = let no : IsOk (result_of_error (Some error)) = subst IsOk told is in cc
+
+pub takes_event : (event : Event) (answer : Result (Unit {0}) yaml_error_t) (before after : State) → EmitsEvent before event answer after
+    → TakesEvent event before after
+takes_event event answer before after emits =
+    record {
+      stands = emits.stands;
+      promised = emits.promised;
+      waits = λ given all stood none same. none_of_ok after.error answer emits.answered (emits.waits given all stood none same);
+      grows = emits.grows;
+      kept = emits.kept;
+      set = emits.set;
+    }

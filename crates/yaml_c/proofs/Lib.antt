@@ -2,6 +2,7 @@ pub mod Common
 pub mod Utf8
 pub mod DirectiveLemmas
 pub mod EmissionLemmas
+pub mod GivingLemmas
 pub mod JsonLemmas
 pub mod KeptLemmas
 pub mod MovingLemmas

@@ -3,6 +3,7 @@ pub mod Arena
 pub mod Emission
 pub mod EventRecords
 pub mod GivenSettings
+pub mod Giving
 pub mod Handle
 pub mod JsonAnswers
 pub mod Kept

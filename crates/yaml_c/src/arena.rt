@@ -2,6 +2,7 @@
 ghost use Rattle.std.specs.Prelude.{◌≡◌, IfOk, option_map};
 ghost use Rattle.std.specs.Str.{chars};
 ghost use Rattle.yaml_base.specs.Seen.{seen_text};
+ghost use Rattle.yaml_emitter.specs.BorrowedTexts.{seen_name};
 ghost use Rattle.yaml_c.specs.Arena.{part_of, text_of_bytes, text_at, optional_text_at};
 
 use std::alloc::{AllocError, Allocator};
@@ -36,10 +37,24 @@ fn text_of(bytes: &[u8]) -> Option<&str>
 }
 
 /// The text of a span, where it lies within the arena and is UTF-8.
-fn borrowed_text<'a>(arena: &'a [u8], span: &Span) -> Option<&'a str>
+pub(crate) fn borrowed_text<'a>(arena: &'a [u8], span: &Span) -> Option<&'a str>
     ensures { option_map (λ text. chars text.now) result ≡ text_at arena.now span.now }
 {
     text_of(bytes_at(arena, span)?)
+}
+
+/// A text, or none where `has` is 0; nothing where there is to be one and its span has no text.
+pub(crate) fn optional_borrowed_text<'a>(
+    arena: &'a [u8],
+    has: u32,
+    span: &Span,
+) -> Option<Option<&'a str>>
+    ensures { option_map seen_name result ≡ optional_text_at arena.now has span.now }
+{
+    if has == 0 {
+        return Some(None);
+    }
+    Some(Some(borrowed_text(arena, span)?))
 }
 
 /// A copy of the text of a span, where the span lies within the arena and is UTF-8.

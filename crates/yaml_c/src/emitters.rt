@@ -1,29 +1,29 @@
 //! Emitters that a C program keeps from call to call.
-ghost use Rattle.std.specs.Prelude.{◌≡◌, List, Option, None, Some, option_map, pos, true, IfOk, length, nat_le, if◌then◌else◌};
+ghost use Rattle.std.specs.Prelude.{◌≡◌, List, Option, None, Some, true, length, nat_le, if◌then◌else◌};
 ghost use Rattle.yaml_base.specs.Event.{Event};
-ghost use Rattle.yaml_base.specs.Seen.{seen_event};
 ghost use Rattle.yaml_base.specs.Settings.{Settings};
 ghost use Rattle.yaml_base.specs.declared.errors.yaml_error_t.{yaml_error_t};
 ghost use Rattle.yaml_emitter.specs.Promises.{Promised};
 ghost use Rattle.yaml_emitter.specs.StandsAfter.{StandsAfter};
-ghost use Rattle.yaml_emitter.specs.State.{with_all_taken};
+ghost use Rattle.yaml_emitter.specs.State.{State, with_all_taken};
 ghost use Rattle.yaml_pen.specs.Page.{output_left, result_of_error};
 ghost use Rattle.yaml_c.specs.Answers.{CopiesToCaller, results_done};
 ghost use Rattle.yaml_c.specs.EventRecords as meaning;
 ghost use Rattle.yaml_c.specs.GivenSettings.{settings_given};
+ghost use Rattle.yaml_c.specs.Giving.{GaveRecord};
 ghost use Rattle.yaml_c.specs.Kept.{Changes, Flushes, GivesRecord, IsOpen, MakesEmitter, TakesOutput, TellsError, status_of};
 
 use crate::events::number_of;
+use crate::giving::{Giving, give_record};
 use crate::handle::EmitterHandle;
-use crate::records::{DirectiveRecord, EventOrNone, EventRecord, event_of};
+use crate::records::{DirectiveRecord, EventRecord};
 use crate::results::{CallResult, move_to_caller};
 use crate::settings::{EmitterSettings, settings_from};
 use crate::statuses::{BAD_EVENT, BAD_SETTINGS, DONE, NO_MEMORY, REFUSED, TOO_SMALL};
 use std::alloc::{Allocator, Global};
 use yaml_base::yaml_error_t;
 use yaml_emitter::{
-    standing_is_promised, yaml_emitter_emit, yaml_emitter_flush, yaml_emitter_t,
-    yaml_emitter_take_output,
+    standing_is_promised, yaml_emitter_flush, yaml_emitter_t, yaml_emitter_take_output,
 };
 
 /// Makes an emitter with these settings, but for their `skip`. See the header.
@@ -63,10 +63,9 @@ pub extern "C" fn yaml_c_emitter_emit(
     ensures { Changes (GivesRecord (meaning.event_of texts.now directives.now event.now) result report.new) emitter.old.state emitter.new.state }
 {
     let mut boxed = emitter.take(alloc);
-    let event = event_of(alloc, texts, directives, event);
-    let status = give(&mut *boxed, event, report);
+    let giving = give_record(alloc, &mut *boxed, texts, directives, event);
     emitter.put(boxed);
-    status
+    tell_giving(giving, report)
 }
 
 /// Flushes all that an emitter has written. See the header.
@@ -111,25 +110,6 @@ pub extern "C" fn yaml_c_emitter_delete(alloc: Global, emitter: &mut EmitterHand
     emitter.take(alloc).drop();
 }
 
-/// Gives an event to an emitter, if there is one.
-fn give<A: Allocator + Copy>(
-    emitter: &mut yaml_emitter_t<A>,
-    event: EventOrNone<A>,
-    report: &mut CallResult,
-) -> i32
-    requires output { emitter.old.has_output ≡ true }
-    ensures given { (read : Option Event) → IfOk event (λ made. option_map seen_event made ≡ read)
-        → GivesRecord read result report.new emitter.old emitter.new }
-    ensures output { emitter.new.has_output ≡ true }
-{
-    *report = CallResult::nothing();
-    match event {
-        Ok(Some(event)) => tell(yaml_emitter_emit(emitter, event), report),
-        Ok(None) => BAD_EVENT,
-        Err(_) => NO_MEMORY,
-    }
-}
-
 fn flush<A: Allocator + Copy>(emitter: &mut yaml_emitter_t<A>, report: &mut CallResult) -> i32
     requires output { emitter.old.has_output ≡ true }
     ensures flushed { Flushes result report.new emitter.old emitter.new }
@@ -171,6 +151,18 @@ fn tell(answer: Result<(), yaml_error_t>, report: &mut CallResult) -> i32
             report.error = number_of(error);
             status_of(error)
         }
+    }
+}
+
+/// Reports how a record was given, and returns the status that goes with it.
+fn tell_giving(giving: Giving, report: &mut CallResult) -> i32
+    ensures { (read : Option Event) (before after : State) → GaveRecord read giving before after → GivesRecord read result report.new before after }
+{
+    *report = CallResult::nothing();
+    match giving {
+        Giving::Emitted(answer) => tell(answer, report),
+        Giving::Unreadable => BAD_EVENT,
+        Giving::NoMemory => NO_MEMORY,
     }
 }
 

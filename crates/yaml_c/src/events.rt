@@ -6,15 +6,15 @@ ghost use Rattle.yaml_c.specs.Answers.{CopiesToCaller};
 ghost use Rattle.yaml_c.specs.Emission.{EmitsRecords, FlushesAfter, IsEmission, emit_results, error_number};
 ghost use Rattle.yaml_c.specs.EventRecords.{events_from};
 
-use crate::records::{DirectiveRecord, EventRecord, event_of};
+use crate::giving::{Giving, give_record};
+use crate::records::{DirectiveRecord, EventRecord};
 use crate::results::{CallResult, move_to_caller};
 use crate::settings::{EmitterSettings, settings_from};
 use crate::statuses::{BAD_EVENT, BAD_SETTINGS, NO_MEMORY, REFUSED};
 use std::alloc::{Allocator, Global};
 use yaml_base::yaml_error_t;
 use yaml_emitter::{
-    standing_is_promised, yaml_emitter_emit, yaml_emitter_flush, yaml_emitter_t,
-    yaml_emitter_take_output,
+    standing_is_promised, yaml_emitter_flush, yaml_emitter_t, yaml_emitter_take_output,
 };
 
 /// How the events of an array were emitted.
@@ -49,14 +49,11 @@ fn emit_records<A: Allocator + Copy>(
     let mut last = None;
     let mut number = 0u64;
     for record in events {
-        let Ok(event) = event_of(alloc, arena, directives, record) else {
-            return Emission::NoMemory;
-        };
-        let Some(event) = event else {
-            return Emission::BadEvent(number);
-        };
-        if let Err(error) = yaml_emitter_emit(emitter, event) {
-            return Emission::Refused(number, error);
+        match give_record(alloc, emitter, arena, directives, record) {
+            Giving::Emitted(Ok(())) => {}
+            Giving::Emitted(Err(error)) => return Emission::Refused(number, error),
+            Giving::Unreadable => return Emission::BadEvent(number),
+            Giving::NoMemory => return Emission::NoMemory,
         }
         last = Some(number);
         number += 1;

@@ -5,6 +5,7 @@ mod arena;
 mod buffers;
 mod emitters;
 mod events;
+mod giving;
 mod handle;
 mod json_texts;
 mod raw_box;

@@ -1,14 +1,17 @@
 //! Events as a C program gives them: numbers, and spans of one arena of texts.
 ghost use Rattle.std.specs.Prelude.{◌≡◌, IfOk, map, option_map, option_and_then};
-ghost use Rattle.yaml_base.specs.Event.{mapping_start, sequence_start};
+ghost use Rattle.yaml_base.specs.Event.{mapping_start, scalar, sequence_start};
 ghost use Rattle.yaml_base.specs.Seen.{seen_directive, seen_event, seen_text, seen_version};
+ghost use Rattle.yaml_emitter.specs.BorrowedTexts.{seen_scalar};
 ghost use Rattle.yaml_c.specs.Arena as texts;
 ghost use Rattle.yaml_c.specs.EventRecords as meaning;
+ghost use Rattle.yaml_c.specs.Giving.{given_event};
 
-use crate::arena::{Span, optional_text, owned_text};
+use crate::arena::{Span, borrowed_text, optional_borrowed_text, optional_text, owned_text};
 use crate::styles::{encoding, mapping_style, scalar_style, sequence_style};
 use std::alloc::{AllocError, Allocator};
 use yaml_base::{yaml_event_t, yaml_tag_directive_t, yaml_version_directive_t};
+use yaml_emitter::ScalarContent;
 
 /// A `%TAG` directive: its handle, and the prefix that it stands for.
 #[repr(C)]
@@ -37,8 +40,17 @@ pub struct EventRecord {
     pub directives: Span,
 }
 
+/// An event as an emitter is given it.
+#[derive(Drop)]
+pub(crate) enum GivenEvent<'a, A: Allocator> {
+    /// Its texts are copies.
+    Owned(yaml_event_t<A>),
+    /// A scalar, whose texts are borrowed from the arena.
+    Scalar(ScalarContent<'a>),
+}
+
 /// An event of the allocator, or none where a record has no reading; or memory ran out.
-pub(crate) type EventOrNone<A> = Result<Option<yaml_event_t<A>>, AllocError>;
+type EventOrNone<A> = Result<Option<yaml_event_t<A>>, AllocError>;
 
 fn directive_from<A: Allocator>(
     handle: Option<String<A>>,
@@ -151,33 +163,18 @@ fn alias_of<A: Allocator>(alloc: A, arena: &[u8], event: &EventRecord) -> EventO
     }
 }
 
-fn scalar_from<A: Allocator>(
-    event: &EventRecord,
-    anchor: Option<Option<String<A>>>,
-    tag: Option<Option<String<A>>>,
-    value: Option<String<A>>,
-) -> Option<yaml_event_t<A>>
-    ensures { option_map seen_event result
-        ≡ meaning.scalar_from (meaning.scalar_style_numbered event.now.style) (texts.is_on event.now.implicit) (texts.is_on event.now.quoted_implicit)
-        (option_map (λ text. option_map seen_text text) anchor) (option_map (λ text. option_map seen_text text) tag) (option_map seen_text value) }
+/// A scalar, its texts borrowed from the arena.
+fn scalar_of<'a>(arena: &'a [u8], event: &EventRecord) -> Option<ScalarContent<'a>>
+    ensures { option_map (λ content. scalar (seen_scalar content)) result ≡ meaning.scalar_of arena.now event.now }
 {
-    Some(yaml_event_t::YAML_SCALAR_EVENT {
+    Some(ScalarContent {
         style: scalar_style(event.style)?,
         plain_implicit: event.implicit != 0,
         quoted_implicit: event.quoted_implicit != 0,
-        anchor: anchor?,
-        tag: tag?,
-        value: value?,
+        anchor: optional_borrowed_text(arena, event.has_anchor, &event.anchor)?,
+        tag: optional_borrowed_text(arena, event.has_tag, &event.tag)?,
+        value: borrowed_text(arena, &event.value)?,
     })
-}
-
-fn scalar_of<A: Allocator + Copy>(alloc: A, arena: &[u8], event: &EventRecord) -> EventOrNone<A>
-    ensures { IfOk result (λ made. option_map seen_event made ≡ meaning.scalar_of arena.now event.now) }
-{
-    let anchor = optional_text(alloc, arena, event.has_anchor, &event.anchor)?;
-    let tag = optional_text(alloc, arena, event.has_tag, &event.tag)?;
-    let value = owned_text(alloc, arena, &event.value)?;
-    Ok(scalar_from(event, anchor, tag, value))
 }
 
 fn sequence_from<A: Allocator>(
@@ -230,28 +227,40 @@ fn mapping_of<A: Allocator + Copy>(alloc: A, arena: &[u8], event: &EventRecord) 
     Ok(mapping_from(event, anchor, tag))
 }
 
+fn owned<'a, A: Allocator>(event: Option<yaml_event_t<A>>) -> Option<GivenEvent<'a, A>>
+    ensures { option_map given_event result ≡ option_map seen_event event }
+{
+    Some(GivenEvent::Owned(event?))
+}
+
+fn borrowed<'a, A: Allocator>(content: Option<ScalarContent<'a>>) -> Option<GivenEvent<'a, A>>
+    ensures { option_map given_event result ≡ option_map (λ content. scalar (seen_scalar content)) content.entry }
+{
+    Some(GivenEvent::Scalar(content?))
+}
+
 /// The event of a record; none where its kind, its style or one of its texts has no reading.
-pub(crate) fn event_of<A: Allocator + Copy>(
+pub(crate) fn event_of<'a, A: Allocator + Copy>(
     alloc: A,
-    arena: &[u8],
+    arena: &'a [u8],
     directives: &[DirectiveRecord],
     event: &EventRecord,
-) -> EventOrNone<A>
-    ensures { IfOk result (λ made. option_map seen_event made ≡ meaning.event_of arena.now directives.now event.now) }
+) -> Result<Option<GivenEvent<'a, A>>, AllocError>
+    ensures { IfOk result (λ made. option_map given_event made ≡ meaning.event_of arena.now directives.now event.now) }
 {
     match event.kind {
-        1 => Ok(stream_start_of(event)),
-        2 => Ok(Some(yaml_event_t::YAML_STREAM_END_EVENT)),
-        3 => document_start_of(alloc, arena, directives, event),
-        4 => Ok(Some(yaml_event_t::YAML_DOCUMENT_END_EVENT {
+        1 => Ok(owned(stream_start_of(event))),
+        2 => Ok(owned(Some(yaml_event_t::YAML_STREAM_END_EVENT))),
+        3 => Ok(owned(document_start_of(alloc, arena, directives, event)?)),
+        4 => Ok(owned(Some(yaml_event_t::YAML_DOCUMENT_END_EVENT {
             implicit: event.implicit != 0,
-        })),
-        5 => alias_of(alloc, arena, event),
-        6 => scalar_of(alloc, arena, event),
-        7 => sequence_of(alloc, arena, event),
-        8 => Ok(Some(yaml_event_t::YAML_SEQUENCE_END_EVENT)),
-        9 => mapping_of(alloc, arena, event),
-        10 => Ok(Some(yaml_event_t::YAML_MAPPING_END_EVENT)),
+        }))),
+        5 => Ok(owned(alias_of(alloc, arena, event)?)),
+        6 => Ok(borrowed(scalar_of(arena, event))),
+        7 => Ok(owned(sequence_of(alloc, arena, event)?)),
+        8 => Ok(owned(Some(yaml_event_t::YAML_SEQUENCE_END_EVENT))),
+        9 => Ok(owned(mapping_of(alloc, arena, event)?)),
+        10 => Ok(owned(Some(yaml_event_t::YAML_MAPPING_END_EVENT))),
         _ => Ok(None),
     }
 }

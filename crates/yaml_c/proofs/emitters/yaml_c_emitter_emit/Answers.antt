@@ -7,12 +7,13 @@ pub returns : goal.returns
 returns c =
     let read = event_of c.args.texts.now c.args.directives.now c.args.event.now in
     let before = c.deref_mut.result.now in
-    let after = c.give-status.new.emitter in
-    let report = c.give-status.new.report in
-    let status = to_z w32 (of_z w32 c.give-status.result) in
-    let fits : status ≡ c.give-status.result = search rules in
+    let after = c.give_record-giving.new.emitter in
+    let report = c.tell_giving.new.report in
+    let status = to_z w32 (of_z w32 c.tell_giving.result) in
+    let fits : status ≡ c.tell_giving.result = search rules in
     let put : c.put.new.self.state ≡ Some after = search rules in
     let taken : Some before ≡ c.args.emitter.now.state = search rules in
-    let given : GivesRecord read c.give-status.result report before after = c.give-status.ensures.given read c.event_of-event.ensures in
+    let given : GivesRecord read c.tell_giving.result report before after =
+    c.tell_giving.ensures read before after c.give_record-giving.ensures.gave in
     changed (GivesRecord read status report) c.args.emitter.now.state c.put.new.self.state before after taken put
-    c.give-status.ensures.output (subst (λ (returned : ℤ). GivesRecord read returned report before after) (sym fits) given)
+    c.give_record-giving.ensures.output (subst (λ (returned : ℤ). GivesRecord read returned report before after) (sym fits) given)
