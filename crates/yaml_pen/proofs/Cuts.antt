@@ -1,6 +1,8 @@
 -- A text that is cut between two of its characters.
 use Rattle.std.{proofs.lemmas.List.take-append-drop, specs.Char.len_utf8, specs.Str.IsCharBoundary, specs.Str.chars, specs.Str.encode_utf8_all}
 use Rattle.std.proofs.Common.{List, [], ap, arith, drop, length, suc, sym, take, zero, ℕ, ◌++◌, ◌+◌, ◌<◌, ◌∙◌, ◌∷◌, ◌≡◌, ◌≤◌, IsUtf8}
+use Rattle.std.proofs.lemmas.List.Folds.{list_any-append}
+use Rattle.yaml_pen.proofs.Common.{false, or_parts, list_any, Text, is_break}
 use Rattle.std.proofs.lemmas.Str.{IsUtf8-take, len_utf8_bounds, IsCharBoundary-past_char, chars-append}
 
 -- its characters are those of both parts
@@ -11,6 +13,10 @@ chars-cut bytes prefix back place is boundary in_prefix behind =
     ∙ chars-append (take place bytes) (drop place bytes) (IsUtf8-take bytes place is boundary)
     ∙ ap (λ l. chars l ++ chars (drop place bytes)) (sym in_prefix)
     ∙ ap (λ l. chars prefix ++ chars l) (sym behind)
+
+-- no break stands in the parts of a text without one
+pub unbroken_parts : (xs ys : Text) → list_any is_break (xs ++ ys) ≡ false → (list_any is_break xs ≡ false) × (list_any is_break ys ≡ false)
+unbroken_parts xs ys none = or_parts _ _ (sym (list_any-append is_break xs ys) ∙ none)
 
 -- the last place where it may be cut before a bound is behind its first character
 pub cut-forward : (bytes : List ℕ) (place bound : ℕ) → IsUtf8 bytes → 4 ≤ bound → bound < length bytes

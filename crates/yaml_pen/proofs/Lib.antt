@@ -4,7 +4,7 @@ pub mod Adding
 pub mod Starting
 pub mod Writing
 pub mod Composing
-pub mod WrittenPrefixes
+pub mod StillToWrite
 pub mod Cuts
 pub mod NewLines
 pub mod CharacterStarts

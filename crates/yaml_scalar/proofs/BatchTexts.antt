@@ -8,7 +8,7 @@ use Rattle.std.{proofs.Common.IsErrAnd, proofs.Common.IsErr, proofs.lemmas.Resul
 use Rattle.yaml_base.specs.declared.errors.yaml_error_t.{yaml_error_t}
 use Rattle.yaml_pen.proofs.Writing.{column_after-append}
 use Rattle.yaml_scalar.proofs.{EscapeBytes.escape-plain, Unbroken.unescaped, WholeRuns.last-more}
-use Rattle.yaml_scalar.proofs.StillToWrite.{StillToWrite, still_rest, still_failed, still_same, still_as}
+use Rattle.yaml_pen.proofs.StillToWrite.{StillToWrite, still_rest, still_failed, still_same, still_as}
 use Rattle.yaml_scalar.specs.Batch.{is_batched, characters_text, WroteBatch}
 
 -- the texts of one character more

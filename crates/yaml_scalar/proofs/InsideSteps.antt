@@ -4,7 +4,8 @@ use Rattle.yaml_scalar.proofs.Common.{ap, ◌∙◌, arith, and_parts, and_from,
 use Rattle.yaml_scalar.proofs.Common.{is_printable, Cursor, Rendered, render_then, next_column, render_text, is_past_width, quote, backslash, escape_text}
 use Rattle.yaml_scalar.proofs.Common.{needs_escape, character_text, may_fold, double_fold, double_character, double_inside, Page, is_plain, has_limit}
 use Rattle.yaml_scalar.proofs.Common.{stays_where, stays}
-use Rattle.yaml_scalar.proofs.{RunsWritten.StandAlone, StillToWrite.StillToWrite, Unbroken.unescaped, WholeRuns.no_fold}
+use Rattle.yaml_pen.proofs.StillToWrite.{StillToWrite}
+use Rattle.yaml_scalar.proofs.{RunsWritten.StandAlone, Unbroken.unescaped, WholeRuns.no_fold}
 
 -- what is still to be written between the quotes: these bytes' characters, after a character or at the start
 abbrev pub StillInside : (unicode : Bool) (limit : Option ℕ) (indent : ℕ) (value : Text) (before : Option ℕ) (bytes : List ℕ) (start here : Page) → Type 0

@@ -22,7 +22,6 @@ pub mod ByteRuns
 pub mod FirstCharacters
 pub mod PlainStarts
 pub mod PlainReads
-pub mod StillToWrite
 pub mod LinesWritten
 pub mod LinesReadBack
 pub mod WholeRuns

@@ -3,7 +3,8 @@ use Rattle.yaml_scalar.proofs.Common.{ℕ, if◌then◌else◌, ◌==◌, Option
 use Rattle.yaml_scalar.proofs.Common.{Cursor, Rendered, render_then, render_text, space_if, indicator, Kind, spaces, runs, render_runs, quotes_doubled}
 use Rattle.yaml_scalar.proofs.Common.{single_quote, render_single_quoted, wrote_as, Page, Wrote, written_as, render_steps}
 use Rattle.yaml_base.specs.declared.errors.yaml_error_t.{yaml_error_t}
-use Rattle.yaml_scalar.proofs.{LineRuns.WritesEach, LineRuns.runs_by_steps, PlainReads.itself_writes, SingleReads.doubled_writes, StillToWrite.StillToWrite}
+use Rattle.yaml_pen.proofs.StillToWrite.{StillToWrite}
+use Rattle.yaml_scalar.proofs.{LineRuns.WritesEach, LineRuns.runs_by_steps, PlainReads.itself_writes, SingleReads.doubled_writes}
 
 -- `'` is written twice
 quote_text_by :

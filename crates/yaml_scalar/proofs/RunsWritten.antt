@@ -1,10 +1,10 @@
 -- A loop that writes a character, and the run that follows it, in turn.
-use Rattle.yaml_scalar.proofs.Common.{ℕ, chars, IsUtf8, Err, Ok, length, take, Bool, true, List, [], ◌++◌, ◌∷◌, refl, ◌≡◌, ap, sym, ◌∙◌, and_parts}
-use Rattle.yaml_scalar.proofs.Common.{nil_from_length, chars-nil, chars_past_char, encode_utf8, list_all, Text, Cursor, Rendered, render_then, next_column}
+use Rattle.yaml_scalar.proofs.Common.{ℕ, chars, IsUtf8, Err, Ok, take, Bool, true, List, [], ◌++◌, ◌∷◌, refl, ◌≡◌, ap, sym, ◌∙◌, and_parts}
+use Rattle.yaml_scalar.proofs.Common.{chars_past_char, encode_utf8, list_all, Text, Cursor, Rendered, render_then, next_column}
 use Rattle.yaml_scalar.proofs.Common.{render_text, chars-cut, Page, Wrote, last_from, IsRun}
 use Rattle.yaml_base.proofs.Common.{drop}
 use Rattle.yaml_base.specs.declared.errors.yaml_error_t.{yaml_error_t}
-use Rattle.yaml_scalar.proofs.StillToWrite.{StillToWrite, still_rest, still_failed, still_same, still_as}
+use Rattle.yaml_pen.proofs.StillToWrite.{StillToWrite, still_rest, still_failed, still_same, still_as}
 
 -- in a layout of what follows a character, those that pass a test stand for themselves, at each column
 pub record StandAlone (after : ℕ → Text → Cursor → Rendered) (test : ℕ → Bool) (cursor : Cursor) : Type 0 where
@@ -100,8 +100,3 @@ pub run_failed : (after : ℕ → Text → Cursor → Rendered) {test : ℕ → 
     → Wrote whole start later (Err error)
 run_failed after rest alone is_text is prefix behind still wrote =
     standing_failed after rest (each_stands alone is prefix) is_text is prefix behind still wrote
-
--- at the end nothing is left
-pub end_still : (layout : Text → Cursor → Rendered) {whole : Cursor → Rendered} (old : List ℕ) {start here : Page}
-    → length old ≡ 0 → StillToWrite (layout (chars old)) whole start here → StillToWrite (layout []) whole start here
-end_still layout old e still = still_same layout (ap chars (nil_from_length old e) ∙ chars-nil) still

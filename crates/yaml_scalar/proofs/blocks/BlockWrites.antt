@@ -3,7 +3,8 @@ use Rattle.yaml_scalar.proofs.Common.{arith, ℕ, Option, Bool, false, true, [],
 use Rattle.yaml_scalar.proofs.Common.{Rendered, render_then, render_text, space_if, indicator, is_empty, render_hints, render_folded, render_literal, Page}
 use Rattle.yaml_scalar.proofs.Common.{lines_from, separated_header, header_end}
 use Rattle.yaml_base.specs.scalars.BlockHeader.{render_header}
-use Rattle.yaml_scalar.{proofs.StillToWrite.StillToWrite, proofs.blocks.BlockSteps.literal-lines-from, proofs.blocks.FoldedSteps.folded-lines-from}
+use Rattle.yaml_pen.proofs.StillToWrite.{StillToWrite}
+use Rattle.yaml_scalar.{proofs.blocks.BlockSteps.literal-lines-from, proofs.blocks.FoldedSteps.folded-lines-from}
 use Rattle.yaml_scalar.{specs.declared.block_lines.Place.Place, specs.declared.block_lines.Place.TheVariants.LineStart}
 use Rattle.yaml_scalar.specs.BlockSteps.{block_indicator_of, render_block}
 

@@ -1,8 +1,8 @@
-use Rattle.yaml_mark.proofs.Common.{ℕ, eqb-true, ap, subst, sym, ◌∙◌, arith, chars-nil, IsCharBoundary, chars, byte_escaped, suffix_escaped, are_escaped}
+use Rattle.yaml_mark.proofs.Common.{ℕ, eqb-true, subst, sym, ◌∙◌, arith, IsCharBoundary, chars, Text, render_text, byte_escaped, suffix_escaped, are_escaped}
 use Rattle.yaml_mark.proofs.Common.{wrote_exit}
-use Rattle.std.{proofs.lemmas.List.nil_from_length, specs.List.flat_map}
+use Rattle.std.specs.List.{flat_map}
 use Rattle.yaml_mark.proofs.EscapingLemmas.{run_boundary, next_boundary, run_cut, forms_cut, moves_on}
-use Rattle.yaml_pen.proofs.WrittenPrefixes.{prefix_more, prefix_failed, prefix_whole}
+use Rattle.yaml_pen.proofs.StillToWrite.{still_rest, still_failed, still_part, end_still, unfailed_after}
 use Rattle.yaml_mark.proofs.writing.write_escaped.Goals as goal
 
 pub split_at-requires : goal.split_at-requires
@@ -26,8 +26,8 @@ returns-in_err-write_run g c =
     let run = run_cut escaped c.loop-rest.rest.now c.split_at.result.0.now c.split_at.result.1.now c.run_length.result
     c.loop-rest.invariant.is_text c.run_length.ensures c.split_at.ensures.front c.split_at.ensures.back in
     wrote_exit c.from_residual-in_err-write_run.ensures
-    (prefix_failed (chars c.split_at.result.0.now) (suffix_escaped escaped (chars c.split_at.result.1.now)) c.loop-rest.invariant.prefix run.parts
-    c.in_err-write_run.ensures.written)
+    (still_failed (render_text (suffix_escaped escaped (chars c.split_at.result.1.now)))
+    (still_part (chars c.split_at.result.0.now) _ run.parts c.loop-rest.invariant.still) c.in_err-write_run.ensures.written)
 
 pub returns-in_err-write_forms : goal.returns-in_err-write_forms
 returns-in_err-write_forms g c =
@@ -39,10 +39,11 @@ returns-in_err-write_forms g c =
     c.loop-rest.invariant.is_text c.run_length.ensures c.split_at.ensures.front c.split_at.ensures.back in
     let forms = forms_cut escaped others first behind c.escaped_length.result run.is_text c.escaped_length.ensures
     c.split_at-in-loop-rest.ensures.front c.split_at-in-loop-rest.ensures.back in
-    let more = prefix_more (chars c.split_at.result.0.now) (suffix_escaped escaped (chars others)) c.loop-rest.invariant.prefix run.parts
+    let more = still_rest (still_part (chars c.split_at.result.0.now) _ run.parts c.loop-rest.invariant.still)
     c.in_ok-write_run.ensures.written in
     wrote_exit c.from_residual-in_err-write_forms.ensures
-    (prefix_failed (flat_map byte_escaped first) (suffix_escaped escaped (chars behind)) more forms.parts c.in_err-write_forms.ensures)
+    (still_failed (render_text (suffix_escaped escaped (chars behind))) (still_part (flat_map byte_escaped first) _ forms.parts more)
+    c.in_err-write_forms.ensures)
 
 pub loop-rest-preserved : goal.loop-rest-preserved
 loop-rest-preserved g c =
@@ -54,10 +55,11 @@ loop-rest-preserved g c =
     c.loop-rest.invariant.is_text c.run_length.ensures c.split_at.ensures.front c.split_at.ensures.back in
     let forms = forms_cut escaped others first behind c.escaped_length.result run.is_text c.escaped_length.ensures
     c.split_at-in-loop-rest.ensures.front c.split_at-in-loop-rest.ensures.back in
-    let more = prefix_more (chars c.split_at.result.0.now) (suffix_escaped escaped (chars others)) c.loop-rest.invariant.prefix run.parts
+    let more = still_rest (still_part (chars c.split_at.result.0.now) _ run.parts c.loop-rest.invariant.still)
     c.in_ok-write_run.ensures.written in
     record {
-      prefix = prefix_more (flat_map byte_escaped first) (suffix_escaped escaped (chars behind)) more forms.parts c.in_ok-write_forms.ensures;
+      still = still_rest (still_part (flat_map byte_escaped first) _ forms.parts more) c.in_ok-write_forms.ensures;
+      unfailed = unfailed_after c.in_ok-write_forms.ensures;
       is_text = forms.is_text;
     }
 
@@ -69,5 +71,5 @@ loop-rest-smaller g c =
 
 pub returns : goal.returns
 returns g c =
-    let none = nil_from_length c.loop-rest.rest.now (eqb-true _ 0 (sym c.is_empty.ensures ∙ c.loop-rest-test.false)) in
-    prefix_whole c.loop-rest.invariant.prefix (ap (suffix_escaped (are_escaped c.args.indicators)) (ap chars none ∙ chars-nil))
+    (end_still (λ (t : Text). render_text (suffix_escaped (are_escaped c.args.indicators) t)) c.loop-rest.rest.now
+    (eqb-true _ 0 (sym c.is_empty.ensures ∙ c.loop-rest-test.false)) c.loop-rest.invariant.still).writes _ _ c.loop-rest.invariant.unfailed

@@ -1,8 +1,9 @@
 use Rattle.yaml_scalar.proofs.Common.{ℕ, chars, IsUtf8, List, subst, sym, ◌∙◌, IsUtf8-drop, IsUtf8-past_char, chars_rest, Text, Cursor, Rendered, wrote_exit}
 use Rattle.yaml_scalar.proofs.Common.{natural, is_folded, place_after, lines_from, limit_of}
-use Rattle.yaml_scalar.proofs.{StillToWrite.still_rest, StillToWrite.still_failed, WholeRuns.run_unbroken, blocks.BlockStays.stays_unbroken}
+use Rattle.yaml_scalar.proofs.{WholeRuns.run_unbroken, blocks.BlockStays.stays_unbroken}
 use Rattle.yaml_scalar.proofs.{blocks.BlockStays.block_alone, blocks.BlockWrites.LinesLeft}
-use Rattle.yaml_scalar.proofs.RunsWritten.{character_still, run_more, run_failed, end_still}
+use Rattle.yaml_pen.proofs.StillToWrite.{still_rest, still_failed, end_still}
+use Rattle.yaml_scalar.proofs.RunsWritten.{character_still, run_more, run_failed}
 use Rattle.yaml_scalar.specs.declared.block_lines.Place.{Place}
 use Rattle.yaml_scalar.proofs.block_lines.write_lines.Goals as goal
 

@@ -1,7 +1,8 @@
 use Rattle.yaml_scalar.proofs.Common.{ℕ, chars, IsUtf8, Some, List, ap, subst, sym, IsUtf8-past_char, double_inside, wrote_exit, natural, limit_where}
 use Rattle.yaml_scalar.proofs.{BatchTexts.batched_left, BatchTexts.batched_failed, InsideSteps.stays_unbroken, InsideSteps.inside_after}
-use Rattle.yaml_scalar.proofs.{InsideSteps.inside_alone, StillToWrite.still_rest, StillToWrite.still_failed, StillToWrite.still_same, WholeRuns.run_unbroken}
-use Rattle.yaml_scalar.proofs.RunsWritten.{character_still, run_more, run_failed, end_still}
+use Rattle.yaml_pen.proofs.StillToWrite.{still_rest, still_failed, still_same, end_still}
+use Rattle.yaml_scalar.proofs.{InsideSteps.inside_alone, WholeRuns.run_unbroken}
+use Rattle.yaml_scalar.proofs.RunsWritten.{character_still, run_more, run_failed}
 use Rattle.yaml_scalar.proofs.double_quoted.write_inside.Goals as goal
 
 pub split_at-requires : goal.split_at-requires

@@ -1,8 +1,8 @@
 use Rattle.yaml_scalar.proofs.Common.{ℕ, chars, IsUtf8, List, subst, sym, ◌∙◌, IsUtf8-drop, IsUtf8-past_char, chars_rest, Kind, kind_of, wrote_exit}
 use Rattle.yaml_scalar.proofs.Common.{seen_kind, written_as, render_steps, limit_where}
-use Rattle.yaml_scalar.proofs.{LinesWritten.LinesLeft, StaysInLine.stays_unbroken, StaysInLine.lines_after, StaysInLine.line_stands, StillToWrite.still_rest}
-use Rattle.yaml_scalar.proofs.{StillToWrite.still_failed, WholeRuns.run_unbroken}
-use Rattle.yaml_scalar.proofs.RunsWritten.{character_still, standing_more, standing_failed, end_still}
+use Rattle.yaml_scalar.proofs.{LinesWritten.LinesLeft, StaysInLine.stays_unbroken, StaysInLine.lines_after, StaysInLine.line_stands, WholeRuns.run_unbroken}
+use Rattle.yaml_pen.proofs.StillToWrite.{still_rest, still_failed, end_still}
+use Rattle.yaml_scalar.proofs.RunsWritten.{character_still, standing_more, standing_failed}
 use Rattle.yaml_scalar.proofs.lines.write_from.Goals as goal
 
 pub split_at-requires : goal.split_at-requires

@@ -1,6 +1,7 @@
 use Rattle.yaml_scalar.proofs.Common.{chars, subst, Kind, wrote_exit, Wrote, written_as, render_steps, limit_where}
 use Rattle.yaml_scalar.proofs.{LinesWritten.wrote_runs, RunsWritten.standing_more, RunsWritten.standing_failed, StaysInLine.stays_unbroken}
-use Rattle.yaml_scalar.proofs.{StaysInLine.lines_after, StaysInLine.line_stands, StillToWrite.still_all, WholeRuns.run_unbroken}
+use Rattle.yaml_pen.proofs.StillToWrite.{still_all}
+use Rattle.yaml_scalar.proofs.{StaysInLine.lines_after, StaysInLine.line_stands, WholeRuns.run_unbroken}
 use Rattle.yaml_scalar.proofs.lines.write_runs.Goals as goal
 
 pub split_at-requires : goal.split_at-requires

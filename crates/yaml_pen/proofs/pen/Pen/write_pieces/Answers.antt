@@ -1,7 +1,7 @@
-use Rattle.yaml_pen.proofs.Common.{ap, sym, ◌∙◌, arith, list_any, chars, is_break, has_bom}
+use Rattle.yaml_pen.proofs.Common.{ap, sym, ◌∙◌, arith, list_any, chars, is_break, render_text, has_bom}
 use Rattle.std.proofs.lemmas.Str.{IsUtf8-drop}
-use Rattle.yaml_pen.{proofs.Composing.wrote_exit, proofs.Cuts.chars-cut, proofs.Cuts.cut-forward, specs.Page.buffer_size}
-use Rattle.yaml_pen.proofs.WrittenPrefixes.{unbroken_parts, prefix_more, prefix_failed, prefix_last}
+use Rattle.yaml_pen.{proofs.Composing.wrote_exit, proofs.Cuts.chars-cut, proofs.Cuts.cut-forward, proofs.Cuts.unbroken_parts, specs.Page.buffer_size}
+use Rattle.yaml_pen.proofs.StillToWrite.{still_rest, still_failed, still_part}
 use Rattle.yaml_pen.proofs.pen.Pen.write_pieces.Goals as goal
 
 pub write_piece-requires-clause-no_break : goal.write_piece-requires-clause-no_break
@@ -15,7 +15,7 @@ loop-rest-preserved g c =
     let so_far = c.loop-rest.invariant in
     let step = chars-cut _ _ _ _ so_far.is_text c.floor_char_boundary.ensures.boundary c.split_at.ensures.front c.split_at.ensures.back in
     record {
-      prefix = prefix_more (chars c.split_at.result.0.now) (chars c.split_at.result.1.now) so_far.prefix step c.in_ok-write_piece.ensures.written;
+      still = still_rest (still_part (chars c.split_at.result.0.now) _ step so_far.still) c.in_ok-write_piece.ensures.written;
       is_text = rw c.split_at.ensures.back (IsUtf8-drop _ _ so_far.is_text c.floor_char_boundary.ensures.boundary);
       no_break = (unbroken_parts (chars c.split_at.result.0.now) (chars c.split_at.result.1.now) (sym (ap (list_any is_break) step) ∙ so_far.no_break)).1;
       no_bom = ap has_bom c.in_ok-write_piece.ensures.written.settings.encoding ∙ so_far.no_bom;
@@ -33,7 +33,8 @@ returns-in_err-write_piece-clause-written g c =
     let so_far = c.loop-rest.invariant in
     let step = chars-cut _ _ _ _ so_far.is_text c.floor_char_boundary.ensures.boundary c.split_at.ensures.front c.split_at.ensures.back in
     wrote_exit c.from_residual-in_err-write_piece.ensures
-    (prefix_failed (chars c.split_at.result.0.now) (chars c.split_at.result.1.now) so_far.prefix step c.in_err-write_piece.ensures.written)
+    (still_failed (render_text (chars c.split_at.result.1.now)) (still_part (chars c.split_at.result.0.now) _ step so_far.still)
+    c.in_err-write_piece.ensures.written)
 
 pub returns-clause-written : goal.returns-clause-written
-returns-clause-written g c = prefix_last c.loop-rest.invariant.prefix c.write_piece-2.ensures.written
+returns-clause-written g c = c.loop-rest.invariant.still.writes _ _ c.write_piece-2.ensures.written

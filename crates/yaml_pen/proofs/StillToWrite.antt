@@ -1,7 +1,8 @@
 -- A loop that writes: what is still to be written after what has been.
-use Rattle.yaml_scalar.proofs.Common.{Result, Err, Ok, ◌≡◌, subst, sym, Text, Cursor, Rendered, render_then, wrote_then, wrote_failed, wrote_as, Page, Wrote}
-use Rattle.yaml_pen.proofs.Common.{IsReady}
-use Rattle.yaml_base.specs.declared.errors.yaml_error_t.{yaml_error_t}
+use Rattle.yaml_pen.proofs.Common.{ℕ, Result, Err, Ok, length, List, [], ◌++◌, ◌≡◌, append-nil, ap, subst, sym, ◌∙◌, arith, nil_from_length, chars-nil}
+use Rattle.yaml_pen.proofs.Common.{chars, Text, Cursor, Rendered, render_nothing, render_then, render_text, Page, IsReady, Wrote}
+use Rattle.yaml_base.{proofs.Prefixes.prefix_itself, specs.declared.errors.yaml_error_t.yaml_error_t}
+use Rattle.yaml_pen.proofs.Composing.{wrote_then, wrote_failed, wrote_as, render_text-append}
 
 -- whatever writes the rest from here has written the whole from the start
 pub record StillToWrite (rest whole : Cursor → Rendered) (start here : Page) : Type 0 where
@@ -34,3 +35,19 @@ pub still_as : {rest whole : Cursor → Rendered} (other : Cursor → Rendered) 
     → rest here.cursor ≡ other here.cursor → StillToWrite rest whole start here → StillToWrite other whole start here
 still_as {rest} other same still =
     record { ready = still.ready; writes = λ after answer wrote. still.writes after answer (wrote_as rest (sym same) wrote) }
+
+-- what is left of a text is a part of it, and then the rest
+pub still_part : (part rest : Text) {left : Text} {whole : Cursor → Rendered} {start here : Page} → left ≡ part ++ rest
+    → StillToWrite (render_text left) whole start here → StillToWrite (λ cursor. render_then (render_text part cursor) (render_text rest)) whole start here
+still_part part rest {left} {whole} {start} {here} is =
+    still_as (λ cursor. render_then (render_text part cursor) (render_text rest))
+    (ap (λ t. render_text t here.cursor) is ∙ sym (render_text-append part rest here.cursor))
+
+-- at the end nothing is left
+pub end_still : (layout : Text → Cursor → Rendered) {whole : Cursor → Rendered} (old : List ℕ) {start here : Page}
+    → length old ≡ 0 → StillToWrite (layout (chars old)) whole start here → StillToWrite (layout []) whole start here
+end_still layout old e still = still_same layout (ap chars (nil_from_length old e) ∙ chars-nil) still
+
+-- after a step that answered Ok, writing nothing answers Ok
+pub unfailed_after : {first : Cursor → Rendered} {start here : Page} → Wrote first start here (Ok tt) → Wrote render_nothing here here (Ok tt)
+unfailed_after {first} {start} {here} step = grind (arith, append-nil, prefix_itself, step.answered, step.ready, step.sound_output)
