@@ -24,7 +24,6 @@ use yaml_base::{YAML_SCALAR_EVENT, yaml_error_t, yaml_event_t};
 ///
 /// Returns the first error, of this call or an earlier one, or `Memory` if the copy can't be allocated: then nothing
 /// changed, the emitter has no error, and the call may be made again.
-#[inline(never)]
 pub fn yaml_emitter_emit_scalar<A: Allocator + Copy>(
     emitter: &mut yaml_emitter_t<A>,
     content: &ScalarContent<'_>,
@@ -52,7 +51,6 @@ impl<A: Allocator + Copy> Machine<A> {
     }
 
     /// Writes a scalar where no event waits.
-    #[inline(always)]
     fn write_scalar_alone(&mut self, content: &ScalarContent) -> Result<(), yaml_error_t>
         requires no_error { self.old.error ≡ None }
         ensures { WroteAlone self.old (scalar (seen_scalar content.now)) result self.new }
@@ -62,7 +60,6 @@ impl<A: Allocator + Copy> Machine<A> {
     }
 
     /// A scalar: its anchor and tag are looked at before its place.
-    #[inline(always)]
     fn process_scalar(&mut self, content: &ScalarContent) -> Result<(), yaml_error_t>
         ensures { Processed (scalar (seen_scalar content.now)) false self.old self.new result }
     {
@@ -78,7 +75,6 @@ impl<A: Allocator + Copy> Machine<A> {
 }
 
 /// The characters of borrowed texts are Unicode scalar values.
-#[inline(always)]
 fn texts_are_scalars(content: &ScalarContent)
     ensures { has_scalar_texts (scalar (seen_scalar content.now)) ≡ true }
 {
@@ -88,13 +84,11 @@ fn texts_are_scalars(content: &ScalarContent)
     }
 }
 
-#[inline(always)]
 fn text_is_scalars(text: &str)
     ensures { all_scalars (chars text.now) ≡ true }
 {}
 
 /// An event of its own, with a copy of each text.
-#[inline(never)]
 fn copied_scalar<A: Allocator + Copy>(
     alloc: A,
     content: &ScalarContent,

@@ -56,7 +56,6 @@ pub(crate) fn check_names<A: Allocator>(
 }
 
 /// Refuses a scalar's faulty anchor, and an empty tag where the tag is written.
-#[inline(always)]
 pub(crate) fn check_scalar_names(
     canonical: bool,
     content: &ScalarContent,

@@ -33,7 +33,6 @@ pub(crate) fn plain_start<A: Allocator>(alloc: A) -> yaml_event_t<A>
 }
 
 /// Gives an event.
-#[inline(always)]
 pub(crate) fn give<A: Allocator + Copy>(
     emitter: &mut yaml_emitter_t<A>,
     event: yaml_event_t<A>,
