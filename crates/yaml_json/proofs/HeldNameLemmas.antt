@@ -1,10 +1,13 @@
--- The sets that hold the names of the objects that are open.
+-- The lists and sets that hold the names of the objects that are open.
 use Rattle.yaml_base.proofs.Common.{bytes_eq-Decides, ap, arith, inl, inr, length-append, subst, sym, ◌∙◌, or_parts, or_cases, same_from_decides, list_any}
-use Rattle.yaml_base.proofs.Common.{Bool, List, [], cond, false, length, not, refl, slice_index_or as get_or, true, ℕ, ◌++◌, ◌-◌, ◌||◌, ◌∷◌, ◌≡◌, bytes_eq}
-use Rattle.std.{proofs.Common.ap₂, proofs.Common.set, proofs.Math.Seq.get_or-append_seam, proofs.Math.Seq.set-append_seam, proofs.lemmas.Bool.both_ways}
+use Rattle.yaml_base.proofs.Common.{Bool, List, [], cond, drop, false, length, not, refl, slice_index_or as get_or, take, true, ℕ, ◌++◌, ◌-◌, ◌||◌, ◌∷◌, ◌≡◌}
+use Rattle.yaml_base.proofs.Common.{bytes_eq, ◌≤◌}
+use Rattle.std.proofs.{Common.ap₂, Common.set, Common.length-drop, Common.take_all, Math.Seq.get_or-append_seam, Math.Seq.set-append_seam, lemmas.Bool.both_ways}
+use Rattle.std.proofs.lemmas.List.{Folds.list_any-append, drop-append-le, take-append-le}
 use Rattle.std.{proofs.lemmas.Bool.Decides.Decides-like, proofs.lemmas.Map.Text.is_eq-slice_cmp, specs.BTreeSet.BTreeSet, specs.BTreeSet.Updates}
-use Rattle.std.{specs.BTreeSet.contains_by, specs.Borrow.Bor, specs.Cmp.Lexicographic.slice_cmp, specs.Ordering.nat_cmp, specs.declared.cmp.Ordering.Ordering}
-use Rattle.yaml_json.specs.{HeldNames.HasNames, HeldNames.HaveNames, Names.IsNewName}
+use Rattle.std.{specs.BTreeSet.contains_by, specs.Borrow.Bor, specs.Cmp.Lexicographic.slice_cmp, specs.List.slice_range, specs.Ordering.nat_cmp}
+use Rattle.std.specs.declared.cmp.Ordering.{Ordering}
+use Rattle.yaml_json.specs.{HeldNames.HasNames, HeldNames.HaveNames, Names.IsNewName, declared.names.Level.Level}
 
 -- a name is new exactly where it is none of those
 pub new_among : (names : List (List ℕ)) (name : List ℕ) → list_any (bytes_eq name) names ≡ false → IsNewName names name
@@ -20,7 +23,13 @@ among_new (other ∷ names) name some new = elim (or_cases (bytes_eq name other)
   | inr later ↦ among_new names name later new.1
 ]
 
--- ---- one set
+-- ---- one level
+
+abbrev Keys : Type 0
+Keys = List (Bor (List ℕ))
+
+abbrev Set : Type 0
+Set = BTreeSet (Bor (List ℕ))
 
 abbrev name_cmp : Bor (List ℕ) → Bor (List ℕ) → Ordering
 name_cmp a b = slice_cmp nat_cmp a.now b.now
@@ -30,19 +39,66 @@ same_both_ways a b =
     same_from_decides (bytes_eq a b) (bytes_eq b a) (bytes_eq-Decides a b)
     (Decides-like (bytes_eq b a) (λ same. sym same) (λ same. sym same) (bytes_eq-Decides b a))
 
-either : (first other : Bool) → cond first true other ≡ (first || other)
-either true other = refl
-either false other = refl
+-- a name more among those of the list, among those of the set, or one that was among both
+or_again : (one all : Bool) → (one ≡ true → all ≡ true) → all ≡ (one || all)
+or_again true all then = then refl
+or_again false all then = refl
 
-pub has_more : (set later : BTreeSet (Bor (List ℕ))) (key : Bor (List ℕ)) (names : List (List ℕ)) → Updates name_cmp set later key true
-    → HasNames set names → HasNames later (key.now ∷ names)
-has_more set later key names updates has name =
-    let at : Bor (List ℕ) = record { ref_ptr = key.ref_ptr; now = name } in
-    updates.0 at ∙ ap (λ (b : Bool). cond b true (contains_by (λ k. slice_cmp nat_cmp name k.now) set))
-    (is_eq-slice_cmp key.now name ∙ same_both_ways key.now name)
-    ∙ ap (λ (b : Bool). cond (bytes_eq name key.now) true b) (has name) ∙ either (bytes_eq name key.now) (list_any (bytes_eq name) names)
+or_listed : (few one many all : Bool) → (few || many) ≡ all → ((few || (one || false)) || many) ≡ (one || all)
+or_listed true true many all is = refl
+or_listed true false many all is = is
+or_listed false true many all is = refl
+or_listed false false many all is = is
 
--- ---- the last of some sets
+or_more : (few one many all : Bool) → (few || many) ≡ all → (few || cond one true many) ≡ (one || all)
+or_more true true many all is = refl
+or_more true false many all is = is
+or_more false true many all is = refl
+or_more false false many all is = is
+
+module _ (few : Keys) (many : Set) (names : List (List ℕ)) (has : HasNames few many names) (key : Bor (List ℕ)) where
+  abbrev listed : List ℕ → Bool
+  listed name = list_any (λ k. bytes_eq k.now name) few
+
+  abbrev in_set : List ℕ → Bool
+  in_set name = contains_by (λ k. slice_cmp nat_cmp name k.now) many
+
+  known : listed key.now ≡ true → list_any (bytes_eq key.now) names ≡ true
+  known found = sym (has key.now) ∙ ap (λ (b : Bool). b || in_set key.now) found
+
+  known_by_set : listed key.now ≡ false → list_any (bytes_eq key.now) names ≡ in_set key.now
+  known_by_set none = sym (has key.now) ∙ ap (λ (b : Bool). b || in_set key.now) none
+
+  has_again : listed key.now ≡ true → HasNames few many (key.now ∷ names)
+  has_again found name =
+      has name ∙ or_again (bytes_eq name key.now) (list_any (bytes_eq name) names)
+      (λ same. subst (λ (n : List ℕ). list_any (bytes_eq n) names ≡ true) (sym ((bytes_eq-Decides name key.now).0 same)) (known found))
+
+  has_listed : HasNames (few ++ key ∷ []) many (key.now ∷ names)
+  has_listed name =
+      ap (λ (b : Bool). b || in_set name) (list_any-append (λ k. bytes_eq k.now name) few (key ∷ []))
+      ∙ ap (λ (b : Bool). (listed name || (b || false)) || in_set name) (same_both_ways key.now name)
+      ∙ or_listed (listed name) (bytes_eq name key.now) (in_set name) (list_any (bytes_eq name) names) (has name)
+
+  has_more : (later : Set) → Updates name_cmp many later key true → HasNames few later (key.now ∷ names)
+  has_more later updates name =
+      let at : Bor (List ℕ) = record { ref_ptr = key.ref_ptr; now = name } in
+      ap (λ (b : Bool). listed name || b)
+      (updates.0 at ∙ ap (λ (b : Bool). cond b true (in_set name)) (is_eq-slice_cmp key.now name ∙ same_both_ways key.now name))
+      ∙ or_more (listed name) (bytes_eq name key.now) (in_set name) (list_any (bytes_eq name) names) (has name)
+
+-- ---- the last of some levels
+
+set_last : {A : Type 0} (levels init : List A) (last new : A) (n : ℕ) → levels ≡ init ++ last ∷ [] → n ≡ length levels
+    → set levels (n - 1) new ≡ init ++ new ∷ []
+set_last levels init last new n is long =
+    let e : n - 1 ≡ length init = omega (arith, long, ap length is, length-append init (last ∷ [])) in
+    ap₂ (λ all i. set all i new) is e ∙ set-append_seam init last [] new
+
+last_of : {A : Type 0} (levels init : List A) (last d : A) (n : ℕ) → levels ≡ init ++ last ∷ [] → n ≡ length levels → get_or levels (n - 1) d ≡ last
+last_of levels init last d n is long =
+    let e : n - 1 ≡ length init = omega (arith, long, ap length is, length-append init (last ∷ [])) in
+    ap₂ (λ all i. get_or all i d) is e ∙ get_or-append_seam init last [] d
 
 false_from_not : (b : Bool) → not b ≡ true → b ≡ false
 false_from_not true is = sym is
@@ -52,30 +108,80 @@ true_from_not : (b : Bool) → not b ≡ false → b ≡ true
 true_from_not true is = refl
 true_from_not false is = sym is
 
-set_last : {A : Type 0} (sets init : List A) (last new : A) (n : ℕ) → sets ≡ init ++ last ∷ [] → n ≡ length sets → set sets (n - 1) new ≡ init ++ new ∷ []
-set_last sets init last new n is many =
-    let e : n - 1 ≡ length init = omega (arith, many, ap length is, length-append init (last ∷ [])) in
-    ap₂ (λ all i. set all i new) is e ∙ set-append_seam init last [] new
+none_in_empty : (keys : Keys) (p : Bor (List ℕ) → Bool) → length keys ≡ 0 → list_any p keys ≡ false
+none_in_empty [] p none = refl
+none_in_empty (key ∷ keys) p none = cc
 
-last_of : {A : Type 0} (sets init : List A) (last d : A) (n : ℕ) → sets ≡ init ++ last ∷ [] → n ≡ length sets → get_or sets (n - 1) d ≡ last
-last_of sets init last d n is many =
-    let e : n - 1 ≡ length init = omega (arith, many, ap length is, length-append init (last ∷ [])) in
-    ap₂ (λ all i. get_or all i d) is e ∙ get_or-append_seam init last [] d
+module _ {A : Type 0} (few : Keys) (levels : List (Level A)) (n : ℕ) (long : n ≡ length levels) (level : Level A) (at : level ≡ get_or levels (n - 1) level)
+    (part : Keys) (part_is : part ≡ slice_range few level.first (length few)) (key : Bor (List ℕ)) (names : List (List ℕ))
+    (outer : List (List (List ℕ))) (kept : Bool) (is_kept : kept ≡ true) (holds : kept ≡ true → HaveNames few levels (names ∷ outer)) where
+  have : HaveNames few levels (names ∷ outer)
+  have = holds is_kept
 
-abbrev Sets : Type 0
-Sets = List (BTreeSet (Bor (List ℕ)))
+  inner : (level.first ≤ length few) × HasNames (drop level.first few) level.many names × HaveNames (take level.first few) have.0 outer
+  inner =
+      subst (λ (l : Level A). (l.first ≤ length few) × HasNames (drop l.first few) l.many names × HaveNames (take l.first few) have.0 outer)
+      (sym (at ∙ last_of levels have.0 have.1 level n have.2 long)) (have.3, have.4, have.5)
 
-module _ (sets : Sets) (n : ℕ) (many : n ≡ length sets) (set_now later : BTreeSet (Bor (List ℕ))) (at : set_now ≡ get_or sets (n - 1) set_now)
-    (key : Bor (List ℕ)) (updates : Updates name_cmp set_now later key true) (new : Bool) (added : new ≡ not (contains_by (name_cmp key) set_now))
-    (names : List (List ℕ)) (levels : List (List (List ℕ))) (have : HaveNames sets (names ∷ levels)) where
-  has_now : HasNames set_now names
-  has_now = subst (λ (s : BTreeSet (Bor (List ℕ))). HasNames s names) (sym (at ∙ last_of sets have.0 have.1 set_now n have.2 many)) have.3
+  cut : part ≡ drop level.first few
+  cut = part_is ∙ take_all (length few - level.first) (drop level.first few) (omega (arith, length-drop level.first few))
 
-  pub have_more : HaveNames (set sets (n - 1) later) ((key.now ∷ names) ∷ levels)
-  have_more = (have.0, later, set_last sets have.0 have.1 later n have.2 many, has_more set_now later key names updates has_now, have.4)
+  has : HasNames part level.many names
+  has = subst (λ (keys : Keys). HasNames keys level.many names) (sym cut) inner.1
 
-  pub added_new : new ≡ true → IsNewName names key.now
-  added_new is = new_among names key.now (sym (has_now key.now) ∙ false_from_not (contains_by (name_cmp key) set_now) (sym added ∙ is))
+  have_more : (many : Set) → HasNames part many (key.now ∷ names)
+      → HaveNames few (set levels (n - 1) (record { first = level.first; many = many })) ((key.now ∷ names) ∷ outer)
+  have_more many has_more =
+      let later : Level A = record { first = level.first; many = many } in (
+        have.0,
+        later,
+        set_last levels have.0 have.1 later n have.2 long,
+        inner.0,
+        subst (λ (keys : Keys). HasNames keys many (key.now ∷ names)) cut has_more,
+        inner.2,
+      )
 
-  pub added_again : new ≡ false → IsNewName names key.now → ⊥
-  added_again is = among_new names key.now (sym (has_now key.now) ∙ true_from_not (contains_by (name_cmp key) set_now) (sym added ∙ is))
+  -- what `AddsName` says
+  abbrev Adds : Bool → Keys → List (Level A) → Type 0
+  Adds new few_now levels_now =
+      (kept ≡ true → HaveNames few_now levels_now ((key.now ∷ names) ∷ outer))
+      × (new ≡ true → kept ≡ true → IsNewName names key.now) × (new ≡ false → (kept ≡ true) × (IsNewName names key.now → ⊥))
+
+  -- the name is in the list
+  pub adds_again : list_any (λ k. bytes_eq k.now key.now) part ≡ true → Adds false few (set levels (n - 1) level)
+  adds_again found = (
+    λ same. have_more level.many (has_again part level.many names has key found),
+    (λ is. cc),
+    λ is. (is_kept, among_new names key.now (known part level.many names has key found)),
+  )
+
+  module _ (none : list_any (λ k. bytes_eq k.now key.now) part ≡ false) where
+    -- it is added to the list
+    pub adds_listed : (few_now : Keys) → few_now ≡ few ++ key ∷ [] → length level.many.keys ≡ 0 → Adds true few_now (set levels (n - 1) level)
+    adds_listed few_now is empty =
+        let cut_now : part ++ key ∷ [] ≡ drop level.first few_now =
+        ap (λ (keys : Keys). keys ++ key ∷ []) cut ∙ sym (drop-append-le level.first few (key ∷ []) inner.0) ∙ ap (drop level.first) (sym is) in
+        let same_front : take level.first few ≡ take level.first few_now =
+        sym (take-append-le level.first few (key ∷ []) inner.0) ∙ ap (take level.first) (sym is) in (
+          λ same. (
+            have.0,
+            level,
+            set_last levels have.0 have.1 level n have.2 long,
+            omega (arith, inner.0, ap length is, length-append few (key ∷ [])),
+            subst (λ (keys : Keys). HasNames keys level.many (key.now ∷ names)) cut_now (has_listed part level.many names has key),
+            subst (λ (keys : Keys). HaveNames keys have.0 outer) same_front inner.2,
+          ),
+          λ new same. new_among names key.now (known_by_set part level.many names has key none ∙ none_in_empty level.many.keys _ empty),
+          (λ is. cc),
+        )
+
+    -- or to the set
+    pub adds_more : (many : Set) → Updates name_cmp level.many many key true → (new : Bool) → new ≡ not (contains_by (name_cmp key) level.many)
+        → Adds new few (set levels (n - 1) (record { first = level.first; many = many }))
+    adds_more many updates new added =
+        let known_so : (b : Bool) → contains_by (name_cmp key) level.many ≡ b → list_any (bytes_eq key.now) names ≡ b =
+        λ b is. known_by_set part level.many names has key none ∙ is in (
+          λ same. have_more many (has_more part level.many names has key many updates),
+          λ is same. new_among names key.now (known_so false (false_from_not (contains_by (name_cmp key) level.many) (sym added ∙ is))),
+          λ is. (is_kept, among_new names key.now (known_so true (true_from_not (contains_by (name_cmp key) level.many) (sym added ∙ is)))),
+        )

@@ -39,7 +39,7 @@ module _ {A : Type 0} where
   kept_on so token held later same once holds kept is =
       let before = kept (sym same ∙ is) in (
         once_both [] so (token ∷ []) before.0 (once is),
-        subst (HaveNames later.sets.items) (sym (names_after_both [] so (token ∷ []))) (holds (λ also. (kept also).1) is),
+        subst (HaveNames later.few.items later.levels.items) (sym (names_after_both [] so (token ∷ []))) (holds (λ also. (kept also).1) is),
       )
 
   -- a scalar
@@ -66,7 +66,7 @@ module _ {A : Type 0} where
 
   -- where a name is next, there is an object that has it
   some_level : (kinds outer : List CollectionKind) (kind : CollectionKind) (held : Names A) (levels : Taken) → kinds ≡ outer ++ kind ∷ []
-      → length held.sets.items ≡ length kinds → HaveNames held.sets.items levels → levels ≡ inner_names levels ∷ outer_names levels
+      → length held.levels.items ≡ length kinds → HaveNames held.few.items held.levels.items levels → levels ≡ inner_names levels ∷ outer_names levels
   some_level kinds outer kind held [] is many have =
       let never : ⊥ = omega (arith, many, ap length have, ap length is, length-append outer (kind ∷ [])) in absurd never
   some_level kinds outer kind held (names ∷ levels) is many have = refl
@@ -82,7 +82,7 @@ module _ {A : Type 0} where
         → AddsName (inner_names (all_names_after [] so)) (outer_names (all_names_after [] so)) name new later
     added so kept also =
         adds (inner_names (all_names_after [] so)) (outer_names (all_names_after [] so))
-        (λ again. subst (HaveNames held.sets.items) (there so kept also) (kept again).1)
+        (λ again. subst (HaveNames held.few.items held.levels.items) (there so kept also) (kept again).1)
 
     -- a name that is new
     pub keeps_name : new ≡ true → Keeps held (Token.key name ∷ []) later
@@ -90,7 +90,7 @@ module _ {A : Type 0} where
         let also = sym same ∙ wanted in
         let all = added so kept also in (
           once_both [] so (Token.key name ∷ []) (kept also).0 (all.1 fresh wanted, tt),
-          subst (HaveNames later.sets.items) (sym (names_after_both [] so (Token.key name ∷ []))) (all.0 wanted),
+          subst (HaveNames later.few.items later.levels.items) (sym (names_after_both [] so (Token.key name ∷ []))) (all.0 wanted),
         )
 
     -- a name that isn't

@@ -102,11 +102,11 @@ FailsGiving in_flow levels before taken error after =
 
 -- where names are kept, none comes twice among these tokens, and those of the arrays and objects that are open are kept
 abbrev pub KeepsNames : {A : Type 0} → List Token → Names A → Type 0
-KeepsNames so held = held.are_kept ≡ true → NamesOnce [] so × HaveNames held.sets.items (all_names_after [] so)
+KeepsNames so held = held.are_kept ≡ true → NamesOnce [] so × HaveNames held.few.items held.levels.items (all_names_after [] so)
 
 -- as many levels have names as are open
 abbrev pub FitsNames : {A : Type 0} → (unique : Bool) → List CollectionKind → Names A → Type 0
-FitsNames unique levels held = (held.are_kept ≡ unique) × (held.are_kept ≡ true → length held.sets.items ≡ length levels)
+FitsNames unique levels held = (held.are_kept ≡ unique) × (held.are_kept ≡ true → length held.levels.items ≡ length levels)
 
 -- wherever they were kept, they are after these tokens more
 abbrev pub Keeps : {A : Type 0} → Names A → List Token → Names A → Type 0
@@ -122,7 +122,7 @@ pub record KeepsTo {A : Type 0} (held : Names A) (ahead after : List Token) (lat
 abbrev pub LeavesNames : {A : Type 0} → Names A → Names A → Type 0
 LeavesNames held later =
     (later.are_kept ≡ held.are_kept) × ((names : List (List (List ℕ))) → HoldsNames names held → HoldsNames (outer_names names) later)
-    × (held.are_kept ≡ true → length later.sets.items ≡ length held.sets.items - 1)
+    × (held.are_kept ≡ true → length later.levels.items ≡ length held.levels.items - 1)
 
 -- where names are to come once, none comes twice among the tokens that were taken
 abbrev pub HasUniqueNames : (unique : Bool) → (before after : List Token) → Type 0

@@ -1,19 +1,34 @@
 //! The names in the objects that are open.
-ghost use Rattle.std.specs.Prelude.{◌≡◌, ◌∷◌, ◌+◌, ◌-◌, [], List, ℕ, IfOk, OnOk, length, true};
+ghost use Rattle.std.specs.Prelude.{◌≡◌, ◌∷◌, ◌+◌, ◌-◌, [], List, ℕ, IfOk, OnOk, bytes_eq, length, true};
+ghost use Rattle.std.specs.List.{list_any};
 ghost use Rattle.yaml_json.specs.HeldNames.{AddsName, HoldsNames};
 ghost use Rattle.yaml_json.specs.Names.{outer_names};
 
 use std::alloc::{AllocError, Allocator};
 use std::collections::BTreeSet;
 
-/// The names in each array and object that is open, so that one which comes again is found. An array has none.
+/// So many names of an object stand in a list, which is searched from its front. Later ones stand in a set.
+const MOST_LISTED: usize = 16;
+
+/// The names of an array or object that is open. An array has none.
+#[derive(Drop)]
+pub(crate) struct Level<'a, A: Allocator> {
+    /// Where its first names begin in the list.
+    pub(crate) first: usize,
+    /// Its later names.
+    pub(crate) many: BTreeSet<&'a str, A>,
+}
+
+/// The names in each array and object that is open, so that one which comes again is found.
 #[derive(Drop)]
 pub(crate) struct Names<'a, A: Allocator> {
     alloc: A,
     /// Else a name may come again, and nothing is kept.
     pub(crate) are_kept: bool,
+    /// The first names of each, those of the innermost last.
+    pub(crate) few: Vec<&'a str, A>,
     /// The innermost last.
-    pub(crate) sets: Vec<BTreeSet<&'a str, A>, A>,
+    pub(crate) levels: Vec<Level<'a, A>, A>,
 }
 
 impl<'a, A: Allocator + Copy> Names<'a, A> {
@@ -25,7 +40,8 @@ impl<'a, A: Allocator + Copy> Names<'a, A> {
         Names {
             alloc,
             are_kept,
-            sets: Vec::new(alloc),
+            few: Vec::new(alloc),
+            levels: Vec::new(alloc),
         }
     }
 
@@ -33,12 +49,16 @@ impl<'a, A: Allocator + Copy> Names<'a, A> {
     pub(crate) fn enter(&mut self) -> Result<(), AllocError>
         ensures kept { OnOk result (self.new.are_kept ≡ self.old.are_kept) }
         ensures holds { OnOk result ((levels : List (List (List ℕ))) → HoldsNames levels self.old → HoldsNames ([] ∷ levels) self.new) }
-        ensures longer { OnOk result (self.old.are_kept ≡ true → length self.new.sets.items ≡ length self.old.sets.items + 1) }
+        ensures longer { OnOk result (self.old.are_kept ≡ true → length self.new.levels.items ≡ length self.old.levels.items + 1) }
     {
         if !self.are_kept {
             return Ok(());
         }
-        match self.sets.push(BTreeSet::new(self.alloc)) {
+        let level = Level {
+            first: self.few.len(),
+            many: BTreeSet::new(self.alloc),
+        };
+        match self.levels.push(level) {
             Ok(()) => Ok(()),
             Err(_) => Err(AllocError),
         }
@@ -48,10 +68,13 @@ impl<'a, A: Allocator + Copy> Names<'a, A> {
     pub(crate) fn leave(&mut self)
         ensures kept { self.new.are_kept ≡ self.old.are_kept }
         ensures holds { (levels : List (List (List ℕ))) → HoldsNames levels self.old → HoldsNames (outer_names levels) self.new }
-        ensures shorter { self.old.are_kept ≡ true → length self.new.sets.items ≡ length self.old.sets.items - 1 }
+        ensures shorter { self.old.are_kept ≡ true → length self.new.levels.items ≡ length self.old.levels.items - 1 }
     {
-        if self.are_kept {
-            let _ = self.sets.pop();
+        if !self.are_kept {
+            return;
+        }
+        if let Some(level) = self.levels.pop() {
+            self.few.truncate(level.first);
         }
     }
 
@@ -60,17 +83,37 @@ impl<'a, A: Allocator + Copy> Names<'a, A> {
         ensures kept { OnOk result (self.new.are_kept ≡ self.old.are_kept) }
         ensures adds { IfOk result (λ new. (names : List (List ℕ)) → (levels : List (List (List ℕ))) → HoldsNames (names ∷ levels) self.old
             → AddsName names levels name.now new self.new) }
-        ensures as_long { OnOk result (length self.new.sets.items ≡ length self.old.sets.items) }
+        ensures as_long { OnOk result (length self.new.levels.items ≡ length self.old.levels.items) }
     {
         if !self.are_kept {
             return Ok(true);
         }
-        match self.sets.last_mut() {
-            None => Ok(true),
-            Some(names) => match names.insert(name) {
+        let Some(level) = self.levels.last_mut() else {
+            return Ok(true);
+        };
+        let Some(few) = self.few.get(level.first..) else {
+            return Ok(true);
+        };
+        if is_among(name, few) {
+            return Ok(false);
+        }
+        if few.len() < MOST_LISTED && level.many.is_empty() {
+            match self.few.push(name) {
+                Ok(()) => Ok(true),
+                Err(_) => Err(AllocError),
+            }
+        } else {
+            match level.many.insert(name) {
                 Ok(new) => Ok(new),
                 Err(_) => Err(AllocError),
-            },
+            }
         }
     }
+}
+
+/// Whether the name is one of these. It is inlined, which `contains` is not.
+fn is_among(name: &str, names: &[&str]) -> bool
+    ensures { result ≡ list_any (λ other. bytes_eq other.now name.now) names.now }
+{
+    names.iter().any(|other| *other == name)
 }
