@@ -31,7 +31,7 @@ module _ {A : Type 0} (depth : ℕ) (unique : Bool) (levels outer : List Collect
   -- ---- within an array
 
   module _ (is : levels ≡ outer ++ Sequence ∷ []) where
-    pub item_none : (spot : Spot) → ahead ≡ [] → Refuses depth unique levels held ahead (stops.NotJson spot)
+    item_none : (spot : Spot) → ahead ≡ [] → Refuses depth unique levels held ahead (stops.NotJson spot)
     item_none spot none so stands kept =
         subst (λ (all : List Token). Stopped (so ++ all) (stops.NotJson spot)) (sym none)
         (first_refused depth unique so levels [] (stops.NotJson spot) (awaiting_no_item depth so levels outer is stands)
@@ -47,7 +47,7 @@ module _ {A : Type 0} (depth : ℕ) (unique : Bool) (levels outer : List Collect
   -- ---- within an object
 
   module _ (is : levels ≡ outer ++ Mapping ∷ []) where
-    pub member_none : (spot : Spot) → ahead ≡ [] → Refuses depth unique levels held ahead (stops.NotJson spot)
+    member_none : (spot : Spot) → ahead ≡ [] → Refuses depth unique levels held ahead (stops.NotJson spot)
     member_none spot none so stands kept =
         subst (λ (all : List Token). Stopped (so ++ all) (stops.NotJson spot)) (sym none)
         (no_member_left depth unique so levels outer is stands (names_once unique levels held so fits kept))
@@ -77,3 +77,9 @@ module _ {A : Type 0} (depth : ℕ) (unique : Bool) (levels outer : List Collect
           (append_assoc so (Token.key name ∷ []) inner ∙ ap (λ (all : List Token). so ++ all) (sym first))
           (first_refused depth unique (so ++ Token.key name ∷ []) levels inner stop (awaiting_named depth so levels outer name is stands inner)
           once refuses)
+
+  -- no token is left
+
+  pub none_left : (kind : CollectionKind) → levels ≡ outer ++ kind ∷ [] → (spot : Spot) → ahead ≡ [] → Refuses depth unique levels held ahead (stops.NotJson spot)
+  none_left Sequence is = item_none is
+  none_left Mapping is = member_none is

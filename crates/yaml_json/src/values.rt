@@ -153,79 +153,6 @@ fn leave<'a, A: Allocator + Copy>(
     end(writer)
 }
 
-/// The next token within an array.
-fn write_item<'a, A: Allocator + Copy>(
-    writer: &mut Writer<A>,
-    reader: &mut Tokens<'a, A>,
-    nest: &mut Nesting<'a, A>,
-    settings: &JsonSettings,
-) -> Result<(), Stop>
-    requires bare { IsBare writer.old }
-    requires fits { IsNesting settings.now.depth settings.now.unique_names nest.old }
-    requires innermost { IsInnermost CollectionKind.Sequence nest.old.kinds.items }
-    ensures stepped { OnOk result (Stepped settings.now.depth settings.now.flow reader.old nest.old.kinds.items writer.old reader.new nest.new.kinds.items
-        writer.new) }
-    ensures fits { OnOk result (IsNesting settings.now.depth settings.now.unique_names nest.new) }
-    ensures names { OnOk result (KeepsTo nest.old.names reader.old reader.new nest.new.names) }
-    ensures refused { IfErr result (Refuses settings.now.depth settings.now.unique_names nest.old.kinds.items nest.old.names reader.old) }
-    ensures stopped { IfSome (failure result) (λ error. StepFailed settings.now.depth settings.now.flow reader.old nest.old.kinds.items writer.old error
-        writer.new) }
-{
-    let offset = reader.offset();
-    let token = match reader.next() {
-        Ok(Some(token)) => token,
-        Ok(None) => return Err(Stop::NotJson(Spot::At(offset))),
-        Err(_) => return Err(Stop::Failed(yaml_error_t::Memory)),
-    };
-    match token {
-        Token::EndArray => leave(writer, nest),
-        _ => write_token(writer, nest, token, offset, settings),
-    }
-}
-
-/// The next key within an object and the token after it, or the object's end.
-fn write_member<'a, A: Allocator + Copy>(
-    writer: &mut Writer<A>,
-    reader: &mut Tokens<'a, A>,
-    nest: &mut Nesting<'a, A>,
-    settings: &JsonSettings,
-) -> Result<(), Stop>
-    requires bare { IsBare writer.old }
-    requires fits { IsNesting settings.now.depth settings.now.unique_names nest.old }
-    requires innermost { IsInnermost CollectionKind.Mapping nest.old.kinds.items }
-    ensures stepped { OnOk result (Stepped settings.now.depth settings.now.flow reader.old nest.old.kinds.items writer.old reader.new nest.new.kinds.items
-        writer.new) }
-    ensures fits { OnOk result (IsNesting settings.now.depth settings.now.unique_names nest.new) }
-    ensures names { OnOk result (KeepsTo nest.old.names reader.old reader.new nest.new.names) }
-    ensures refused { IfErr result (Refuses settings.now.depth settings.now.unique_names nest.old.kinds.items nest.old.names reader.old) }
-    ensures stopped { IfSome (failure result) (λ error. StepFailed settings.now.depth settings.now.flow reader.old nest.old.kinds.items writer.old error
-        writer.new) }
-{
-    let offset = reader.offset();
-    let token = match reader.next() {
-        Ok(Some(token)) => token,
-        Ok(None) => return Err(Stop::NotJson(Spot::At(offset))),
-        Err(_) => return Err(Stop::Failed(yaml_error_t::Memory)),
-    };
-    match token {
-        Token::EndObject => leave(writer, nest),
-        Token::Key(key) => match nest.names.add(key) {
-            Err(_) => Err(Stop::Failed(yaml_error_t::Memory)),
-            Ok(new) => {
-                if !new {
-                    return Err(Stop::NameAgain(offset));
-                }
-                if let Err(stop) = write_text(writer, key) {
-                    return Err(stop);
-                }
-                write_first(writer, reader, nest, settings)
-            }
-        },
-        Token::String(_) => Err(Stop::NotJson(Spot::PastString(offset))),
-        _ => Err(Stop::NotJson(Spot::At(offset))),
-    }
-}
-
 /// The next tokens within the innermost collection, which is of this kind.
 fn write_next<'a, A: Allocator + Copy>(
     writer: &mut Writer<A>,
@@ -245,9 +172,34 @@ fn write_next<'a, A: Allocator + Copy>(
     ensures stopped { IfSome (failure result) (λ error. StepFailed settings.now.depth settings.now.flow reader.old nest.old.kinds.items writer.old error
         writer.new) }
 {
+    let offset = reader.offset();
+    let token = match reader.next() {
+        Ok(Some(token)) => token,
+        Ok(None) => return Err(Stop::NotJson(Spot::At(offset))),
+        Err(_) => return Err(Stop::Failed(yaml_error_t::Memory)),
+    };
     match kind {
-        CollectionKind::Sequence => write_item(writer, reader, nest, settings),
-        CollectionKind::Mapping => write_member(writer, reader, nest, settings),
+        CollectionKind::Sequence => match token {
+            Token::EndArray => leave(writer, nest),
+            _ => write_token(writer, nest, token, offset, settings),
+        },
+        CollectionKind::Mapping => match token {
+            Token::EndObject => leave(writer, nest),
+            Token::Key(key) => match nest.names.add(key) {
+                Err(_) => Err(Stop::Failed(yaml_error_t::Memory)),
+                Ok(new) => {
+                    if !new {
+                        return Err(Stop::NameAgain(offset));
+                    }
+                    if let Err(stop) = write_text(writer, key) {
+                        return Err(stop);
+                    }
+                    write_first(writer, reader, nest, settings)
+                }
+            },
+            Token::String(_) => Err(Stop::NotJson(Spot::PastString(offset))),
+            _ => Err(Stop::NotJson(Spot::At(offset))),
+        },
     }
 }
 

@@ -1,0 +1,307 @@
+use Rattle.yaml_json.proofs.Common.{ℕ, false, true, List, [], ◌++◌, ◌∷◌, refl, ◌≡◌, Bor, ap, ◌∙◌, arith, chars, token_of, scalar, failure_of, failure, text_content}
+use Rattle.yaml_json.proofs.Common.{closer, Refuses}
+use Rattle.json.specs.declared.token.Token.{Token}
+use Rattle.yaml_json.proofs.{KeepingNames.keeps_closer, KeepingNames.keeps_name, KeepingNames.keeps_then, Refusing.IsNoKey, Refusing.unrefused}
+use Rattle.yaml_json.proofs.{Stopping.if_some, WroteLemmas.on_ok, WroteLemmas.always, WroteLemmas.on_err}
+use Rattle.yaml_json.proofs.Stops.{none_left, item_stopped, member_stopped, again_stopped, named_stopped}
+use Rattle.yaml_json.proofs.Taking.{gives_scalar, fails_scalar, step_closes, step_unclosed, step_without_memory, step_unnamed, step_member, step_no_member}
+use Rattle.yaml_json.proofs.Taking.{step_item, step_no_item}
+use Rattle.yaml_json.specs.declared.values.Spot.TheVariants.{At, PastString}
+use Rattle.yaml_writer.specs.declared.kinds.CollectionKind.{CollectionKind}
+use Rattle.yaml_writer.specs.declared.kinds.CollectionKind.TheVariants.{Mapping, Sequence}
+use Rattle.json.specs.Token as tokens
+use Rattle.json.specs.declared.token.Token.TheVariants as variants
+use Rattle.yaml_json.proofs.values.write_next.Goals as goal
+
+-- a token that isn't the end of an array
+no_end : (token : Token) → (token ≡ variants.EndArray → ⊥) → token_of token ≡ tokens.end_array → ⊥
+no_end variants.BeginObject isn't is = cc
+no_end variants.EndObject isn't is = cc
+no_end variants.BeginArray isn't is = cc
+no_end variants.EndArray isn't is = isn't refl
+no_end (variants.Key text) isn't is = cc
+no_end (variants.String text) isn't is = cc
+no_end (variants.Number text) isn't is = cc
+no_end (variants.Bool flag) isn't is = cc
+no_end variants.Null isn't is = cc
+no_end variants.Bad isn't is = cc
+
+-- a token that is neither a key nor the end of an object
+no_key : (token : Token) → ((text : Bor (List ℕ)) → token ≡ variants.Key text → ⊥) → (token ≡ variants.EndObject → ⊥) → IsNoKey (token_of token)
+no_key variants.BeginObject isn't none = ((λ text is. cc), (λ is. cc))
+no_key variants.EndObject isn't none = absurd (none refl)
+no_key variants.BeginArray isn't none = ((λ text is. cc), (λ is. cc))
+no_key variants.EndArray isn't none = ((λ text is. cc), (λ is. cc))
+no_key (variants.Key text) isn't none = absurd (isn't text refl)
+no_key (variants.String text) isn't none = ((λ text is. cc), (λ is. cc))
+no_key (variants.Number text) isn't none = ((λ text is. cc), (λ is. cc))
+no_key (variants.Bool flag) isn't none = ((λ text is. cc), (λ is. cc))
+no_key variants.Null isn't none = ((λ text is. cc), (λ is. cc))
+no_key variants.Bad isn't none = ((λ text is. cc), (λ is. cc))
+
+-- the token that closes a collection
+array_closed : (kind : CollectionKind) (token : Token) → kind ≡ Sequence → token ≡ variants.EndArray → token_of token ≡ closer kind
+array_closed kind token array is = rw (array, is) refl
+
+object_closed : (kind : CollectionKind) (token : Token) → kind ≡ Mapping → token ≡ variants.EndObject → token_of token ≡ closer kind
+object_closed kind token object is = rw (object, is) refl
+
+pub returns-in-Ok-None-clause-refused : goal.returns-in-Ok-None-clause-refused
+returns-in-Ok-None-clause-refused g c =
+    let a = c.args in
+    let none = rw c.in-Ok-None.field-0-is at c.in-Ok-None.ensures.value in
+    let inner = c.requires.innermost in
+    none_left a.settings.now.depth a.settings.now.unique_names a.nest.now.kinds.items inner.outer a.nest.now.names c.requires.fits.1 a.reader.now
+    a.kind inner.is (At c.offset-offset.result) none.0
+
+pub returns-in-Err-clause-stopped : goal.returns-in-Err-clause-stopped
+returns-in-Err-clause-stopped g c =
+    let a = c.args in
+    step_without_memory a.settings.now.depth a.settings.now.flow a.reader.now a.nest.now.kinds.items a.writer.now a.writer.now
+
+-- The end of the collection
+
+pub returns-in-EndArray-clause-stepped : goal.returns-in-EndArray-clause-stepped
+returns-in-EndArray-clause-stepped g c =
+    let a = c.args in
+    let inner = c.requires.innermost in
+    let closed : token_of c.in-Ok-Some.token ≡ closer a.kind = array_closed a.kind c.in-Ok-Some.token c.in-Sequence.is c.in-EndArray.is in
+    let read = rw c.in-Ok-Some.field-0-is at c.in-Ok-Some.ensures.value in
+    let first : a.reader.now ≡ closer a.kind ∷ c.next.new.self = read ∙ ap (λ token. token ∷ c.next.new.self) closed in
+    on_ok c.leave.result
+    (step_closes a.settings.now.depth a.settings.now.flow a.reader.now a.nest.now.kinds.items inner.outer a.kind inner.is a.writer.now
+    c.next.new.self c.leave.new.nest.kinds.items c.leave.new.writer first c.leave.ensures.left)
+    c.leave.ensures.ended
+
+pub returns-in-EndArray-clause-names : goal.returns-in-EndArray-clause-names
+returns-in-EndArray-clause-names g c =
+    let a = c.args in
+    let closed : token_of c.in-Ok-Some.token ≡ closer a.kind = array_closed a.kind c.in-Ok-Some.token c.in-Sequence.is c.in-EndArray.is in
+    let read = rw c.in-Ok-Some.field-0-is at c.in-Ok-Some.ensures.value in
+    let first : a.reader.now ≡ closer a.kind ∷ c.next.new.self = read ∙ ap (λ token. token ∷ c.next.new.self) closed in
+    always c.leave.result
+    (record {
+      taken = closer a.kind ∷ [];
+      parts = first;
+      keeps = keeps_closer a.kind a.nest.now.names c.leave.new.nest.names c.leave.ensures.names;
+    })
+
+pub returns-in-EndArray-clause-refused : goal.returns-in-EndArray-clause-refused
+returns-in-EndArray-clause-refused g c =
+    let a = c.args in
+    unrefused c.leave.result c.leave.ensures.failed
+    (Refuses a.settings.now.depth a.settings.now.unique_names a.nest.now.kinds.items a.nest.now.names a.reader.now) (λ error so stands kept. tt)
+
+pub returns-in-EndArray-clause-stopped : goal.returns-in-EndArray-clause-stopped
+returns-in-EndArray-clause-stopped g c =
+    let a = c.args in
+    let inner = c.requires.innermost in
+    let closed : token_of c.in-Ok-Some.token ≡ closer a.kind = array_closed a.kind c.in-Ok-Some.token c.in-Sequence.is c.in-EndArray.is in
+    let read = rw c.in-Ok-Some.field-0-is at c.in-Ok-Some.ensures.value in
+    let first : a.reader.now ≡ closer a.kind ∷ c.next.new.self = read ∙ ap (λ token. token ∷ c.next.new.self) closed in
+    if_some (failure c.leave.result)
+    (λ error. step_unclosed a.settings.now.depth a.settings.now.flow a.reader.now a.nest.now.kinds.items inner.outer a.kind inner.is a.writer.now
+    c.next.new.self error c.leave.new.writer first)
+    c.leave.ensures.stopped
+
+pub returns-in-EndObject-clause-stepped : goal.returns-in-EndObject-clause-stepped
+returns-in-EndObject-clause-stepped g c =
+    let a = c.args in
+    let inner = c.requires.innermost in
+    let closed : token_of c.in-Ok-Some.token ≡ closer a.kind = object_closed a.kind c.in-Ok-Some.token c.in-Mapping.is c.in-EndObject.is in
+    let read = rw c.in-Ok-Some.field-0-is at c.in-Ok-Some.ensures.value in
+    let first : a.reader.now ≡ closer a.kind ∷ c.next.new.self = read ∙ ap (λ token. token ∷ c.next.new.self) closed in
+    on_ok c.leave-in-EndObject.result
+    (step_closes a.settings.now.depth a.settings.now.flow a.reader.now a.nest.now.kinds.items inner.outer a.kind inner.is a.writer.now
+    c.next.new.self c.leave-in-EndObject.new.nest.kinds.items c.leave-in-EndObject.new.writer first c.leave-in-EndObject.ensures.left)
+    c.leave-in-EndObject.ensures.ended
+
+pub returns-in-EndObject-clause-names : goal.returns-in-EndObject-clause-names
+returns-in-EndObject-clause-names g c =
+    let a = c.args in
+    let closed : token_of c.in-Ok-Some.token ≡ closer a.kind = object_closed a.kind c.in-Ok-Some.token c.in-Mapping.is c.in-EndObject.is in
+    let read = rw c.in-Ok-Some.field-0-is at c.in-Ok-Some.ensures.value in
+    let first : a.reader.now ≡ closer a.kind ∷ c.next.new.self = read ∙ ap (λ token. token ∷ c.next.new.self) closed in
+    always c.leave-in-EndObject.result
+    (record {
+      taken = closer a.kind ∷ [];
+      parts = first;
+      keeps = keeps_closer a.kind a.nest.now.names c.leave-in-EndObject.new.nest.names c.leave-in-EndObject.ensures.names;
+    })
+
+pub returns-in-EndObject-clause-refused : goal.returns-in-EndObject-clause-refused
+returns-in-EndObject-clause-refused g c =
+    let a = c.args in
+    unrefused c.leave-in-EndObject.result c.leave-in-EndObject.ensures.failed
+    (Refuses a.settings.now.depth a.settings.now.unique_names a.nest.now.kinds.items a.nest.now.names a.reader.now) (λ error so stands kept. tt)
+
+pub returns-in-EndObject-clause-stopped : goal.returns-in-EndObject-clause-stopped
+returns-in-EndObject-clause-stopped g c =
+    let a = c.args in
+    let inner = c.requires.innermost in
+    let closed : token_of c.in-Ok-Some.token ≡ closer a.kind = object_closed a.kind c.in-Ok-Some.token c.in-Mapping.is c.in-EndObject.is in
+    let read = rw c.in-Ok-Some.field-0-is at c.in-Ok-Some.ensures.value in
+    let first : a.reader.now ≡ closer a.kind ∷ c.next.new.self = read ∙ ap (λ token. token ∷ c.next.new.self) closed in
+    if_some (failure c.leave-in-EndObject.result)
+    (λ error. step_unclosed a.settings.now.depth a.settings.now.flow a.reader.now a.nest.now.kinds.items inner.outer a.kind inner.is a.writer.now
+    c.next.new.self error c.leave-in-EndObject.new.writer first)
+    c.leave-in-EndObject.ensures.stopped
+
+-- An item
+
+pub returns-in_default : goal.returns-in_default
+returns-in_default g c =
+    let a = c.args in
+    let inner = c.requires.innermost in
+    let is : a.nest.now.kinds.items ≡ inner.outer ++ Sequence ∷ [] = inner.is ∙ ap (λ kind. inner.outer ++ kind ∷ []) c.in-Sequence.is in
+    let token = token_of c.in-Ok-Some.token in
+    let isn't = no_end c.in-Ok-Some.token c.in_default.not-EndArray in
+    let first : a.reader.now ≡ token ∷ c.next.new.self = rw c.in-Ok-Some.field-0-is at c.in-Ok-Some.ensures.value in
+    record {
+      stepped = on_ok c.write_token.result
+          (step_item a.settings.now.depth a.settings.now.flow a.nest.now.kinds.items inner.outer is token isn't a.writer.now a.reader.now
+          c.next.new.self first c.write_token.new.nest.kinds.items c.write_token.new.writer)
+          c.write_token.ensures.began;
+      fits = c.write_token.ensures.fits;
+      names = on_ok c.write_token.result (λ keeps. record { taken = token ∷ []; parts = first; keeps = keeps }) c.write_token.ensures.names;
+      refused = on_err c.write_token.result
+          (item_stopped a.settings.now.depth a.settings.now.unique_names a.nest.now.kinds.items inner.outer a.nest.now.names c.requires.fits.1
+          a.reader.now is token c.next.new.self first isn't)
+          c.write_token.ensures.refused;
+      stopped = if_some (failure c.write_token.result)
+          (λ error. step_no_item a.settings.now.depth a.settings.now.flow a.nest.now.kinds.items inner.outer is token isn't a.writer.now
+          a.reader.now c.next.new.self first error c.write_token.new.writer)
+          c.write_token.ensures.stopped;
+    }
+
+-- A name
+
+pub returns-in-Err-add-clause-stopped : goal.returns-in-Err-add-clause-stopped
+returns-in-Err-add-clause-stopped g c =
+    let a = c.args in
+    step_without_memory a.settings.now.depth a.settings.now.flow a.reader.now a.nest.now.kinds.items a.writer.now a.writer.now
+
+pub returns-then-not-new-clause-refused : goal.returns-then-not-new-clause-refused
+returns-then-not-new-clause-refused g c =
+    let a = c.args in
+    let inner = c.requires.innermost in
+    let is : a.nest.now.kinds.items ≡ inner.outer ++ Mapping ∷ [] = inner.is ∙ ap (λ kind. inner.outer ++ kind ∷ []) c.in-Mapping.is in
+    let read = rw c.in-Ok-Some.field-0-is at c.in-Ok-Some.ensures.value in
+    let first : a.reader.now ≡ tokens.key c.in-Key.key.now ∷ c.next.new.self =
+    read ∙ ap (λ (t : Token). token_of t ∷ c.next.new.self) c.in-Key.is in
+    let old : c.in-Ok.new ≡ false = grind arith in
+    again_stopped a.settings.now.depth a.settings.now.unique_names a.nest.now.kinds.items inner.outer a.nest.now.names c.requires.fits.1 a.reader.now
+    is c.in-Key.key.now c.next.new.self first c.add.new.self c.in-Ok.ensures.kept c.in-Ok.new c.in-Ok.ensures.adds c.offset-offset.result old
+
+pub returns-in-Err-write_text-clause-stopped : goal.returns-in-Err-write_text-clause-stopped
+returns-in-Err-write_text-clause-stopped g c =
+    let a = c.args in
+    let inner = c.requires.innermost in
+    let is : a.nest.now.kinds.items ≡ inner.outer ++ Mapping ∷ [] = inner.is ∙ ap (λ kind. inner.outer ++ kind ∷ []) c.in-Mapping.is in
+    let key = c.in-Key.key.now in
+    let read = rw c.in-Ok-Some.field-0-is at c.in-Ok-Some.ensures.value in
+    let first : a.reader.now ≡ tokens.key key ∷ c.next.new.self =
+    read ∙ ap (λ (t : Token). token_of t ∷ c.next.new.self) c.in-Key.is in
+    if_some (failure_of c.in-Err-write_text.stop)
+    (λ error failed. step_unnamed a.settings.now.depth a.settings.now.flow a.nest.now.kinds.items inner.outer is key a.writer.now a.reader.now
+    c.next.new.self first error c.write_text.new.writer
+    (fails_scalar a.settings.now.flow a.nest.now.kinds.items a.writer.now c.write_text.new.writer (tokens.key key)
+    (λ k. scalar (text_content (chars key))) error (λ k. refl) failed))
+    c.in-Err-write_text.ensures.stopped
+
+pub returns-in_default-write_text-clause-stepped : goal.returns-in_default-write_text-clause-stepped
+returns-in_default-write_text-clause-stepped g c =
+    let a = c.args in
+    let inner = c.requires.innermost in
+    let is : a.nest.now.kinds.items ≡ inner.outer ++ Mapping ∷ [] = inner.is ∙ ap (λ kind. inner.outer ++ kind ∷ []) c.in-Mapping.is in
+    let key = c.in-Key.key.now in
+    let read = rw c.in-Ok-Some.field-0-is at c.in-Ok-Some.ensures.value in
+    let first : a.reader.now ≡ tokens.key key ∷ c.next.new.self =
+    read ∙ ap (λ (t : Token). token_of t ∷ c.next.new.self) c.in-Key.is in
+    let gave = gives_scalar a.settings.now.flow a.nest.now.kinds.items a.writer.now c.write_text.new.writer (tokens.key key)
+    (λ k. scalar (text_content (chars key))) (λ k. refl) c.in_default-write_text.ensures.written in
+    on_ok c.write_first.result
+    (step_member a.settings.now.depth a.settings.now.flow a.nest.now.kinds.items inner.outer is key a.writer.now a.reader.now c.next.new.self first
+    c.write_text.new.writer gave c.write_first.new.reader c.write_first.new.nest.kinds.items c.write_first.new.writer)
+    c.write_first.ensures.began
+
+pub returns-in_default-write_text-clause-names : goal.returns-in_default-write_text-clause-names
+returns-in_default-write_text-clause-names g c =
+    let a = c.args in
+    let inner = c.requires.innermost in
+    let is : a.nest.now.kinds.items ≡ inner.outer ++ Mapping ∷ [] = inner.is ∙ ap (λ kind. inner.outer ++ kind ∷ []) c.in-Mapping.is in
+    let key = c.in-Key.key.now in
+    let read = rw c.in-Ok-Some.field-0-is at c.in-Ok-Some.ensures.value in
+    let first : a.reader.now ≡ tokens.key key ∷ c.next.new.self =
+    read ∙ ap (λ (t : Token). token_of t ∷ c.next.new.self) c.in-Key.is in
+    let fresh : c.in-Ok.new ≡ true = grind arith in
+    let named = keeps_name a.nest.now.kinds.items inner.outer Mapping is a.settings.now.unique_names key a.nest.now.names c.add.new.self
+    c.requires.fits.1 c.in-Ok.ensures.kept c.in-Ok.new c.in-Ok.ensures.adds fresh in
+    on_ok c.write_first.result
+    (λ keeps. record {
+      taken = tokens.key key ∷ keeps.taken;
+      parts = first ∙ ap (λ (all : List tokens.Token). tokens.key key ∷ all) keeps.parts;
+      keeps = keeps_then a.nest.now.names c.add.new.self c.write_first.new.nest.names (tokens.key key ∷ []) keeps.taken named keeps.keeps;
+    })
+    c.write_first.ensures.names
+
+pub returns-in_default-write_text-clause-refused : goal.returns-in_default-write_text-clause-refused
+returns-in_default-write_text-clause-refused g c =
+    let a = c.args in
+    let inner = c.requires.innermost in
+    let is : a.nest.now.kinds.items ≡ inner.outer ++ Mapping ∷ [] = inner.is ∙ ap (λ kind. inner.outer ++ kind ∷ []) c.in-Mapping.is in
+    let key = c.in-Key.key.now in
+    let read = rw c.in-Ok-Some.field-0-is at c.in-Ok-Some.ensures.value in
+    let first : a.reader.now ≡ tokens.key key ∷ c.next.new.self =
+    read ∙ ap (λ (t : Token). token_of t ∷ c.next.new.self) c.in-Key.is in
+    let fresh : c.in-Ok.new ≡ true = grind arith in
+    on_err c.write_first.result
+    (named_stopped a.settings.now.depth a.settings.now.unique_names a.nest.now.kinds.items inner.outer a.nest.now.names c.requires.fits.1 a.reader.now
+    is key c.next.new.self first c.add.new.self c.in-Ok.ensures.kept c.in-Ok.new c.in-Ok.ensures.adds fresh)
+    c.write_first.ensures.refused
+
+pub returns-in_default-write_text-clause-stopped : goal.returns-in_default-write_text-clause-stopped
+returns-in_default-write_text-clause-stopped g c =
+    let a = c.args in
+    let inner = c.requires.innermost in
+    let is : a.nest.now.kinds.items ≡ inner.outer ++ Mapping ∷ [] = inner.is ∙ ap (λ kind. inner.outer ++ kind ∷ []) c.in-Mapping.is in
+    let key = c.in-Key.key.now in
+    let read = rw c.in-Ok-Some.field-0-is at c.in-Ok-Some.ensures.value in
+    let first : a.reader.now ≡ tokens.key key ∷ c.next.new.self =
+    read ∙ ap (λ (t : Token). token_of t ∷ c.next.new.self) c.in-Key.is in
+    let gave = gives_scalar a.settings.now.flow a.nest.now.kinds.items a.writer.now c.write_text.new.writer (tokens.key key)
+    (λ k. scalar (text_content (chars key))) (λ k. refl) c.in_default-write_text.ensures.written in
+    if_some (failure c.write_first.result)
+    (λ error. step_no_member a.settings.now.depth a.settings.now.flow a.nest.now.kinds.items inner.outer is key a.writer.now a.reader.now
+    c.next.new.self first c.write_text.new.writer gave error c.write_first.new.writer)
+    c.write_first.ensures.stopped
+
+-- Neither
+
+pub returns-in-String-clause-refused : goal.returns-in-String-clause-refused
+returns-in-String-clause-refused g c =
+    let a = c.args in
+    let inner = c.requires.innermost in
+    let is : a.nest.now.kinds.items ≡ inner.outer ++ Mapping ∷ [] = inner.is ∙ ap (λ kind. inner.outer ++ kind ∷ []) c.in-Mapping.is in
+    let text = c.in-String.field-0.now in
+    let read = rw c.in-Ok-Some.field-0-is at c.in-Ok-Some.ensures.value in
+    let first : a.reader.now ≡ tokens.string text ∷ c.next.new.self =
+    read ∙ ap (λ (t : Token). token_of t ∷ c.next.new.self) c.in-String.is in
+    member_stopped a.settings.now.depth a.settings.now.unique_names a.nest.now.kinds.items inner.outer a.nest.now.names c.requires.fits.1 a.reader.now
+    is (PastString c.offset-offset.result) (tokens.string text) c.next.new.self first ((λ key is. cc), (λ is. cc))
+
+pub returns-in_default-token : goal.returns-in_default-token
+returns-in_default-token g c =
+    let a = c.args in
+    let read = rw c.in-Ok-Some.field-0-is at c.in-Ok-Some.ensures.value in
+    let inner = c.requires.innermost in
+    let is : a.nest.now.kinds.items ≡ inner.outer ++ Mapping ∷ [] = inner.is ∙ ap (λ kind. inner.outer ++ kind ∷ []) c.in-Mapping.is in
+    record {
+      stepped = tt;
+      fits = tt;
+      names = tt;
+      refused = member_stopped a.settings.now.depth a.settings.now.unique_names a.nest.now.kinds.items inner.outer a.nest.now.names
+          c.requires.fits.1 a.reader.now is (At c.offset-offset.result) (token_of c.in-Ok-Some.token) c.next.new.self read
+          (no_key c.in-Ok-Some.token c.in_default-token.not-Key c.in_default-token.not-EndObject);
+      stopped = tt;
+    }
