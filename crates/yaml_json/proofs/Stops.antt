@@ -80,6 +80,7 @@ module _ {A : Type 0} (depth : ℕ) (unique : Bool) (levels outer : List Collect
 
   -- no token is left
 
-  pub none_left : (kind : CollectionKind) → levels ≡ outer ++ kind ∷ [] → (spot : Spot) → ahead ≡ [] → Refuses depth unique levels held ahead (stops.NotJson spot)
+  pub none_left : (kind : CollectionKind) → levels ≡ outer ++ kind ∷ [] → (spot : Spot) → ahead ≡ []
+      → Refuses depth unique levels held ahead (stops.NotJson spot)
   none_left Sequence is = item_none is
   none_left Mapping is = member_none is

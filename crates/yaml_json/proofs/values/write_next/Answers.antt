@@ -1,5 +1,5 @@
-use Rattle.yaml_json.proofs.Common.{ℕ, false, true, List, [], ◌++◌, ◌∷◌, refl, ◌≡◌, Bor, ap, ◌∙◌, arith, chars, token_of, scalar, failure_of, failure, text_content}
-use Rattle.yaml_json.proofs.Common.{closer, Refuses}
+use Rattle.yaml_json.proofs.Common.{ℕ, false, true, List, [], ◌++◌, ◌∷◌, refl, ◌≡◌, Bor, ap, ◌∙◌, arith, chars, token_of, scalar, failure_of, failure}
+use Rattle.yaml_json.proofs.Common.{text_content, closer, Refuses}
 use Rattle.json.specs.declared.token.Token.{Token}
 use Rattle.yaml_json.proofs.{KeepingNames.keeps_closer, KeepingNames.keeps_name, KeepingNames.keeps_then, Refusing.IsNoKey, Refusing.unrefused}
 use Rattle.yaml_json.proofs.{Stopping.if_some, WroteLemmas.on_ok, WroteLemmas.always, WroteLemmas.on_err}
@@ -39,12 +39,14 @@ no_key (variants.Bool flag) isn't none = ((λ text is. cc), (λ is. cc))
 no_key variants.Null isn't none = ((λ text is. cc), (λ is. cc))
 no_key variants.Bad isn't none = ((λ text is. cc), (λ is. cc))
 
--- the token that closes a collection
-array_closed : (kind : CollectionKind) (token : Token) → kind ≡ Sequence → token ≡ variants.EndArray → token_of token ≡ closer kind
-array_closed kind token array is = rw (array, is) refl
+-- the first token, by its case
+array_first : (kind : CollectionKind) (token : Token) (ahead after : List tokens.Token) → kind ≡ Sequence → token ≡ variants.EndArray
+    → ahead ≡ token_of token ∷ after → ahead ≡ closer kind ∷ after
+array_first kind token ahead after array is first = rw array (first ∙ ap (λ (t : Token). token_of t ∷ after) is)
 
-object_closed : (kind : CollectionKind) (token : Token) → kind ≡ Mapping → token ≡ variants.EndObject → token_of token ≡ closer kind
-object_closed kind token object is = rw (object, is) refl
+object_first : (kind : CollectionKind) (token : Token) (ahead after : List tokens.Token) → kind ≡ Mapping → token ≡ variants.EndObject
+    → ahead ≡ token_of token ∷ after → ahead ≡ closer kind ∷ after
+object_first kind token ahead after object is first = rw object (first ∙ ap (λ (t : Token). token_of t ∷ after) is)
 
 pub returns-in-Ok-None-clause-refused : goal.returns-in-Ok-None-clause-refused
 returns-in-Ok-None-clause-refused g c =
@@ -65,9 +67,8 @@ pub returns-in-EndArray-clause-stepped : goal.returns-in-EndArray-clause-stepped
 returns-in-EndArray-clause-stepped g c =
     let a = c.args in
     let inner = c.requires.innermost in
-    let closed : token_of c.in-Ok-Some.token ≡ closer a.kind = array_closed a.kind c.in-Ok-Some.token c.in-Sequence.is c.in-EndArray.is in
     let read = rw c.in-Ok-Some.field-0-is at c.in-Ok-Some.ensures.value in
-    let first : a.reader.now ≡ closer a.kind ∷ c.next.new.self = read ∙ ap (λ token. token ∷ c.next.new.self) closed in
+    let first = array_first a.kind c.in-Ok-Some.token a.reader.now c.next.new.self c.in-Sequence.is c.in-EndArray.is read in
     on_ok c.leave.result
     (step_closes a.settings.now.depth a.settings.now.flow a.reader.now a.nest.now.kinds.items inner.outer a.kind inner.is a.writer.now
     c.next.new.self c.leave.new.nest.kinds.items c.leave.new.writer first c.leave.ensures.left)
@@ -76,9 +77,8 @@ returns-in-EndArray-clause-stepped g c =
 pub returns-in-EndArray-clause-names : goal.returns-in-EndArray-clause-names
 returns-in-EndArray-clause-names g c =
     let a = c.args in
-    let closed : token_of c.in-Ok-Some.token ≡ closer a.kind = array_closed a.kind c.in-Ok-Some.token c.in-Sequence.is c.in-EndArray.is in
     let read = rw c.in-Ok-Some.field-0-is at c.in-Ok-Some.ensures.value in
-    let first : a.reader.now ≡ closer a.kind ∷ c.next.new.self = read ∙ ap (λ token. token ∷ c.next.new.self) closed in
+    let first = array_first a.kind c.in-Ok-Some.token a.reader.now c.next.new.self c.in-Sequence.is c.in-EndArray.is read in
     always c.leave.result
     (record {
       taken = closer a.kind ∷ [];
@@ -96,9 +96,8 @@ pub returns-in-EndArray-clause-stopped : goal.returns-in-EndArray-clause-stopped
 returns-in-EndArray-clause-stopped g c =
     let a = c.args in
     let inner = c.requires.innermost in
-    let closed : token_of c.in-Ok-Some.token ≡ closer a.kind = array_closed a.kind c.in-Ok-Some.token c.in-Sequence.is c.in-EndArray.is in
     let read = rw c.in-Ok-Some.field-0-is at c.in-Ok-Some.ensures.value in
-    let first : a.reader.now ≡ closer a.kind ∷ c.next.new.self = read ∙ ap (λ token. token ∷ c.next.new.self) closed in
+    let first = array_first a.kind c.in-Ok-Some.token a.reader.now c.next.new.self c.in-Sequence.is c.in-EndArray.is read in
     if_some (failure c.leave.result)
     (λ error. step_unclosed a.settings.now.depth a.settings.now.flow a.reader.now a.nest.now.kinds.items inner.outer a.kind inner.is a.writer.now
     c.next.new.self error c.leave.new.writer first)
@@ -108,9 +107,8 @@ pub returns-in-EndObject-clause-stepped : goal.returns-in-EndObject-clause-stepp
 returns-in-EndObject-clause-stepped g c =
     let a = c.args in
     let inner = c.requires.innermost in
-    let closed : token_of c.in-Ok-Some.token ≡ closer a.kind = object_closed a.kind c.in-Ok-Some.token c.in-Mapping.is c.in-EndObject.is in
     let read = rw c.in-Ok-Some.field-0-is at c.in-Ok-Some.ensures.value in
-    let first : a.reader.now ≡ closer a.kind ∷ c.next.new.self = read ∙ ap (λ token. token ∷ c.next.new.self) closed in
+    let first = object_first a.kind c.in-Ok-Some.token a.reader.now c.next.new.self c.in-Mapping.is c.in-EndObject.is read in
     on_ok c.leave-in-EndObject.result
     (step_closes a.settings.now.depth a.settings.now.flow a.reader.now a.nest.now.kinds.items inner.outer a.kind inner.is a.writer.now
     c.next.new.self c.leave-in-EndObject.new.nest.kinds.items c.leave-in-EndObject.new.writer first c.leave-in-EndObject.ensures.left)
@@ -119,9 +117,8 @@ returns-in-EndObject-clause-stepped g c =
 pub returns-in-EndObject-clause-names : goal.returns-in-EndObject-clause-names
 returns-in-EndObject-clause-names g c =
     let a = c.args in
-    let closed : token_of c.in-Ok-Some.token ≡ closer a.kind = object_closed a.kind c.in-Ok-Some.token c.in-Mapping.is c.in-EndObject.is in
     let read = rw c.in-Ok-Some.field-0-is at c.in-Ok-Some.ensures.value in
-    let first : a.reader.now ≡ closer a.kind ∷ c.next.new.self = read ∙ ap (λ token. token ∷ c.next.new.self) closed in
+    let first = object_first a.kind c.in-Ok-Some.token a.reader.now c.next.new.self c.in-Mapping.is c.in-EndObject.is read in
     always c.leave-in-EndObject.result
     (record {
       taken = closer a.kind ∷ [];
@@ -139,9 +136,8 @@ pub returns-in-EndObject-clause-stopped : goal.returns-in-EndObject-clause-stopp
 returns-in-EndObject-clause-stopped g c =
     let a = c.args in
     let inner = c.requires.innermost in
-    let closed : token_of c.in-Ok-Some.token ≡ closer a.kind = object_closed a.kind c.in-Ok-Some.token c.in-Mapping.is c.in-EndObject.is in
     let read = rw c.in-Ok-Some.field-0-is at c.in-Ok-Some.ensures.value in
-    let first : a.reader.now ≡ closer a.kind ∷ c.next.new.self = read ∙ ap (λ token. token ∷ c.next.new.self) closed in
+    let first = object_first a.kind c.in-Ok-Some.token a.reader.now c.next.new.self c.in-Mapping.is c.in-EndObject.is read in
     if_some (failure c.leave-in-EndObject.result)
     (λ error. step_unclosed a.settings.now.depth a.settings.now.flow a.reader.now a.nest.now.kinds.items inner.outer a.kind inner.is a.writer.now
     c.next.new.self error c.leave-in-EndObject.new.writer first)
