@@ -189,7 +189,8 @@ fn flush_after_taken<A: Allocator>(
 ) -> Result<(), yaml_error_t>
     requires within { length (whole_output taken.now.bytes output.old.items) ≤ limit }
     requires counted { taken_count ≡ length taken.now.bytes }
-    ensures sound_output { FlushesBuffer buffer.now (whole_output taken.now.bytes output.old.items) (whole_output taken.now.bytes output.new.items) limit result }
+    ensures sound_output { FlushesBuffer buffer.now (whole_output taken.now.bytes output.old.items) (whole_output taken.now.bytes output.new.items)
+        limit result }
     ensures longer { length (whole_output taken.now.bytes output.new.items) ≡ taken_count + length output.new.items }
 {
     flush_buffer(buffer, output, limit - taken_count)

@@ -1,8 +1,8 @@
 -- What the characters of a value bar, all styles seen at once.
 use Rattle.std.specs.Prelude.{ℕ, Bool, true, false, ◌==◌, ◌||◌, ◌&&◌, not, codes, if◌then◌else◌}
 use Rattle.std.specs.List.{list_any}
-use Rattle.yaml_base.specs.scalars.Analysis.{Allowances, Charset, bars_block, bars_plain, bars_single_quoted, begins_unlike_plain, ends_word, is_empty, is_special}
-use Rattle.yaml_base.specs.scalars.Analysis.{somewhere}
+use Rattle.yaml_base.specs.scalars.Analysis.{Allowances, Charset, bars_block, bars_plain, bars_single_quoted, begins_unlike_plain, ends_word, is_empty}
+use Rattle.yaml_base.specs.scalars.Analysis.{is_special, somewhere}
 use Rattle.yaml_base.specs.Characters.{Text, is_among, is_between, is_break, is_space, space, tab}
 use Rattle.yaml_scalar.specs.declared.analysis.BarredStyles.{BarredStyles}
 

@@ -37,7 +37,8 @@ pub fn write_folded_scalar<A: Allocator>(
     requires least { pos 2 ≤ℤ best_indent }
     requires most { best_indent ≤ℤ pos 9 }
     requires within { best_indent ≤ℤ indent }
-    ensures written { Wrote (render_folded (limit_of width) (natural indent) (natural best_indent) (chars value.now)) pen.old pen.new (without_open_ended result) }
+    ensures written { Wrote (render_folded (limit_of width) (natural indent) (natural best_indent) (chars value.now)) pen.old pen.new
+        (without_open_ended result) }
     ensures open_ended { IfOk result (λ open_ended. open_ended ≡ pos (header_open_ended (chars value.now))) }
     ensures reads { (charset : Charset) → allows_block charset (chars value.now) ≡ true
         → (column : Option ℕ) → Encloses (natural indent) (natural best_indent) column

@@ -111,7 +111,8 @@ fn write_usual_line<A: Allocator>(
     requires ready { IsReady pen.old }
     requires usual { IsUsual value.now }
     requires plain { lines.quoted ≡ false }
-    ensures { Wrote (render_runs (λ text. text) (limit_where lines.allow_breaks lines.width) lines.indent true (runs (chars value.now))) pen.old pen.new result }
+    ensures { Wrote (render_runs (λ text. text) (limit_where lines.allow_breaks lines.width) lines.indent true (runs (chars value.now)))
+        pen.old pen.new result }
 {
     if value.len() <= line_room(pen, lines) {
         write_short_run(pen, value)

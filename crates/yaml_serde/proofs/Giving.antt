@@ -164,12 +164,13 @@ module _ {W : Type 0} (contents : W → Option (List ℕ)) (held : Option (List 
   stands_given (Err error) outlet base before after {event} call gave (inr none) stands = stands_same outlet base before after none.1 stands
 
   -- the start of a collection was given, or there was no memory for it
-  pub stands_begun : (answer : Result (Unit {0}) yaml_error_t) (outlet : Outlet W) (base : ℕ) (before after : WriterState) (kind : CollectionKind) {event : Event}
-      → IsWriterEvent event → OnOk answer (GaveEvent (with_collection before kind) event None after)
+  pub stands_begun : (answer : Result (Unit {0}) yaml_error_t) (outlet : Outlet W) (base : ℕ) (before after : WriterState) (kind : CollectionKind)
+      {event : Event} → IsWriterEvent event → OnOk answer (GaveEvent (with_collection before kind) event None after)
       → IfErr answer (λ error. GaveEvent (with_collection before kind) event (Some error) after ⊎ ((error ≡ Memory) × (after ≡ before)))
       → StandsIn outlet base before → StandsIn outlet base after
   stands_begun (Ok done) outlet base before after kind {event} call gave failed stands =
-      gave_one outlet base before (with_collection before kind) after event None call refl refl (open_more start.levels before.levels kind stands.above) gave stands
+      gave_one outlet base before (with_collection before kind) after event None call refl refl (open_more start.levels before.levels kind stands.above)
+      gave stands
   stands_begun (Err error) outlet base before after kind {event} call gave (inl failed) stands =
       gave_one outlet base before (with_collection before kind) after event (Some error) call refl refl
       (open_more start.levels before.levels kind stands.above) failed stands

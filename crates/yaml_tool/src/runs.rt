@@ -21,7 +21,8 @@ pub fn run<A: Allocator + Copy, R: Read, W: Write>(
     reader: &mut R,
     writer: &mut W,
 ) -> run_answer_t
-    ensures reported { IfSome (R.remaining reader.old) (λ left. AnswersScript (notation.script_of left) result (W.contents writer.old) (W.contents writer.new)) }
+    ensures reported { IfSome (R.remaining reader.old) (λ left.
+        AnswersScript (notation.script_of left) result (W.contents writer.old) (W.contents writer.new)) }
     ensures unwritten { WritesNothing result (W.contents writer.old) (W.contents writer.new) }
     ensures read { ReadsAll result (R.remaining reader.new) }
 {

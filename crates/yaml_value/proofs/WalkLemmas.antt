@@ -3,8 +3,8 @@ use Rattle.yaml_value.proofs.Common.{max, ℕ, suc, ◌+◌, ◌≤◌, nat_le, 
 use Rattle.yaml_value.proofs.Common.{◌∙◌, arith, nat_tests, Event, node_events, nodes_events, pairs_events, TypedValue, null_value}
 use Rattle.yaml_value.proofs.Common.{bool_value, int_value, text_value, TypedValues, list_value, TypedPairs, map_value, no_values, values_and, no_value_pairs}
 use Rattle.yaml_value.proofs.Common.{value_pairs_and, values_count, value_pairs_count, nesting, values_nesting, value_pairs_nesting, Has64Bits}
-use Rattle.yaml_value.proofs.Common.{Have64Bits, PairsHave64Bits, value_node, value_nodes, value_pairs, values_of, pairs_of, seen_value, seen_values, seen_pairs}
-use Rattle.yaml_value.proofs.Common.{◌<◌, subst, map-append}
+use Rattle.yaml_value.proofs.Common.{Have64Bits, PairsHave64Bits, value_node, value_nodes, value_pairs, values_of, pairs_of, seen_value, seen_values}
+use Rattle.yaml_value.proofs.Common.{◌<◌, subst, map-append, seen_pairs}
 use Rattle.yaml_base.proofs.Common.{append-nil, length-append, Option, false}
 use Rattle.yaml_base.specs.Event.{sequence_end, mapping_end}
 use Rattle.yaml_base.specs.values.TypedValues.{value_count}
@@ -285,7 +285,8 @@ popped {A} levels others rest is = ap (map (seen_rest {A = A})) is ∙ map-appen
 pub step_smaller : (levels outer : List Left) (left : Left) (after : List Left) → levels ≡ outer ++ left ∷ [] → after ≡ (stepped outer left).1
     → work after < work levels
 step_smaller levels outer left after is so =
-    subst (λ levels. work after < work levels) (sym is) (subst (λ after. work after < work (outer ++ left ∷ [])) (sym so) (work_fewer outer left.values left.end))
+    subst (λ levels. work after < work levels) (sym is)
+    (subst (λ after. work after < work (outer ++ left ∷ [])) (sym so) (work_fewer outer left.values left.end))
 
 -- some events were pushed after those before, and what is left has the others of a value
 pub record Stands (before now : List Event) (value : TypedValue) (levels : List Left) : Type 0 where
@@ -304,7 +305,8 @@ stands_first before now value levels is pushed own = record {
 }
 
 -- behind a step
-pub stands_stepped : (before now grown : List Event) (value : TypedValue) (levels outer : List Left) (left : Left) (next : Option TypedValue) (after : List Left)
+pub stands_stepped : (before now grown : List Event) (value : TypedValue) (levels outer : List Left) (left : Left) (next : Option TypedValue)
+    (after : List Left)
     → levels ≡ outer ++ left ∷ [] → (next, after) ≡ stepped outer left → grown ≡ now ++ step_event left.end next ∷ [] → StepHas64Bits next
     → Stands before now value levels → Stands before grown value after
 stands_stepped before now grown value levels outer left next after is so pushed own stands = record {
@@ -331,6 +333,7 @@ step_exceeds levels outer left most is room passes =
     sym (step_fits levels outer left most is room) ∙ grind (arith, nat_tests, deep, passes)
 
 -- a new list that a value was entered in
-pub first_level : {A : Type 0} (empty levels : List (Rest A)) (value : TypedValue) → empty ≡ [] → map (seen_rest {A = A}) levels ≡ map (seen_rest {A = A}) empty ++ entered value
+pub first_level : {A : Type 0} (empty levels : List (Rest A)) (value : TypedValue) → empty ≡ []
+    → map (seen_rest {A = A}) levels ≡ map (seen_rest {A = A}) empty ++ entered value
     → map (seen_rest {A = A}) levels ≡ entered value
 first_level {A} empty levels value none is = is ∙ ap (λ items. map (seen_rest {A = A}) items ++ entered value) none

@@ -194,6 +194,7 @@ module _ (implicit : Bool) where
 
   -- by the answer of the third call
   pub third_err : (before after : State) (answer : Result (Unit {0}) yaml_error_t) → answer ≡ result_of_error after.error
-      → ((error : yaml_error_t) → after.error ≡ Some error → IsUnfinishedBy implicit before error) → IfErr answer (λ error. IsUnfinishedBy implicit before error)
+      → ((error : yaml_error_t) → after.error ≡ Some error → IsUnfinishedBy implicit before error)
+      → IfErr answer (λ error. IsUnfinishedBy implicit before error)
   third_err before after (Ok done) is ends = tt
   third_err before after (Err error) is ends = ends error (some_from_result after.error error is)

@@ -96,8 +96,8 @@ fn write_simple_key<A: Allocator>(
 ) -> Result<(), yaml_error_t>
     requires { IsReady pen.old }
     ensures { Wrote (λ cursor. render_then
-        (render_then (render_indicator (seen_indicator atom) cursor) (flow_break (seen_effective settings.now) place.now.column)) render_nothing) pen.old pen.new
-        result }
+        (render_then (render_indicator (seen_indicator atom) cursor) (flow_break (seen_effective settings.now) place.now.column)) render_nothing)
+        pen.old pen.new result }
 {
     write_entry(pen, settings, place, atom)
 }
@@ -110,8 +110,9 @@ fn write_long_key<A: Allocator>(
     atom: Indicator,
 ) -> Result<(), yaml_error_t>
     requires { IsReady pen.old }
-    ensures { Wrote (λ cursor. render_then (render_then (render_indicator (seen_indicator atom) cursor) (flow_break (seen_effective settings.now) place.now.column))
-        (render_indicator flow_key)) pen.old pen.new result }
+    ensures { Wrote (λ cursor. render_then
+        (render_then (render_indicator (seen_indicator atom) cursor) (flow_break (seen_effective settings.now) place.now.column)) (render_indicator flow_key))
+        pen.old pen.new result }
 {
     write_entry(pen, settings, place, atom)?;
     write_indicator(pen, Indicator::FlowKey)

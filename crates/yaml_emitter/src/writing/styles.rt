@@ -39,7 +39,8 @@ pub(crate) fn write_text<A: Allocator>(
     ensures written { Wrote
         (text_at (seen_scalar_style style) (seen_effective site.now.settings.now) (seen_place site.now.place) site.now.simple (chars value.now))
         pen.old pen.new (without_answer result) }
-    ensures open_ended { IfOk result (λ after. seen_open_ended after ≡ open_ended_after (seen_scalar_style style) (chars value.now) (seen_open_ended open_ended)) }
+    ensures open_ended { IfOk result (λ after.
+        seen_open_ended after ≡ open_ended_after (seen_scalar_style style) (chars value.now) (seen_open_ended open_ended)) }
 {
     let settings = site.settings;
     let indent = line_indent(settings, &site.place);

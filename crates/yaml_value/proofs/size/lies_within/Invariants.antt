@@ -4,7 +4,8 @@ use Rattle.yaml_value.proofs.size.lies_within.Given as goal
 
 abbrev pub invariant-loop-rest : goal.invariant-loop-rest
 invariant-loop-rest g l =
-    (length l.levels.items ≤ most_nested) × (nat_le (deepest_left (map seen_rest l.levels.items)) most_nested ≡ nat_le (nesting (seen_value l.value)) most_nested)
+    (length l.levels.items ≤ most_nested)
+    × (nat_le (deepest_left (map seen_rest l.levels.items)) most_nested ≡ nat_le (nesting (seen_value l.value)) most_nested)
 
 abbrev pub decreases-loop-rest : goal.decreases-loop-rest
 decreases-loop-rest g l = work (map seen_rest l.levels.items)

@@ -8,7 +8,8 @@ pub returns-in-Ok-clause-written : goal.returns-in-Ok-clause-written
 returns-in-Ok-clause-written g c =
     let value = seen_value c.args.value.now in
     let emitter = c.emit_each-answer.new.emitter in
-    let whole = c.output-output.ensures.untaken (c.emit_each-answer.ensures.set.taken ∙ ap (λ (state : State). state.page.taken) c.in_ok-emitter.ensures.made) in
+    let whole = c.output-output.ensures.untaken
+    (c.emit_each-answer.ensures.set.taken ∙ ap (λ (state : State). state.page.taken) c.in_ok-emitter.ensures.made) in
     let few = subst (λ bytes. length bytes < largest_usize) whole c.is_below_limit.ensures in
     let both = events_written value
     (seen_events c.in_ok-events.events.items) c.emit_each-answer.result emitter c.in_ok-events.ensures.events c.requires c.in_ok-events.ensures.bits few
@@ -21,7 +22,8 @@ pub returns-clause-memory : goal.returns-clause-memory
 returns-clause-memory g c =
     let value = seen_value c.args.value.now in
     let emitter = c.emit_each-answer.new.emitter in
-    let whole = c.output-output.ensures.untaken (c.emit_each-answer.ensures.set.taken ∙ ap (λ (state : State). state.page.taken) c.in_ok-emitter.ensures.made) in
+    let whole = c.output-output.ensures.untaken
+    (c.emit_each-answer.ensures.set.taken ∙ ap (λ (state : State). state.page.taken) c.in_ok-emitter.ensures.made) in
     let few = subst (λ bytes. length bytes < largest_usize) whole c.is_below_limit.ensures in
     let both = events_written value
     (seen_events c.in_ok-events.events.items) c.emit_each-answer.result emitter c.in_ok-events.ensures.events c.requires c.in_ok-events.ensures.bits few

@@ -89,6 +89,7 @@ returns-clause-finishes g c =
     let closes =
     still_taken given with_end with_both sent between after ended c.yaml_emitter_emit-2.ensures.set c.yaml_emitter_emit-2.ensures.grows
     (c.yaml_emitter_emit-2.ensures.stands given with_end ended.stands) in
-    rest_finished implicit given all with_both sent after closes (closed implicit given all after (c.yaml_emitter_emit-2.ensures.promised given with_end ended.stands))
+    rest_finished implicit given all with_both sent after closes
+    (closed implicit given all after (c.yaml_emitter_emit-2.ensures.promised given with_end ended.stands))
     (none_from_result after.error c.in_ok-yaml_emitter_emit.ensures.answered)
     (none_waits c.held.result after.held c.if-held-gt0.false c.held.ensures))

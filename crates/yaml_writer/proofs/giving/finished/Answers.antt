@@ -2,4 +2,5 @@ use Rattle.yaml_writer.proofs.Common.{subst, sym, is_implicit, FinishesBy}
 use Rattle.yaml_writer.proofs.giving.finished.Goals as goal
 
 pub returns-clause-finishes : goal.returns-clause-finishes
-returns-clause-finishes g c = subst (FinishesBy (is_implicit c.args.end) c.args.emitter.now) (sym c.yaml_emitter_take_output.ensures.rest) c.in_ok-end_stream.ensures.finishes
+returns-clause-finishes g c =
+    subst (FinishesBy (is_implicit c.args.end) c.args.emitter.now) (sym c.yaml_emitter_take_output.ensures.rest) c.in_ok-end_stream.ensures.finishes
