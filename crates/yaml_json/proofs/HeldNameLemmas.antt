@@ -2,7 +2,8 @@
 use Rattle.yaml_base.proofs.Common.{bytes_eq-Decides, ap, arith, inl, inr, length-append, subst, sym, ◌∙◌, or_parts, or_cases, same_from_decides, list_any}
 use Rattle.yaml_base.proofs.Common.{Bool, List, [], cond, drop, false, length, not, refl, slice_index_or as get_or, take, true, ℕ, ◌++◌, ◌-◌, ◌||◌, ◌∷◌, ◌≡◌}
 use Rattle.yaml_base.proofs.Common.{bytes_eq, ◌≤◌}
-use Rattle.std.proofs.{Common.ap₂, Common.set, Common.length-drop, Common.take_all, Math.Seq.get_or-append_seam, Math.Seq.set-append_seam, lemmas.Bool.both_ways}
+use Rattle.std.proofs.{Common.ap₂, Common.set, Common.length-drop, Common.take_all, Math.Seq.get_or-append_seam, Math.Seq.set-append_seam}
+use Rattle.std.proofs.{lemmas.Bool.both_ways}
 use Rattle.std.proofs.lemmas.List.{Folds.list_any-append, drop-append-le, take-append-le}
 use Rattle.std.{proofs.lemmas.Bool.Decides.Decides-like, proofs.lemmas.Map.Text.is_eq-slice_cmp, specs.BTreeSet.BTreeSet, specs.BTreeSet.Updates}
 use Rattle.std.{specs.BTreeSet.contains_by, specs.Borrow.Bor, specs.Cmp.Lexicographic.slice_cmp, specs.List.slice_range, specs.Ordering.nat_cmp}

@@ -1,6 +1,8 @@
 -- Bytes that stop the plain text of a string, sixteen at a time.
-use Rattle.std.proofs.Common.{◌≡◌, ℕ, suc, ◌+◌, ◌*◌, ◌%◌, ◌^◌, ◌<◌, ◌≤◌, ltb, Bool, true, false, not, cond, eqb, ◌||◌, List, [], ◌∷◌, map, length, get_or, replicate, inl, inr, refl, ap, ap₂, ◌∙◌, arith}
-use Rattle.std.proofs.lemmas.Simd.{zip2_splat, zip2_of_maps, map-map, mask_l-mod, length-chunk, trailing_mask_l, run_in_chunk_fails, run_in_chunk_stops, none_from_empty_mask}
+use Rattle.std.proofs.Common.{◌≡◌, ℕ, suc, ◌+◌, ◌*◌, ◌%◌, ◌^◌, ◌<◌, ◌≤◌, ltb, Bool, true, false, not, cond, eqb, ◌||◌, List, [], ◌∷◌, map, length, get_or}
+use Rattle.std.proofs.Common.{replicate, inl, inr, refl, ap, ap₂, ◌∙◌, arith}
+use Rattle.std.proofs.lemmas.Simd.{zip2_splat, zip2_of_maps, map-map, mask_l-mod, length-chunk, trailing_mask_l, run_in_chunk_fails, run_in_chunk_stops}
+use Rattle.std.proofs.lemmas.Simd.{none_from_empty_mask}
 use Rattle.std.proofs.lemmas.List.{length-map}
 use lib.Bits.{bit_or}
 use lib.Count.{count_trailing_zeros}
@@ -30,7 +32,9 @@ each_lane [] = refl
 each_lane (x ∷ xs) = ap₂ (λ b bs. b ∷ bs) (one_lane (eqb x 34) (eqb x 92) (ltb x 32)) (each_lane xs)
 
 pub stops_masked : (v : List ℕ) → length v ≡ 16
-    → mask_l (map (top 7) (zip2 bit_or (zip2 bit_or (zip2 (λ a b. cond (eqb a b) 255 0) v (replicate 16 34)) (zip2 (λ a b. cond (eqb a b) 255 0) v (replicate 16 92))) (zip2 (λ a b. cond (ltb a b) 255 0) v (replicate 16 32)))) % 2 ^ 64
+    → mask_l (map (top 7) (zip2 bit_or
+    (zip2 bit_or (zip2 (λ a b. cond (eqb a b) 255 0) v (replicate 16 34)) (zip2 (λ a b. cond (eqb a b) 255 0) v (replicate 16 92)))
+    (zip2 (λ a b. cond (ltb a b) 255 0) v (replicate 16 32)))) % 2 ^ 64
     ≡ mask_l (map is_stop v)
 stops_masked v long =
     let two = zip2_of_maps bit_or (λ x. equal x 34) (λ x. equal x 92) v (zip2_splat equal v 16 34 long) (zip2_splat equal v 16 92 long) in
@@ -62,7 +66,8 @@ vector_stops d from at found ordered room plain is some =
     let c = chunk at 16 d in
     let long : length c ≡ 16 = length-chunk at 16 d room in
     let seen : 0 < mask_l (map is_stop c) = omega (arith, is) in
-    let counted : count_trailing_zeros 64 found ≡ prefix_len (λ x. not (is_stop x)) c = ap (count_trailing_zeros 64) is ∙ trailing_mask_l is_stop 64 c (omega arith) seen in
+    let counted : count_trailing_zeros 64 found ≡ prefix_len (λ x. not (is_stop x)) c
+    = ap (count_trailing_zeros 64) is ∙ trailing_mask_l is_stop 64 c (omega arith) seen in
     let short : count_trailing_zeros 64 found < 16 = omega (arith, stops_within c seen) in
     record {
       ordered = omega arith;

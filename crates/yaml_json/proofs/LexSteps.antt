@@ -1,5 +1,6 @@
 -- The lexer byte by byte.
-use Rattle.std.proofs.Common.{◌≡◌, ℕ, zero, suc, ◌+◌, ◌<◌, ◌≤◌, Bool, true, false, cond, ◌||◌, ◌==◌, List, [], ◌∷◌, drop, get_or, length, refl, sym, ap, ◌∙◌, subst, arith}
+use Rattle.std.proofs.Common.{◌≡◌, ℕ, zero, suc, ◌+◌, ◌<◌, ◌≤◌, Bool, true, false, cond, ◌||◌, ◌==◌, List, [], ◌∷◌, drop, get_or, length, refl, sym, ap, ◌∙◌}
+use Rattle.std.proofs.Common.{subst, arith}
 use Rattle.std.proofs.lemmas.Bool.{true≢false, eqb-true, or_parts}
 use Rattle.std.proofs.lemmas.List.{drop_more, drop_all, drop-drop}
 use Rattle.json.specs.Ascii as ascii
@@ -26,7 +27,8 @@ each_operator P a b c d f g x e =
     or_elim ((x == 123) || (x == 125) || (x == 91) || (x == 93) || (x == 58)) (x == 44)
     (or_elim ((x == 123) || (x == 125) || (x == 91) || (x == 93)) (x == 58)
     (or_elim ((x == 123) || (x == 125) || (x == 91)) (x == 93)
-    (or_elim ((x == 123) || (x == 125)) (x == 91) (or_elim (x == 123) (x == 125) (value_is P x 123 a) (value_is P x 125 b)) (value_is P x 91 c)) (value_is P x 93 d))
+    (or_elim ((x == 123) || (x == 125)) (x == 91) (or_elim (x == 123) (x == 125) (value_is P x 123 a) (value_is P x 125 b))
+    (value_is P x 91 c)) (value_is P x 93 d))
     (value_is P x 58 f)) (value_is P x 44 g) e
 
 word_over : (q b o s : Bool) (x : ℕ) (xs : List ℕ) (k : Mode → List Lexeme) → (o || s) ≡ false
@@ -62,7 +64,8 @@ lex-in_word x xs e = word_over (x == ascii.quote) (x == ascii.backslash) (is_ope
 pub lex-in_string : (x : ℕ) (xs : List ℕ) → (x == ascii.quote) ≡ false → (x == ascii.backslash) ≡ false → lex in_string (x ∷ xs) ≡ lex in_string xs
 unfolding lex
 lex-in_string x xs q b =
-    (λ i. lex_byte in_string (cond (q i) quote (cond (b i) backslash (cond (is_operator x) operator (cond (is_space x) space other)))) x xs (λ next. lex next xs))
+    (λ i. lex_byte in_string (cond (q i) quote (cond (b i) backslash (cond (is_operator x) operator (cond (is_space x) space other)))) x xs
+    (λ next. lex next xs))
     ∙ string_over (is_operator x) (is_space x) x xs (λ next. lex next xs)
 
 pub lex-quote : (xs : List ℕ) → lex in_string (34 ∷ xs) ≡ lex between xs
@@ -92,10 +95,12 @@ lex-delimiter x xs e =
 pub blank_at : (d : List ℕ) (i : ℕ) → i < length d → is_space (get_or d i 0) ≡ true → lex between (drop (i + 1) d) ≡ lex between (drop i d)
 blank_at d i h e = sym (ap (lex between) (drop_more d i 0 h) ∙ lex-blank (get_or d i 0) (drop (i + 1) d) e)
 
-pub word_at : (d : List ℕ) (i : ℕ) → i < length d → (is_operator (get_or d i 0) || is_space (get_or d i 0)) ≡ false → lex in_word (drop (i + 1) d) ≡ lex in_word (drop i d)
+pub word_at : (d : List ℕ) (i : ℕ) → i < length d → (is_operator (get_or d i 0) || is_space (get_or d i 0)) ≡ false
+    → lex in_word (drop (i + 1) d) ≡ lex in_word (drop i d)
 word_at d i h e = sym (ap (lex in_word) (drop_more d i 0 h) ∙ lex-in_word (get_or d i 0) (drop (i + 1) d) e)
 
-pub delimiter_at : (d : List ℕ) (i : ℕ) → i < length d → (is_operator (get_or d i 0) || is_space (get_or d i 0)) ≡ true → lex between (drop i d) ≡ lex in_word (drop i d)
+pub delimiter_at : (d : List ℕ) (i : ℕ) → i < length d → (is_operator (get_or d i 0) || is_space (get_or d i 0)) ≡ true
+    → lex between (drop i d) ≡ lex in_word (drop i d)
 delimiter_at d i h e =
     let is = drop_more d i 0 h in
     sym (ap (lex in_word) is ∙ lex-delimiter (get_or d i 0) (drop (i + 1) d) e ∙ ap (lex between) (sym is))
@@ -103,7 +108,8 @@ delimiter_at d i h e =
 pub end_at : (mode : Mode) (d : List ℕ) (i : ℕ) → length d ≤ i → lex between (drop i d) ≡ lex mode (drop i d)
 end_at mode d i h = ap (lex between) (drop_all i d h) ∙ lex-none between ∙ sym (ap (lex mode) (drop_all i d h) ∙ lex-none mode)
 
-pub string_at : (d : List ℕ) (i : ℕ) → i < length d → (get_or d i 0 == 34) ≡ false → (get_or d i 0 == 92) ≡ false → lex in_string (drop (i + 1) d) ≡ lex in_string (drop i d)
+pub string_at : (d : List ℕ) (i : ℕ) → i < length d → (get_or d i 0 == 34) ≡ false → (get_or d i 0 == 92) ≡ false
+    → lex in_string (drop (i + 1) d) ≡ lex in_string (drop i d)
 string_at d i h q b = sym (ap (lex in_string) (drop_more d i 0 h) ∙ lex-in_string (get_or d i 0) (drop (i + 1) d) q b)
 
 pub quote_at : (d : List ℕ) (i : ℕ) → i < length d → get_or d i 0 ≡ 34 → lex between (drop (i + 1) d) ≡ lex in_string (drop i d)
@@ -121,9 +127,11 @@ escape_at d i h e =
 
 -- ---- over plain bytes
 
-pub plain_over : (d : List ℕ) (i n : ℕ) → i + n ≤ length d → ((k : ℕ) → i ≤ k → k < i + n → is_stop (get_or d k 0) ≡ false) → lex in_string (drop (i + n) d) ≡ lex in_string (drop i d)
+pub plain_over : (d : List ℕ) (i n : ℕ) → i + n ≤ length d → ((k : ℕ) → i ≤ k → k < i + n → is_stop (get_or d k 0) ≡ false)
+    → lex in_string (drop (i + n) d) ≡ lex in_string (drop i d)
 plain_over d i zero h each = let none : i + 0 ≡ i = omega arith in ap (λ n. lex in_string (drop n d)) none
 plain_over d i (suc n) h each =
     let next : i + suc n ≡ i + n + 1 = omega arith in
     let here = or_parts _ _ (or_parts _ _ (each (i + n) (omega arith) (omega arith))).0 in
-    ap (λ m. lex in_string (drop m d)) next ∙ string_at d (i + n) (omega arith) here.0 here.1 ∙ plain_over d i n (omega arith) (λ k low high. each k low (omega arith))
+    ap (λ m. lex in_string (drop m d)) next ∙ string_at d (i + n) (omega arith) here.0 here.1
+    ∙ plain_over d i n (omega arith) (λ k low high. each k low (omega arith))

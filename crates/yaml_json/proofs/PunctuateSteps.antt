@@ -1,5 +1,6 @@
 -- The rules for commas and colons, token by token.
-use Rattle.std.proofs.Common.{◌≡◌, ℕ, Bool, true, false, cond, ◌&&◌, ◌||◌, ◌==◌, ◌-◌, List, [], ◌∷◌, length, take, drop, Option, Some, None, refl, sym, ap, ◌∙◌, arith}
+use Rattle.std.proofs.Common.{◌≡◌, ℕ, Bool, true, false, cond, ◌&&◌, ◌||◌, ◌==◌, ◌-◌, List, [], ◌∷◌, length, take, drop, Option, Some, None, refl, sym, ap, ◌∙◌}
+use Rattle.std.proofs.Common.{arith}
 use Rattle.std.specs.List.{starts_with}
 use Rattle.std.specs.Prelude.{nat_eq}
 use Rattle.std.proofs.lemmas.Bool.{true≢false, ne_eqb, false_from_ne_true}
@@ -9,7 +10,8 @@ use Rattle.json.specs.Text.{content, plain}
 use Rattle.json.specs.Word.{after_number, ends_word, head, is_operator, is_space, literal, number_before, word}
 use Rattle.yaml_json.specs.Ahead.{IsTrimmed}
 use Rattle.yaml_json.proofs.LexSteps.{each_operator}
-use Rattle.json.specs.Lex.{Lexeme, Place, after_comma, after_key, after_value, backslash, begins_colon, between, class, colon, comma, fresh, in_string, in_word, lex, lex_byte, may_begin, may_close, Mode, if_allowed, operator, other, place_token, punctuate, quote, space, string_token, token}
+use Rattle.json.specs.Lex.{Lexeme, Place, after_comma, after_key, after_value, backslash, begins_colon, between, class, colon, comma, fresh, in_string, in_word}
+use Rattle.json.specs.Lex.{lex, lex_byte, may_begin, may_close, Mode, if_allowed, operator, other, place_token, punctuate, quote, space, string_token, token}
 
 -- ---- what a text begins with
 
@@ -98,7 +100,8 @@ put-key after_value s ls e = absurd (true≢false (sym e))
 put-key after_comma s ls e = refl
 put-key after_key s ls e = absurd (true≢false (sym e))
 
-put-text : (b : Bool) (p : Place) (s : List ℕ) (k : Place → List Token) → may_begin p ≡ true → b ≡ false → place_token p (string s) b k ≡ string s ∷ k after_value
+put-text : (b : Bool) (p : Place) (s : List ℕ) (k : Place → List Token) → may_begin p ≡ true → b ≡ false
+    → place_token p (string s) b k ≡ string s ∷ k after_value
 put-text true p s k e f = absurd (true≢false f)
 put-text false fresh s k e f = refl
 put-text false after_value s k e f = absurd (true≢false (sym e))
@@ -112,7 +115,8 @@ as_placed after_value t ls = refl
 as_placed after_comma t ls = refl
 as_placed after_key t ls = refl
 
-pub put-string : (p : Place) (s : List ℕ) (ls : List Lexeme) → may_begin p ≡ true → begins_colon ls ≡ false → punctuate p (token (string s) ∷ ls) ≡ string s ∷ punctuate after_value ls
+pub put-string : (p : Place) (s : List ℕ) (ls : List Lexeme) → may_begin p ≡ true → begins_colon ls ≡ false
+    → punctuate p (token (string s) ∷ ls) ≡ string s ∷ punctuate after_value ls
 put-string p s ls e f = as_placed p (string s) ls ∙ put-text (begins_colon ls) p s (λ next. punctuate next ls) e f
 
 -- ---- a word
@@ -147,7 +151,8 @@ IsWord-word t =
     let last = number_before t (after_number t) in
     let second = literal ascii.false_text (boolean false) t in
     let later = cond (head t == ascii.lower_n) third last in
-    IsWord-cond (head t == ascii.lower_t) (literal ascii.true_text (boolean true) t) (cond (head t == ascii.lower_f) second later) (IsWord-literal ascii.true_text t (boolean true) tt)
+    IsWord-cond (head t == ascii.lower_t) (literal ascii.true_text (boolean true) t) (cond (head t == ascii.lower_f) second later)
+    (IsWord-literal ascii.true_text t (boolean true) tt)
     (IsWord-cond (head t == ascii.lower_f) second later (IsWord-literal ascii.false_text t (boolean false) tt)
     (IsWord-cond (head t == ascii.lower_n) third last (IsWord-literal ascii.null_text t null tt) (IsWord-number t (after_number t))))
 
@@ -163,7 +168,8 @@ put-good b p (boolean v) k i n e = ap (λ may. if_allowed may (boolean v) k afte
 put-good b p null k i n e = ap (λ may. if_allowed may null k after_value) e
 put-good b p bad k i n e = absurd (n refl)
 
-pub put-word : (p : Place) (w : Token) (ls : List Lexeme) → IsWord w → (w ≡ bad → ⊥) → may_begin p ≡ true → punctuate p (token w ∷ ls) ≡ w ∷ punctuate after_value ls
+pub put-word : (p : Place) (w : Token) (ls : List Lexeme) → IsWord w → (w ≡ bad → ⊥) → may_begin p ≡ true
+    → punctuate p (token w ∷ ls) ≡ w ∷ punctuate after_value ls
 put-word p w ls i n e = as_placed p w ls ∙ put-good (begins_colon ls) p w (λ next. punctuate next ls) i n e
 
 pub put-bad : (p : Place) (ls : List Lexeme) → punctuate p (token bad ∷ ls) ≡ bad ∷ []
@@ -239,7 +245,8 @@ some_apart : (x : ℕ) (xs : List ℕ) → (x ∷ xs) ≡ [] → ⊥
 some_apart x xs e = cc
 
 -- behind a value nothing stands but a comma and what closes
-pub stray-behind : (t : List ℕ) → IsTrimmed t → (t ≡ [] → ⊥) → (head t ≡ 44 → ⊥) → (head t ≡ 125 → ⊥) → (head t ≡ 93 → ⊥) → punctuate after_value (lex between t) ≡ bad ∷ []
+pub stray-behind : (t : List ℕ) → IsTrimmed t → (t ≡ [] → ⊥) → (head t ≡ 44 → ⊥) → (head t ≡ 125 → ⊥) → (head t ≡ 93 → ⊥)
+    → punctuate after_value (lex between t) ≡ bad ∷ []
 unfolding lex punctuate
 stray-behind [] trimmed some a b c = absurd (some refl)
 stray-behind (x ∷ xs) trimmed some a b c = go (is_operator x) (is_space x) refl refl
@@ -250,7 +257,9 @@ stray-behind (x ∷ xs) trimmed some a b c = go (is_operator x) (is_space x) ref
         (λ p q r. refl) (λ p q r. absurd (q refl)) (λ p q r. refl) (λ p q r. absurd (r refl)) (λ p q r. refl) (λ p q r. absurd (p refl)) x e a b c
     go false true e f = absurd (some_apart x xs (trimmed f))
     go false false e f =
-        (λ i. punctuate after_value (lex_byte between (cond (x == ascii.quote) quote (cond (x == ascii.backslash) backslash (cond (e i) operator (cond (f i) space other)))) x xs (λ next. lex next xs)))
+        (λ i. punctuate after_value (lex_byte between
+        (cond (x == ascii.quote) quote (cond (x == ascii.backslash) backslash (cond (e i) operator (cond (f i) space other))))
+        x xs (λ next. lex next xs)))
         ∙ late_byte (x == ascii.quote) (x == ascii.backslash) x xs (λ next. lex next xs)
 
 no_colon_byte : (q b : Bool) (x : ℕ) (xs : List ℕ) (k : Mode → List Lexeme)
@@ -270,10 +279,13 @@ no_colon (x ∷ xs) trimmed apart = go (is_operator x) (is_space x) refl refl
         (λ p. refl) (λ p. refl) (λ p. refl) (λ p. refl) (λ p. absurd (p refl)) (λ p. refl) x e apart
     go false true e f = absurd (some_apart x xs (trimmed f))
     go false false e f =
-        (λ i. begins_colon (lex_byte between (cond (x == ascii.quote) quote (cond (x == ascii.backslash) backslash (cond (e i) operator (cond (f i) space other)))) x xs (λ next. lex next xs)))
+        (λ i. begins_colon (lex_byte between
+        (cond (x == ascii.quote) quote (cond (x == ascii.backslash) backslash (cond (e i) operator (cond (f i) space other))))
+        x xs (λ next. lex next xs)))
         ∙ no_colon_byte (x == ascii.quote) (x == ascii.backslash) x xs (λ next. lex next xs)
 
-class_other : (q b : Bool) → q ≡ false → b ≡ false → (o s : Bool) → o ≡ false → s ≡ false → cond q quote (cond b backslash (cond o operator (cond s space other))) ≡ other
+class_other : (q b : Bool) → q ≡ false → b ≡ false → (o s : Bool) → o ≡ false → s ≡ false
+    → cond q quote (cond b backslash (cond o operator (cond s space other))) ≡ other
 class_other q b e f o s g h = λ i. cond (e i) quote (cond (f i) backslash (cond (g i) operator (cond (h i) space other)))
 
 not_operator : (x : ℕ) → (x ≡ 123 → ⊥) → (x ≡ 125 → ⊥) → (x ≡ 91 → ⊥) → (x ≡ 93 → ⊥) → (x ≡ 58 → ⊥) → (x ≡ 44 → ⊥) → is_operator x ≡ false

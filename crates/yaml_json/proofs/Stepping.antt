@@ -1,7 +1,9 @@
 -- A token and what it leaves, from what its parts are.
-use Rattle.std.proofs.Common.{◌≡◌, ℕ, ◌+◌, ◌-◌, ◌<◌, Bool, true, false, ◌⊎◌, inl, inr, List, [], ◌∷◌, take, drop, get_or, length, Some, None, refl, sym, subst, ap, ◌∙◌, arith}
+use Rattle.std.proofs.Common.{◌≡◌, ℕ, ◌+◌, ◌-◌, ◌<◌, Bool, true, false, ◌⊎◌, inl, inr, List, [], ◌∷◌, take, drop, get_or, length, Some, None, refl, sym, subst}
+use Rattle.std.proofs.Common.{ap, ◌∙◌, arith}
 use Rattle.std.proofs.lemmas.Bool.{true≢false}
-use Rattle.json.specs.Lex.{Lexeme, Place, after_comma, after_value, between, class, fresh, in_string, in_word, lex, may_begin, may_close, other, punctuate, string_token, token}
+use Rattle.json.specs.Lex.{Lexeme, Place, after_comma, after_value, between, class, fresh, in_string, in_word, lex, may_begin, may_close, other, punctuate}
+use Rattle.json.specs.Lex.{string_token, token}
 use Rattle.json.specs.Reads.{token_of}
 use Rattle.json.specs.Text.{content, plain}
 use Rattle.json.specs.Token.{Token, begin_array, begin_object, end_array, end_object, key, string, bad}
@@ -18,8 +20,9 @@ use Rattle.yaml_json.specs.declared.tokens.Stage.TheVariants.{Open, Behind, Owed
 use Rattle.yaml_json.specs.declared.tokens.Step.{Step}
 use Rattle.yaml_json.proofs.LexSteps.{plain_over, quote_at}
 use Rattle.yaml_json.proofs.ContentSteps.{closes_here as string_closes, prepend-nothing, run_more}
-use Rattle.yaml_json.proofs.PunctuateSteps.{IsWord, IsWord-word, lex-begin_array, lex-begin_object, lex-colon, lex-end_array, lex-end_object, lex-string, lex-word, no_colon}
-use Rattle.yaml_json.proofs.PunctuateSteps.{put-bad, put-begin_array, put-begin_object, put-end_array, put-end_object, put-key, put-string, put-word, stray-behind}
+use Rattle.yaml_json.proofs.PunctuateSteps.{IsWord, IsWord-word, lex-begin_array, lex-begin_object, lex-colon, lex-end_array, lex-end_object, lex-string}
+use Rattle.yaml_json.proofs.PunctuateSteps.{lex-word, no_colon, put-bad, put-begin_array, put-begin_object, put-end_array, put-end_object, put-key, put-string}
+use Rattle.yaml_json.proofs.PunctuateSteps.{put-word, stray-behind}
 
 -- ---- a bad token
 
@@ -35,14 +38,16 @@ refused may lexemes step none token_is over tidy = record { first = λ p e. none
 pub key_step : (s after rest : List ℕ) (step : Step) → lex between rest ≡ lex between after → head rest ≡ 58 → Opens (key s) (drop 1 rest) step
     → StepsFrom may_begin (token (string s) ∷ lex between after) step
 key_step s after rest step same colon opens = record {
-  first = λ p e. ap (λ ls. punctuate p (token (string s) ∷ ls)) (sym same ∙ lex-colon rest colon) ∙ put-key p s (lex between (drop 1 rest)) e ∙ (λ i. sym opens.same i ∷ sym opens.left i);
+  first = λ p e. ap (λ ls. punctuate p (token (string s) ∷ ls)) (sym same ∙ lex-colon rest colon) ∙ put-key p s (lex between (drop 1 rest)) e
+      ∙ (λ i. sym opens.same i ∷ sym opens.left i);
   tidy = opens.tidy;
 }
 
 pub text_step : (s after rest : List ℕ) (step : Step) → lex between rest ≡ lex between after → IsTrimmed rest → (head rest ≡ 58 → ⊥) → Ends (string s) rest step
     → StepsFrom may_begin (token (string s) ∷ lex between after) step
 text_step s after rest step same trimmed apart ends = record {
-  first = λ p e. ap (λ ls. punctuate p (token (string s) ∷ ls)) (sym same) ∙ put-string p s (lex between rest) e (no_colon rest trimmed apart) ∙ (λ i. sym ends.same i ∷ sym ends.left i);
+  first = λ p e. ap (λ ls. punctuate p (token (string s) ∷ ls)) (sym same) ∙ put-string p s (lex between rest) e (no_colon rest trimmed apart)
+      ∙ (λ i. sym ends.same i ∷ sym ends.left i);
   tidy = ends.tidy;
 }
 
@@ -50,11 +55,12 @@ pub string_is : (text s after : List ℕ) → head text ≡ 34 → content plain
     → token (string s) ∷ lex between after ≡ lex between text
 string_is text s after quote holds left = sym (lex-string text quote ∙ (λ i. token (string_token (holds i)) ∷ sym left i))
 
-pub no_string : (text : List ℕ) (step : Step) → head text ≡ 34 → content plain (drop 1 text) ≡ None → token_of step.token ≡ bad → step.stage ≡ Over → IsTidy step.stage step.rest.now
-    → StepsFrom may_begin (lex between text) step
+pub no_string : (text : List ℕ) (step : Step) → head text ≡ 34 → content plain (drop 1 text) ≡ None
+    → token_of step.token ≡ bad → step.stage ≡ Over → IsTidy step.stage step.rest.now → StepsFrom may_begin (lex between text) step
 no_string text step quote none =
     refused may_begin (lex between text) step
-    (λ p e. ap (punctuate p) (lex-string text quote ∙ ap (λ o. token (string_token o) ∷ lex in_string (drop 1 text)) none) ∙ put-bad p (lex in_string (drop 1 text)))
+    (λ p e. ap (punctuate p) (lex-string text quote ∙ ap (λ o. token (string_token o) ∷ lex in_string (drop 1 text)) none)
+    ∙ put-bad p (lex in_string (drop 1 text)))
 
 pub plain_string : (d run : List ℕ) (end : ℕ) → head d ≡ 34 → ArePlain d 1 end → end < length d → get_or d end 0 ≡ 34 → run ≡ take (end - 1) (drop 1 d)
     → token (string run) ∷ lex between (drop (end + 1) d) ≡ lex between d
@@ -67,8 +73,8 @@ plain_string d run end first are within quote is =
 
 -- ---- words
 
-pub good_word : (text rest : List ℕ) (w : Token) (step : Step) → class (head text) ≡ other → w ≡ word text → (w ≡ bad → ⊥) → lex between rest ≡ lex in_word (drop 1 text) → Ends w rest step
-    → StepsFrom may_begin (lex between text) step
+pub good_word : (text rest : List ℕ) (w : Token) (step : Step) → class (head text) ≡ other → w ≡ word text → (w ≡ bad → ⊥)
+    → lex between rest ≡ lex in_word (drop 1 text) → Ends w rest step → StepsFrom may_begin (lex between text) step
 good_word text rest w step kind is good left ends = record {
   first = λ p e. ap (punctuate p) (lex-word text kind ∙ ap (λ t. token t ∷ lex in_word (drop 1 text)) (sym is))
       ∙ put-word p w (lex in_word (drop 1 text)) (subst IsWord (sym is) (IsWord-word text)) good e
@@ -76,8 +82,8 @@ good_word text rest w step kind is good left ends = record {
   tidy = ends.tidy;
 }
 
-pub bad_word : (text : List ℕ) (step : Step) → class (head text) ≡ other → word text ≡ bad → token_of step.token ≡ bad → step.stage ≡ Over → IsTidy step.stage step.rest.now
-    → StepsFrom may_begin (lex between text) step
+pub bad_word : (text : List ℕ) (step : Step) → class (head text) ≡ other → word text ≡ bad
+    → token_of step.token ≡ bad → step.stage ≡ Over → IsTidy step.stage step.rest.now → StepsFrom may_begin (lex between text) step
 bad_word text step kind none =
     refused may_begin (lex between text) step
     (λ p e. ap (punctuate p) (lex-word text kind ∙ ap (λ t. token t ∷ lex in_word (drop 1 text)) none) ∙ put-bad p (lex in_word (drop 1 text)))
@@ -96,14 +102,16 @@ opens_array text step e opens = record {
   tidy = opens.tidy;
 }
 
-pub closes_object : (text rest : List ℕ) (step : Step) → head text ≡ 125 → lex between rest ≡ lex between (drop 1 text) → Ends end_object rest step → StepsFrom may_close (lex between text) step
+pub closes_object : (text rest : List ℕ) (step : Step) → head text ≡ 125 → lex between rest ≡ lex between (drop 1 text) → Ends end_object rest step
+    → StepsFrom may_close (lex between text) step
 closes_object text rest step e left ends = record {
   first = λ p may. ap (punctuate p) (lex-end_object text e) ∙ put-end_object p (lex between (drop 1 text)) may
       ∙ (λ i. sym ends.same i ∷ (ap (punctuate after_value) (sym left) ∙ sym ends.left) i);
   tidy = ends.tidy;
 }
 
-pub closes_array : (text rest : List ℕ) (step : Step) → head text ≡ 93 → lex between rest ≡ lex between (drop 1 text) → Ends end_array rest step → StepsFrom may_close (lex between text) step
+pub closes_array : (text rest : List ℕ) (step : Step) → head text ≡ 93 → lex between rest ≡ lex between (drop 1 text) → Ends end_array rest step
+    → StepsFrom may_close (lex between text) step
 closes_array text rest step e left ends = record {
   first = λ p may. ap (punctuate p) (lex-end_array text e) ∙ put-end_array p (lex between (drop 1 text)) may
       ∙ (λ i. sym ends.same i ∷ (ap (punctuate after_value) (sym left) ∙ sym ends.left) i);
@@ -148,15 +156,16 @@ unclosed_array : (t : List ℕ) → head t ≡ 93 → punctuate after_comma (lex
 unfolding punctuate
 unclosed_array t e = ap (punctuate after_comma) (lex-end_array t e)
 
-pub may_not_close : (stage : Stage) (text : List ℕ) → (stage ≡ Over → ⊥) → closes_here stage ≡ false → (head text ≡ 125) ⊎ (head text ≡ 93) → ahead stage text ≡ bad ∷ []
+pub may_not_close : (stage : Stage) (text : List ℕ) → (stage ≡ Over → ⊥) → closes_here stage ≡ false → (head text ≡ 125) ⊎ (head text ≡ 93)
+    → ahead stage text ≡ bad ∷ []
 may_not_close Open text some e closer = absurd (true≢false e)
 may_not_close Behind text some e closer = absurd (true≢false e)
 may_not_close Owed text some e (inl object) = unclosed text object
 may_not_close Owed text some e (inr array) = unclosed_array text array
 may_not_close Over text some e closer = absurd (some refl)
 
-pub may_not_begin : (stage : Stage) (text : List ℕ) → (stage ≡ Over → ⊥) → begins_here stage ≡ false → IsTidy stage text → (text ≡ [] → ⊥) → (head text ≡ 125 → ⊥) → (head text ≡ 93 → ⊥)
-    → ahead stage text ≡ bad ∷ []
+pub may_not_begin : (stage : Stage) (text : List ℕ) → (stage ≡ Over → ⊥) → begins_here stage ≡ false → IsTidy stage text
+    → (text ≡ [] → ⊥) → (head text ≡ 125 → ⊥) → (head text ≡ 93 → ⊥) → ahead stage text ≡ bad ∷ []
 may_not_begin Open text some e tidy more a b = absurd (true≢false e)
 may_not_begin Behind text some e tidy more a b = stray-behind text tidy.trimmed more (tidy.comma refl) a b
 may_not_begin Owed text some e tidy more a b = absurd (true≢false e)
@@ -182,5 +191,6 @@ good_printable (tokens.Bool b) p isn't = p
 good_printable tokens.Null p isn't = p
 good_printable tokens.Bad p isn't = absurd (isn't refl)
 
-pub first_printable : (stage : Stage) (rest : List ℕ) (t : variants.Token) (left : List Token) → ahead stage rest ≡ token_of t ∷ left → (t ≡ tokens.Bad → ⊥) → IsPrintable (token_of t)
+pub first_printable : (stage : Stage) (rest : List ℕ) (t : variants.Token) (left : List Token) → ahead stage rest ≡ token_of t ∷ left
+    → (t ≡ tokens.Bad → ⊥) → IsPrintable (token_of t)
 first_printable stage rest t left is = good_printable t (subst ArePrintableOrBad is (printable_ahead stage rest)).0

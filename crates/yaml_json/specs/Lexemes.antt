@@ -1,5 +1,6 @@
 -- Where parts of a JSON text end.
-use Rattle.std.specs.Prelude.{◌≡◌, ℕ, ◌-◌, ◌<◌, ◌≤◌, Bool, true, false, ◌||◌, ◌==◌, nat_lt, Option, option_map, IfSome, MatchOption, None, List, drop, get_or, length}
+use Rattle.std.specs.Prelude.{◌≡◌, ℕ, ◌-◌, ◌<◌, ◌≤◌, Bool, true, false, ◌||◌, ◌==◌, nat_lt, Option, option_map, IfSome, MatchOption, None, List, drop, get_or}
+use Rattle.std.specs.Prelude.{length}
 use Rattle.std.specs.Char.{encode_utf8}
 use Rattle.json.specs.Ascii as ascii
 use Rattle.json.specs.Text.{Within, content, plain, prepend}

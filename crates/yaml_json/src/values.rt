@@ -61,7 +61,8 @@ fn begin<'a, A: Allocator + Copy>(
 ) -> Result<(), Stop>
     requires bare { IsBare writer.old }
     requires fits { IsNesting settings.now.depth settings.now.unique_names nest.old }
-    ensures began { OnOk result (BeganValue settings.now.depth settings.now.flow (opener kind) nest.old.kinds.items writer.old nest.new.kinds.items writer.new) }
+    ensures began { OnOk result (BeganValue settings.now.depth settings.now.flow (opener kind) nest.old.kinds.items writer.old
+        nest.new.kinds.items writer.new) }
     ensures fits { OnOk result (IsNesting settings.now.depth settings.now.unique_names nest.new) }
     ensures names { OnOk result (Keeps nest.old.names (opener kind ∷ []) nest.new.names) }
     ensures refused { IfErr result (RefusesToken settings.now.depth nest.old.kinds.items (opener kind)) }
@@ -91,12 +92,13 @@ fn write_token<'a, A: Allocator + Copy>(
     requires bare { IsBare writer.old }
     requires fits { IsNesting settings.now.depth settings.now.unique_names nest.old }
     requires good { token ≢ Token.Bad → IsPrintable (token_of token) }
-    ensures began { OnOk result (BeganValue settings.now.depth settings.now.flow (token_of token.entry) nest.old.kinds.items writer.old nest.new.kinds.items writer.new) }
+    ensures began { OnOk result (BeganValue settings.now.depth settings.now.flow (token_of token.entry) nest.old.kinds.items writer.old
+        nest.new.kinds.items writer.new) }
     ensures fits { OnOk result (IsNesting settings.now.depth settings.now.unique_names nest.new) }
     ensures names { OnOk result (Keeps nest.old.names (token_of token.entry ∷ []) nest.new.names) }
     ensures refused { IfErr result (RefusesToken settings.now.depth nest.old.kinds.items (token_of token.entry)) }
-    ensures stopped { IfSome (failure result) (λ error. BeginFailed settings.now.depth settings.now.flow (token_of token.entry) nest.old.kinds.items writer.old error
-        writer.new) }
+    ensures stopped { IfSome (failure result) (λ error. BeginFailed settings.now.depth settings.now.flow (token_of token.entry)
+        nest.old.kinds.items writer.old error writer.new) }
 {
     match token {
         Token::Null => write_null(writer),

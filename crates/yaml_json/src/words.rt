@@ -2,7 +2,8 @@
 //! returns where what follows begins.
 ghost use Rattle.std.specs.Prelude.{◌≡◌, ℕ, ◌<◌, ◌≤◌, ◌||◌, Bool, drop, length};
 ghost use Rattle.json.specs.Reads.{token_of};
-ghost use Rattle.json.specs.Word.{after_digits, after_exponent, after_fraction, after_minus, after_number, after_sign, after_whole, ends_word, head, is_operator, is_space, literal, number_before, word};
+ghost use Rattle.json.specs.Word.{after_digits, after_exponent, after_fraction, after_minus, after_number, after_sign, after_whole, ends_word, head};
+ghost use Rattle.json.specs.Word.{is_operator, is_space, literal, number_before, word};
 ghost use Rattle.yaml_json.specs.Lexemes.{LeavesAt};
 
 use json::Token;

@@ -6,7 +6,9 @@ use Rattle.yaml_json.proofs.escapes.low_half.Goals as goal
 
 pub returns-then-text-at-lt6 : goal.returns-then-text-at-lt6
 returns-then-text-at-lt6 c =
-    grind (arith, common_steps, content-pair c.args.text.now c.args.at c.args.high, short_pair c.args.high (drop c.args.at c.args.text.now), length-drop c.args.at c.args.text.now)
+    let d = c.args.text.now in
+    let at = c.args.at in
+    grind (arith, common_steps, content-pair d at c.args.high, short_pair c.args.high (drop at d), length-drop at d)
 
 pub returns-in_err-low : goal.returns-in_err-low
 returns-in_err-low c = grind (arith, common_steps, content-pair c.args.text.now c.args.at c.args.high (omega arith))

@@ -14,7 +14,8 @@ returns-then-stop-bytes g c =
     let l = c.runs in
     let stop = c.plain_end-stop.result in
     let same = c.as_bytes-bytes.ensures.value in
-    let so_far = run_more d (string_bytes l.string) c.range.result.now c.args.from l.at stop (subst (λ (t : List ℕ). ArePlain t l.at stop) same c.plain_end-stop.ensures) c.range.ensures.value l.invariant.1 in
+    let are = subst (λ (t : List ℕ). ArePlain t l.at stop) same c.plain_end-stop.ensures in
+    let so_far = run_more d (string_bytes l.string) c.range.result.now c.args.from l.at stop are c.range.ensures.value l.invariant.1 in
     none_more d _ c.args.from stop so_far (content-end plain d stop (omega (arith, ap length same)))
 
 pub returns-then-bytes-stop-eq34 : goal.returns-then-bytes-stop-eq34
@@ -26,7 +27,8 @@ returns-then-bytes-stop-eq34 g c =
     let are = subst (λ (t : List ℕ). ArePlain t l.at stop) same c.plain_end-stop.ensures in
     let so_far = run_more d (string_bytes l.string) c.range.result.now c.args.from l.at stop are c.range.ensures.value l.invariant.1 in
     let within : stop < length d = omega (arith, ap length same, are.within) in
-    closes_here d _ c.args.from stop so_far within (ap (λ t. get_or t stop 0) (sym same) ∙ c.if-bytes-stop-eq34.true) ∙ ap Some (sym c.in_ok-push_str.ensures.bytes)
+    closes_here d _ c.args.from stop so_far within (ap (λ t. get_or t stop 0) (sym same) ∙ c.if-bytes-stop-eq34.true)
+    ∙ ap Some (sym c.in_ok-push_str.ensures.bytes)
 
 pub returns-then-bytes-stop-ne92 : goal.returns-then-bytes-stop-ne92
 returns-then-bytes-stop-ne92 g c =

@@ -30,9 +30,11 @@ bytes-preserved c =
     let same = c.as_bytes-bytes.ensures.value in
     let within : at < length d = omega (arith, ap length same) in
     elim c.if-byte-eq92.branch [
-      | then-byte-eq92 w ↦ ap (λ n. lex in_string (drop (at + n) d)) w.at-is ∙ escape_at d at within (ap (λ t. get_or t at 0) (sym same) ∙ w.if-byte-eq92.true) ∙ c.bytes.invariant
+      | then-byte-eq92 w ↦ ap (λ n. lex in_string (drop (at + n) d)) w.at-is
+          ∙ escape_at d at within (ap (λ t. get_or t at 0) (sym same) ∙ w.if-byte-eq92.true) ∙ c.bytes.invariant
       | else-byte-eq92 w ↦ ap (λ n. lex in_string (drop (at + n) d)) w.at-is
-          ∙ string_at d at within (ap (λ t. eqb (get_or t at 0) 34) (sym same) ∙ ne_eqb _ _ c.if-byte-eq34.false) (ap (λ t. eqb (get_or t at 0) 92) (sym same) ∙ ne_eqb _ _ w.if-byte-eq92.false)
+          ∙ string_at d at within (ap (λ t. eqb (get_or t at 0) 34) (sym same) ∙ ne_eqb _ _ c.if-byte-eq34.false)
+          (ap (λ t. eqb (get_or t at 0) 92) (sym same) ∙ ne_eqb _ _ w.if-byte-eq92.false)
           ∙ c.bytes.invariant
     ]
 
@@ -41,5 +43,6 @@ returns c =
     let d = c.args.text.now in
     let at = c.bytes.at in
     let same = c.as_bytes-bytes.ensures.value in
-    ap (lex between) c.range_from-2.ensures.value ∙ ap (lex between) (drop_all (length c.as_bytes-bytes.result.now) d (omega (arith, ap length same))) ∙ lex-none between
+    ap (lex between) c.range_from-2.ensures.value
+    ∙ ap (lex between) (drop_all (length c.as_bytes-bytes.result.now) d (omega (arith, ap length same))) ∙ lex-none between
     ∙ sym (ap (lex in_string) (drop_all at d (omega (arith, ap length same))) ∙ lex-none in_string) ∙ c.bytes.invariant

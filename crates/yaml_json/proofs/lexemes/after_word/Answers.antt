@@ -25,5 +25,6 @@ returns c =
           ∙ delimiter_at d at (omega (arith, ap length same, w.bytes-test.true))
           (ap (λ t. is_operator (get_or t at 0) || is_space (get_or t at 0)) (sym same) ∙ sym w.is_delimiter.ensures ∙ w.if-not-is_delimiter.false)
           ∙ c.bytes.invariant.1
-      | else-bytes-test w ↦ ap (lex between) c.range_from.ensures.value ∙ end_at in_word d at (omega (arith, ap length same, w.bytes-test.false)) ∙ c.bytes.invariant.1
+      | else-bytes-test w ↦ ap (lex between) c.range_from.ensures.value
+          ∙ end_at in_word d at (omega (arith, ap length same, w.bytes-test.false)) ∙ c.bytes.invariant.1
     ]

@@ -31,7 +31,8 @@ texts-preserved g c =
     let cuts = c.in-Some.ensures in
     let within = cuts.within in
     let next = c.in_default-begin_next.ensures.begun in
-    let named = subst (λ (t : List ℕ). a.settings.now.unique_names ≡ true → NamesOnce [] (tokens t)) c.split_at.ensures.front c.in_default-write_bytes.ensures.names in
+    let named = subst (λ (t : List ℕ). a.settings.now.unique_names ≡ true → NamesOnce [] (tokens t)) c.split_at.ensures.front
+    c.in_default-write_bytes.ensures.names in
     let wrote = subst (λ (t : List ℕ). WroteText a.settings.now.depth a.settings.now.flow t l.writer c.write_bytes.new.writer) c.split_at.ensures.front
     c.in_default-write_bytes.ensures.written in
     let suffix = suffix_on a.held.now l.rest.now c.split_at.result.1.now c.in-Some.end l.invariant.2 l.invariant.3 (omega (arith, within))

@@ -7,10 +7,12 @@ use Rattle.yaml_json.proofs.Stepping.{opens_array, opens_object, refused}
 use Rattle.yaml_json.proofs.tokens.beginning.Goals as goal
 
 pub returns-in-123 : goal.returns-in-123
-returns-in-123 g c = opens_object c.args.text.now c.opening.result (ap head (sym c.as_bytes.ensures.value) ∙ sym c.byte_at.ensures ∙ c.in-123.is) c.opening.ensures
+returns-in-123 g c =
+    opens_object c.args.text.now c.opening.result (ap head (sym c.as_bytes.ensures.value) ∙ sym c.byte_at.ensures ∙ c.in-123.is) c.opening.ensures
 
 pub returns-in-91 : goal.returns-in-91
-returns-in-91 g c = opens_array c.args.text.now c.opening-in-91.result (ap head (sym c.as_bytes.ensures.value) ∙ sym c.byte_at.ensures ∙ c.in-91.is) c.opening-in-91.ensures
+returns-in-91 g c =
+    opens_array c.args.text.now c.opening-in-91.result (ap head (sym c.as_bytes.ensures.value) ∙ sym c.byte_at.ensures ∙ c.in-91.is) c.opening-in-91.ensures
 
 pub returns-in-44 : goal.returns-in-44
 returns-in-44 g c =

@@ -11,7 +11,8 @@ owed_apart e = cc
 
 pub range_from-requires : goal.range_from-requires
 range_from-requires c positive =
-    after_first c.args.text.now 44 c.utf8.text (ap head (sym c.as_bytes.ensures.value) ∙ sym c.byte_at.ensures ∙ c.if-byte_at-eq44.true) (omega arith) (λ e. absurd (omega arith))
+    after_first c.args.text.now 44 c.utf8.text (ap head (sym c.as_bytes.ensures.value) ∙ sym c.byte_at.ensures ∙ c.if-byte_at-eq44.true)
+    (omega arith) (λ e. absurd (omega arith))
 
 pub returns-then-byte_at-eq44 : goal.returns-then-byte_at-eq44
 unfolding punctuate
@@ -20,6 +21,7 @@ returns-then-byte_at-eq44 c =
     let comma : head d ≡ 44 = ap head (sym c.as_bytes.ensures.value) ∙ sym c.byte_at.ensures ∙ c.if-byte_at-eq44.true in
     record {
       same = refl;
-      left = ap (punctuate after_comma) (c.skip_blanks.ensures.same ∙ ap (lex between) c.range_from.ensures.value) ∙ sym (ap (punctuate after_value) (lex-comma d comma));
+      left = ap (punctuate after_comma) (c.skip_blanks.ensures.same ∙ ap (lex between) c.range_from.ensures.value)
+          ∙ sym (ap (punctuate after_value) (lex-comma d comma));
       tidy = record { trimmed = c.skip_blanks.ensures.past; comma = λ e. absurd (owed_apart e) };
     }

@@ -12,12 +12,14 @@ unescape-requires g c = after_first c.args.text.now 34 c.utf8.text c.requires.qu
 
 pub returns-in-Ok-None : goal.returns-in-Ok-None
 returns-in-Ok-None g c =
-    no_string c.args.text.now c.bad.result c.requires.quote (rw c.in-Ok-None.field-0-is at c.in-Ok-None.ensures) c.bad.ensures.token c.bad.ensures.over c.bad.ensures.tidy
+    no_string c.args.text.now c.bad.result c.requires.quote (rw c.in-Ok-None.field-0-is at c.in-Ok-None.ensures)
+    c.bad.ensures.token c.bad.ensures.over c.bad.ensures.tidy
 
 pub returns : goal.returns
 returns g c =
     let d = c.args.text.now in
     let read : content plain (drop 1 d) ≡ Some (string_bytes c.in-Ok-Some.string) = rw c.in-Ok-Some.field-0-is at c.in-Ok-Some.ensures in
     let holds = read ∙ ap Some (sym (c.in-Ok.ensures ∙ c.as_str.ensures.value)) in
-    subst (λ (ls : List Lexeme). StepsFrom may_begin ls c.string_step.result) (string_is d c.in-Ok.content.now c.after_string.result.now c.requires.quote holds c.after_string.ensures)
+    subst (λ (ls : List Lexeme). StepsFrom may_begin ls c.string_step.result)
+    (string_is d c.in-Ok.content.now c.after_string.result.now c.requires.quote holds c.after_string.ensures)
     c.string_step.ensures

@@ -9,7 +9,8 @@ returns-then-byte g c =
     let seen : head d ≡ c.byte_at-byte.result = ap head (sym c.as_bytes.ensures.value) ∙ sym c.byte_at-byte.ensures in
     let closer : (c.byte_at-byte.result ≡ 125) ⊎ (c.byte_at-byte.result ≡ 93) = grind arith in
     let which : (head d ≡ 125) ⊎ (head d ≡ 93) = elim closer [ inl object ↦ inl (seen ∙ object) | inr array ↦ inr (seen ∙ array) ] in (
-      may_not_close c.args.stage d c.requires.over (sym c.may_close.ensures ∙ c.if-may_close.false) which ∙ sym (over_is c.bad.result c.bad.ensures.token c.bad.ensures.over),
+      may_not_close c.args.stage d c.requires.over (sym c.may_close.ensures ∙ c.if-may_close.false) which
+          ∙ sym (over_is c.bad.result c.bad.ensures.token c.bad.ensures.over),
       c.bad.ensures.tidy,
     )
 
@@ -21,7 +22,8 @@ returns-then-not-may_begin g c =
     let no_array : c.byte_at-byte.result ≡ 93 → ⊥ = grind arith in
     let some : d ≡ [] → ⊥ = first_of (search rules, grind arith) in
     let step = c.bad-then-not-may_begin in (
-      may_not_begin c.args.stage d c.requires.over (sym c.may_begin.ensures ∙ c.if-not-may_begin.true) c.requires.tidy some (λ e. no_object (sym seen ∙ e)) (λ e. no_array (sym seen ∙ e))
+      may_not_begin c.args.stage d c.requires.over (sym c.may_begin.ensures ∙ c.if-not-may_begin.true) c.requires.tidy some
+          (λ e. no_object (sym seen ∙ e)) (λ e. no_array (sym seen ∙ e))
           ∙ sym (over_is step.result step.ensures.token step.ensures.over),
       step.ensures.tidy,
     )

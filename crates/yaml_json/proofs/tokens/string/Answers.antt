@@ -16,7 +16,8 @@ pub range_from-requires : goal.range_from-requires
 range_from-requires g c positive =
     let d = c.args.text.now in
     let end = c.plain_end-end.result in
-    let quote = found_at d end 34 (ap (λ t. head (drop end t)) (sym c.as_bytes-bytes.ensures.value) ∙ sym c.byte_at.ensures ∙ c.if-byte_at-eq34.true) (λ e. absurd (omega arith)) in
+    let same = c.as_bytes-bytes.ensures.value in
+    let quote = found_at d end 34 (ap (λ t. head (drop end t)) (sym same) ∙ sym c.byte_at.ensures ∙ c.if-byte_at-eq34.true) (λ e. absurd (omega arith)) in
     IsCharBoundary-after_ascii d end c.utf8.text quote.0 (omega (arith, quote.1))
 
 pub returns-then-byte_at-eq34 : goal.returns-then-byte_at-eq34

@@ -1,6 +1,7 @@
 use Rattle.yaml_base.specs.declared.errors.yaml_error_t.TheVariants.{Memory}
 use Rattle.yaml_json.proofs.Common.{[], ◌∷◌, inr, token_of, failure}
-use Rattle.yaml_json.{proofs.Stopping.if_some, proofs.Stops.first_none, proofs.Stops.first_unread, proofs.WroteLemmas.on_ok, specs.declared.values.Spot.TheVariants.At}
+use Rattle.yaml_json.{proofs.Stopping.if_some, proofs.Stops.first_none, proofs.Stops.first_unread, proofs.WroteLemmas.on_ok}
+use Rattle.yaml_json.{specs.declared.values.Spot.TheVariants.At}
 use Rattle.yaml_json.proofs.values.write_first.Goals as goal
 
 pub returns-in-Ok-None-clause-refused : goal.returns-in-Ok-None-clause-refused
