@@ -139,7 +139,6 @@ module _ (text : List ℕ) (cut : Cut) (has : HasScanned text cut) (less : cut.s
           outer = cut_outer cut.scan.mode cut.scan.levels (get_or text cut.scanned 0) is;
         }
 
--- the first of some texts, and the others
 -- over bytes of a string that stand for themselves
 pub string_over : (text : List ℕ) (cut : Cut) (n : ℕ) → cut.scan.mode ≡ InString → HasScanned text cut → cut.scanned + n ≤ length text
     → ((k : ℕ) → cut.scanned ≤ k → k < cut.scanned + n → is_stop (get_or text k 0) ≡ false)
@@ -156,6 +155,7 @@ string_over text cut (suc n) is has room each =
     (one_scanned text (record { scan = cut.scan; scanned = cut.scanned + n })
     (string_over text cut n is has (omega arith) (λ k low high. each k low (omega arith))) (omega arith) cut.scan stays)
 
+-- the first of some texts, and the others
 pub cuts_first : (text : List ℕ) (end : ℕ) → CutsAt text end → CutsFirstText text (take end text) (drop end text)
 cuts_first text end cuts =
     let some = cuts.some in

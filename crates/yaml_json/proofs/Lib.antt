@@ -17,6 +17,7 @@ pub mod Portable
 pub mod JsonReads
 pub mod YamlOf
 pub mod TextsInTurn
+pub mod GivenAndTaken
 pub mod Sending
 pub mod Accepting
 pub mod OnlyDepth

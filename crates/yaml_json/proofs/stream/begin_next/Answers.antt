@@ -1,5 +1,5 @@
 use Rattle.yaml_json.proofs.Common.{subst, Appends}
-use Rattle.yaml_json.proofs.{Sending.begun_taken, WroteLemmas.bare_awaits_none}
+use Rattle.yaml_json.proofs.{GivenAndTaken.begun_taken, WroteLemmas.bare_awaits_none}
 use Rattle.yaml_json.proofs.stream.begin_next.Goals as goal
 
 pub returns-in-Ok-clause-begun : goal.returns-in-Ok-clause-begun

@@ -1,6 +1,7 @@
 use Rattle.yaml_json.proofs.Common.{subst, sym, IsScanned}
 use Rattle.yaml_json.{proofs.WroteLemmas.on_err, specs.declared.stream.Incoming.Incoming}
-use Rattle.yaml_json.proofs.Sending.{on_both, comes_first, more_came, complete_given, comes_kept, complete_refused, complete_sent, comes_sent, none_refused}
+use Rattle.yaml_json.proofs.GivenAndTaken.{on_both}
+use Rattle.yaml_json.proofs.Sending.{comes_first, more_came, complete_given, comes_kept, complete_refused, complete_sent, comes_sent, none_refused}
 use Rattle.yaml_json.proofs.Sending.{last_sent, last_read, last_named, last_refused, last_documents}
 use Rattle.yaml_json.specs.declared.error.StreamError.TheVariants as faults
 use Rattle.yaml_json.proofs.stream.send_json_texts.Goals as goal
