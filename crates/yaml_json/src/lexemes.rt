@@ -24,7 +24,6 @@ pub(crate) fn skip_blanks(text: &str) -> &str
 }
 
 /// What follows the word that a text begins with.
-#[inline(always)]
 pub(crate) fn after_word(text: &str) -> &str
     requires { 0 < length text.now }
     ensures { lex between result.now ≡ lex in_word (drop 1 text.now) }
@@ -38,7 +37,6 @@ pub(crate) fn after_word(text: &str) -> &str
 }
 
 /// The bytes of a vector at which the plain text of a string stops.
-#[inline(always)]
 fn stops(bytes: u8x16) -> u64
     ensures { result ≡ mask_l (map is_stop bytes) }
 {
@@ -47,7 +45,6 @@ fn stops(bytes: u8x16) -> u64
         | bytes.simd_lt(u8x16::splat(0x20))).to_bitmask()
 }
 
-#[inline(always)]
 fn is_stop(byte: u8) -> bool
     ensures { result ≡ is_stop byte }
 {
@@ -55,7 +52,6 @@ fn is_stop(byte: u8) -> bool
 }
 
 /// The first quote, backslash or control byte from a place on; the text's end where there is none.
-#[inline(always)]
 pub(crate) fn plain_end(text: &[u8], from: usize) -> usize
     requires { from ≤ length text.now }
     ensures { ArePlain text.now from result }

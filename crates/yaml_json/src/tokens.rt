@@ -29,14 +29,12 @@ pub(crate) enum Stage {
 }
 
 impl Stage {
-    #[inline(always)]
     fn may_begin(self) -> bool
         ensures { result ≡ begins_here self }
     {
         matches!(self, Stage::Open | Stage::Owed)
     }
 
-    #[inline(always)]
     fn may_close(self) -> bool
         ensures { result ≡ closes_here self }
     {
@@ -80,7 +78,6 @@ impl<'a, A: Allocator> Model for Tokens<'a, A> {
 }
 
 /// No token, and none after it.
-#[inline(always)]
 fn bad<'a>(text: &'a str) -> Step<'a>
     requires { IsTrimmed text.now }
     ensures token { token_of result.token ≡ spec.bad }
@@ -142,7 +139,6 @@ fn string_step<'a>(content: &'a str, after: &'a str) -> Step<'a>
 }
 
 /// A string with escapes, or one that is none.
-#[inline(never)]
 fn escaped<'a, A: Allocator + Copy>(
     alloc: A,
     arena: &'a Bump<A>,

@@ -9,21 +9,18 @@ ghost use Rattle.yaml_json.specs.Lexemes.{LeavesAt};
 use json::Token;
 
 /// The byte at a place of a text; a blank past its end.
-#[inline(always)]
 pub(crate) fn byte_at(text: &[u8], at: usize) -> u8
     ensures { result ≡ head (drop at text.now) }
 {
     if at < text.len() { text[at] } else { b' ' }
 }
 
-#[inline(always)]
 pub(crate) fn is_blank(byte: u8) -> bool
     ensures { result ≡ is_space byte }
 {
     byte <= b' ' && ((byte == b' ') | (byte == b'\n') | (byte == b'\r') | (byte == b'\t'))
 }
 
-#[inline(always)]
 pub(crate) fn is_operator(byte: u8) -> bool
     ensures { result ≡ is_operator byte }
 {
@@ -36,14 +33,12 @@ pub(crate) fn is_operator(byte: u8) -> bool
 }
 
 /// Whether a word ends before this byte.
-#[inline(always)]
 pub(crate) fn is_delimiter(byte: u8) -> bool
     ensures { result ≡ (is_operator byte || is_space byte) }
 {
     is_operator(byte) || is_blank(byte)
 }
 
-#[inline(always)]
 fn digits_end(text: &[u8], from: usize) -> Option<usize>
     requires { from ≤ length text.now }
     ensures { LeavesAt text.now result (after_digits (drop from text.now)) }
@@ -55,7 +50,6 @@ fn digits_end(text: &[u8], from: usize) -> Option<usize>
     if at == from { None } else { Some(at) }
 }
 
-#[inline(always)]
 fn whole_end(text: &[u8], from: usize) -> Option<usize>
     requires { from ≤ length text.now }
     ensures { LeavesAt text.now result (after_whole (drop from text.now)) }
@@ -67,7 +61,6 @@ fn whole_end(text: &[u8], from: usize) -> Option<usize>
     }
 }
 
-#[inline(always)]
 fn fraction_end(text: &[u8], from: usize) -> Option<usize>
     requires { from ≤ length text.now }
     ensures { LeavesAt text.now result (after_fraction (drop from text.now)) }
@@ -79,7 +72,6 @@ fn fraction_end(text: &[u8], from: usize) -> Option<usize>
     }
 }
 
-#[inline(always)]
 fn sign_end(text: &[u8], from: usize) -> usize
     requires { from ≤ length text.now }
     ensures sign { drop result text.now ≡ after_sign (drop from text.now) }
@@ -93,7 +85,6 @@ fn sign_end(text: &[u8], from: usize) -> usize
     }
 }
 
-#[inline(always)]
 fn exponent_end(text: &[u8], from: usize) -> Option<usize>
     requires { from ≤ length text.now }
     ensures { LeavesAt text.now result (after_exponent (drop from text.now)) }
@@ -106,7 +97,6 @@ fn exponent_end(text: &[u8], from: usize) -> Option<usize>
     }
 }
 
-#[inline(always)]
 fn minus_end(text: &[u8]) -> usize
     ensures minus { drop result text.now ≡ after_minus text.now }
     ensures within { result ≤ length text.now }
@@ -115,7 +105,6 @@ fn minus_end(text: &[u8]) -> usize
 }
 
 /// Where a number ends.
-#[inline(always)]
 fn number_end(text: &[u8]) -> Option<usize>
     ensures { LeavesAt text.now result (after_number text.now) }
 {
