@@ -11,7 +11,12 @@ use Rattle.yaml_base.proofs.Common.{somewhere, bars_block, allows_block}
 use Rattle.yaml_scalar.proofs.Common.{limit_of, limit_where}
 use Rattle.std.{proofs.Common.◌≤ℤ◌, proofs.lemmas.Bool.cases_Bool, specs.Result.IfOk, specs.Result.MatchResult, specs.Str.IsUtf8}
 use Rattle.yaml_base.specs.declared.errors.yaml_error_t.{yaml_error_t}
-use Rattle.yaml_base.specs.scalars.{Folded.render_folded, Plain.render_plain}
+use Rattle.yaml_base.specs.scalars.{DoubleQuoted.render_double_quoted, Folded.render_folded, Literal.render_literal, Plain.render_plain}
+use Rattle.yaml_base.specs.scalars.SingleQuoted.{render_single_quoted}
+use Rattle.yaml_base.specs.{Layout.open_ended_after, Seen.seen_scalar_style, declared.styles.yaml_scalar_style_t.yaml_scalar_style_t}
+use Rattle.yaml_base.specs.declared.styles.yaml_scalar_style_t.TheVariants.{YAML_ANY_SCALAR_STYLE, YAML_PLAIN_SCALAR_STYLE}
+use Rattle.yaml_base.specs.declared.styles.yaml_scalar_style_t.TheVariants.{YAML_SINGLE_QUOTED_SCALAR_STYLE, YAML_DOUBLE_QUOTED_SCALAR_STYLE}
+use Rattle.yaml_base.specs.declared.styles.yaml_scalar_style_t.TheVariants.{YAML_LITERAL_SCALAR_STYLE, YAML_FOLDED_SCALAR_STYLE}
 use Rattle.yaml_emitter.proofs.pieces.AtomsWritten.{lead-spelled}
 use Rattle.yaml_emitter.specs.{Given.seen_width, ScalarTexts.without_answer, declared.effective.EffectiveSettings.EffectiveSettings}
 use Rattle.yaml_mark.proofs.HandleLemmas.{no_characters, characters_begin}
@@ -34,10 +39,39 @@ line_limit : (simple : Bool) (width : ℤ) → pos 0 ≤ℤ width → limit_wher
 line_limit true width low = refl
 line_limit false width low = width_limit width low
 
--- a simple key isn't folded
-folded_long : (value : Text) (simple : Bool) → style_fits folded value simple ≡ true → simple ≡ false
-folded_long value false fits = refl
-folded_long value true fits = let wrong : false ≡ true = (and_parts (not (is_empty value)) false fits).1 in cc
+-- a block style is for a value that isn't empty, and not for a simple key
+not_true : (b : Bool) → not b ≡ true → b ≡ false
+not_true true is = cc
+not_true false is = refl
+
+pub block_some : (value : Text) (simple : Bool) → style_fits literal value simple ≡ true → is_empty value ≡ false
+block_some value simple fits = not_true (is_empty value) (and_parts (not (is_empty value)) (not simple) fits).0
+
+block_long : (value : Text) (simple : Bool) → style_fits folded value simple ≡ true → simple ≡ false
+block_long value simple fits = not_true simple (and_parts (not (is_empty value)) (not simple) fits).1
+
+-- the styles that aren't the others are written in double quotes
+as_double : (style : yaml_scalar_style_t) → (style ≡ YAML_PLAIN_SCALAR_STYLE → ⊥) → (style ≡ YAML_SINGLE_QUOTED_SCALAR_STYLE → ⊥)
+    → (style ≡ YAML_LITERAL_SCALAR_STYLE → ⊥) → (style ≡ YAML_FOLDED_SCALAR_STYLE → ⊥)
+    → (s : Effective) (in_flow simple : Bool) (column : ℕ) (value : Text) (cursor : Cursor)
+    → render_scalar_text double_quoted s in_flow simple column value cursor
+    ≡ render_scalar_text (seen_scalar_style style) s in_flow simple column value cursor
+as_double YAML_ANY_SCALAR_STYLE p q l f s in_flow simple column value cursor = refl
+as_double YAML_PLAIN_SCALAR_STYLE p q l f s in_flow simple column value cursor = absurd (p refl)
+as_double YAML_SINGLE_QUOTED_SCALAR_STYLE p q l f s in_flow simple column value cursor = absurd (q refl)
+as_double YAML_DOUBLE_QUOTED_SCALAR_STYLE p q l f s in_flow simple column value cursor = refl
+as_double YAML_LITERAL_SCALAR_STYLE p q l f s in_flow simple column value cursor = absurd (l refl)
+as_double YAML_FOLDED_SCALAR_STYLE p q l f s in_flow simple column value cursor = absurd (f refl)
+
+-- all but block scalars leave the open-ended state
+pub open_ended_kept : (style : yaml_scalar_style_t) → (style ≡ YAML_LITERAL_SCALAR_STYLE → ⊥) → (style ≡ YAML_FOLDED_SCALAR_STYLE → ⊥)
+    → (value : Text) (open_ended : ℕ) → open_ended ≡ open_ended_after (seen_scalar_style style) value open_ended
+open_ended_kept YAML_ANY_SCALAR_STYLE l f value open_ended = refl
+open_ended_kept YAML_PLAIN_SCALAR_STYLE l f value open_ended = refl
+open_ended_kept YAML_SINGLE_QUOTED_SCALAR_STYLE l f value open_ended = refl
+open_ended_kept YAML_DOUBLE_QUOTED_SCALAR_STYLE l f value open_ended = refl
+open_ended_kept YAML_LITERAL_SCALAR_STYLE l f value open_ended = absurd (l refl)
+open_ended_kept YAML_FOLDED_SCALAR_STYLE l f value open_ended = absurd (f refl)
 
 module _ (settings : EffectiveSettings) (in_flow simple : Bool) (value : Text) {indent width : ℤ} {column : ℕ} (is : indent ≡ pos column)
     (width_is : width ≡ settings.width) (low : pos 0 ≤ℤ settings.width) where
@@ -47,22 +81,65 @@ module _ (settings : EffectiveSettings) (in_flow simple : Bool) (value : Text) {
   abbrev text : ScalarStyle → Cursor → Rendered
   text style = render_scalar_text style (seen_effective settings) in_flow simple column value
 
-  pub wrote_plain : {before after : Page} {answer : Result (Unit {0}) yaml_error_t}
+  -- text in a style, told of the style's name
+  told : {style : yaml_scalar_style_t} (name : yaml_scalar_style_t) {before after : Page} {answer : Result (Unit {0}) yaml_error_t}
+      → style ≡ name → Wrote (text (seen_scalar_style name)) before after answer → Wrote (text (seen_scalar_style style)) before after answer
+  told name {before} {after} {answer} style_is wrote =
+      subst (λ (s : yaml_scalar_style_t). Wrote (text (seen_scalar_style s)) before after answer) (sym style_is) wrote
+
+  pub wrote_plain : {style : yaml_scalar_style_t} → style ≡ YAML_PLAIN_SCALAR_STYLE → {before after : Page} {answer : Result (Unit {0}) yaml_error_t}
       → Wrote (render_plain in_flow (limit_where (not simple) width) (natural indent) value) before after answer
-      → Wrote (render_scalar_text plain (seen_effective settings) in_flow simple column value) before after answer
-  wrote_plain {before} wrote =
-      wrote_as (text plain)
+      → Wrote (render_scalar_text (seen_scalar_style style) (seen_effective settings) in_flow simple column value) before after answer
+  wrote_plain style_is {before} wrote =
+      told YAML_PLAIN_SCALAR_STYLE style_is
+      (wrote_as (text plain)
       (ap (λ (l : Option ℕ). render_plain in_flow l (natural indent) value before.cursor) limit_is
       ∙ ap (λ (i : ℤ). render_plain in_flow (if simple then None else seen_width settings.width) (natural i) value before.cursor) is)
+      wrote)
+
+  pub wrote_single : {style : yaml_scalar_style_t} → style ≡ YAML_SINGLE_QUOTED_SCALAR_STYLE
+      → {before after : Page} {answer : Result (Unit {0}) yaml_error_t}
+      → Wrote (render_single_quoted (limit_where (not simple) width) (natural indent) value) before after answer
+      → Wrote (render_scalar_text (seen_scalar_style style) (seen_effective settings) in_flow simple column value) before after answer
+  wrote_single style_is {before} wrote =
+      told YAML_SINGLE_QUOTED_SCALAR_STYLE style_is
+      (wrote_as (text single_quoted)
+      (ap (λ (l : Option ℕ). render_single_quoted l (natural indent) value before.cursor) limit_is
+      ∙ ap (λ (i : ℤ). render_single_quoted (if simple then None else seen_width settings.width) (natural i) value before.cursor) is)
+      wrote)
+
+  pub wrote_double : (style : yaml_scalar_style_t) → (style ≡ YAML_PLAIN_SCALAR_STYLE → ⊥) → (style ≡ YAML_SINGLE_QUOTED_SCALAR_STYLE → ⊥)
+      → (style ≡ YAML_LITERAL_SCALAR_STYLE → ⊥) → (style ≡ YAML_FOLDED_SCALAR_STYLE → ⊥)
+      → {before after : Page} {answer : Result (Unit {0}) yaml_error_t}
+      → Wrote (render_double_quoted settings.unicode (limit_where (not simple) width) (natural indent) value) before after answer
+      → Wrote (render_scalar_text (seen_scalar_style style) (seen_effective settings) in_flow simple column value) before after answer
+  wrote_double style p q l f {before} wrote =
+      wrote_as (text (seen_scalar_style style))
+      (ap (λ (l : Option ℕ). render_double_quoted settings.unicode l (natural indent) value before.cursor) limit_is
+      ∙ ap (λ (i : ℤ). render_double_quoted settings.unicode (if simple then None else seen_width settings.width) (natural i) value before.cursor) is
+      ∙ as_double style p q l f (seen_effective settings) in_flow simple column value before.cursor)
       wrote
 
-  pub wrote_folded : {best : ℤ} {style : ScalarStyle} → best ≡ pos settings.indent → style ≡ folded → style_fits style value simple ≡ true
+  pub wrote_literal : {best : ℤ} {style : yaml_scalar_style_t} → best ≡ pos settings.indent → style ≡ YAML_LITERAL_SCALAR_STYLE
+      → {before after : Page} {answer : Result (Unit {0}) yaml_error_t}
+      → Wrote (render_literal (natural indent) (natural best) value) before after answer
+      → Wrote (render_scalar_text (seen_scalar_style style) (seen_effective settings) in_flow simple column value) before after answer
+  wrote_literal {best} best_is style_is {before} wrote =
+      told YAML_LITERAL_SCALAR_STYLE style_is
+      (wrote_as (text literal)
+      (ap (λ (i : ℤ). render_literal (natural i) (natural best) value before.cursor) is
+      ∙ ap (λ (i : ℤ). render_literal column (natural i) value before.cursor) best_is)
+      wrote)
+
+  pub wrote_folded : {best : ℤ} {style : yaml_scalar_style_t} → best ≡ pos settings.indent → style ≡ YAML_FOLDED_SCALAR_STYLE
+      → style_fits (seen_scalar_style style) value simple ≡ true
       → {before after : Page} {answer : Result (Unit {0}) yaml_error_t}
       → Wrote (render_folded (limit_of width) (natural indent) (natural best) value) before after answer
-      → Wrote (render_scalar_text style (seen_effective settings) in_flow simple column value) before after answer
-  wrote_folded {best} {style} best_is style_is fits {before} {after} {answer} wrote =
-      let long : simple ≡ false = folded_long value simple (subst (λ (s : ScalarStyle). style_fits s value simple ≡ true) style_is fits) in
-      subst (λ (s : ScalarStyle). Wrote (render_scalar_text s (seen_effective settings) in_flow simple column value) before after answer) (sym style_is)
+      → Wrote (render_scalar_text (seen_scalar_style style) (seen_effective settings) in_flow simple column value) before after answer
+  wrote_folded {best} best_is style_is fits {before} wrote =
+      let long : simple ≡ false =
+      block_long value simple (subst (λ (s : yaml_scalar_style_t). style_fits (seen_scalar_style s) value simple ≡ true) style_is fits) in
+      told YAML_FOLDED_SCALAR_STYLE style_is
       (wrote_as (text folded)
       (ap (λ (l : Option ℕ). render_folded l (natural indent) (natural best) value before.cursor) (ap limit_of width_is ∙ width_limit settings.width low)
       ∙ ap (λ (i : ℤ). render_folded (seen_width settings.width) (natural i) (natural best) value before.cursor) is
