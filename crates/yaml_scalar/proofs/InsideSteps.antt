@@ -3,7 +3,8 @@ use Rattle.yaml_scalar.proofs.Common.{ℕ, if◌then◌else◌, ◌==◌, chars,
 use Rattle.yaml_scalar.proofs.Common.{ap, ◌∙◌, arith, and_parts, and_from, not-false, not-true, nat_tests, list_all, Text, is_ascii, is_space, is_break}
 use Rattle.yaml_scalar.proofs.Common.{is_printable, Cursor, Rendered, render_then, next_column, render_text, is_past_width, quote, backslash, escape_text}
 use Rattle.yaml_scalar.proofs.Common.{needs_escape, character_text, may_fold, double_fold, double_character, double_inside, Page, is_plain, has_limit}
-use Rattle.yaml_scalar.proofs.Common.{stays_where, stays}
+use Rattle.yaml_scalar.proofs.Common.{stays_where, stays, sym, Result, Wrote, wrote_as}
+use Rattle.yaml_base.specs.declared.errors.yaml_error_t.{yaml_error_t}
 use Rattle.yaml_pen.proofs.StillToWrite.{StillToWrite}
 use Rattle.yaml_scalar.proofs.{RunsWritten.StandAlone, Unbroken.unescaped, WholeRuns.no_fold}
 
@@ -71,3 +72,20 @@ low c h = grind (arith, nat_tests)
 -- and it is of ASCII
 pub ascii_stays_plain : (folds : Bool) (c : ℕ) → stays_where false folds c ≡ true → is_plain c ≡ true
 ascii_stays_plain folds c h = grind (arith, not-true, and_parts, not-false, escaped_parts, and_from, low, unescaped)
+
+-- a character that becomes a fold, and one that doesn't
+pub wrote_fold : (unicode : Bool) (limit : Option ℕ) (indent : ℕ) (before : Option ℕ) (c : ℕ) (rest : Text) {start after : Page}
+    {answer : Result (Unit {0}) yaml_error_t} → (is_space c && may_fold before rest && is_past_width limit start.cursor) ≡ true
+    → Wrote (double_fold indent rest) start after answer
+    → Wrote (double_character unicode limit indent before c rest) start after answer
+wrote_fold unicode limit indent before c rest {start} folds wrote =
+    wrote_as (double_character unicode limit indent before c rest)
+    (ap (λ (b : Bool). if b then double_fold indent rest start.cursor else render_text (character_text unicode c) start.cursor) (sym folds)) wrote
+
+pub wrote_unfolded : (unicode : Bool) (limit : Option ℕ) (indent : ℕ) (before : Option ℕ) (c : ℕ) (rest : Text) {start after : Page}
+    {answer : Result (Unit {0}) yaml_error_t} → (is_space c && may_fold before rest && is_past_width limit start.cursor) ≡ false
+    → Wrote (render_text (character_text unicode c)) start after answer
+    → Wrote (double_character unicode limit indent before c rest) start after answer
+wrote_unfolded unicode limit indent before c rest {start} unfolded wrote =
+    wrote_as (double_character unicode limit indent before c rest)
+    (ap (λ (b : Bool). if b then double_fold indent rest start.cursor else render_text (character_text unicode c) start.cursor) (sym unfolded)) wrote
