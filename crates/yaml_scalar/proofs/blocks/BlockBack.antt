@@ -1,7 +1,20 @@
 -- What a writer of literal or folded scalars wrote reads back.
 use Rattle.yaml_scalar.proofs.Common.{ℕ, ◌≤◌, Option, Ok, negsuc, pos, ℤ, ◌≤ℤ◌, true, ◌≡◌, arith, ints, Text, read_block, Charset, allows_block, Encloses}
 use Rattle.yaml_scalar.proofs.Common.{folded_body, render_folded, literal_body, render_literal, Page, natural, Wrote, ReadsBack}
+use Rattle.yaml_scalar.proofs.Common.{Cursor, Rendered, Result, Err, subst, sym, ap, ◌∙◌}
+use Rattle.std.proofs.{Common.IsErrAnd, Common.IsErr, lemmas.Result.err_from_is_err_and}
+use Rattle.yaml_base.specs.declared.errors.yaml_error_t.{yaml_error_t}
+use Rattle.yaml_scalar.specs.BlockCode.{without_open_ended}
 use Rattle.yaml_scalar.proofs.{LinesReadBack.two_or_more, LinesReadBack.body_back, blocks.BlockLines.literal-kept, blocks.BlockLines.folded-kept}
+
+-- the exit of a `?` tells the error of the call that failed, also where an answer holds the open-ended state
+pub block_exit : {render : Cursor → Rendered} {before after : Page} {error : yaml_error_t} (answer : Result ℤ yaml_error_t)
+    → IsErr answer × IsErrAnd answer (λ told. told ≡ error) → Wrote render before after (Err error)
+    → Wrote render before after (without_open_ended answer)
+block_exit {render} {before} {after} {error} answer is wrote =
+    let p = err_from_is_err_and answer is.1 in
+    subst (λ (r : Result ℤ yaml_error_t). Wrote render before after (without_open_ended r))
+    (sym (p.1 ∙ ap (λ (e : yaml_error_t). let r : Result ℤ yaml_error_t = Err e in r) p.2)) wrote
 
 -- the conditions on the two indents, as whole numbers
 pub record Indents (indent best_indent : ℕ) : Type 0 where
