@@ -1,4 +1,4 @@
-use Rattle.yaml_scalar.proofs.Common.{Err, Ok, rules, render_hints, wrote_then, wrote_failed, wrote_as, wrote_exit, natural, Wrote, is_folded}
+use Rattle.yaml_scalar.proofs.Common.{w32, to_z-of_z, render_hints, wrote_then, wrote_failed, wrote_as, wrote_exit, natural, is_folded}
 use Rattle.yaml_scalar.proofs.Common.{separated_header, header_end}
 use Rattle.yaml_base.proofs.Common.{chars}
 use Rattle.yaml_scalar.proofs.blocks.BlockWrites.{header-steps}
@@ -18,7 +18,7 @@ returns-in_err-write_hints g c =
     let n = natural c.args.best_indent in
     let value = chars c.args.value.now in
     let block_indicator = rw (c.spaced.ensures, c.block_indicator.ensures) at c.in_ok-put_indicator.ensures.written in
-    let hints : Wrote (render_hints n value) c.put_indicator.new.self c.write_hints.new.pen (Err c.in_err-write_hints.field-0.0) = search rules in
+    let hints = rw (to_z-of_z w32 c.args.best_indent c.ranges.best_indent) at c.in_err-write_hints.ensures in
     wrote_exit c.from_residual-in_err-write_hints.ensures
     (wrote_as (separated_header (is_folded c.args.style) n value) (header-steps (is_folded c.args.style) n value c.args.pen.now.cursor)
     (wrote_failed header_end (wrote_then block_indicator hints)))
@@ -28,6 +28,6 @@ returns g c =
     let n = natural c.args.best_indent in
     let value = chars c.args.value.now in
     let block_indicator = rw (c.spaced.ensures, c.block_indicator.ensures) at c.in_ok-put_indicator.ensures.written in
-    let hints : Wrote (render_hints n value) c.put_indicator.new.self c.write_hints.new.pen (Ok tt) = search rules in
+    let hints = rw (to_z-of_z w32 c.args.best_indent c.ranges.best_indent) at c.in_ok-write_hints.ensures in
     wrote_as (separated_header (is_folded c.args.style) n value) (header-steps (is_folded c.args.style) n value c.args.pen.now.cursor)
     (wrote_then (wrote_then block_indicator hints) c.end_header.ensures)
