@@ -15,7 +15,7 @@ mod types;
 use std::alloc::{Allocator, Global};
 use std::fmt::Debug;
 use std::process::Abort;
-use yaml_base::yaml_error_t;
+use yaml_base::{yaml_error_t, yaml_tag_directive_t};
 use yaml_pen::Pen;
 use yaml_scalar::holds_break;
 
@@ -27,6 +27,43 @@ fn equal<T: PartialEq + Debug>(rt: &impl Abort, got: &T, wanted: &T) {
 /// A text that a test hands over, for which there is memory.
 fn owned<A: Allocator>(rt: &impl Abort, alloc: A, s: &str) -> String<A> {
     String::from_str(alloc, s).expect(rt, "no memory")
+}
+
+/// A copy of a text, where there is one.
+fn owned_choice<A: Allocator>(
+    rt: &impl Abort,
+    alloc: A,
+    choice: Option<&str>,
+) -> Option<String<A>> {
+    match choice {
+        Some(text) => Some(owned(rt, alloc, text)),
+        None => None,
+    }
+}
+
+/// A handle, and a prefix.
+type Tag<'a> = (&'a str, &'a str);
+
+/// A directive, for which there is memory.
+fn directive<A: Allocator + Copy>(rt: &impl Abort, alloc: A, tag: &Tag) -> yaml_tag_directive_t<A> {
+    yaml_tag_directive_t {
+        handle: owned(rt, alloc, tag.0),
+        prefix: owned(rt, alloc, tag.1),
+    }
+}
+
+/// Directives, for which there is memory.
+fn directives<A: Allocator + Copy>(
+    rt: &impl Abort,
+    alloc: A,
+    tags: &[Tag],
+) -> Vec<yaml_tag_directive_t<A>, A> {
+    let mut directives = Vec::new(alloc);
+    for tag in tags {
+        let given = directive(rt, alloc, tag);
+        directives.push(given).expect(rt, "no memory");
+    }
+    directives
 }
 
 /// These texts in one, for which there is memory.

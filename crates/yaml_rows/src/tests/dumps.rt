@@ -15,39 +15,6 @@ use yaml_base::{
 use yaml_dump::{yaml_emitter_close, yaml_emitter_dump};
 use yaml_emitter::yaml_emitter_t;
 
-/// A scalar of any style with this tag.
-fn scalar<A: Allocator>(tag: String<A>, value: String<A>) -> yaml_node_t<A> {
-    yaml_node_t {
-        tag,
-        contents: yaml_node_data_t::Scalar {
-            value,
-            style: YAML_ANY_SCALAR_STYLE,
-        },
-    }
-}
-
-/// A block sequence of the nodes with these numbers.
-fn sequence<A: Allocator>(tag: String<A>, items: Vec<i32, A>) -> yaml_node_t<A> {
-    yaml_node_t {
-        tag,
-        contents: yaml_node_data_t::Sequence {
-            items,
-            style: YAML_BLOCK_SEQUENCE_STYLE,
-        },
-    }
-}
-
-/// A block mapping of these pairs.
-fn mapping<A: Allocator>(tag: String<A>, pairs: Vec<yaml_node_pair_t, A>) -> yaml_node_t<A> {
-    yaml_node_t {
-        tag,
-        contents: yaml_node_data_t::Mapping {
-            pairs,
-            style: YAML_BLOCK_MAPPING_STYLE,
-        },
-    }
-}
-
 /// A node as tables write it.
 #[derive(Clone, Copy)]
 pub(super) enum Given<'a> {
@@ -65,21 +32,31 @@ fn copied<T: Copy, A: Allocator>(rt: &impl Abort, alloc: A, items: &[T]) -> Vec<
     Vec::from_slice(alloc, items).expect(rt, "no memory")
 }
 
-fn node<A: Allocator + Copy>(rt: &impl Abort, alloc: A, given: &Given) -> yaml_node_t<A> {
+/// The tag that is given, or that of the kind.
+fn tag_of<'a>(given: &Given<'a>) -> &'a str {
     match given {
-        Given::Text(value) => scalar(
-            owned(rt, alloc, "tag:yaml.org,2002:str"),
-            owned(rt, alloc, value),
-        ),
-        Given::Tagged(tag, value) => scalar(owned(rt, alloc, tag), owned(rt, alloc, value)),
-        Given::Sequence(items) => sequence(
-            owned(rt, alloc, "tag:yaml.org,2002:seq"),
-            copied(rt, alloc, items),
-        ),
-        Given::Mapping(pairs) => mapping(
-            owned(rt, alloc, "tag:yaml.org,2002:map"),
-            copied(rt, alloc, pairs),
-        ),
+        Given::Text(_) => "tag:yaml.org,2002:str",
+        Given::Tagged(tag, _) => tag,
+        Given::Sequence(_) => "tag:yaml.org,2002:seq",
+        Given::Mapping(_) => "tag:yaml.org,2002:map",
+    }
+}
+
+/// A scalar of any style, or a block collection.
+fn contents<A: Allocator + Copy>(rt: &impl Abort, alloc: A, given: &Given) -> yaml_node_data_t<A> {
+    match given {
+        Given::Text(value) | Given::Tagged(_, value) => yaml_node_data_t::Scalar {
+            value: owned(rt, alloc, value),
+            style: YAML_ANY_SCALAR_STYLE,
+        },
+        Given::Sequence(items) => yaml_node_data_t::Sequence {
+            items: copied(rt, alloc, items),
+            style: YAML_BLOCK_SEQUENCE_STYLE,
+        },
+        Given::Mapping(pairs) => yaml_node_data_t::Mapping {
+            pairs: copied(rt, alloc, pairs),
+            style: YAML_BLOCK_MAPPING_STYLE,
+        },
     }
 }
 
@@ -90,7 +67,11 @@ fn add<A: Allocator + Copy>(
     nodes: &mut Vec<yaml_node_t<A>, A>,
     given: &Given,
 ) {
-    nodes.push(node(rt, alloc, given)).expect(rt, "no memory");
+    let node = yaml_node_t {
+        tag: owned(rt, alloc, tag_of(given)),
+        contents: contents(rt, alloc, given),
+    };
+    nodes.push(node).expect(rt, "no memory");
 }
 
 pub(super) fn nodes<A: Allocator + Copy>(

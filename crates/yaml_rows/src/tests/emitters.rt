@@ -6,8 +6,8 @@ mod early;
 mod memory;
 mod short_block;
 mod short_quoted;
-mod steps;
-mod streams;
+pub(super) mod steps;
+pub(super) mod streams;
 mod taking;
 
 use crate::tests::{equal, same};
@@ -97,47 +97,22 @@ fn emit_all<A: Allocator + Copy>(
     }
 }
 
-// The error is kept, and nothing waits.
-fn check_kept<A: Allocator>(rt: &impl Abort, emitter: &yaml_emitter_t<A>, error: yaml_error_t) {
-    equal(rt, &emitter.error(), &Some(error));
-    equal(rt, &emitter.held(), &0);
-}
-
-// An event that is refused by this error flushes nothing.
-fn check_refused<A: Allocator + Copy>(
-    rt: &impl Abort,
-    emitter: &mut yaml_emitter_t<A>,
-    next: yaml_event_t<A>,
-    error: yaml_error_t,
-) {
-    let length = emitter.output().len();
-    equal(rt, &give(rt, emitter, next), &Err(error));
-    equal(rt, &emitter.output().len(), &length);
-}
-
-// So does a flush.
-fn check_flush_refused<A: Allocator + Copy>(
-    rt: &impl Abort,
-    emitter: &mut yaml_emitter_t<A>,
-    error: yaml_error_t,
-) {
-    if emitter.encoding_known() {
-        let length = emitter.output().len();
-        equal(rt, &flush_if_known(rt, emitter), &Err(error));
-        equal(rt, &emitter.output().len(), &length);
-    }
-}
-
-/// After an error each call answers it; nothing waits, and nothing more is flushed.
+/// After an error each call answers it, an event and a flush; nothing waits, and nothing more is flushed.
 pub(super) fn check_failed<A: Allocator + Copy>(
     rt: &impl Abort,
     emitter: &mut yaml_emitter_t<A>,
     error: yaml_error_t,
 ) {
-    check_kept(rt, emitter, error);
-    check_refused(rt, emitter, YAML_STREAM_END_EVENT, error);
-    check_flush_refused(rt, emitter, error);
-    check_kept(rt, emitter, error);
+    let kept = (Some(error), 0);
+    equal(rt, &(emitter.error(), emitter.held()), &kept);
+    let length = emitter.output().len();
+    let answer = give(rt, emitter, YAML_STREAM_END_EVENT);
+    equal(rt, &(answer, emitter.output().len()), &(Err(error), length));
+    if emitter.encoding_known() {
+        let answer = flush_if_known(rt, emitter);
+        equal(rt, &(answer, emitter.output().len()), &(Err(error), length));
+    }
+    equal(rt, &(emitter.error(), emitter.held()), &kept);
 }
 
 /// A call answers so; the call in which a growth was refused, and each after it, that there is no memory.
@@ -145,13 +120,13 @@ pub(super) fn check_answer(
     rt: &impl Abort,
     heap: &Refusing<Global>,
     answer: Answer,
-    wanted: &Answer,
+    wanted: Answer,
 ) {
-    if heap.left() == 0 {
-        equal(rt, &answer, &Err(yaml_error_t::Memory));
-    } else {
-        equal(rt, &answer, wanted);
-    }
+    let wanted = match heap.left() {
+        0 => Err(yaml_error_t::Memory),
+        _ => wanted,
+    };
+    equal(rt, &answer, &wanted);
 }
 
 /// A growth was refused: what was flushed begins the whole, and each call answers the error.

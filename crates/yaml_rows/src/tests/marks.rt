@@ -1,7 +1,7 @@
 //! Names, versions, directives, and where a tag is cut.
 mod spelled;
 
-use super::{equal, owned};
+use super::{Tag, directive, equal};
 use linked_list_allocator::LocalHeap;
 use std::alloc::{AllocError, Allocator, Global};
 use std::process::Abort;
@@ -9,7 +9,7 @@ use yaml_base::{yaml_error_t, yaml_tag_directive_t, yaml_version_directive_t};
 use yaml_mark::*;
 
 /// A directive on a heap; an error where it finds no room.
-fn directive<A: Allocator + Copy>(
+fn tried<A: Allocator + Copy>(
     alloc: A,
     handle: &str,
     prefix: &str,
@@ -19,44 +19,17 @@ fn directive<A: Allocator + Copy>(
     Ok(yaml_tag_directive_t { handle, prefix })
 }
 
-/// A handle, and a prefix.
-type Tag<'a> = (&'a str, &'a str);
-
-fn made(rt: &impl Abort, alloc: Global, tag: &Tag) -> yaml_tag_directive_t<Global> {
-    yaml_tag_directive_t {
-        handle: owned(rt, alloc, tag.0),
-        prefix: owned(rt, alloc, tag.1),
-    }
-}
-
-fn append(
-    directives: &mut Directives<Global>,
-    given: &yaml_tag_directive_t<Global>,
-    as_default: bool,
-) -> Answer {
-    directives.append(given, as_default)
-}
-
-fn append_all(
-    rt: &impl Abort,
-    alloc: Global,
-    directives: &mut Directives<Global>,
-    given: &[Tag],
-    as_default: bool,
-) {
-    for each in given {
-        let answer = append(directives, &made(rt, alloc, each), as_default);
-        equal(rt, &answer, &Ok(()));
-    }
-}
-
 const DEFAULTS: &[Tag] = &[("!", "!"), ("!!", "tag:yaml.org,2002:")];
 
 // The directives in force in a document that gives these.
 fn in_force(rt: &impl Abort, alloc: Global, own: &[Tag]) -> Directives<Global> {
     let mut directives = Directives::new(alloc);
-    append_all(rt, alloc, &mut directives, own, false);
-    append_all(rt, alloc, &mut directives, DEFAULTS, true);
+    for (tags, as_default) in [(own, false), (DEFAULTS, true)] {
+        for tag in tags {
+            let answer = directives.append(&directive(rt, alloc, tag), as_default);
+            equal(rt, &answer, &Ok(()));
+        }
+    }
     directives
 }
 
@@ -105,14 +78,10 @@ fn versions_are_1_1_and_1_2(rt: HostRuntime) {
 /// A name, and what is said of it as an anchor, and as an alias.
 type Name<'a> = (&'a str, Answer, Answer);
 
-fn analyzed_name(name: &str, alias: bool) -> Answer {
-    analyze_anchor(name, alias)
-}
-
 fn check_names(rt: &impl Abort, rows: &[Name]) {
     for row in rows {
-        equal(rt, &analyzed_name(row.0, false), &row.1);
-        equal(rt, &analyzed_name(row.0, true), &row.2);
+        let answers = (analyze_anchor(row.0, false), analyze_anchor(row.0, true));
+        equal(rt, &answers, &(row.1, row.2));
     }
 }
 
@@ -143,7 +112,7 @@ type Row<'a> = (&'a str, &'a str, Answer);
 
 fn check_directives(rt: &impl Abort, alloc: Global, rows: &[Row]) {
     for row in rows {
-        let given = made(rt, alloc, &(row.0, row.1));
+        let given = directive(rt, alloc, &(row.0, row.1));
         equal(rt, &analyze_tag_directive(&given), &row.2);
     }
 }
@@ -177,8 +146,8 @@ fn check_appends(
     rows: &[Given],
 ) {
     for row in rows {
-        let given = made(rt, alloc, &(row.0, row.1));
-        equal(rt, &append(directives, &given, row.2), &row.3);
+        let given = directive(rt, alloc, &(row.0, row.1));
+        equal(rt, &directives.append(&given, row.2), &row.3);
         equal(rt, &directives.len(), &row.4);
     }
 }
@@ -191,7 +160,7 @@ fn check_held(
     i: usize,
     tag: &Tag,
 ) {
-    equal(rt, &holds(directives, i, &made(rt, alloc, tag)), &true);
+    equal(rt, &holds(directives, i, &directive(rt, alloc, tag)), &true);
 }
 
 const TWICE: Answer = Err(yaml_error_t::DuplicateDirective);
@@ -250,11 +219,6 @@ const CUTS: &[Cut] = &[
 ];
 
 #[test]
-fn tags_are_cut_at_the_first_prefix(rt: HostRuntime) {
-    check_cuts(&rt, &in_force(&rt, rt.alloc(), &[]), CUTS);
-}
-
-#[test]
 fn an_empty_tag_is_refused(rt: HostRuntime) {
     let defaults = in_force(&rt, rt.alloc(), &[]);
     let answer = analyze_tag("", &defaults);
@@ -272,7 +236,8 @@ const OWN_CUTS: &[Cut] = &[
 ];
 
 #[test]
-fn tags_are_cut_at_a_documents_own_prefix(rt: HostRuntime) {
+fn tags_are_cut_at_the_first_prefix_of_a_documents_own_and_of_the_defaults(rt: HostRuntime) {
+    check_cuts(&rt, &in_force(&rt, rt.alloc(), &[]), CUTS);
     check_cuts(&rt, &in_force(&rt, rt.alloc(), OWN), OWN_CUTS);
 }
 
@@ -309,8 +274,8 @@ fn is_second_appended<'a>(
 
 // Two directives on a heap: whether the second is added; nothing where they themselves find no room.
 fn is_second_added(rt: &impl Abort, heap: &LocalHeap) -> Result<bool, AllocError> {
-    let first = directive(heap, "!first!", "p")?;
-    let second = directive(heap, "!second-of-them!", "tag:a-long-prefix.example,2000:")?;
+    let first = tried(heap, "!first!", "p")?;
+    let second = tried(heap, "!second-of-them!", "tag:a-long-prefix.example,2000:")?;
     Ok(is_second_appended(rt, heap, &first, &second))
 }
 

@@ -219,9 +219,9 @@ fn check_cut(rt: &impl Abort, pen: &mut Pen<Global>, cut: &[u8])
     let refused = Err(yaml_error_t::WriteError);
     equal(rt, &pen.flush(), &refused);
     same(rt, pen.output(), cut);
-    equal(rt, &pen.put(b'a'), &refused);
-    equal(rt, &pen.flush(), &refused);
-    equal(rt, &pen.error(), &Some(yaml_error_t::WriteError));
+    let answers = (pen.put(b'a'), pen.flush(), pen.error());
+    let error = Some(yaml_error_t::WriteError);
+    equal(rt, &answers, &(refused, refused, error));
     same(rt, pen.output(), cut);
 }
 

@@ -110,9 +110,8 @@ fn check_reported(rt: &impl Abort, reported: &Told, output: &[u8], line: &str) {
 fn check_run(rt: &impl Abort, alloc: Global, row: &Row) {
     let mut output = Vec::new(alloc);
     let answer = answered(rt, alloc, row.script.as_bytes(), &mut output);
-    equal(rt, &(row.script, answer), &(row.script, row.answer));
-    let written = output.as_slice();
-    equal(rt, &(row.script, written), &(row.script, row.output));
+    let got = (row.script, answer, output.as_slice());
+    equal(rt, &got, &(row.script, row.answer, row.output));
 }
 
 /// By calls, and by a run.
@@ -125,9 +124,6 @@ fn check_row(rt: &impl Abort, alloc: Global, row: &Row) {
 fn check_text(rt: &impl Abort, alloc: Global, script: &str, text: &[u8]) {
     check_row(rt, alloc, &Row::done(script, text));
 }
-
-/// Roots of documents, each with its text.
-type Rows<'a> = &'a [(&'a str, &'a str)];
 
 /// Streams, each with what the ends of documents and of the stream add to the output, and then the last flush.
 type Streams<'a> = &'a [(&'a str, &'a [&'a str])];
@@ -143,58 +139,43 @@ fn lengths(rt: &impl Abort, alloc: Global, parts: &[&str]) -> Vec<usize> {
     lengths
 }
 
-// A row whose output comes in these parts.
-fn check_parts(rt: &impl Abort, alloc: Global, row: &Row, parts: &[&str]) {
+/// A stream, after these settings.
+fn check_stream(rt: &impl Abort, alloc: Global, settings: &str, stream: &str, parts: &[&str]) {
+    let script = joined(rt, alloc, &[settings, stream]);
     let output = joined(rt, alloc, parts);
     let lengths = lengths(rt, alloc, parts);
     let row = Row {
-        output: output.as_str().as_bytes(),
         lengths: lengths.as_slice(),
-        ..*row
+        ..Row::done(script.as_str(), output.as_str().as_bytes())
     };
     check_row(rt, alloc, &row);
 }
 
-/// A stream, after these settings.
-fn check_stream(rt: &impl Abort, alloc: Global, settings: &str, stream: &str, parts: &[&str]) {
-    let script = joined(rt, alloc, &[settings, stream]);
-    check_parts(rt, alloc, &Row::done(script.as_str(), b""), parts);
+/// Settings, and the streams that come after them.
+fn check_streams(rt: &impl Abort, alloc: Global, groups: &[(&str, Streams)]) {
+    for (settings, streams) in groups {
+        for stream in *streams {
+            check_stream(rt, alloc, settings, stream.0, stream.1);
+        }
+    }
 }
+
+/// Roots of documents, each with its text.
+type Rows<'a> = &'a [(&'a str, &'a str)];
 
 /// A stream of one document, after these settings, by the events of its root.
 fn check_root(rt: &impl Abort, alloc: Global, settings: &str, root: &str, text: &str) {
     let parts = [settings, "+STR any\n+DOC 1 -\n", root, "\n-DOC 1\n-STR\n"];
     let script = joined(rt, alloc, &parts);
-    check_text(rt, alloc, script.as_str(), text.as_bytes());
-}
-
-fn check_streams(rt: &impl Abort, alloc: Global, settings: &str, rows: Streams) {
-    for row in rows {
-        check_stream(rt, alloc, settings, row.0, row.1);
-    }
-}
-
-fn check_roots(rt: &impl Abort, alloc: Global, settings: &str, rows: Rows) {
-    for row in rows {
-        check_root(rt, alloc, settings, row.0, row.1);
-    }
-}
-
-/// Settings, and the streams that come after them.
-type StreamGroup<'a> = (&'a str, Streams<'a>);
-
-fn check_all_streams(rt: &impl Abort, alloc: Global, groups: &[StreamGroup]) {
-    for group in groups {
-        check_streams(rt, alloc, group.0, group.1);
-    }
+    check_row(rt, alloc, &Row::done(script.as_str(), text.as_bytes()));
 }
 
 /// Settings, and the roots that come after them.
-type Group<'a> = (&'a str, Rows<'a>);
-
-fn check_all_roots(rt: &impl Abort, alloc: Global, groups: &[Group]) {
-    for group in groups {
-        check_roots(rt, alloc, group.0, group.1);
+fn check_roots(rt: &impl Abort, alloc: Global, groups: &[(&str, Rows)]) {
+    for (settings, rows) in groups {
+        for row in *rows {
+            check_root(rt, alloc, settings, row.0, row.1);
+        }
     }
 }
 
@@ -212,7 +193,7 @@ const WHOLE: Streams = &[
 
 #[test]
 fn whole_streams_are_written(rt: HostRuntime) {
-    check_streams(&rt, rt.alloc(), "", WHOLE);
+    check_streams(&rt, rt.alloc(), &[("", WHOLE)]);
 }
 
 /// Scripts, each with the call that is refused, what is written, and what is returned.

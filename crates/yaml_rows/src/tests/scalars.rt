@@ -62,8 +62,7 @@ pub(super) fn check_written(
 )
     requires { IsReady pen.old }
 {
-    equal(rt, &answer, &Ok(()));
-    equal(rt, &pen.flush(), &Ok(()));
+    equal(rt, &(answer, pen.flush()), &(Ok(()), Ok(())));
     same(rt, pen.output(), wanted.as_bytes());
 }
 
@@ -76,8 +75,7 @@ fn check_marked(
 )
     requires { IsReady pen.old }
 {
-    equal(rt, &answer, &Ok(wanted.1));
-    equal(rt, &pen.flush(), &Ok(()));
+    equal(rt, &(answer, pen.flush()), &(Ok(wanted.1), Ok(())));
     same(rt, pen.output(), wanted.0.as_bytes());
 }
 
@@ -105,7 +103,6 @@ fn write_sign(pen: &mut Pen<Global>) -> Result<(), yaml_error_t>
 
 /// The column; both flags of the cursor are off.
 fn check_column(rt: &impl Abort, pen: &Pen<Global>, column: i32) {
-    equal(rt, &pen.column(), &column);
-    equal(rt, &pen.whitespace(), &false);
-    equal(rt, &pen.indention(), &false);
+    let cursor = (pen.column(), pen.whitespace(), pen.indention());
+    equal(rt, &cursor, &(column, false, false));
 }

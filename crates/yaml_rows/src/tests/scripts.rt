@@ -1,5 +1,5 @@
 //! Scripts read by `yaml_tool`, and what each end of a run says.
-use crate::tests::{equal, joined, same};
+use crate::tests::{directives, equal, joined, same};
 use std::alloc::Global;
 use std::process::Abort;
 use yaml_base::{
@@ -51,27 +51,6 @@ fn plain_scalar(value: String) -> yaml_event_t<Global> {
         quoted_implicit: true,
         style: YAML_ANY_SCALAR_STYLE,
     }
-}
-
-fn directive(
-    rt: &impl Abort,
-    alloc: Global,
-    handle: &str,
-    prefix: &str,
-) -> yaml_tag_directive_t<Global> {
-    yaml_tag_directive_t {
-        handle: joined(rt, alloc, &[handle]),
-        prefix: joined(rt, alloc, &[prefix]),
-    }
-}
-
-fn tag_directives(rt: &impl Abort, alloc: Global) -> Vec<yaml_tag_directive_t<Global>> {
-    let mut directives = Vec::new(alloc);
-    let pushed = directives.push(directive(rt, alloc, "!", "!a b"));
-    pushed.expect(rt, "no memory");
-    let pushed = directives.push(directive(rt, alloc, "!e!", ""));
-    pushed.expect(rt, "no memory");
-    directives
 }
 
 fn full_start(tag_directives: Vec<yaml_tag_directive_t<Global>>) -> yaml_event_t<Global> {
@@ -149,7 +128,7 @@ const EVERY_PART: &str =
 fn every_part(rt: &impl Abort, alloc: Global) -> Events {
     let mut events = Vec::new(alloc);
     add(rt, &mut events, 1, stream_start(YAML_UTF16BE_ENCODING));
-    let start = full_start(tag_directives(rt, alloc));
+    let start = full_start(directives(rt, alloc, &[("!", "!a b"), ("!e!", "")]));
     add(rt, &mut events, 2, start);
     let anchor = joined(rt, alloc, &["x"]);
     let tag = joined(rt, alloc, &["-"]);

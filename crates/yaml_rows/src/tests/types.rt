@@ -1,25 +1,13 @@
 //! Events, nodes, refusals and classes of characters: what is equal, and what is printed.
 mod documents;
 
-use super::{equal, owned};
+use super::{Tag, directives, equal, owned};
 use std::alloc::Global;
 use std::fmt::Debug;
 use std::process::Abort;
 use yaml_base::*;
 
-fn directive(rt: &impl Abort, alloc: Global) -> yaml_tag_directive_t<Global> {
-    yaml_tag_directive_t {
-        handle: owned(rt, alloc, "!"),
-        prefix: owned(rt, alloc, "!a"),
-    }
-}
-
-fn one_directive(rt: &impl Abort, alloc: Global) -> Vec<yaml_tag_directive_t<Global>> {
-    let mut directives = Vec::new(alloc);
-    let pushed = directives.push(directive(rt, alloc));
-    pushed.expect(rt, "no memory");
-    directives
-}
+const DIRECTIVES: &[Tag] = &[("!", "!a")];
 
 fn scalar(
     rt: &impl Abort,
@@ -49,7 +37,7 @@ fn flow_sequence(rt: &impl Abort, alloc: Global) -> yaml_event_t<Global> {
 fn document_start(rt: &impl Abort, alloc: Global, minor: i32) -> yaml_event_t<Global> {
     YAML_DOCUMENT_START_EVENT {
         version_directive: Some(yaml_version_directive_t { major: 1, minor }),
-        tag_directives: one_directive(rt, alloc),
+        tag_directives: directives(rt, alloc, DIRECTIVES),
         implicit: false,
     }
 }

@@ -1,7 +1,7 @@
 //! Documents as events: tables of graphs, with the events worked out by hand.
 use super::Given::{Mapping, Sequence, Text};
 use super::{Given, copied, document, in_each_other, nodes};
-use crate::tests::{equal, owned};
+use crate::tests::{Tag, directives, equal, owned, owned_choice};
 use std::alloc::Global;
 use std::process::Abort;
 use yaml_base::{
@@ -9,8 +9,7 @@ use yaml_base::{
     YAML_DOCUMENT_END_EVENT, YAML_DOCUMENT_START_EVENT, YAML_DOUBLE_QUOTED_SCALAR_STYLE,
     YAML_FLOW_MAPPING_STYLE, YAML_MAPPING_END_EVENT, YAML_MAPPING_START_EVENT, YAML_SCALAR_EVENT,
     YAML_SEQUENCE_END_EVENT, YAML_SEQUENCE_START_EVENT, yaml_document_t, yaml_event_t,
-    yaml_node_data_t, yaml_node_pair_t, yaml_node_t, yaml_tag_directive_t,
-    yaml_version_directive_t,
+    yaml_node_data_t, yaml_node_pair_t, yaml_node_t, yaml_version_directive_t,
 };
 use yaml_dump::document_events;
 
@@ -29,13 +28,6 @@ enum Met<'a> {
 }
 
 use Met::{Alias, Items, ItemsEnd, Pairs, PairsEnd, Scalar};
-
-fn if_any(rt: &impl Abort, alloc: Global, anchor: Option<&str>) -> Option<String> {
-    match anchor {
-        Some(name) => Some(owned(rt, alloc, name)),
-        None => None,
-    }
-}
 
 fn scalar(anchor: Option<String>, tag: String, value: String) -> yaml_event_t<Global> {
     YAML_SCALAR_EVENT {
@@ -70,17 +62,17 @@ fn pairs(anchor: Option<String>, tag: String) -> yaml_event_t<Global> {
 fn event(rt: &impl Abort, alloc: Global, met: &Met) -> yaml_event_t<Global> {
     match met {
         Scalar(anchor, value) => scalar(
-            if_any(rt, alloc, *anchor),
+            owned_choice(rt, alloc, *anchor),
             owned(rt, alloc, "tag:yaml.org,2002:str"),
             owned(rt, alloc, value),
         ),
         Items(anchor) => items(
-            if_any(rt, alloc, *anchor),
+            owned_choice(rt, alloc, *anchor),
             owned(rt, alloc, "tag:yaml.org,2002:seq"),
         ),
         ItemsEnd => YAML_SEQUENCE_END_EVENT,
         Pairs(anchor) => pairs(
-            if_any(rt, alloc, *anchor),
+            owned_choice(rt, alloc, *anchor),
             owned(rt, alloc, "tag:yaml.org,2002:map"),
         ),
         PairsEnd => YAML_MAPPING_END_EVENT,
@@ -142,6 +134,7 @@ fn check_events(rt: &impl Abort, alloc: Global, given: &[Given], met: &[Met]) {
     check_document(rt, alloc, &graph, whole(rt, alloc, met).as_slice());
 }
 
+/// Nodes that are shared are named in the order of their second meetings.
 const NESTED: &[Given] = &[Sequence(&[2, 2]), Sequence(&[3, 3]), Text("a")];
 
 const NESTED_MET: &[Met] = &[
@@ -154,16 +147,12 @@ const NESTED_MET: &[Met] = &[
     ItemsEnd,
 ];
 
-#[test]
-fn shared_nodes_are_named_in_the_order_of_their_second_meetings(rt: HostRuntime) {
-    check_events(&rt, rt.alloc(), NESTED, NESTED_MET);
-}
-
 const PAIRS: &[yaml_node_pair_t] = &[
     yaml_node_pair_t { key: 2, value: 1 },
     yaml_node_pair_t { key: 3, value: 4 },
 ];
 
+/// A key comes before its value, and may hold the mapping.
 const HOLDS_ITSELF: &[Given] = &[Mapping(PAIRS), Sequence(&[1]), Text("a"), Text("b")];
 
 const HOLDS_ITSELF_MET: &[Met] = &[
@@ -177,28 +166,23 @@ const HOLDS_ITSELF_MET: &[Met] = &[
     PairsEnd,
 ];
 
-#[test]
-fn a_key_comes_before_its_value_and_may_hold_the_mapping(rt: HostRuntime) {
-    check_events(&rt, rt.alloc(), HOLDS_ITSELF, HOLDS_ITSELF_MET);
-}
-
+/// A node beside the root isn't met.
 const BESIDE: &[Given] = &[Text("a"), Sequence(&[1])];
 
+const GRAPHS: &[(&[Given], &[Met])] = &[
+    (NESTED, NESTED_MET),
+    (HOLDS_ITSELF, HOLDS_ITSELF_MET),
+    (BESIDE, &[Scalar(None, "a")]),
+];
+
 #[test]
-fn a_node_beside_the_root_is_not_met(rt: HostRuntime) {
-    check_events(&rt, rt.alloc(), BESIDE, &[Scalar(None, "a")]);
+fn nodes_are_met_from_the_root_in_their_order(rt: HostRuntime) {
+    for (given, met) in GRAPHS {
+        check_events(&rt, rt.alloc(), given, met);
+    }
 }
 
-/// A directive for tags.
-fn directives(rt: &impl Abort, alloc: Global) -> Vec<yaml_tag_directive_t<Global>> {
-    let directive = yaml_tag_directive_t {
-        handle: owned(rt, alloc, "!e!"),
-        prefix: owned(rt, alloc, "tag:e,2026:"),
-    };
-    let mut directives = Vec::new(alloc);
-    directives.push(directive).expect(rt, "no memory");
-    directives
-}
+const DIRECTIVES: &[Tag] = &[("!e!", "tag:e,2026:")];
 
 /// A flow mapping whose key is its value, with a tag of its own.
 fn tagged_mapping(rt: &impl Abort, alloc: Global) -> yaml_node_t<Global> {
@@ -240,7 +224,7 @@ const VERSION: Option<yaml_version_directive_t> = Some(yaml_version_directive_t 
 fn tagged_start(rt: &impl Abort, alloc: Global) -> yaml_event_t<Global> {
     YAML_DOCUMENT_START_EVENT {
         version_directive: VERSION,
-        tag_directives: directives(rt, alloc),
+        tag_directives: directives(rt, alloc, DIRECTIVES),
         implicit: false,
     }
 }
@@ -280,10 +264,14 @@ fn tagged_events(rt: &impl Abort, alloc: Global) -> Events {
 fn tagged_document(rt: &impl Abort, alloc: Global) -> yaml_document_t<Global> {
     let nodes = tagged_nodes(rt, alloc);
     assert!(rt; nodes.len() <= 2_000_000);
-    yaml_document_t::from_nodes(VERSION, directives(rt, alloc), nodes, false, true).expect(
-        rt,
-        "each number names a node",
+    yaml_document_t::from_nodes(
+        VERSION,
+        directives(rt, alloc, DIRECTIVES),
+        nodes,
+        false,
+        true,
     )
+    .expect(rt, "each number names a node")
 }
 
 #[test]
@@ -298,11 +286,11 @@ fn check_at(
     rt: &impl Abort,
     events: &[yaml_event_t<Global>],
     place: usize,
-    wanted: yaml_event_t<Global>,
+    wanted: &yaml_event_t<Global>,
 ) {
     equal(
         rt,
-        &(place, events.get(place) == Some(&wanted)),
+        &(place, events.get(place) == Some(wanted)),
         &(place, true),
     );
 }
@@ -310,9 +298,9 @@ fn check_at(
 // 99,999 starts, the text, as many ends, and the document's own two.
 fn check_deep(rt: &impl Abort, alloc: Global, events: &[yaml_event_t<Global>]) {
     equal(rt, &events.len(), &200_001);
-    check_at(rt, events, 100_000, event(rt, alloc, &Scalar(None, "a")));
-    check_at(rt, events, 199_999, YAML_SEQUENCE_END_EVENT);
-    check_at(rt, events, 200_000, END);
+    check_at(rt, events, 100_000, &event(rt, alloc, &Scalar(None, "a")));
+    check_at(rt, events, 199_999, &event(rt, alloc, &ItemsEnd));
+    check_at(rt, events, 200_000, &END);
 }
 
 #[test]

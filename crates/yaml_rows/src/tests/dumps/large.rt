@@ -2,9 +2,9 @@
 use super::Given::{Sequence, Text};
 use super::events::events_of;
 use super::steps::Step::{Close, Dump, Output};
-use super::steps::{check_steps, check_steps_at};
 use super::{Given, document, nodes};
 use crate::tests::emitters::UNSET;
+use crate::tests::emitters::steps::{check_steps, check_steps_at};
 use crate::tests::{equal, joined};
 use std::alloc::Global;
 use std::process::Abort;
@@ -124,24 +124,20 @@ fn shared_text(rt: &impl Abort, alloc: Global, count: usize) -> String {
     text
 }
 
-#[test]
-fn twenty_shared_texts_are_written_once(rt: HostRuntime) {
-    let alloc = rt.alloc();
-    let doubled = doubled(&rt, alloc, 21);
-    let mut given = sequences(&rt, alloc, doubled.as_slice(), 40);
-    add_texts(&rt, &mut given, "x", 20);
-    let text = shared_text(&rt, alloc, 20);
-    check_text(&rt, alloc, given.as_slice(), text.as_str());
+// One sequence holds so many texts, each twice.
+fn check_shared(rt: &impl Abort, alloc: Global, doubled: &[i32], count: usize) {
+    let mut given = sequences(rt, alloc, doubled, doubled.len());
+    add_texts(rt, &mut given, "x", count);
+    let text = shared_text(rt, alloc, count);
+    check_text(rt, alloc, given.as_slice(), text.as_str());
 }
 
+// Anchors past 999 have four digits.
 #[test]
-fn anchors_past_999_have_four_digits(rt: HostRuntime) {
+fn shared_texts_are_written_once(rt: HostRuntime) {
     let alloc = rt.alloc();
-    let doubled = doubled(&rt, alloc, 1_001);
-    let mut given = sequences(&rt, alloc, doubled.as_slice(), 2_000);
-    add_texts(&rt, &mut given, "x", 1_000);
-    let text = shared_text(&rt, alloc, 1_000);
-    check_text(&rt, alloc, given.as_slice(), text.as_str());
+    check_shared(&rt, alloc, doubled(&rt, alloc, 21).as_slice(), 20);
+    check_shared(&rt, alloc, doubled(&rt, alloc, 1_001).as_slice(), 1_000);
 }
 
 #[test]

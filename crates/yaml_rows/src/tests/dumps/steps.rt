@@ -1,6 +1,7 @@
 //! Calls on one emitter, and what is then so, as tables write them; also with each growth refused in turn.
 use super::{Given, close, document, dump, nodes};
-use crate::tests::emitters::{Answer, begun, check_answer, check_out_of_memory, give};
+use crate::tests::emitters::steps::{Taken, check_steps};
+use crate::tests::emitters::{Answer, check_answer, give};
 use crate::tests::{equal, same};
 use std::alloc::{Allocator, Global};
 use std::process::Abort;
@@ -76,113 +77,42 @@ fn dump_again<A: Allocator + Copy>(
     dump(rt, alloc, emitter, granted(rt, heap, alloc, given))
 }
 
-fn take<A: Allocator + Copy>(
-    rt: &impl Abort,
-    heap: &Refusing<Global>,
-    alloc: A,
-    emitter: &mut yaml_emitter_t<A>,
-    step: &Step,
-) {
-    match step {
-        Step::Open(answer) => check_answer(rt, heap, open(rt, emitter), answer),
-        Step::Start(answer) => check_answer(rt, heap, start(rt, emitter), answer),
-        Step::End(answer) => {
-            check_answer(rt, heap, give(rt, emitter, YAML_STREAM_END_EVENT), answer)
+impl Taken for Step<'_> {
+    // No event waits after any step.
+    fn take<A: Allocator + Copy>(
+        &self,
+        rt: &impl Abort,
+        heap: &Refusing<Global>,
+        alloc: A,
+        emitter: &mut yaml_emitter_t<A>,
+    ) {
+        match self {
+            Step::Open(answer) => check_answer(rt, heap, open(rt, emitter), *answer),
+            Step::Start(answer) => check_answer(rt, heap, start(rt, emitter), *answer),
+            Step::End(answer) => {
+                check_answer(rt, heap, give(rt, emitter, YAML_STREAM_END_EVENT), *answer)
+            }
+            Step::Dump(given, answer) => {
+                check_answer(
+                    rt,
+                    heap,
+                    dump_again(rt, heap, alloc, emitter, given),
+                    *answer,
+                )
+            }
+            Step::Close(answer) => check_answer(rt, heap, close(rt, emitter), *answer),
+            Step::Opened(is_opened) => equal(rt, &emitter.is_opened(), is_opened),
+            Step::Closed(is_closed) => equal(rt, &emitter.is_closed(), is_closed),
+            Step::Output(bytes) => same(rt, emitter.output(), bytes),
+            Step::Error(error) => equal(rt, &emitter.error(), error),
         }
-        Step::Dump(given, answer) => {
-            check_answer(
-                rt,
-                heap,
-                dump_again(rt, heap, alloc, emitter, given),
-                answer,
-            )
-        }
-        Step::Close(answer) => check_answer(rt, heap, close(rt, emitter), answer),
-        Step::Opened(is_opened) => equal(rt, &emitter.is_opened(), is_opened),
-        Step::Closed(is_closed) => equal(rt, &emitter.is_closed(), is_closed),
-        Step::Output(bytes) => same(rt, emitter.output(), bytes),
-        Step::Error(error) => equal(rt, &emitter.error(), error),
-    }
-}
-
-/// The last output that is looked at.
-fn last_output<'a>(steps: &[Step<'a>]) -> &'a [u8] {
-    let mut output: &[u8] = b"";
-    for step in steps {
-        if let Step::Output(bytes) = step {
-            output = bytes;
-        }
-    }
-    output
-}
-
-// Steps up to the one in which a growth is refused. No event waits after any.
-fn take_all<A: Allocator + Copy>(
-    rt: &impl Abort,
-    heap: &Refusing<Global>,
-    alloc: A,
-    emitter: &mut yaml_emitter_t<A>,
-    steps: &[Step],
-) {
-    for step in steps {
-        take(rt, heap, alloc, emitter, step);
         equal(rt, &emitter.held(), &0);
-        if heap.left() == 0 {
-            check_out_of_memory(rt, emitter, last_output(steps));
-            return;
-        }
     }
-}
 
-// On an emitter of its own.
-fn take_refused<A: Allocator + Copy>(
-    rt: &impl Abort,
-    heap: &Refusing<Global>,
-    alloc: A,
-    settings: &Settings,
-    steps: &[Step],
-) {
-    match begun(alloc, settings) {
-        Ok(mut emitter) => take_all(rt, heap, alloc, &mut emitter, steps),
-        Err(error) => check_answer(rt, heap, Err(error), &Ok(())),
-    }
-}
-
-// The steps are taken with this growth refused. Answers whether there is that growth.
-fn is_refused(
-    rt: &impl Abort,
-    alloc: Global,
-    settings: &Settings,
-    steps: &[Step],
-    number: usize,
-) -> bool {
-    let heap = Refusing::new(alloc);
-    heap.refuse(number);
-    take_refused(rt, &heap, &heap, settings, steps);
-    // It was refused; or no growth was refused before another dump, from which on so many are left.
-    heap.left() == 0 || heap.left() > number
-}
-
-/// The steps are taken with the first growth refused, the second, and so on, until none is.
-pub(super) fn check_steps(rt: &impl Abort, alloc: Global, settings: &Settings, steps: &[Step]) {
-    for number in 1..usize::MAX {
-        if !is_refused(rt, alloc, settings, steps, number) {
-            return;
-        }
-    }
-}
-
-/// The steps are taken with each of these growths refused, until there is none of that number.
-pub(super) fn check_steps_at(
-    rt: &impl Abort,
-    alloc: Global,
-    settings: &Settings,
-    steps: &[Step],
-    numbers: &[usize],
-) {
-    for number in numbers {
-        if !is_refused(rt, alloc, settings, steps, *number) {
-            return;
+    fn output(&self) -> Option<&[u8]> {
+        match self {
+            Step::Output(bytes) => Some(bytes),
+            _ => None,
         }
     }
 }

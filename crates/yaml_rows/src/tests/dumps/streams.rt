@@ -1,11 +1,12 @@
 //! Streams opened and closed as a whole, without documents.
+use super::steps::Step;
 use super::steps::Step::{Close, Closed, Error, Open, Output};
-use super::steps::{Step, check_steps};
 use crate::tests::emitters::UNSET;
 use yaml_base::{YAML_UTF16BE_ENCODING, yaml_error_t};
 use yaml_emitter::Settings;
 
-const EMPTY: &[Step] = &[
+/// An empty stream is opened and closed.
+pub(super) const EMPTY: &[Step] = &[
     Open(Ok(())),
     Closed(false),
     Close(Ok(())),
@@ -17,17 +18,13 @@ const EMPTY: &[Step] = &[
     Error(None),
 ];
 
-#[test]
-fn an_empty_stream_is_opened_and_closed(rt: HostRuntime) {
-    check_steps(&rt, rt.alloc(), &UNSET, EMPTY);
-}
-
-const BIG: Settings = Settings {
+pub(super) const BIG: Settings = Settings {
     encoding: YAML_UTF16BE_ENCODING,
     ..UNSET
 };
 
-const MARKED: &[Step] = &[
+/// A mark is written as the stream closes.
+pub(super) const MARKED: &[Step] = &[
     Open(Ok(())),
     Closed(false),
     Close(Ok(())),
@@ -39,15 +36,11 @@ const MARKED: &[Step] = &[
     Error(None),
 ];
 
-#[test]
-fn a_mark_is_written_as_the_stream_closes(rt: HostRuntime) {
-    check_steps(&rt, rt.alloc(), &BIG, MARKED);
-}
-
 /// The byte order mark, which the stream's end writes, takes two bytes.
 pub(super) const ONE_BYTE: Settings = Settings { limit: 1, ..BIG };
 
-const CUT: &[Step] = &[
+/// The limit leaves no room for the mark, and a stream that is refused its end is not closed.
+pub(super) const CUT: &[Step] = &[
     Open(Ok(())),
     Closed(false),
     Close(Err(yaml_error_t::WriteError)),
@@ -58,9 +51,3 @@ const CUT: &[Step] = &[
     Output(b"\xFE"),
     Error(Some(yaml_error_t::WriteError)),
 ];
-
-// The limit leaves no room for the mark.
-#[test]
-fn a_stream_that_is_refused_its_end_is_not_closed(rt: HostRuntime) {
-    check_steps(&rt, rt.alloc(), &ONE_BYTE, CUT);
-}

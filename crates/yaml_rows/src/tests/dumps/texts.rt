@@ -3,8 +3,9 @@ use super::Given;
 use super::Given::{Mapping, Sequence, Tagged, Text};
 use super::events::events_of;
 use super::steps::Step::{Close, Closed, Dump, End, Error, Open, Opened, Output, Start};
-use super::steps::{Row, Step, check_rows, check_steps};
-use super::streams::ONE_BYTE;
+use super::steps::{Row, Step, check_rows};
+use super::streams::{BIG, CUT, EMPTY, MARKED, ONE_BYTE};
+use crate::tests::emitters::steps::check_steps;
 use crate::tests::emitters::{Answer, UNSET};
 use yaml_base::{yaml_error_t, yaml_node_pair_t};
 use yaml_emitter::Settings;
@@ -34,18 +35,10 @@ const ONCE: &[Row] = &[
     (&[Tagged("tag:yaml.org,2002:int", "5")], "!!int 5\n"),
 ];
 
-#[test]
-fn nodes_are_written_once(rt: HostRuntime) {
-    check_rows(&rt, rt.alloc(), &UNSET, ONCE);
-}
-
+/// An empty tag is refused.
 const EMPTY_TAG: &[Step] = &[Dump(&[Tagged("", "5")], Err(yaml_error_t::TagEmpty))];
 
-#[test]
-fn an_empty_tag_is_refused(rt: HostRuntime) {
-    check_steps(&rt, rt.alloc(), &UNSET, EMPTY_TAG);
-}
-
+/// A node beside the root is left out.
 const BESIDE: &[Step] = &[
     Open(Ok(())),
     Dump(&[Text("a"), Text("b")], Ok(())),
@@ -53,22 +46,13 @@ const BESIDE: &[Step] = &[
     Output(b"a\n"),
 ];
 
-#[test]
-fn a_node_beside_the_root_is_left_out(rt: HostRuntime) {
-    check_steps(&rt, rt.alloc(), &UNSET, BESIDE);
-}
-
+/// A document may be dumped twice.
 const TWICE: &[Step] = &[
     Dump(SHARED, Ok(())),
     Dump(SHARED, Ok(())),
     Close(Ok(())),
     Output(b"- &id001 a\n- *id001\n---\n- &id001 a\n- *id001\n"),
 ];
-
-#[test]
-fn a_document_may_be_dumped_twice(rt: HostRuntime) {
-    check_steps(&rt, rt.alloc(), &UNSET, TWICE);
-}
 
 const NESTED: &str =
     "---\n!!seq [\n  &id002 !!seq [\n    &id001 !!str \"a\",\n    *id001,\n  ],\n  *id002,\n]\n";
@@ -89,10 +73,12 @@ const IN_FULL: Settings = Settings {
 };
 
 #[test]
-fn canonical_text_has_every_tag_and_anchor(rt: HostRuntime) {
+fn nodes_are_written_once_and_canonical_ones_with_every_tag(rt: HostRuntime) {
+    check_rows(&rt, rt.alloc(), &UNSET, ONCE);
     check_rows(&rt, rt.alloc(), &IN_FULL, CANONICAL);
 }
 
+/// A document without nodes closes the stream.
 const NOTHING: &[Step] = &[
     Dump(&[], Ok(())),
     Closed(true),
@@ -104,13 +90,9 @@ const NOTHING: &[Step] = &[
     Error(None),
 ];
 
-#[test]
-fn a_document_without_nodes_closes_the_stream(rt: HostRuntime) {
-    check_steps(&rt, rt.alloc(), &UNSET, NOTHING);
-}
-
 const REFUSED: Answer = Err(yaml_error_t::WriteError);
 
+/// A dump that fails to close leaves the stream open.
 const UNCLOSED: &[Step] = &[
     Dump(&[], REFUSED),
     Opened(true),
@@ -122,12 +104,7 @@ const UNCLOSED: &[Step] = &[
     Output(b"\xFE"),
 ];
 
-#[test]
-fn a_dump_that_fails_to_close_leaves_the_stream_open(rt: HostRuntime) {
-    check_steps(&rt, rt.alloc(), &ONE_BYTE, UNCLOSED);
-}
-
-// A document without nodes changes nothing more, and another one is refused.
+/// A stream that is closed takes no document: one without nodes changes nothing more, and another one is refused.
 const AFTER_THE_END: &[Step] = &[
     Dump(SHARED, Ok(())),
     Close(Ok(())),
@@ -137,29 +114,37 @@ const AFTER_THE_END: &[Step] = &[
     Output(b"- &id001 a\n- *id001\n"),
 ];
 
-#[test]
-fn a_closed_stream_takes_no_document(rt: HostRuntime) {
-    check_steps(&rt, rt.alloc(), &UNSET, AFTER_THE_END);
-}
-
-// The stream was begun by an event, so the dump's own start is refused.
+/// The stream was begun by an event, so the dump's own start is refused.
 const BEGUN: &[Step] = &[
     Start(Ok(())),
     Dump(SHARED, Err(yaml_error_t::ExpectedDocumentStart)),
     Opened(false),
 ];
 
-#[test]
-fn a_stream_is_opened_once(rt: HostRuntime) {
-    check_steps(&rt, rt.alloc(), &UNSET, BEGUN);
-}
-
+/// The first error is answered.
 const UNBEGUN: &[Step] = &[
     End(Err(yaml_error_t::ExpectedStreamStart)),
     Dump(SHARED, Err(yaml_error_t::ExpectedStreamStart)),
 ];
 
+/// Calls on an emitter of these settings.
+const CALLS: &[(&Settings, &[Step])] = &[
+    (&UNSET, EMPTY_TAG),
+    (&UNSET, BESIDE),
+    (&UNSET, TWICE),
+    (&UNSET, NOTHING),
+    (&ONE_BYTE, UNCLOSED),
+    (&UNSET, AFTER_THE_END),
+    (&UNSET, BEGUN),
+    (&UNSET, UNBEGUN),
+    (&UNSET, EMPTY),
+    (&BIG, MARKED),
+    (&ONE_BYTE, CUT),
+];
+
 #[test]
-fn the_first_error_is_answered(rt: HostRuntime) {
-    check_steps(&rt, rt.alloc(), &UNSET, UNBEGUN);
+fn each_call_is_answered(rt: HostRuntime) {
+    for (settings, steps) in CALLS {
+        check_steps(&rt, rt.alloc(), settings, steps);
+    }
 }

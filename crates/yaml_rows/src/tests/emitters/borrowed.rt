@@ -3,8 +3,8 @@ use super::streams::Given::{
     BlockMapping, Document, DocumentEnd, FlowSequence, MappingEnd, SequenceEnd, Stream, StreamEnd,
 };
 use super::streams::{Given, event};
-use super::{Answer, UNSET, flush_if_known, give, made};
-use crate::tests::{equal, owned, same};
+use super::{Answer, UNSET, emit, flush_if_known, give, made};
+use crate::tests::{equal, owned, owned_choice, same};
 use Part::{Borrowed, Other};
 use std::alloc::{Allocator, Global};
 use std::process::Abort;
@@ -148,18 +148,6 @@ const ENTRIES_IN_CANONICAL_FORM: &str = "---
 \"root\"
 ";
 
-/// A copy of a text, where there is one.
-fn owned_choice<A: Allocator>(
-    rt: &impl Abort,
-    alloc: A,
-    choice: Option<&str>,
-) -> Option<String<A>> {
-    match choice {
-        Some(text) => Some(owned(rt, alloc, text)),
-        None => None,
-    }
-}
-
 /// The event of a scalar, for which there is memory.
 fn event_of<A: Allocator + Copy>(
     rt: &impl Abort,
@@ -218,42 +206,56 @@ fn check_alike<A: Allocator>(
     second: &yaml_emitter_t<A>,
 ) {
     same(rt, second.output(), first.output());
-    equal(rt, &second.held(), &first.held());
-    equal(rt, &second.error(), &first.error());
+    let wanted = (first.held(), first.error());
+    equal(rt, &(second.held(), second.error()), &wanted);
 }
 
-// One emitter is given events alone, the other borrowed scalars; both have this error in the end, if any, and write this.
-fn check_parts(
+// One emitter is given events alone, the other borrowed scalars.
+fn give_both<A: Allocator + Copy>(
+    rt: &impl Abort,
+    alloc: A,
+    owning: &mut yaml_emitter_t<A>,
+    borrowing: &mut yaml_emitter_t<A>,
+    parts: &[Part],
+) {
+    for part in parts {
+        let answer = give_owned(rt, alloc, owning, part);
+        equal(rt, &give_part(rt, alloc, borrowing, part), &answer);
+        check_alike(rt, owning, borrowing);
+    }
+    let answer = flush_if_known(rt, owning);
+    equal(rt, &flush_if_known(rt, borrowing), &answer);
+    check_alike(rt, owning, borrowing);
+}
+
+/// Events, the error after them, if any, and what is written.
+type Whole<'a> = (&'a [Part<'a>], Option<yaml_error_t>, &'a str);
+
+// An emitter that borrows is made beside one that owns.
+fn check_beside(
     rt: &impl Abort,
     alloc: Global,
     settings: &Settings,
-    parts: &[Part],
-    (error, wanted): (Option<yaml_error_t>, &str),
+    owning: &mut yaml_emitter_t<Global>,
+    (parts, error, wanted): Whole,
 ) {
-    let mut owning = made(rt, alloc, settings);
     let mut borrowing = made(rt, alloc, settings);
-    for part in parts {
-        let answer = give_owned(rt, alloc, &mut owning, part);
-        equal(rt, &give_part(rt, alloc, &mut borrowing, part), &answer);
-        check_alike(rt, &owning, &borrowing);
-    }
-    let answer = flush_if_known(rt, &mut owning);
-    equal(rt, &flush_if_known(rt, &mut borrowing), &answer);
-    check_alike(rt, &owning, &borrowing);
+    give_both(rt, alloc, owning, &mut borrowing, parts);
     equal(rt, &borrowing.error(), &error);
     same(rt, borrowing.output(), wanted.as_bytes());
 }
 
+// Both have this error in the end, if any, and write this.
+fn check_parts(rt: &impl Abort, alloc: Global, settings: &Settings, whole: Whole) {
+    let mut owning = made(rt, alloc, settings);
+    check_beside(rt, alloc, settings, &mut owning, whole);
+}
+
 #[test]
 fn borrowed_scalars_stand_as_their_events_do(rt: HostRuntime) {
-    check_parts(&rt, rt.alloc(), &UNSET, ENTRIES, (None, ENTRIES_TEXT));
-    check_parts(
-        &rt,
-        rt.alloc(),
-        CANONICAL,
-        ENTRIES,
-        (None, ENTRIES_IN_CANONICAL_FORM),
-    );
+    check_parts(&rt, rt.alloc(), &UNSET, (ENTRIES, None, ENTRIES_TEXT));
+    let canonical = (ENTRIES, None, ENTRIES_IN_CANONICAL_FORM);
+    check_parts(&rt, rt.alloc(), CANONICAL, canonical);
 }
 
 const CANONICAL: &Settings = &Settings {
@@ -323,7 +325,7 @@ const REFUSED: &[(&[Part], yaml_error_t)] = &[
 #[test]
 fn borrowed_scalars_are_refused_as_their_events_are(rt: HostRuntime) {
     for (parts, error) in REFUSED {
-        check_parts(&rt, rt.alloc(), &UNSET, parts, (Some(*error), ""));
+        check_parts(&rt, rt.alloc(), &UNSET, (parts, Some(*error), ""));
     }
 }
 
@@ -339,14 +341,26 @@ fn give_sparingly(
     heap.refuse(1);
     let answer = give_borrowed(rt, emitter, content);
     if held == 0 {
-        equal(rt, &answer, &Ok(()));
-        equal(rt, &heap.left(), &1);
+        equal(rt, &(answer, heap.left()), &(Ok(()), 1));
         heap.refuse(0);
     } else {
-        equal(rt, &answer, &Err(yaml_error_t::Memory));
-        equal(rt, &emitter.error(), &None);
-        equal(rt, &emitter.held(), &held);
+        let got = (answer, emitter.error(), emitter.held());
+        equal(rt, &got, &(Err(yaml_error_t::Memory), None, held));
         equal(rt, &give_borrowed(rt, emitter, content), &Ok(()));
+    }
+}
+
+fn give_all_sparingly<'a>(
+    rt: &impl Abort,
+    heap: &'a Refusing<Global>,
+    emitter: &mut yaml_emitter_t<&'a Refusing<Global>>,
+    parts: &[Part],
+) {
+    for part in parts {
+        match part {
+            Borrowed(content) => give_sparingly(rt, heap, emitter, content),
+            Other(given) => emit(rt, heap, emitter, given),
+        }
     }
 }
 
@@ -354,14 +368,6 @@ fn give_sparingly(
 fn borrowed_scalars_take_memory_only_where_they_wait(rt: HostRuntime) {
     let heap = Refusing::new(rt.alloc());
     let mut emitter = made(&rt, &heap, &UNSET);
-    for part in ENTRIES {
-        match part {
-            Borrowed(content) => give_sparingly(&rt, &heap, &mut emitter, content),
-            Other(given) => {
-                let next = event(&rt, &heap, given);
-                equal(&rt, &give(&rt, &mut emitter, next), &Ok(()));
-            }
-        }
-    }
+    give_all_sparingly(&rt, &heap, &mut emitter, ENTRIES);
     same(&rt, emitter.output(), ENTRIES_TEXT.as_bytes());
 }

@@ -88,6 +88,18 @@ fn both(rt: &impl Abort, alloc: Global, first: &str, second: &str) -> String {
 /// A value, and the style that is asked for.
 type Root<'a> = (&'a str, yaml_scalar_style_t);
 
+const NARROW: &Settings = &Settings {
+    unicode: true,
+    width: Some(5),
+    ..UNSET
+};
+
+const ENDLESS: &Settings = &Settings {
+    unicode: true,
+    width: Some(-1),
+    ..UNSET
+};
+
 // What stands after the document's end, and after the stream's.
 fn check_outputs<'a>(
     rt: &impl Abort,
@@ -110,26 +122,13 @@ fn check_outputs<'a>(
     check_steps(rt, alloc, settings, &steps);
 }
 
-fn check_document(
-    rt: &impl Abort,
-    alloc: Global,
-    settings: &Settings,
-    root: Root,
-    (document, dots): (&str, &str),
-) {
-    let stream = both(rt, alloc, document, dots);
-    check_outputs(rt, alloc, settings, root, (document, stream.as_str()));
-}
-
-fn check_style(rt: &impl Abort, alloc: Global, settings: &Settings, root: Root, text: &str) {
+// At each width.
+fn check_style(rt: &impl Abort, alloc: Global, root: Root, text: &str) {
     let document = both(rt, alloc, text, last_break(text));
-    check_document(
-        rt,
-        alloc,
-        settings,
-        root,
-        (document.as_str(), dots_after(text)),
-    );
+    let stream = both(rt, alloc, document.as_str(), dots_after(text));
+    let outputs = (document.as_str(), stream.as_str());
+    check_outputs(rt, alloc, NARROW, root, outputs);
+    check_outputs(rt, alloc, ENDLESS, root, outputs);
 }
 
 const STYLES: &[yaml_scalar_style_t] = &[
@@ -141,86 +140,158 @@ const STYLES: &[yaml_scalar_style_t] = &[
     YAML_FOLDED_SCALAR_STYLE,
 ];
 
-fn check_styles(rt: &impl Abort, alloc: Global, settings: &Settings, texts: &Texts) {
-    for style in STYLES {
-        let text = texts.chosen(*style);
-        check_style(rt, alloc, settings, (texts.value, *style), text);
+/// How many rows there are, and the rows of both tables, in one order.
+type Table<'a> = (usize, &'a [&'a str], &'a [&'a str]);
+
+fn check_tables(rt: &impl Abort, alloc: Global, tables: &[Table]) {
+    for (count, quoted, block) in tables {
+        equal(rt, &(quoted.len(), block.len()), &(*count, *count));
+        for (quoted, block) in quoted.iter().zip(*block) {
+            let texts = texts_of(rt, quoted, block);
+            for style in STYLES {
+                check_style(rt, alloc, (texts.value, *style), texts.chosen(*style));
+            }
+        }
     }
 }
 
-const NARROW: &Settings = &Settings {
-    unicode: true,
-    width: Some(5),
-    ..UNSET
-};
-
-const ENDLESS: &Settings = &Settings {
-    unicode: true,
-    width: Some(-1),
-    ..UNSET
-};
-
-// So many rows of both tables, in one order.
-fn check_rows(rt: &impl Abort, alloc: Global, quoted: &[&str], block: &[&str], count: usize) {
-    equal(rt, &(quoted.len(), block.len()), &(count, count));
-    for (quoted, block) in quoted.iter().zip(block) {
-        let texts = texts_of(rt, quoted, block);
-        check_styles(rt, alloc, NARROW, &texts);
-        check_styles(rt, alloc, ENDLESS, &texts);
-    }
-}
+const SHORTEST: &[Table] = &[
+    (21, short_quoted::UP_TO_TWO, short_block::UP_TO_TWO),
+    (
+        16,
+        short_quoted::THREE_AFTER_SPACE,
+        short_block::THREE_AFTER_SPACE,
+    ),
+    (
+        16,
+        short_quoted::THREE_AFTER_FEED,
+        short_block::THREE_AFTER_FEED,
+    ),
+    (
+        16,
+        short_quoted::THREE_AFTER_LETTER,
+        short_block::THREE_AFTER_LETTER,
+    ),
+    (
+        16,
+        short_quoted::THREE_AFTER_SEPARATOR,
+        short_block::THREE_AFTER_SEPARATOR,
+    ),
+];
 
 #[test]
 fn the_shortest_values_stand_in_each_style(rt: HostRuntime) {
-    check_rows(
-        &rt,
-        rt.alloc(),
-        short_quoted::SHORTEST,
-        short_block::SHORTEST,
-        85,
-    );
+    check_tables(&rt, rt.alloc(), SHORTEST);
 }
+
+const FOUR_AFTER_SPACE: &[Table] = &[
+    (
+        16,
+        short_quoted::four::SPACE_AND_SPACE,
+        short_block::four::SPACE_AND_SPACE,
+    ),
+    (
+        16,
+        short_quoted::four::SPACE_AND_FEED,
+        short_block::four::SPACE_AND_FEED,
+    ),
+    (
+        16,
+        short_quoted::four::SPACE_AND_LETTER,
+        short_block::four::SPACE_AND_LETTER,
+    ),
+    (
+        16,
+        short_quoted::four::SPACE_AND_SEPARATOR,
+        short_block::four::SPACE_AND_SEPARATOR,
+    ),
+];
 
 #[test]
 fn four_after_a_space_stand_in_each_style(rt: HostRuntime) {
-    check_rows(
-        &rt,
-        rt.alloc(),
-        short_quoted::FOUR_AFTER_SPACE,
-        short_block::FOUR_AFTER_SPACE,
-        64,
-    );
+    check_tables(&rt, rt.alloc(), FOUR_AFTER_SPACE);
 }
+
+const FOUR_AFTER_FEED: &[Table] = &[
+    (
+        16,
+        short_quoted::four::FEED_AND_SPACE,
+        short_block::four::FEED_AND_SPACE,
+    ),
+    (
+        16,
+        short_quoted::four::FEED_AND_FEED,
+        short_block::four::FEED_AND_FEED,
+    ),
+    (
+        16,
+        short_quoted::four::FEED_AND_LETTER,
+        short_block::four::FEED_AND_LETTER,
+    ),
+    (
+        16,
+        short_quoted::four::FEED_AND_SEPARATOR,
+        short_block::four::FEED_AND_SEPARATOR,
+    ),
+];
 
 #[test]
 fn four_after_a_line_feed_stand_in_each_style(rt: HostRuntime) {
-    check_rows(
-        &rt,
-        rt.alloc(),
-        short_quoted::FOUR_AFTER_FEED,
-        short_block::FOUR_AFTER_FEED,
-        64,
-    );
+    check_tables(&rt, rt.alloc(), FOUR_AFTER_FEED);
 }
+
+const FOUR_AFTER_LETTER: &[Table] = &[
+    (
+        16,
+        short_quoted::four::LETTER_AND_SPACE,
+        short_block::four::LETTER_AND_SPACE,
+    ),
+    (
+        16,
+        short_quoted::four::LETTER_AND_FEED,
+        short_block::four::LETTER_AND_FEED,
+    ),
+    (
+        16,
+        short_quoted::four::LETTER_AND_LETTER,
+        short_block::four::LETTER_AND_LETTER,
+    ),
+    (
+        16,
+        short_quoted::four::LETTER_AND_SEPARATOR,
+        short_block::four::LETTER_AND_SEPARATOR,
+    ),
+];
 
 #[test]
 fn four_after_a_letter_stand_in_each_style(rt: HostRuntime) {
-    check_rows(
-        &rt,
-        rt.alloc(),
-        short_quoted::FOUR_AFTER_LETTER,
-        short_block::FOUR_AFTER_LETTER,
-        64,
-    );
+    check_tables(&rt, rt.alloc(), FOUR_AFTER_LETTER);
 }
+
+const FOUR_AFTER_SEPARATOR: &[Table] = &[
+    (
+        16,
+        short_quoted::four::SEPARATOR_AND_SPACE,
+        short_block::four::SEPARATOR_AND_SPACE,
+    ),
+    (
+        16,
+        short_quoted::four::SEPARATOR_AND_FEED,
+        short_block::four::SEPARATOR_AND_FEED,
+    ),
+    (
+        16,
+        short_quoted::four::SEPARATOR_AND_LETTER,
+        short_block::four::SEPARATOR_AND_LETTER,
+    ),
+    (
+        16,
+        short_quoted::four::SEPARATOR_AND_SEPARATOR,
+        short_block::four::SEPARATOR_AND_SEPARATOR,
+    ),
+];
 
 #[test]
 fn four_after_a_separator_stand_in_each_style(rt: HostRuntime) {
-    check_rows(
-        &rt,
-        rt.alloc(),
-        short_quoted::FOUR_AFTER_SEPARATOR,
-        short_block::FOUR_AFTER_SEPARATOR,
-        64,
-    );
+    check_tables(&rt, rt.alloc(), FOUR_AFTER_SEPARATOR);
 }

@@ -82,7 +82,7 @@ fn check_emit<A: Allocator + Copy>(
 ) {
     let was_refused = heap.left() == 0;
     let length = emitter.output().len();
-    check_answer(rt, heap, give(rt, emitter, next), &Ok(()));
+    check_answer(rt, heap, give(rt, emitter, next), Ok(()));
     if was_refused {
         equal(rt, &emitter.output().len(), &length);
     }
@@ -98,82 +98,61 @@ fn check_flush<A: Allocator + Copy>(
         return;
     }
     let length = emitter.output().len();
-    check_answer(rt, heap, flush_if_known(rt, emitter), &Ok(()));
+    check_answer(rt, heap, flush_if_known(rt, emitter), Ok(()));
     if heap.left() == 0 {
         equal(rt, &emitter.output().len(), &length);
     }
 }
 
-// All events are emitted, with a flush after each or none.
-fn check_each<A: Allocator + Copy>(
+// All events are emitted, with a flush after each or none; and what stands in the end, where the growth was refused and where it
+// wasn't.
+fn check_stream<A: Allocator + Copy>(
     rt: &impl Abort,
     heap: &Refusing<Global>,
     alloc: A,
     emitter: &mut yaml_emitter_t<A>,
-    (events, flushes): (&[Given], bool),
+    (events, flushes, whole): (&[Given], bool, &[u8]),
 ) {
+    check_answer(rt, heap, Ok(()), Ok(()));
     for given in events {
         check_emit(rt, heap, emitter, granted(rt, heap, alloc, given));
         if flushes {
             check_flush(rt, heap, emitter);
         }
     }
-}
-
-// What stands in the end, where the growth was refused and where it wasn't.
-fn check_end<A: Allocator + Copy>(
-    rt: &impl Abort,
-    heap: &Refusing<Global>,
-    emitter: &mut yaml_emitter_t<A>,
-    whole: &[u8],
-) {
-    if heap.left() != 0 {
+    if heap.left() == 0 {
+        check_out_of_memory(rt, emitter, whole);
+    } else {
         same(rt, emitter.output(), whole);
-        return;
     }
-    check_out_of_memory(rt, emitter, whole);
 }
 
 // A stream of which one growth is refused, with a flush after each event or none. Answers whether there is that growth.
-fn is_reported<A: Allocator + Copy>(
-    rt: &impl Abort,
-    heap: &Refusing<Global>,
-    alloc: A,
-    events: (&[Given], bool),
-    whole: &[u8],
-) -> bool {
-    match begun(alloc, &UNSET) {
-        Ok(mut emitter) => {
-            check_answer(rt, heap, Ok(()), &Ok(()));
-            check_each(rt, heap, alloc, &mut emitter, events);
-            check_end(rt, heap, &mut emitter, whole);
-        }
-        Err(error) => check_answer(rt, heap, Err(error), &Ok(())),
-    }
-    heap.left() == 0
-}
-
-// Each growth is refused in turn, until a stream meets no refusal.
-fn refuse_in_turn(
+fn is_reported(
     rt: &impl Abort,
     heap: &Refusing<Global>,
     events: &[Given],
     flushes: bool,
     whole: &[u8],
-) {
-    for number in 1..usize::MAX {
-        heap.refuse(number);
-        if !is_reported(rt, heap, heap, (events, flushes), whole) {
-            return;
-        }
+) -> bool {
+    match begun(heap, &UNSET) {
+        Ok(mut emitter) => check_stream(rt, heap, heap, &mut emitter, (events, flushes, whole)),
+        Err(error) => check_answer(rt, heap, Err(error), Ok(())),
     }
+    heap.left() == 0
 }
 
-/// A stream gives these bytes, and each growth that it takes is refused in turn.
+/// A stream gives these bytes, without a flush and with one after each event; each growth that it takes is refused in turn.
 fn check_growths(rt: &impl Abort, alloc: Global, events: &[Given], whole: &[u8]) {
     let heap = Refusing::new(alloc);
-    refuse_in_turn(rt, &heap, events, false, whole);
-    refuse_in_turn(rt, &heap, events, true, whole);
+    for flushes in [false, true] {
+        for number in 1..usize::MAX {
+            heap.refuse(number);
+            if !is_reported(rt, &heap, events, flushes, whole) {
+                break;
+            }
+        }
+    }
 }
 
 // In UTF-8, and in UTF-16.

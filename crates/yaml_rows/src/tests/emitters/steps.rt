@@ -9,6 +9,21 @@ use yaml_base::yaml_error_t;
 use yaml_emitter::{Settings, yaml_emitter_t, yaml_emitter_take_output};
 use yaml_test_allocator::Refusing;
 
+/// A call with its answer, or what stands after it. Those of documents that are dumped are others.
+pub(crate) trait Taken {
+    /// The call is made, or what stands is looked at; a growth may be refused.
+    fn take<A: Allocator + Copy>(
+        &self,
+        rt: &impl Abort,
+        heap: &Refusing<Global>,
+        alloc: A,
+        emitter: &mut yaml_emitter_t<A>,
+    );
+
+    /// The output, where it is looked at.
+    fn output(&self) -> Option<&[u8]>;
+}
+
 /// Calls with their answers, or what stands after them.
 #[derive(Clone, Copy)]
 pub(super) enum Step<'a> {
@@ -34,44 +49,29 @@ pub(super) enum Step<'a> {
     Failed(yaml_error_t),
 }
 
-// These bytes were taken.
-fn check_bytes<A: Allocator>(rt: &impl Abort, taken: Vec<u8, A>, bytes: &[u8]) {
-    same(rt, taken.as_slice(), bytes);
-}
-
 // The output is taken. A second call gives nothing, and nothing is left.
 fn check_taken<A: Allocator + Copy>(
     rt: &impl Abort,
     emitter: &mut yaml_emitter_t<A>,
     bytes: &[u8],
 ) {
-    same(rt, emitter.output(), bytes);
-    check_bytes(rt, yaml_emitter_take_output(emitter), bytes);
-    same(rt, emitter.output(), b"");
-    check_bytes(rt, yaml_emitter_take_output(emitter), b"");
+    for left in [bytes, b""] {
+        same(rt, emitter.output(), left);
+        same(rt, yaml_emitter_take_output(emitter).as_slice(), left);
+    }
 }
 
-fn emit<A: Allocator + Copy>(
-    rt: &impl Abort,
-    heap: &Refusing<Global>,
-    alloc: A,
-    emitter: &mut yaml_emitter_t<A>,
-    (given, wanted): (&Given, &Answer),
-) {
-    let answer = give(rt, emitter, granted(rt, heap, alloc, given));
-    check_answer(rt, heap, answer, wanted);
-}
-
-// Up to the event in which a growth is refused.
+// An event is emitted so often, up to the call in which a growth is refused.
 fn emit_often<A: Allocator + Copy>(
     rt: &impl Abort,
     heap: &Refusing<Global>,
     alloc: A,
     emitter: &mut yaml_emitter_t<A>,
-    (given, times): (&Given, usize),
+    (given, times, wanted): (&Given, usize, Answer),
 ) {
     for _ in 0..times {
-        emit(rt, heap, alloc, emitter, (given, &Ok(())));
+        let answer = give(rt, emitter, granted(rt, heap, alloc, given));
+        check_answer(rt, heap, answer, wanted);
         if heap.left() == 0 {
             return;
         }
@@ -86,10 +86,12 @@ fn take_step<A: Allocator + Copy>(
     step: &Step,
 ) {
     match step {
-        Step::Emit(given) => emit(rt, heap, alloc, emitter, (given, &Ok(()))),
-        Step::Repeat(given, times) => emit_often(rt, heap, alloc, emitter, (given, *times)),
-        Step::Refused(given, error) => emit(rt, heap, alloc, emitter, (given, &Err(*error))),
-        Step::Flush(answer) => check_answer(rt, heap, flush_if_known(rt, emitter), answer),
+        Step::Emit(given) => emit_often(rt, heap, alloc, emitter, (given, 1, Ok(()))),
+        Step::Repeat(given, times) => emit_often(rt, heap, alloc, emitter, (given, *times, Ok(()))),
+        Step::Refused(given, error) => {
+            emit_often(rt, heap, alloc, emitter, (given, 1, Err(*error)))
+        }
+        Step::Flush(answer) => check_answer(rt, heap, flush_if_known(rt, emitter), *answer),
         Step::Take(bytes) => check_taken(rt, emitter, bytes),
         Step::Output(bytes) => same(rt, emitter.output(), bytes),
         Step::Held(held) => equal(rt, &emitter.held(), held),
@@ -99,10 +101,29 @@ fn take_step<A: Allocator + Copy>(
     }
 }
 
+impl Taken for Step<'_> {
+    fn take<A: Allocator + Copy>(
+        &self,
+        rt: &impl Abort,
+        heap: &Refusing<Global>,
+        alloc: A,
+        emitter: &mut yaml_emitter_t<A>,
+    ) {
+        take_step(rt, heap, alloc, emitter, self);
+    }
+
+    fn output(&self) -> Option<&[u8]> {
+        match self {
+            Step::Output(bytes) | Step::Take(bytes) => Some(bytes),
+            _ => None,
+        }
+    }
+}
+
 /// The next output that is looked at.
-fn next_output<'a>(steps: &[Step<'a>]) -> &'a [u8] {
+fn next_output<S: Taken>(steps: &[S]) -> &[u8] {
     for step in steps {
-        if let Step::Output(bytes) | Step::Take(bytes) = step {
+        if let Some(bytes) = step.output() {
             return bytes;
         }
     }
@@ -110,15 +131,15 @@ fn next_output<'a>(steps: &[Step<'a>]) -> &'a [u8] {
 }
 
 // Steps up to the one in which a growth is refused.
-fn take_steps<A: Allocator + Copy>(
+fn take_steps<A: Allocator + Copy, S: Taken>(
     rt: &impl Abort,
     heap: &Refusing<Global>,
     alloc: A,
     emitter: &mut yaml_emitter_t<A>,
-    steps: &[Step],
+    steps: &[S],
 ) {
     for (number, step) in steps.iter().enumerate() {
-        take_step(rt, heap, alloc, emitter, step);
+        step.take(rt, heap, alloc, emitter);
         if heap.left() == 0 {
             let rest = steps.get(number..).unwrap_or(&[]);
             check_out_of_memory(rt, emitter, next_output(rest));
@@ -127,36 +148,31 @@ fn take_steps<A: Allocator + Copy>(
     }
 }
 
-// On an emitter of its own.
-fn take_refused<A: Allocator + Copy>(
-    rt: &impl Abort,
-    heap: &Refusing<Global>,
-    alloc: A,
-    settings: &Settings,
-    steps: &[Step],
-) {
-    match begun(alloc, settings) {
-        Ok(mut emitter) => take_steps(rt, heap, alloc, &mut emitter, steps),
-        Err(error) => check_answer(rt, heap, Err(error), &Ok(())),
-    }
-}
-
-// The steps are taken with this growth refused. Answers whether there is that growth.
-fn is_refused(
+// On an emitter of their own the steps are taken with this growth refused. Answers whether there is that growth.
+fn is_refused<S: Taken>(
     rt: &impl Abort,
     alloc: Global,
     settings: &Settings,
-    steps: &[Step],
+    steps: &[S],
     number: usize,
 ) -> bool {
     let heap = Refusing::new(alloc);
     heap.refuse(number);
-    take_refused(rt, &heap, &heap, settings, steps);
-    heap.left() == 0
+    match begun(&heap, settings) {
+        Ok(mut emitter) => take_steps(rt, &heap, &heap, &mut emitter, steps),
+        Err(error) => check_answer(rt, &heap, Err(error), Ok(())),
+    }
+    // It was refused; or no growth was refused before another dump, from which on so many are left.
+    heap.left() == 0 || heap.left() > number
 }
 
 /// The steps are taken with the first growth refused, the second, and so on, until none is.
-pub(super) fn check_steps(rt: &impl Abort, alloc: Global, settings: &Settings, steps: &[Step]) {
+pub(crate) fn check_steps<S: Taken>(
+    rt: &impl Abort,
+    alloc: Global,
+    settings: &Settings,
+    steps: &[S],
+) {
     for number in 1..usize::MAX {
         if !is_refused(rt, alloc, settings, steps, number) {
             return;
@@ -164,11 +180,17 @@ pub(super) fn check_steps(rt: &impl Abort, alloc: Global, settings: &Settings, s
     }
 }
 
-/// The steps are taken with no growth refused.
-pub(super) fn check_granted(rt: &impl Abort, alloc: Global, settings: &Settings, steps: &[Step]) {
-    equal(
-        rt,
-        &is_refused(rt, alloc, settings, steps, usize::MAX),
-        &false,
-    );
+/// The steps are taken with each of these growths refused, until there is none of that number, which the last stands for.
+pub(crate) fn check_steps_at<S: Taken>(
+    rt: &impl Abort,
+    alloc: Global,
+    settings: &Settings,
+    steps: &[S],
+    numbers: &[usize],
+) {
+    let mut refused = true;
+    for number in numbers {
+        refused = refused && is_refused(rt, alloc, settings, steps, *number);
+    }
+    equal(rt, &refused, &false);
 }

@@ -1,5 +1,5 @@
 //! Events as the tables of the tests write them.
-use crate::tests::owned;
+use crate::tests::{Tag, directives, owned, owned_choice};
 use std::alloc::Allocator;
 use std::process::Abort;
 use yaml_base::{
@@ -11,9 +11,6 @@ use yaml_base::{
     yaml_tag_directive_t,
 };
 
-/// Handles with their prefixes.
-pub(crate) type Tags<'a> = &'a [(&'a str, &'a str)];
-
 /// An event. Where nothing else is said nodes have no anchor and no tag, their flags are on, and documents begin and
 /// end without marks.
 #[derive(Clone, Copy)]
@@ -23,7 +20,7 @@ pub(crate) enum Given<'a> {
     StreamIn(yaml_encoding_t),
     StreamEnd,
     Document,
-    Directed(Tags<'a>),
+    Directed(&'a [Tag<'a>]),
     DocumentEnd,
     /// A scalar of any style.
     Text(&'a str),
@@ -37,16 +34,7 @@ pub(crate) enum Given<'a> {
     MappingEnd,
 }
 
-fn directive<A: Allocator>(handle: String<A>, prefix: String<A>) -> yaml_tag_directive_t<A> {
-    yaml_tag_directive_t { handle, prefix }
-}
-
-fn document<A: Allocator + Copy>(rt: &impl Abort, alloc: A, tags: Tags) -> yaml_event_t<A> {
-    let mut tag_directives = Vec::new(alloc);
-    for tag in tags {
-        let given = directive(owned(rt, alloc, tag.0), owned(rt, alloc, tag.1));
-        tag_directives.push(given).expect(rt, "no memory");
-    }
+fn document<A: Allocator>(tag_directives: Vec<yaml_tag_directive_t<A>, A>) -> yaml_event_t<A> {
     YAML_DOCUMENT_START_EVENT {
         version_directive: None,
         tag_directives,
@@ -55,18 +43,19 @@ fn document<A: Allocator + Copy>(rt: &impl Abort, alloc: A, tags: Tags) -> yaml_
 }
 
 // The flags are on where there is no tag.
-fn scalar<A: Allocator>(
-    tag: Option<String<A>>,
-    value: String<A>,
+fn scalar<A: Allocator + Copy>(
+    rt: &impl Abort,
+    alloc: A,
+    tag: Option<&str>,
+    value: &str,
     style: yaml_scalar_style_t,
 ) -> yaml_event_t<A> {
-    let implicit = tag.is_none();
     YAML_SCALAR_EVENT {
         anchor: None,
-        tag,
-        value,
-        plain_implicit: implicit,
-        quoted_implicit: implicit,
+        tag: owned_choice(rt, alloc, tag),
+        value: owned(rt, alloc, value),
+        plain_implicit: tag.is_none(),
+        quoted_implicit: tag.is_none(),
         style,
     }
 }
@@ -104,15 +93,12 @@ pub(crate) fn event<A: Allocator + Copy>(
             encoding: *encoding,
         },
         Given::StreamEnd => YAML_STREAM_END_EVENT,
-        Given::Document => document(rt, alloc, &[]),
-        Given::Directed(tags) => document(rt, alloc, tags),
+        Given::Document => document(Vec::new(alloc)),
+        Given::Directed(tags) => document(directives(rt, alloc, tags)),
         Given::DocumentEnd => YAML_DOCUMENT_END_EVENT { implicit: true },
-        Given::Text(value) => scalar(None, owned(rt, alloc, value), any),
-        Given::Styled(value, style) => scalar(None, owned(rt, alloc, value), *style),
-        Given::Tagged(tag, value) => {
-            let tag = owned(rt, alloc, tag);
-            scalar(Some(tag), owned(rt, alloc, value), any)
-        }
+        Given::Text(value) => scalar(rt, alloc, None, value, any),
+        Given::Styled(value, style) => scalar(rt, alloc, None, value, *style),
+        Given::Tagged(tag, value) => scalar(rt, alloc, Some(tag), value, any),
         Given::BlockSequence => sequence(YAML_BLOCK_SEQUENCE_STYLE),
         Given::FlowSequence => sequence(YAML_FLOW_SEQUENCE_STYLE),
         Given::SequenceEnd => YAML_SEQUENCE_END_EVENT,

@@ -90,17 +90,14 @@ fn write_both(
 /// A tag, and what is written.
 type Tag<'a> = (&'a str, &'a str);
 
-fn check_each_tag(rt: &impl Abort, alloc: Global, directives: &Directives<Global>, rows: &[Tag]) {
+// Where a document gives these directives.
+fn check_tags(rt: &impl Abort, alloc: Global, own: &[Tag], rows: &[Tag]) {
+    let directives = in_force(rt, alloc, own);
     for row in rows {
         let mut pen = begun(rt, alloc);
-        let answer = write_both(&mut pen, row.0, directives);
+        let answer = write_both(&mut pen, row.0, &directives);
         check_written(rt, &mut pen, answer, row.1);
     }
-}
-
-// Where a document gives these directives.
-fn check_tags(rt: &impl Abort, alloc: Global, own: &[(&str, &str)], rows: &[Tag]) {
-    check_each_tag(rt, alloc, &in_force(rt, alloc, own), rows);
 }
 
 const SPELLED: &[Tag] = &[
@@ -116,11 +113,6 @@ const SPELLED: &[Tag] = &[
     ("a b<c>", "&a !<a%20b%3Cc%3E>"),
 ];
 
-#[test]
-fn tags_are_written_by_their_spelling(rt: HostRuntime) {
-    check_tags(&rt, rt.alloc(), &[], SPELLED);
-}
-
 const OWN: &[(&str, &str)] = &[("!e!", "!x"), ("!!", "tag:e.com,2000:")];
 
 const BY_OWN: &[Tag] = &[
@@ -130,11 +122,6 @@ const BY_OWN: &[Tag] = &[
     ("tag:yaml.org,2002:str", "&a !<tag:yaml.org,2002:str>"),
 ];
 
-#[test]
-fn tags_are_written_by_a_documents_own_handles(rt: HostRuntime) {
-    check_tags(&rt, rt.alloc(), OWN, BY_OWN);
-}
-
 const REPLACED: &[(&str, &str)] = &[("!", "tag:e.com,2000:")];
 
 const BY_REPLACED: &[Tag] = &[
@@ -143,9 +130,15 @@ const BY_REPLACED: &[Tag] = &[
     ("tag:yaml.org,2002:str", "&a !!str"),
 ];
 
+/// A document's own directives, and tags as they are spelled where no handle of its own is for them, by its own handles, and by
+/// one that replaces a default.
+const TAGS: &[(&[Tag], &[Tag])] = &[(&[], SPELLED), (OWN, BY_OWN), (REPLACED, BY_REPLACED)];
+
 #[test]
-fn tags_are_written_by_handles_that_replace_the_defaults(rt: HostRuntime) {
-    check_tags(&rt, rt.alloc(), REPLACED, BY_REPLACED);
+fn tags_are_written_by_their_spelling_and_by_handles(rt: HostRuntime) {
+    for (own, rows) in TAGS {
+        check_tags(&rt, rt.alloc(), own, rows);
+    }
 }
 
 /// The characters that stand for themselves.

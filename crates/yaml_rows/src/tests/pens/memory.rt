@@ -28,11 +28,11 @@ fn check_full<A: Allocator>(rt: &impl Abort, pen: &mut Pen<A>, handed_out: usize
     requires { IsReady pen.old }
 {
     let refused = Err(yaml_error_t::Memory);
-    equal(rt, &pen.flush(), &Ok(()));
-    equal(rt, &put_letters(pen, 100_000), &refused);
-    equal(rt, &pen.put(b'a'), &refused);
-    equal(rt, &pen.flush(), &refused);
-    equal(rt, &pen.error(), &Some(yaml_error_t::Memory));
+    let answers = (pen.flush(), put_letters(pen, 100_000));
+    equal(rt, &answers, &(Ok(()), refused));
+    let answers = (pen.put(b'a'), pen.flush(), pen.error());
+    let error = Some(yaml_error_t::Memory);
+    equal(rt, &answers, &(refused, refused, error));
     check_letters(rt, pen.output(), handed_out);
 }
 

@@ -179,23 +179,10 @@ fn check_event<A: Allocator + Copy>(
     if ends || walk.row.output.len() < BUFFER_SIZE {
         check_output(rt, walk, emitter.output());
     }
-    if flushes {
-        check_flush_after(rt, walk, emitter, line, ends);
-    }
-}
-
-// The caller's flush after an event.
-fn check_flush_after<A: Allocator + Copy>(
-    rt: &impl Abort,
-    walk: &mut Walk,
-    emitter: &mut yaml_emitter_t<A>,
-    line: u64,
-    ends: bool,
-) {
-    if !ends {
+    if flushes && !ends {
         walk.flushes = walk.flushes.saturating_add(1);
     }
-    if emitter.encoding_known() {
+    if flushes && emitter.encoding_known() {
         check_flush(rt, walk, emitter, flush_answer(&walk.row, line));
     }
 }
@@ -219,35 +206,24 @@ fn check_events<A: Allocator + Copy>(
     }
 }
 
-/// A row of which the growth of this number is refused. Answers whether there is that growth.
-fn is_refused<A: Allocator + Copy>(
-    rt: &impl Abort,
-    walk: &mut Walk,
-    alloc: A,
-    number: usize,
-) -> bool {
-    let heap = walk.heap;
-    heap.refuse(0);
-    let script = read_script(alloc, walk.row.script.as_bytes()).expect(rt, "a script");
-    heap.refuse(number);
-    match emitter_with(alloc, &script.settings) {
-        Ok(mut emitter) => check_events(rt, walk, &mut emitter, script.events),
-        Err(error) => equal(rt, &(heap.left(), error), &(0, yaml_error_t::Memory)),
-    }
-    heap.left() == 0
-}
-
 /// The calls of a row, with the first growth refused, the second, and so on, until none is.
 pub(super) fn check_calls(rt: &impl Abort, alloc: Global, row: &Row) {
     let heap = Refusing::new(alloc);
     for number in 1..usize::MAX {
+        heap.refuse(0);
+        let script = read_script(&heap, row.script.as_bytes()).expect(rt, "a script");
         let mut walk = Walk {
             row: *row,
             heap: &heap,
             given: Vec::new(alloc),
             flushes: 0,
         };
-        if !is_refused(rt, &mut walk, &heap, number) {
+        heap.refuse(number);
+        match emitter_with(&heap, &script.settings) {
+            Ok(mut emitter) => check_events(rt, &mut walk, &mut emitter, script.events),
+            Err(error) => equal(rt, &(heap.left(), error), &(0, yaml_error_t::Memory)),
+        }
+        if heap.left() != 0 {
             return;
         }
     }

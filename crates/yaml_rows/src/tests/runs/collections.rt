@@ -1,17 +1,13 @@
 //! Collections in blocks and in flow.
-use super::{Group, check_all_roots, check_root};
+use super::{Rows, check_root, check_roots};
 use crate::tests::joined;
 use std::alloc::Global;
 use std::process::Abort;
 
-/// Roots of documents, after some settings.
-const ROOTS: &[Group] = &[
-    // Blocks stand in blocks.
+/// Blocks stand in blocks.
+const BLOCKS_IN_BLOCKS: Rows = &[
     (
-        "",
-        &[
-            (
-                r#"
+        r#"
 +MAP block 1 - -
 =VAL any 1 1 - - "a"
 +SEQ block 1 - -
@@ -19,30 +15,30 @@ const ROOTS: &[Group] = &[
 =VAL any 1 1 - - "c"
 -SEQ
 -MAP"#,
-                "a:\n- b\n- c\n",
-            ),
-            (
-                r#"
+        "a:\n- b\n- c\n",
+    ),
+    (
+        r#"
 +MAP block 1 - -
 =VAL any 1 1 - - "a"
 +SEQ block 1 "x" -
 =VAL any 1 1 - - "b"
 -SEQ
 -MAP"#,
-                "a: &x\n- b\n",
-            ),
-            (
-                r#"
+        "a: &x\n- b\n",
+    ),
+    (
+        r#"
 +SEQ block 1 - -
 +MAP block 1 - -
 =VAL any 1 1 - - "a"
 =VAL any 1 1 - - "b"
 -MAP
 -SEQ"#,
-                "- a: b\n",
-            ),
-            (
-                r#"
+        "- a: b\n",
+    ),
+    (
+        r#"
 +MAP block 1 - -
 =VAL any 1 1 - - "a"
 +MAP block 1 - -
@@ -50,160 +46,146 @@ const ROOTS: &[Group] = &[
 =VAL any 1 1 - - "c"
 -MAP
 -MAP"#,
-                "a:\n  b: c\n",
-            ),
-            (
-                r#"
+        "a:\n  b: c\n",
+    ),
+    (
+        r#"
 +MAP block 1 - -
 +SEQ block 1 - -
 =VAL any 1 1 - - "b"
 -SEQ
 =VAL any 1 1 - - "v"
 -MAP"#,
-                "? - b\n: v\n",
-            ),
-            (
-                r#"
+        "? - b\n: v\n",
+    ),
+    (
+        r#"
 +SEQ block 1 - -
 =VAL literal 1 1 - - " a"
 -SEQ"#,
-                "- |2-\n   a\n",
-            ),
-        ],
+        "- |2-\n   a\n",
     ),
-    // An indent of four moves what stands within.
-    (
-        "indent 4\n",
-        &[(
-            r#"
+];
+
+/// An indent of four moves what stands within.
+const INDENTED_BY_FOUR: Rows = &[(
+    r#"
 +SEQ block 1 - -
 +SEQ block 1 - -
 =VAL any 1 1 - - "a"
 -SEQ
 -SEQ"#,
-            "-   - a\n",
-        )],
-    ),
-    // Flow goes on a line.
+    "-   - a\n",
+)];
+
+/// Flow goes on a line.
+const FLOW_ON_A_LINE: Rows = &[
     (
-        "",
-        &[
-            (
-                r#"
+        r#"
 +SEQ flow 1 - -
 =VAL any 1 1 - - "a"
 =VAL any 1 1 - - "b"
 -SEQ"#,
-                "[a, b]\n",
-            ),
-            (
-                r#"
+        "[a, b]\n",
+    ),
+    (
+        r#"
 +SEQ flow 1 - -
 =VAL any 1 1 - - ""
 -SEQ"#,
-                "['']\n",
-            ),
-            (
-                r#"
+        "['']\n",
+    ),
+    (
+        r#"
 +MAP flow 1 - -
 =ALI "a"
 =VAL any 1 1 - - "v"
 -MAP"#,
-                "{*a : v}\n",
-            ),
-        ],
+        "{*a : v}\n",
     ),
-    // Flow past the width goes to the next line.
-    (
-        "width 5\n",
-        &[(
-            r#"
+];
+
+/// Flow past the width goes to the next line.
+const FLOW_PAST_THE_WIDTH: Rows = &[(
+    r#"
 +SEQ flow 1 - -
 =VAL any 1 1 - - "aaaa"
 =VAL any 1 1 - - "bb"
 -SEQ"#,
-            "[aaaa,\n  bb]\n",
-        )],
-    ),
-    // An alias as a key is followed by a space.
-    (
-        "",
-        &[(
-            r#"
+    "[aaaa,\n  bb]\n",
+)];
+
+/// An alias as a key is followed by a space.
+const ALIAS_AS_A_KEY: Rows = &[(
+    r#"
 +MAP block 1 - -
 =ALI "a"
 =VAL any 1 1 - - "v"
 -MAP"#,
-            "*a : v\n",
-        )],
-    ),
-    // Empty keys and values stand in blocks.
+    "*a : v\n",
+)];
+
+/// Empty keys and values stand in blocks.
+const EMPTY_KEYS_AND_VALUES: Rows = &[
     (
-        "",
-        &[
-            (
-                r#"
+        r#"
 +MAP block 1 - -
 =VAL any 1 1 - - "a"
 =VAL any 1 1 - - ""
 -MAP"#,
-                "a:\n",
-            ),
-            (
-                r#"
+        "a:\n",
+    ),
+    (
+        r#"
 +MAP block 1 - -
 =VAL any 1 1 - - ""
 =VAL any 1 1 - - "v"
 -MAP"#,
-                "'': v\n",
-            ),
-            (
-                r#"
+        "'': v\n",
+    ),
+    (
+        r#"
 +MAP block 1 - -
 +SEQ block 1 - -
 -SEQ
 =VAL any 1 1 - - "v"
 -MAP"#,
-                "[]: v\n",
-            ),
-        ],
+        "[]: v\n",
     ),
-    // A key with a separator is not simple.
-    (
-        "unicode on\nbreaks12 on\n",
-        &[(
-            r#"
+];
+
+/// A key with a separator is not simple.
+const KEY_WITH_A_SEPARATOR: Rows = &[(
+    r#"
 +MAP block 1 - -
 =VAL any 1 1 - - "a\u{2028}b"
 =VAL any 1 1 - - "v"
 -MAP"#,
-            "? \"a\\Lb\"\n: v\n",
-        )],
-    ),
-    // Nodes that stand elsewhere, and collections that hold themselves.
+    "? \"a\\Lb\"\n: v\n",
+)];
+
+/// Nodes that stand elsewhere, and collections that hold themselves.
+const SHARED_NODES: Rows = &[
     (
-        "",
-        &[
-            (
-                r#"
+        r#"
 +SEQ block 1 - -
 =VAL any 1 1 "id001" - "a"
 =ALI "id001"
 -SEQ"#,
-                "- &id001 a\n- *id001\n",
-            ),
-            (
-                r#"
+        "- &id001 a\n- *id001\n",
+    ),
+    (
+        r#"
 +SEQ block 1 - -
 +SEQ block 1 - -
 =VAL any 1 1 "id001" - "a"
 =ALI "id001"
 -SEQ
 -SEQ"#,
-                "- - &id001 a\n  - *id001\n",
-            ),
-            (
-                r#"
+        "- - &id001 a\n  - *id001\n",
+    ),
+    (
+        r#"
 +SEQ block 1 - -
 +SEQ block 1 "id002" -
 =VAL any 1 1 "id001" - "a"
@@ -211,22 +193,32 @@ const ROOTS: &[Group] = &[
 -SEQ
 =ALI "id002"
 -SEQ"#,
-                "- &id002\n  - &id001 a\n  - *id001\n- *id002\n",
-            ),
-            (
-                r#"
+        "- &id002\n  - &id001 a\n  - *id001\n- *id002\n",
+    ),
+    (
+        r#"
 +SEQ block 1 "id001" -
 =ALI "id001"
 -SEQ"#,
-                "&id001\n- *id001\n",
-            ),
-        ],
+        "&id001\n- *id001\n",
     ),
+];
+
+/// Settings, and the roots that come after them.
+const ROOTS: &[(&str, Rows)] = &[
+    ("", BLOCKS_IN_BLOCKS),
+    ("indent 4\n", INDENTED_BY_FOUR),
+    ("", FLOW_ON_A_LINE),
+    ("width 5\n", FLOW_PAST_THE_WIDTH),
+    ("", ALIAS_AS_A_KEY),
+    ("", EMPTY_KEYS_AND_VALUES),
+    ("unicode on\nbreaks12 on\n", KEY_WITH_A_SEPARATOR),
+    ("", SHARED_NODES),
 ];
 
 #[test]
 fn each_root_is_written(rt: HostRuntime) {
-    check_all_roots(&rt, rt.alloc(), ROOTS);
+    check_roots(&rt, rt.alloc(), ROOTS);
 }
 
 /// Settings, and the style of a mapping; its key: a character, so many times; what is written before it and after it.
@@ -253,14 +245,10 @@ fn check_key(rt: &impl Abort, alloc: Global, row: &Key, key: &str) {
     check_root(rt, alloc, row.0, pair.as_str(), text.as_str());
 }
 
-fn check_keys(rt: &impl Abort, alloc: Global, rows: &[Key]) {
-    for row in rows {
-        let key = row.2.repeat(alloc, row.3).expect(rt, "no memory");
-        check_key(rt, alloc, row, key.as_str());
-    }
-}
-
 #[test]
 fn long_keys_are_not_simple(rt: HostRuntime) {
-    check_keys(&rt, rt.alloc(), KEYS);
+    for row in KEYS {
+        let key = row.2.repeat(rt.alloc(), row.3).expect(&rt, "no memory");
+        check_key(&rt, rt.alloc(), row, key.as_str());
+    }
 }

@@ -1,35 +1,31 @@
 //! How documents and streams begin and end, and the encodings of a stream.
-use super::{StreamGroup, check_all_streams, check_text};
+use super::{Streams, check_streams, check_text};
 use crate::tests::joined;
 use std::alloc::Global;
 use std::process::Abort;
 
-/// Streams, after some settings.
-const STREAMS: &[StreamGroup] = &[
-    // Marks stand where they are needed.
+/// Marks stand where they are needed.
+const MARKS: Streams = &[
     (
-        "",
-        &[
-            (
-                r#"
+        r#"
 +STR any
 +DOC 0 -
 =VAL any 1 1 - - "foo"
 -DOC 0
 -STR"#,
-                &["--- foo\n...\n"],
-            ),
-            (
-                r#"
+        &["--- foo\n...\n"],
+    ),
+    (
+        r#"
 +STR any
 +DOC 1 1.1
 =VAL any 1 1 - - "foo"
 -DOC 1
 -STR"#,
-                &["%YAML 1.1\n--- foo\n"],
-            ),
-            (
-                r#"
+        &["%YAML 1.1\n--- foo\n"],
+    ),
+    (
+        r#"
 +STR any
 +DOC 1 -
 =VAL any 1 1 - - "a"
@@ -38,10 +34,10 @@ const STREAMS: &[StreamGroup] = &[
 =VAL any 0 0 - "tag:e.com,2000:t" "x"
 -DOC 1
 -STR"#,
-                &["a\n", "...\n%TAG !e! tag:e.com,2000:\n--- !e!t x\n"],
-            ),
-            (
-                r#"
+        &["a\n", "...\n%TAG !e! tag:e.com,2000:\n--- !e!t x\n"],
+    ),
+    (
+        r#"
 +STR any
 +DOC 1 -
 =VAL literal 1 1 - - "a\n\n"
@@ -50,28 +46,27 @@ const STREAMS: &[StreamGroup] = &[
 =VAL any 1 1 - - "b"
 -DOC 1
 -STR"#,
-                &["|+\n  a\n\n", "--- b\n"],
-            ),
-        ],
+        &["|+\n  a\n\n", "--- b\n"],
     ),
-    // What is set goes before what the stream's start asks for.
-    (
-        "encoding utf8\n",
-        &[(
-            r#"
+];
+
+/// What is set goes before what the stream's start asks for.
+const SET_ENCODING: Streams = &[(
+    r#"
 +STR utf16be
 +DOC 1 -
 =VAL any 1 1 - - "a"
 -DOC 1
 -STR"#,
-            &["a\n"],
-        )],
-    ),
-];
+    &["a\n"],
+)];
+
+/// Settings, and the streams that come after them.
+const STREAMS: &[(&str, Streams)] = &[("", MARKS), ("encoding utf8\n", SET_ENCODING)];
 
 #[test]
 fn each_stream_is_written(rt: HostRuntime) {
-    check_all_streams(&rt, rt.alloc(), STREAMS);
+    check_streams(&rt, rt.alloc(), STREAMS);
 }
 
 /// A document of one letter.
@@ -83,18 +78,14 @@ const FACE: &str = "+DOC 1 -\n=VAL any 1 1 - - \"\u{1F600}\"\n-DOC 1\n";
 /// Settings, an encoding, and documents.
 type Stream<'a> = (&'a str, &'a str, &'a str);
 
-fn check_joined(rt: &impl Abort, alloc: Global, parts: &[&str], expected: &[u8]) {
-    check_text(rt, alloc, joined(rt, alloc, parts).as_str(), expected);
-}
-
 // The encoding is set before the stream, or asked for by its start.
 fn check_encoded(rt: &impl Abort, alloc: Global, stream: Stream, expected: &[u8]) {
     let (settings, encoding, documents) = stream;
     let start = "\n+STR any\n";
     let set = [settings, "encoding ", encoding, start, documents, "-STR\n"];
-    check_joined(rt, alloc, &set, expected);
+    check_text(rt, alloc, joined(rt, alloc, &set).as_str(), expected);
     let asked = [settings, "+STR ", encoding, "\n", documents, "-STR\n"];
-    check_joined(rt, alloc, &asked, expected);
+    check_text(rt, alloc, joined(rt, alloc, &asked).as_str(), expected);
 }
 
 #[test]

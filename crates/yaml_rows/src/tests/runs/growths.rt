@@ -47,23 +47,8 @@ fn is_refused(
     true
 }
 
-/// Runs a script again and again with the first growth refused, the second, and so on, until a run meets no refusal.
-fn refuse_in_turn(
-    rt: &impl Abort,
-    alloc: Global,
-    script: &[u8],
-    answer: run_answer_t,
-    whole: &[u8],
-) {
-    for number in 1..usize::MAX {
-        if !is_refused(rt, (alloc, number), script, answer, whole) {
-            equal(rt, &(number > 1), &true);
-            return;
-        }
-    }
-}
-
-/// How a run of a script ends, and what it writes, also where its growths are refused.
+/// How a run of a script ends, and what it writes; and how it does with the first growth refused, the second, and so on, until a
+/// run meets no refusal.
 pub(super) fn answered(
     rt: &impl Abort,
     alloc: Global,
@@ -72,6 +57,11 @@ pub(super) fn answered(
 ) -> run_answer_t {
     let mut left = script;
     let answer = run(alloc, &mut left, output);
-    refuse_in_turn(rt, alloc, script, answer, output.as_slice());
+    for number in 1..usize::MAX {
+        if !is_refused(rt, (alloc, number), script, answer, output.as_slice()) {
+            equal(rt, &(number > 1), &true);
+            return answer;
+        }
+    }
     answer
 }

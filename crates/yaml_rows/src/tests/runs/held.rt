@@ -33,49 +33,29 @@ pub(super) fn kind_of<A: Allocator>(event: &yaml_event_t<A>) -> Kind {
     }
 }
 
-/// With so many events at most in the queue its head waits.
-fn most(head: Kind) -> usize {
-    match head {
-        Kind::DocumentStart => 1,
-        Kind::SequenceStart => 2,
-        Kind::MappingStart => 3,
-        _ => 0,
-    }
-}
-
-/// Starts less ends.
-fn rise(kind: Kind) -> i32 {
-    match kind {
-        Kind::Leaf => 0,
-        Kind::CollectionEnd | Kind::FlushingEnd => -1,
-        _ => 1,
-    }
-}
-
-/// Whether some events at the queue's beginning have as many ends as starts.
-fn is_closed(queue: &[Kind]) -> bool {
-    let mut open: i32 = 0;
-    for kind in queue {
-        open = open.saturating_add(rise(*kind));
-        if open == 0 {
-            return true;
-        }
-    }
-    false
-}
-
-fn head_waits(queue: &[Kind]) -> bool {
-    match queue.first() {
-        Some(head) => queue.len() <= most(*head) && !is_closed(queue),
-        None => false,
-    }
-}
-
 /// How many of the events given so far wait: those from the first one on that waits for what follows it.
 pub(super) fn held(given: &[Kind]) -> usize {
     for ready in 0..given.len() {
         let queue = given.get(ready..).unwrap_or(&[]);
-        if head_waits(queue) {
+        // With more events in the queue than so many its head is ready.
+        let most = match queue.first() {
+            Some(Kind::DocumentStart) => 1,
+            Some(Kind::SequenceStart) => 2,
+            Some(Kind::MappingStart) => 3,
+            _ => 0,
+        };
+        // So it is once some events at the queue's beginning have as many ends as starts.
+        let mut waits = queue.len() <= most;
+        let mut open: i32 = 0;
+        for kind in queue {
+            open = match kind {
+                Kind::Leaf => open,
+                Kind::CollectionEnd | Kind::FlushingEnd => open.saturating_sub(1),
+                _ => open.saturating_add(1),
+            };
+            waits = waits && open != 0;
+        }
+        if waits {
             return queue.len();
         }
     }

@@ -48,15 +48,16 @@ fn check_limit(rt: &impl Abort, alloc: Global, events: &str, stream: &Stream, li
     check_row(rt, alloc, &row);
 }
 
-fn check_limits(rt: &impl Abort, alloc: Global, events: &str, stream: &Stream) {
-    for limit in 0..stream.2.len().saturating_add(2) {
-        check_limit(rt, alloc, events, stream, limit);
-    }
-}
+/// The events of a script, and the streams they give.
+type Limited<'a> = (&'a str, &'a [Stream<'a>]);
 
-fn check_all_limits(rt: &impl Abort, alloc: Global, events: &str, streams: &[Stream]) {
-    for stream in streams {
-        check_limits(rt, alloc, events, stream);
+fn check_limits(rt: &impl Abort, alloc: Global, scripts: &[Limited]) {
+    for (events, streams) in scripts {
+        for stream in *streams {
+            for limit in 0..stream.2.len().saturating_add(2) {
+                check_limit(rt, alloc, events, stream, limit);
+            }
+        }
     }
 }
 
@@ -88,11 +89,6 @@ const DOCUMENTS: &[Stream] = &[
     ),
 ];
 
-#[test]
-fn a_limit_cuts_two_documents_anywhere(rt: HostRuntime) {
-    check_all_limits(&rt, rt.alloc(), TWO_DOCUMENTS, DOCUMENTS);
-}
-
 const FACE: &str = r#"unicode on
 +STR any
 +DOC 1 -
@@ -105,11 +101,6 @@ const FACES: &[Stream] = &[
     ("utf16le", &[(7, 8)], b"\xFF\xFE\x3D\xD8\x00\xDE\n\0"),
     ("utf16be", &[(7, 8)], b"\xFE\xFF\xD8\x3D\xDE\x00\0\n"),
 ];
-
-#[test]
-fn a_limit_cuts_a_character_anywhere(rt: HostRuntime) {
-    check_all_limits(&rt, rt.alloc(), FACE, FACES);
-}
 
 const LETTER: &str = r#"+STR any
 +DOC 1 -
@@ -130,12 +121,6 @@ const WORD: &str = r#"+STR any
 
 const WORDS: &[Stream] = &[("utf8", &[(6, 4)], b"foo\n")];
 
-#[test]
-fn a_limit_cuts_short_roots(rt: HostRuntime) {
-    check_all_limits(&rt, rt.alloc(), LETTER, LETTERS);
-    check_all_limits(&rt, rt.alloc(), WORD, WORDS);
-}
-
 const LAST_BREAKS: &str = r#"+STR any
 +DOC 1 -
 =VAL literal 1 1 - - "a\n\n"
@@ -151,16 +136,21 @@ const DOTS: &[Stream] = &[
     ),
 ];
 
-#[test]
-fn a_limit_cuts_the_streams_last_dots(rt: HostRuntime) {
-    check_all_limits(&rt, rt.alloc(), LAST_BREAKS, DOTS);
-}
-
 const MARK: &[Stream] = &[("utf16le", &[(4, 2)], b"\xFF\xFE")];
 
+/// Two documents, a character, short roots, the stream's last dots, and a mark.
+const LIMITED: &[Limited] = &[
+    (TWO_DOCUMENTS, DOCUMENTS),
+    (FACE, FACES),
+    (LETTER, LETTERS),
+    (WORD, WORDS),
+    (LAST_BREAKS, DOTS),
+    ("+STR any\n-STR", MARK),
+];
+
 #[test]
-fn a_limit_cuts_a_mark(rt: HostRuntime) {
-    check_all_limits(&rt, rt.alloc(), "+STR any\n-STR", MARK);
+fn a_limit_cuts_anywhere(rt: HostRuntime) {
+    check_limits(&rt, rt.alloc(), LIMITED);
 }
 
 /// A letter, so many times.

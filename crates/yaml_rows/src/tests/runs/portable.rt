@@ -1,162 +1,156 @@
 //! Portable mode: documents begin with `---`, flow indicators after a handle are escaped, a prefix begins with its `!`, and
 //! U+2028 and U+2029 are escaped.
-use super::{Group, StreamGroup, check_all_roots, check_all_streams};
+use super::{Rows, Streams, check_roots, check_streams};
 
-/// Roots of documents, after some settings.
-const ROOTS: &[Group] = &[
-    // Every document begins with a mark.
+const BEGUN_BY_A_MARK: Rows = &[
+    (r#"=VAL any 1 1 - - """#, "---\n"),
+    (r#"=VAL any 1 1 - - "a""#, "--- a\n"),
+    ("+SEQ any 1 - -\n-SEQ", "--- []\n"),
     (
-        "portable on\n",
-        &[
-            (r#"=VAL any 1 1 - - """#, "---\n"),
-            (r#"=VAL any 1 1 - - "a""#, "--- a\n"),
-            ("+SEQ any 1 - -\n-SEQ", "--- []\n"),
-            (
-                r#"
+        r#"
 +SEQ any 1 - -
 =VAL any 1 1 - - "a"
 -SEQ"#,
-                "---\n- a\n",
-            ),
-            (
-                r#"
+        "---\n- a\n",
+    ),
+    (
+        r#"
 +MAP any 1 - -
 =VAL any 1 1 - - "a"
 =VAL any 1 1 - - ""
 -MAP"#,
-                "---\na:\n",
-            ),
-        ],
+        "---\na:\n",
+    ),
+];
+
+const CANONICAL_BEGUN_BY_A_MARK: Rows = &[(r#"=VAL any 1 1 - - "a""#, "---\n\"a\"\n")];
+
+const BEGUN_WITHOUT_A_MARK: Rows = &[(r#"=VAL any 1 1 - - """#, "\n")];
+
+/// Signs of flow after a handle are escaped.
+const ESCAPED_FLOW_SIGNS: Rows = &[
+    (r#"=VAL any 0 0 - "!a,b[c]" "x""#, "--- !a%2Cb%5Bc%5D x\n"),
+    (
+        r#"=VAL any 0 0 - "tag:yaml.org,2002:" "x""#,
+        "--- !<tag:yaml.org,2002:> x\n",
     ),
     (
-        "canonical on\nportable on\n",
-        &[(r#"=VAL any 1 1 - - "a""#, "---\n\"a\"\n")],
-    ),
-    ("portable off\n", &[(r#"=VAL any 1 1 - - """#, "\n")]),
-    // Signs of flow after a handle are escaped.
-    (
-        "portable on\n",
-        &[
-            (r#"=VAL any 0 0 - "!a,b[c]" "x""#, "--- !a%2Cb%5Bc%5D x\n"),
-            (
-                r#"=VAL any 0 0 - "tag:yaml.org,2002:" "x""#,
-                "--- !<tag:yaml.org,2002:> x\n",
-            ),
-            (
-                r#"
+        r#"
 +SEQ flow 1 - -
 =VAL any 0 0 - "tag:yaml.org,2002:," "x"
 =VAL any 0 0 - "a,b" "x"
 -SEQ"#,
-                "--- [!!%2C x, !<a,b> x]\n",
-            ),
-        ],
+        "--- [!!%2C x, !<a,b> x]\n",
     ),
-    ("", &[(r#"=VAL any 0 0 - "!a,b[c]" "x""#, "!a,b[c] x\n")]),
-    // U+2028 and U+2029 are escaped in each style, also where characters past ASCII stand as themselves.
+];
+
+const RAW_FLOW_SIGNS: Rows = &[(r#"=VAL any 0 0 - "!a,b[c]" "x""#, "!a,b[c] x\n")];
+
+/// U+2028 and U+2029 are escaped in each style, also where characters past ASCII stand as themselves.
+const ESCAPED_SEPARATORS: Rows = &[
+    (r#"=VAL any 1 1 - - "a\u{2028}b""#, "--- \"a\\Lb\"\n"),
+    (r#"=VAL plain 1 1 - - "\u{2029}""#, "--- \"\\P\"\n"),
     (
-        "portable on\nunicode on\n",
-        &[
-            (r#"=VAL any 1 1 - - "a\u{2028}b""#, "--- \"a\\Lb\"\n"),
-            (r#"=VAL plain 1 1 - - "\u{2029}""#, "--- \"\\P\"\n"),
-            (
-                r#"=VAL single 1 1 - - "é\u{2028}\nb""#,
-                "--- \"é\\L\\nb\"\n",
-            ),
-            (
-                r#"=VAL literal 1 1 - - "a\u{2028}\nb""#,
-                "--- \"a\\L\\nb\"\n",
-            ),
-            (
-                r#"=VAL folded 1 1 - - "a\u{2029}\nb""#,
-                "--- \"a\\P\\nb\"\n",
-            ),
-            (
-                r#"
+        r#"=VAL single 1 1 - - "é\u{2028}\nb""#,
+        "--- \"é\\L\\nb\"\n",
+    ),
+    (
+        r#"=VAL literal 1 1 - - "a\u{2028}\nb""#,
+        "--- \"a\\L\\nb\"\n",
+    ),
+    (
+        r#"=VAL folded 1 1 - - "a\u{2029}\nb""#,
+        "--- \"a\\P\\nb\"\n",
+    ),
+    (
+        r#"
 +MAP block 1 - -
 =VAL any 1 1 - - "a\u{2028}b"
 =VAL any 1 1 - - "v"
 -MAP"#,
-                "---\n? \"a\\Lb\"\n: v\n",
-            ),
-        ],
-    ),
-    (
-        "portable on\nunicode on\nbreaks12 on\n",
-        &[(r#"=VAL any 1 1 - - "é\u{2028}""#, "--- \"é\\L\"\n")],
-    ),
-    (
-        "canonical on\nportable on\nunicode on\n",
-        &[(r#"=VAL any 1 1 - - "\u{2028}""#, "---\n\"\\L\"\n")],
-    ),
-    (
-        "unicode on\n",
-        &[(r#"=VAL any 1 1 - - "a\u{2028}b""#, "'a\u{2028}  b'\n")],
+        "---\n? \"a\\Lb\"\n: v\n",
     ),
 ];
 
-/// Streams, after some settings.
-const STREAMS: &[StreamGroup] = &[
-    // A mark that begins a prefix stands raw.
+const ESCAPED_SEPARATOR_IN_1_2: Rows = &[(r#"=VAL any 1 1 - - "é\u{2028}""#, "--- \"é\\L\"\n")];
+
+const CANONICAL_SEPARATOR: Rows = &[(r#"=VAL any 1 1 - - "\u{2028}""#, "---\n\"\\L\"\n")];
+
+const RAW_SEPARATOR: Rows = &[(r#"=VAL any 1 1 - - "a\u{2028}b""#, "'a\u{2028}  b'\n")];
+
+/// Settings, and the roots that come after them.
+const ROOTS: &[(&str, Rows)] = &[
+    ("portable on\n", BEGUN_BY_A_MARK),
+    ("canonical on\nportable on\n", CANONICAL_BEGUN_BY_A_MARK),
+    ("portable off\n", BEGUN_WITHOUT_A_MARK),
+    ("portable on\n", ESCAPED_FLOW_SIGNS),
+    ("", RAW_FLOW_SIGNS),
+    ("portable on\nunicode on\n", ESCAPED_SEPARATORS),
     (
-        "portable on\n",
-        &[
-            (
-                r#"
+        "portable on\nunicode on\nbreaks12 on\n",
+        ESCAPED_SEPARATOR_IN_1_2,
+    ),
+    (
+        "canonical on\nportable on\nunicode on\n",
+        CANONICAL_SEPARATOR,
+    ),
+    ("unicode on\n", RAW_SEPARATOR),
+];
+
+/// A mark that begins a prefix stands raw.
+const PREFIXES: Streams = &[
+    (
+        r#"
 +STR any
 +DOC 1 - "!e!" "!x"
 =VAL any 0 0 - "!xy" "x"
 -DOC 1
 -STR"#,
-                &["%TAG !e! !x\n--- !e!y x\n"],
-            ),
-            (
-                r#"
+        &["%TAG !e! !x\n--- !e!y x\n"],
+    ),
+    (
+        r#"
 +STR any
 +DOC 1 - "!e!" "!!a!"
 =VAL any 0 0 - "!!a!b" "x"
 -DOC 1
 -STR"#,
-                &["%TAG !e! !%21a%21\n--- !e!b x\n"],
-            ),
-            (
-                r#"
+        &["%TAG !e! !%21a%21\n--- !e!b x\n"],
+    ),
+    (
+        r#"
 +STR any
 +DOC 1 - "!e!" "a!,["
 =VAL any 0 0 - "a!,[," "x"
 -DOC 1
 -STR"#,
-                &["%TAG !e! a%21,[\n--- !e!%2C x\n"],
-            ),
-        ],
+        &["%TAG !e! a%21,[\n--- !e!%2C x\n"],
     ),
-    (
-        "",
-        &[(
-            r#"
+];
+
+const ESCAPED_PREFIX: Streams = &[(
+    r#"
 +STR any
 +DOC 1 - "!e!" "!x"
 =VAL any 0 0 - "!xy" "x"
 -DOC 1
 -STR"#,
-            &["%TAG !e! %21x\n--- !e!y x\n"],
-        )],
-    ),
-    // Documents of nothing are kept apart.
+    &["%TAG !e! %21x\n--- !e!y x\n"],
+)];
+
+/// Documents of nothing are kept apart.
+const EMPTY_DOCUMENTS: Streams = &[
     (
-        "portable on\n",
-        &[
-            (
-                r#"
+        r#"
 +STR any
 +DOC 1 -
 =VAL any 1 1 - - ""
 -DOC 0
 -STR"#,
-                &["---\n...\n"],
-            ),
-            (
-                r#"
+        &["---\n...\n"],
+    ),
+    (
+        r#"
 +STR any
 +DOC 1 -
 =VAL any 1 1 - - ""
@@ -165,18 +159,23 @@ const STREAMS: &[StreamGroup] = &[
 =VAL any 1 1 - - ""
 -DOC 1
 -STR"#,
-                &["---\n", "---\n"],
-            ),
-        ],
+        &["---\n", "---\n"],
     ),
+];
+
+/// Settings, and the streams that come after them.
+const STREAMS: &[(&str, Streams)] = &[
+    ("portable on\n", PREFIXES),
+    ("", ESCAPED_PREFIX),
+    ("portable on\n", EMPTY_DOCUMENTS),
 ];
 
 #[test]
 fn each_stream_is_written(rt: HostRuntime) {
-    check_all_streams(&rt, rt.alloc(), STREAMS);
+    check_streams(&rt, rt.alloc(), STREAMS);
 }
 
 #[test]
 fn each_root_is_written(rt: HostRuntime) {
-    check_all_roots(&rt, rt.alloc(), ROOTS);
+    check_roots(&rt, rt.alloc(), ROOTS);
 }

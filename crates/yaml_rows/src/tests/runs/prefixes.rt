@@ -48,95 +48,82 @@ fn add(rt: &impl Abort, prefix: &mut Prefix, turn: &(&str, &str), flushes: Flush
     }
 }
 
-fn check_prefix(rt: &impl Abort, alloc: Global, prefix: &Prefix, flushes: Flushes) {
-    let row = Row {
-        script: prefix.script.as_str(),
-        answer: run_answer_t::Done,
-        output: prefix.text.as_str().as_bytes(),
-        lengths: prefix.lengths.as_slice(),
-        flushes,
-    };
-    check_row(rt, alloc, &row);
-}
-
 // Each prefix is flushed as a whole.
 fn check_prefixes(rt: &impl Abort, alloc: Global, settings: &str, turns: Turns, flushes: Flushes) {
     let mut prefix = empty(rt, alloc, settings);
     for turn in turns {
         add(rt, &mut prefix, turn, flushes);
-        check_prefix(rt, alloc, &prefix, flushes);
+        let row = Row {
+            lengths: prefix.lengths.as_slice(),
+            flushes,
+            ..Row::done(prefix.script.as_str(), prefix.text.as_str().as_bytes())
+        };
+        check_row(rt, alloc, &row);
     }
 }
 
-fn check_scripts(rt: &impl Abort, alloc: Global, scripts: &[(&str, Turns)]) {
-    for script in scripts {
-        check_prefixes(rt, alloc, script.0, script.1, Flushes::Last);
-        check_prefixes(rt, alloc, script.0, script.1, Flushes::Each);
-    }
-}
+/// A block waits for what follows its start.
+const BLOCK: Turns = &[
+    ("+STR any", ""),
+    (r#"+DOC 1 - "!e!" "tag:e.com,2000:""#, ""),
+    ("+MAP block 1 - -", "%TAG !e! tag:e.com,2000:\n---"),
+    (r#"=VAL any 1 1 "n" - "a key""#, ""),
+    ("+SEQ block 1 - -", ""),
+    (r#"=VAL any 0 0 - "tag:e.com,2000:t" "x""#, "\n&n a key"),
+    ("+MAP flow 1 - -", ":\n- !e!t x"),
+    (r#"=VAL any 1 1 - - "k""#, ""),
+    (r#"+SEQ flow 1 "s" -"#, ""),
+    ("-SEQ", "\n- {k: &s []"),
+    ("-MAP", "}"),
+    (r#"=VAL literal 1 1 - - "a\n\n""#, "\n- |+\n  a\n\n"),
+    ("-SEQ", ""),
+    (r#"=ALI "n""#, "*n "),
+    ("+MAP block 1 - -", ""),
+    ("-MAP", ": {}"),
+    ("-MAP", ""),
+    ("-DOC 1", "\n"),
+    ("+DOC 1 -", ""),
+    (r#"=VAL literal 1 1 - - "b\n\n""#, "--- |+\n  b\n\n"),
+    ("-DOC 1", ""),
+    ("-STR", "...\n"),
+];
 
-/// Scripts, after some settings.
+/// A flow sequence waits for two events.
+const FLOW_SEQUENCE: Turns = &[
+    ("+STR any", ""),
+    ("+DOC 1 -", ""),
+    (r#"+SEQ flow 1 "a" -"#, ""),
+    ("+SEQ flow 1 - -", ""),
+    (r#"=VAL any 1 1 - - "x""#, "&a"),
+    ("-SEQ", " [[x]"),
+    ("-SEQ", "]"),
+    ("-DOC 1", "\n"),
+];
+
+/// A canonical item is written without its comma.
+const CANONICAL_SEQUENCE: Turns = &[
+    ("+STR any", ""),
+    ("+DOC 1 -", ""),
+    ("+SEQ block 1 - -", "---\n"),
+    (r#"=VAL any 1 1 - - "a""#, ""),
+    (r#"=VAL any 1 1 - - "b""#, "[\n  \"a\",\n  \"b\""),
+    ("-SEQ", ",\n]"),
+    ("-DOC 1", "\n"),
+];
+
+/// Settings, and the scripts that come after them.
 const SCRIPTS: &[(&str, Turns)] = &[
-    // A block waits for what follows its start.
-    (
-        "",
-        &[
-            ("+STR any", ""),
-            (r#"+DOC 1 - "!e!" "tag:e.com,2000:""#, ""),
-            ("+MAP block 1 - -", "%TAG !e! tag:e.com,2000:\n---"),
-            (r#"=VAL any 1 1 "n" - "a key""#, ""),
-            ("+SEQ block 1 - -", ""),
-            (r#"=VAL any 0 0 - "tag:e.com,2000:t" "x""#, "\n&n a key"),
-            ("+MAP flow 1 - -", ":\n- !e!t x"),
-            (r#"=VAL any 1 1 - - "k""#, ""),
-            (r#"+SEQ flow 1 "s" -"#, ""),
-            ("-SEQ", "\n- {k: &s []"),
-            ("-MAP", "}"),
-            (r#"=VAL literal 1 1 - - "a\n\n""#, "\n- |+\n  a\n\n"),
-            ("-SEQ", ""),
-            (r#"=ALI "n""#, "*n "),
-            ("+MAP block 1 - -", ""),
-            ("-MAP", ": {}"),
-            ("-MAP", ""),
-            ("-DOC 1", "\n"),
-            ("+DOC 1 -", ""),
-            (r#"=VAL literal 1 1 - - "b\n\n""#, "--- |+\n  b\n\n"),
-            ("-DOC 1", ""),
-            ("-STR", "...\n"),
-        ],
-    ),
-    // A flow sequence waits for two events.
-    (
-        "",
-        &[
-            ("+STR any", ""),
-            ("+DOC 1 -", ""),
-            (r#"+SEQ flow 1 "a" -"#, ""),
-            ("+SEQ flow 1 - -", ""),
-            (r#"=VAL any 1 1 - - "x""#, "&a"),
-            ("-SEQ", " [[x]"),
-            ("-SEQ", "]"),
-            ("-DOC 1", "\n"),
-        ],
-    ),
-    // A canonical item is written without its comma.
-    (
-        "canonical on\nwidth -1\n",
-        &[
-            ("+STR any", ""),
-            ("+DOC 1 -", ""),
-            ("+SEQ block 1 - -", "---\n"),
-            (r#"=VAL any 1 1 - - "a""#, ""),
-            (r#"=VAL any 1 1 - - "b""#, "[\n  \"a\",\n  \"b\""),
-            ("-SEQ", ",\n]"),
-            ("-DOC 1", "\n"),
-        ],
-    ),
+    ("", BLOCK),
+    ("", FLOW_SEQUENCE),
+    ("canonical on\nwidth -1\n", CANONICAL_SEQUENCE),
 ];
 
 #[test]
 fn what_is_ready_is_written(rt: HostRuntime) {
-    check_scripts(&rt, rt.alloc(), SCRIPTS);
+    for (settings, turns) in SCRIPTS {
+        check_prefixes(&rt, rt.alloc(), settings, turns, Flushes::Last);
+        check_prefixes(&rt, rt.alloc(), settings, turns, Flushes::Each);
+    }
 }
 
 /// A script, the line after which it is flushed, the call that is refused, and the output with its length after each flush.

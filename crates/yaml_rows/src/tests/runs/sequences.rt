@@ -1,5 +1,5 @@
 //! Block sequences in a mapping, indented and undented, with an indent of 2 and of 4.
-use super::{check_root, check_roots};
+use super::{Rows, check_root, check_roots};
 use std::alloc::Global;
 use std::process::Abort;
 
@@ -12,8 +12,8 @@ struct Shape<'a> {
     undented_by_four: &'a str,
 }
 
-const SHAPES: &[Shape] = &[
-    // A value after a simple key.
+/// A value after a simple key, a list in a list, and a key, whose items begin on the line of its sign in any case.
+const VALUES: &[Shape] = &[
     Shape {
         root: r#"
 +MAP block 1 - -
@@ -30,7 +30,6 @@ const SHAPES: &[Shape] = &[
         indented_by_four: "a:\n    - b\n    - c\nd: e\n",
         undented_by_four: "a:\n- b\n- c\nd: e\n",
     },
-    // A list in a list.
     Shape {
         root: r#"
 +MAP block 1 - -
@@ -47,7 +46,6 @@ const SHAPES: &[Shape] = &[
         indented_by_four: "a:\n    -   - b\n        - c\n",
         undented_by_four: "a:\n-   - b\n    - c\n",
     },
-    // A key, whose items begin on the line of its sign in any case.
     Shape {
         root: r#"
 +MAP block 1 - -
@@ -62,7 +60,10 @@ const SHAPES: &[Shape] = &[
         indented_by_four: "?   - b\n    - c\n: v\n",
         undented_by_four: "?   - b\n    - c\n: v\n",
     },
-    // Behind an anchor they begin on a new line, in a value and in a key.
+];
+
+/// Behind an anchor they begin on a new line, in a value and in a key, and so they do behind a tag.
+const BEHIND_PROPERTIES: &[Shape] = &[
     Shape {
         root: r#"
 +MAP block 1 - -
@@ -89,7 +90,6 @@ const SHAPES: &[Shape] = &[
         indented_by_four: "? &x\n    - b\n: v\n",
         undented_by_four: "? &x\n- b\n: v\n",
     },
-    // A tag is no other.
     Shape {
         root: r#"
 +MAP block 1 - -
@@ -103,9 +103,11 @@ const SHAPES: &[Shape] = &[
         indented_by_four: "a: !t\n    - b\n",
         undented_by_four: "a: !t\n- b\n",
     },
-    // A mapping in a list, and a list in that mapping.
-    Shape {
-        root: r#"
+];
+
+/// A mapping in a list, and a list in that mapping.
+const WITHIN_LISTS: &[Shape] = &[Shape {
+    root: r#"
 +MAP block 1 - -
 =VAL any 1 1 - - "a"
 +SEQ block 1 - -
@@ -120,12 +122,14 @@ const SHAPES: &[Shape] = &[
 -MAP
 -SEQ
 -MAP"#,
-        indented: "a:\n  - b\n  - c: d\n    e:\n      - f\n",
-        undented: "a:\n- b\n- c: d\n  e:\n  - f\n",
-        indented_by_four: "a:\n    - b\n    -   c: d\n        e:\n            - f\n",
-        undented_by_four: "a:\n- b\n-   c: d\n    e:\n    - f\n",
-    },
-    // At the root, and in a list alone, nothing changes.
+    indented: "a:\n  - b\n  - c: d\n    e:\n      - f\n",
+    undented: "a:\n- b\n- c: d\n  e:\n  - f\n",
+    indented_by_four: "a:\n    - b\n    -   c: d\n        e:\n            - f\n",
+    undented_by_four: "a:\n- b\n-   c: d\n    e:\n    - f\n",
+}];
+
+/// At the root, in a list alone, and in flow nothing changes.
+const UNCHANGED: &[Shape] = &[
     Shape {
         root: r#"
 +SEQ block 1 - -
@@ -139,7 +143,6 @@ const SHAPES: &[Shape] = &[
         indented_by_four: "-   - a\n- b\n",
         undented_by_four: "-   - a\n- b\n",
     },
-    // Nor does it in flow.
     Shape {
         root: r#"
 +MAP block 1 - -
@@ -177,8 +180,10 @@ fn check_shape(rt: &impl Abort, alloc: Global, shape: &Shape) {
 
 #[test]
 fn sequences_are_indented_where_asked(rt: HostRuntime) {
-    for shape in SHAPES {
-        check_shape(&rt, rt.alloc(), shape);
+    for shapes in [VALUES, BEHIND_PROPERTIES, WITHIN_LISTS, UNCHANGED] {
+        for shape in shapes {
+            check_shape(&rt, rt.alloc(), shape);
+        }
     }
 }
 
@@ -192,18 +197,26 @@ const VALUE: &str = r#"
 -SEQ
 -MAP"#;
 
-#[test]
-fn texts_in_an_indented_sequence_are_further_in(rt: HostRuntime) {
-    let narrow = "width 5\nsequences indented\n";
-    let rows = [(VALUE, "a:\n  - |\n    b\n  - c d\n")];
-    check_roots(&rt, rt.alloc(), narrow, &rows);
-    let rows = [(VALUE, "a:\n    - |\n        b\n    - c d\n")];
-    check_roots(&rt, rt.alloc(), INDENTED_BY_FOUR, &rows);
-}
+/// Settings, and how it is written.
+const TEXTS: &[(&str, Rows)] = &[
+    (
+        "width 5\nsequences indented\n",
+        &[(VALUE, "a:\n  - |\n    b\n  - c d\n")],
+    ),
+    (
+        INDENTED_BY_FOUR,
+        &[(VALUE, "a:\n    - |\n        b\n    - c d\n")],
+    ),
+    (
+        "canonical on\nsequences indented\n",
+        &[(
+            VALUE,
+            "---\n{\n  ? \"a\"\n  : [\n    \"b\\n\",\n    \"c d\",\n  ],\n}\n",
+        )],
+    ),
+];
 
 #[test]
-fn canonical_sequences_stay(rt: HostRuntime) {
-    let settings = "canonical on\nsequences indented\n";
-    let text = "---\n{\n  ? \"a\"\n  : [\n    \"b\\n\",\n    \"c d\",\n  ],\n}\n";
-    check_roots(&rt, rt.alloc(), settings, &[(VALUE, text)]);
+fn texts_in_an_indented_sequence_are_further_in_unless_it_is_canonical(rt: HostRuntime) {
+    check_roots(&rt, rt.alloc(), TEXTS);
 }

@@ -4,38 +4,25 @@ use crate::tests::joined;
 use std::alloc::Global;
 use std::process::Abort;
 
+/// A text that begins with a space.
+const LITERAL: &str = "=VAL literal 1 1 - - \" a\"";
+
 /// A mapping within a mapping.
 const NESTED: &str =
     "+MAP block 1 - -\n=VAL any 1 1 - - \"a\"\n+MAP block 1 - -\n=VAL any 1 1 - - \"b\"\n=VAL any 1 1 - - \"c\"\n-MAP\n-MAP";
-
-fn check_nested(rt: &impl Abort, alloc: Global, settings: &str, spaces: &str) {
-    let text = joined(rt, alloc, &["a:\n", spaces, "b: c\n"]);
-    check_root(rt, alloc, settings, NESTED, text.as_str());
-}
-
-// A text whose header has the indent as its digit.
-fn check_header(rt: &impl Abort, alloc: Global, settings: &str, spaces: &str) {
-    let digit = spaces.len();
-    let text = format!(in alloc; "|{digit}-\n{spaces} a\n").expect(rt, "no memory");
-    let literal = "=VAL literal 1 1 - - \" a\"";
-    check_root(rt, alloc, settings, literal, text.as_str());
-}
 
 fn spaces(rt: &impl Abort, alloc: Global, count: usize) -> String {
     " ".repeat(alloc, count).expect(rt, "no memory")
 }
 
+// The mapping, and a text whose header has the indent as its digit.
 fn check_indent(rt: &impl Abort, alloc: Global, given: &str, columns: usize) {
     let settings = joined(rt, alloc, &["indent ", given, "\n"]);
     let spaces = spaces(rt, alloc, columns);
-    check_nested(rt, alloc, settings.as_str(), spaces.as_str());
-    check_header(rt, alloc, settings.as_str(), spaces.as_str());
-}
-
-fn check_indents(rt: &impl Abort, alloc: Global, rows: &[(&str, usize)]) {
-    for row in rows {
-        check_indent(rt, alloc, row.0, row.1);
-    }
+    let nested = joined(rt, alloc, &["a:\n", spaces.as_str(), "b: c\n"]);
+    check_root(rt, alloc, settings.as_str(), NESTED, nested.as_str());
+    let literal = format!(in alloc; "|{columns}-\n{spaces} a\n").expect(rt, "no memory");
+    check_root(rt, alloc, settings.as_str(), LITERAL, literal.as_str());
 }
 
 const INDENTS: &[(&str, usize)] = &[
@@ -55,7 +42,9 @@ const INDENTS: &[(&str, usize)] = &[
 
 #[test]
 fn an_indent_is_two_to_nine(rt: HostRuntime) {
-    check_indents(&rt, rt.alloc(), INDENTS);
+    for row in INDENTS {
+        check_indent(&rt, rt.alloc(), row.0, row.1);
+    }
 }
 
 /// How many words the text has, each `aa`.
@@ -90,12 +79,6 @@ fn check_width(rt: &impl Abort, alloc: Global, row: &Widths) {
     let root = joined(rt, alloc, &["=VAL any 1 1 - - \"", words.as_str(), "aa\""]);
     let text = folded(rt, alloc, row.1, row.2);
     check_root(rt, alloc, row.0, root.as_str(), text.as_str());
-}
-
-fn check_widths(rt: &impl Abort, alloc: Global, rows: &[Widths]) {
-    for row in rows {
-        check_width(rt, alloc, row);
-    }
 }
 
 /// No line but one.
@@ -137,5 +120,7 @@ const WIDTHS: &[Widths] = &[
 
 #[test]
 fn a_width_past_twice_the_indent_is_kept(rt: HostRuntime) {
-    check_widths(&rt, rt.alloc(), WIDTHS);
+    for row in WIDTHS {
+        check_width(&rt, rt.alloc(), row);
+    }
 }

@@ -96,6 +96,7 @@ impl Row for Root {
 
 const ANY: yaml_scalar_style_t = YAML_ANY_SCALAR_STYLE;
 
+/// Any style is plain or quoted.
 const CHOSEN: &[Root] = &[
     Root("", ANY, false, 80, "", 0),
     Root("foo", ANY, false, 80, "foo", 0),
@@ -125,13 +126,9 @@ const CHOSEN: &[Root] = &[
     Root("\u{1F600}", ANY, true, 80, "\u{1F600}", 0),
 ];
 
-#[test]
-fn any_style_is_plain_or_quoted(rt: HostRuntime) {
-    check_rows(&rt, rt.alloc(), CHOSEN);
-}
-
 const SINGLE: yaml_scalar_style_t = YAML_SINGLE_QUOTED_SCALAR_STYLE;
 
+/// Quotes that are asked for.
 const QUOTED: &[Root] = &[
     Root(
         "aaaaaa  b",
@@ -149,15 +146,11 @@ const QUOTED: &[Root] = &[
     Root("a\u{2028}\nb", SINGLE, true, 80, "'a\u{2028}\n  b'", 0),
 ];
 
-#[test]
-fn quotes_asked_for_are_written(rt: HostRuntime) {
-    check_rows(&rt, rt.alloc(), QUOTED);
-}
-
 const LITERAL: yaml_scalar_style_t = YAML_LITERAL_SCALAR_STYLE;
 
 const FOLDED: yaml_scalar_style_t = YAML_FOLDED_SCALAR_STYLE;
 
+/// Block styles that are asked for.
 const IN_LINES: &[Root] = &[
     Root("a\n\n", LITERAL, false, 80, "|+\n  a\n\n", 2),
     Root("\n", LITERAL, false, 80, "|2+\n\n", 2),
@@ -186,6 +179,8 @@ const IN_LINES: &[Root] = &[
 ];
 
 #[test]
-fn block_styles_asked_for_are_written(rt: HostRuntime) {
-    check_rows(&rt, rt.alloc(), IN_LINES);
+fn each_style_is_chosen_and_written(rt: HostRuntime) {
+    for rows in [CHOSEN, QUOTED, IN_LINES] {
+        check_rows(&rt, rt.alloc(), rows);
+    }
 }

@@ -40,16 +40,13 @@ const ROOTS: &[Plain] = &[
     Plain(true, "a b c", 0, "a\n  b\n  c"),
     Plain(true, "a b", -1, "a\n  b"),
     Plain(true, "-x", 80, "-x"),
+    // A simple key never folds.
+    Plain(false, "aaaaaa b", 5, "aaaaaa b"),
 ];
 
 #[test]
-fn roots_stand_as_they_are_and_fold_past_the_width(rt: HostRuntime) {
+fn texts_stand_as_they_are_and_fold_past_the_width(rt: HostRuntime) {
     check_rows(&rt, rt.alloc(), ROOTS);
-}
-
-#[test]
-fn simple_keys_never_fold(rt: HostRuntime) {
-    check_rows(&rt, rt.alloc(), &[Plain(false, "aaaaaa b", 5, "aaaaaa b")]);
 }
 
 // Nothing is written but the space that must go before it; the second time it stands at a key's place.

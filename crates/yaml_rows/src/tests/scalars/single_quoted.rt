@@ -42,16 +42,13 @@ const ROOTS: &[Single] = &[
     Single(true, "aaaaa b", i32::MAX, "'aaaaa b'"),
     Single(true, "a''' b c", 5, "'a''''''\n  b c'"),
     Single(true, "aaaaaa  b", 5, "'aaaaaa  b'"),
+    // A simple key never folds.
+    Single(false, "aaaaa b", 5, "'aaaaa b'"),
 ];
 
 #[test]
 fn roots_stand_between_quotes(rt: HostRuntime) {
     check_rows(&rt, rt.alloc(), ROOTS);
-}
-
-#[test]
-fn simple_keys_never_fold(rt: HostRuntime) {
-    check_rows(&rt, rt.alloc(), &[Single(false, "aaaaa b", 5, "'aaaaa b'")]);
 }
 
 fn write_item(pen: &mut Pen<Global>) -> Result<(), yaml_error_t>

@@ -15,11 +15,15 @@ type Analysis<'a> = (&'a str, bool, bool, bool, bool, bool, bool, bool);
 fn check_analysis(rt: &impl Abort, row: &Analysis) {
     let (value, unicode, breaks12, multiline, flow, block, single, lines) = *row;
     let data = analyze_scalar(value, unicode, breaks12);
-    equal(rt, &(value, data.multiline), &(value, multiline));
-    equal(rt, &(value, data.flow_plain_allowed), &(value, flow));
-    equal(rt, &(value, data.block_plain_allowed), &(value, block));
-    equal(rt, &(value, data.single_quoted_allowed), &(value, single));
-    equal(rt, &(value, data.block_allowed), &(value, lines));
+    let got = [
+        data.multiline,
+        data.flow_plain_allowed,
+        data.block_plain_allowed,
+        data.single_quoted_allowed,
+        data.block_allowed,
+    ];
+    let wanted = [multiline, flow, block, single, lines];
+    equal(rt, &(value, got), &(value, wanted));
 }
 
 const ANALYSES: &[Analysis] = &[

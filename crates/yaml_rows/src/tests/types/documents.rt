@@ -1,8 +1,8 @@
 //! Documents made of nodes: what they give back, and which numbers are refused.
-use super::{mapping, one_directive, sequence_node};
+use super::{DIRECTIVES, mapping, sequence_node};
 use crate::tests::dumps::Given::{Mapping, Sequence};
 use crate::tests::dumps::{Given, nodes};
-use crate::tests::equal;
+use crate::tests::{directives, equal};
 use std::alloc::Global;
 use std::process::Abort;
 use yaml_base::*;
@@ -28,19 +28,26 @@ fn two_sequences(rt: &impl Abort, alloc: Global) -> Nodes {
 fn document(rt: &impl Abort, alloc: Global) -> yaml_document_t<Global> {
     let nodes = two_sequences(rt, alloc);
     assert!(rt; nodes.len() <= 2_000_000);
-    yaml_document_t::from_nodes(VERSION, one_directive(rt, alloc), nodes, true, false).expect(
-        rt,
-        "each number names a node",
+    yaml_document_t::from_nodes(
+        VERSION,
+        directives(rt, alloc, DIRECTIVES),
+        nodes,
+        true,
+        false,
     )
+    .expect(rt, "each number names a node")
 }
 
 fn check_settings(rt: &impl Abort, document: &yaml_document_t<Global>) {
-    equal(rt, &document.is_empty(), &false);
-    equal(rt, &document.node_count(), &2);
+    let counts = (
+        document.is_empty(),
+        document.node_count(),
+        document.tag_directives().len(),
+    );
+    equal(rt, &counts, &(false, 2, 1));
     equal(rt, &document.version_directive(), &VERSION);
-    equal(rt, &document.tag_directives().len(), &1);
-    equal(rt, &document.start_implicit(), &true);
-    equal(rt, &document.end_implicit(), &false);
+    let implicit = (document.start_implicit(), document.end_implicit());
+    equal(rt, &implicit, &(true, false));
 }
 
 // The node is a sequence whose item is the given number.
@@ -52,9 +59,10 @@ fn check_sequence(rt: &impl Abort, alloc: Global, node: Option<&yaml_node_t<Glob
 fn check_nodes(rt: &impl Abort, alloc: Global, document: &yaml_document_t<Global>) {
     check_sequence(rt, alloc, document.root(), 2);
     check_sequence(rt, alloc, document.get_node(2), 1);
-    equal(rt, &document.get_node(0).is_none(), &true);
-    equal(rt, &document.get_node(3).is_none(), &true);
-    equal(rt, &document.get_node(-1).is_none(), &true);
+    for outside in [0, 3, -1] {
+        let found = document.get_node(outside).is_some();
+        equal(rt, &(outside, found), &(outside, false));
+    }
 }
 
 #[test]
