@@ -14,7 +14,7 @@ use std::io;
 use std::io::Write;
 use std::process::Abort;
 use yaml_base::yaml_error_t;
-use yaml_writer::Writer;
+use yaml_writer::{Settings, Writer};
 
 /// The two are equal. (A comparison in a function of its own is proved once.)
 fn equal<T: PartialEq + Debug>(rt: &impl Abort, got: &T, wanted: &T) {
@@ -23,18 +23,14 @@ fn equal<T: PartialEq + Debug>(rt: &impl Abort, got: &T, wanted: &T) {
 
 /// This was written.
 fn same(rt: &impl Abort, got: &[u8], wanted: &[u8]) {
-    assert_eq!(rt; got, wanted);
+    equal(rt, &got, &wanted);
 }
 
 /// What a call that writes gives: bytes, or why there are none.
 type Answer<'a> = Result<&'a [u8], yaml_error_t>;
 
-/// These bytes came, and not an error.
-fn came(rt: &impl Abort, bytes: &[u8], wanted: &Answer) {
-    match wanted {
-        Ok(expected) => same(rt, bytes, expected),
-        Err(error) => equal(rt, &None, &Some(*error)),
-    }
+fn writer(rt: &impl Abort, alloc: Global, settings: Settings) -> Writer<Global> {
+    Writer::new(alloc, settings).expect(rt, "no memory")
 }
 
 /// The bytes of a writer. (Tests need none of the clauses of the call.)
@@ -42,9 +38,12 @@ fn finished(writer: Writer<Global>) -> Result<Vec<u8>, yaml_error_t> {
     writer.finish()
 }
 
-/// The call gave this text.
-fn gives(rt: &impl Abort, answer: Result<Vec<u8>, yaml_error_t>, wanted: &str) {
-    answers(rt, answer, &Ok(wanted.as_bytes()));
+/// These bytes came, and not an error.
+fn came(rt: &impl Abort, bytes: &[u8], wanted: &Answer) {
+    match wanted {
+        Ok(expected) => same(rt, bytes, expected),
+        Err(error) => equal(rt, &None, &Some(*error)),
+    }
 }
 
 /// The call gave this.

@@ -1,6 +1,6 @@
 //! Values that are handed on to a sink as they are written, and values that are given to a writer.
 use crate::tests::serialized::{Point, Values, alpha, sink_of};
-use crate::tests::{Narrow, equal, same};
+use crate::tests::{Narrow, answers, equal, finished, writer};
 use serde::{Described, Serialize, Serializer};
 use std::alloc::Global;
 use std::io;
@@ -36,37 +36,29 @@ impl Serialize for Lines {
 fn a_sink_that_fails_ends_the_document(rt: HostRuntime) {
     let alloc = rt.alloc();
     let full = Some(io::ErrorKind::StorageFull);
-    equal(&rt, &sink_failure(alloc, 3, &5u8), &full);
-    equal(&rt, &sink_failure(alloc, 6, &5u8), &None);
-    equal(&rt, &sink_failure(alloc, 20_000, &Lines(10_000)), &full);
+    let narrow = sink_failure(alloc, 3, &5u8);
+    let wide = sink_failure(alloc, 6, &5u8);
+    let long = sink_failure(alloc, 20_000, &Lines(10_000));
+    equal(&rt, &(narrow, wide, long), &(full, None, full));
 }
 
-/// The value's complaint comes, and the sink has so many bytes at least.
-fn check_sent_before<T: Serialize>(rt: &impl Abort, alloc: Global, value: &T, least: usize) {
+/// Whether the value's complaint comes, and whether the sink has so many bytes at least.
+fn sent_before<T: Serialize>(alloc: Global, value: &T, least: usize) -> (bool, bool) {
     let mut sink = Narrow::new(alloc, usize::MAX);
     let is_custom = matches!(to_writer(alloc, &mut sink, value), Err(Error::Custom(_)));
-    equal(rt, &is_custom, &true);
-    equal(rt, &(sink.taken.len() >= least), &true);
+    (is_custom, sink.taken.len() >= least)
 }
 
 /// Of 80,000 bytes at most 16,384 wait when the value fails.
 #[test]
 fn bytes_are_handed_on_while_a_value_is_written(rt: HostRuntime) {
-    check_sent_before(&rt, rt.alloc(), &Lines(10_000), 60_000);
+    let sent = sent_before(rt.alloc(), &Lines(10_000), 60_000);
+    equal(&rt, &sent, &(true, true));
 }
 
 /// A value is given to a writer. (Tests need none of the clauses of the call.)
 fn is_given<T: Serialize>(alloc: Global, writer: &mut Writer<Global>, value: &T) -> bool {
     write(alloc, writer, value).is_ok()
-}
-
-fn writer(rt: &impl Abort, alloc: Global) -> Writer<Global> {
-    Writer::new(alloc, value_settings()).expect(rt, "no memory")
-}
-
-fn check_finished(rt: &impl Abort, writer: Writer<Global>, expected: &str) {
-    let bytes = writer.finish().expect(rt, "a stream");
-    same(rt, bytes.as_slice(), expected.as_bytes());
 }
 
 /// A sequence begins, whose first item has a tag.
@@ -78,17 +70,18 @@ fn begin_tagged(writer: &mut Writer<Global>) -> Result<(), yaml_error_t> {
 #[test]
 fn a_value_is_a_node_of_a_writer(rt: HostRuntime) {
     let alloc = rt.alloc();
-    let mut writer = writer(&rt, alloc);
+    let mut writer = writer(&rt, alloc, value_settings());
     equal(&rt, &begin_tagged(&mut writer), &Ok(()));
     let server = alpha(alloc).expect(&rt, "no memory");
-    equal(&rt, &is_given(alloc, &mut writer, &server), &true);
-    equal(&rt, &is_given(alloc, &mut writer, &"no"), &true);
-    equal(&rt, &writer.end(), &Ok(()));
-    equal(&rt, &writer.next_document(), &Ok(()));
-    equal(&rt, &is_given(alloc, &mut writer, &Point(1, -2)), &true);
+    let server = is_given(alloc, &mut writer, &server);
+    let text = is_given(alloc, &mut writer, &"no");
+    let ends = (writer.end(), writer.next_document());
+    let point = is_given(alloc, &mut writer, &Point(1, -2));
+    equal(&rt, &(server, text, point), &(true, true, true));
+    equal(&rt, &ends, &(Ok(()), Ok(())));
     let expected =
         "---\n- !server\n  name: alpha\n  ports:\n    - 80\n    - 443\n  limit: null\n  backup: false\n  weights:\n    - -1\n    - 'yes'\n- 'no'\n---\n- 1\n- -2\n";
-    check_finished(&rt, writer, expected);
+    answers(&rt, finished(writer), &Ok(expected.as_bytes()));
 }
 
 /// A value that ends what it didn't begin.
@@ -106,13 +99,14 @@ impl Serialize for Ender {
 #[test]
 fn a_value_ends_only_what_it_began(rt: HostRuntime) {
     let alloc = rt.alloc();
-    let mut writer = writer(&rt, alloc);
+    let mut writer = writer(&rt, alloc, value_settings());
     equal(&rt, &begin_tagged(&mut writer), &Ok(()));
-    equal(&rt, &is_given(alloc, &mut writer, &Ender), &false);
-    equal(&rt, &is_given(alloc, &mut writer, &Values(0, None)), &false);
-    equal(&rt, &is_given(alloc, &mut writer, &1u8), &true);
+    let ender = is_given(alloc, &mut writer, &Ender);
+    let none = is_given(alloc, &mut writer, &Values(0, None));
+    let number = is_given(alloc, &mut writer, &1u8);
+    equal(&rt, &(ender, none, number), &(false, false, true));
     equal(&rt, &writer.end(), &Ok(()));
-    check_finished(&rt, writer, "---\n- !server 1\n");
+    answers(&rt, finished(writer), &Ok(b"---\n- !server 1\n"));
 }
 
 /// Two values, of which the second is refused at a document's root; it ignores that.
@@ -132,11 +126,8 @@ impl Serialize for Deaf {
 #[test]
 fn an_error_that_a_value_ignores_comes_back(rt: HostRuntime) {
     let alloc = rt.alloc();
-    let mut writer = writer(&rt, alloc);
-    equal(&rt, &is_given(alloc, &mut writer, &Deaf), &false);
-    equal(
-        &rt,
-        &writer.error(),
-        &Some(yaml_error_t::ExpectedDocumentEnd),
-    );
+    let mut writer = writer(&rt, alloc, value_settings());
+    let is_given = is_given(alloc, &mut writer, &Deaf);
+    let error = Some(yaml_error_t::ExpectedDocumentEnd);
+    equal(&rt, &(is_given, writer.error()), &(false, error));
 }

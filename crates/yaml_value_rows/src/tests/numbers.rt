@@ -4,113 +4,74 @@ use std::alloc::Global;
 use std::process::Abort;
 use yaml_writer::{Spelling, number_of, number_spelling};
 
-/// A text, and its spelling; none where it is no number.
-type Row<'a> = (&'a str, Option<&'a str>);
-
-/// A text is a number, and is spelled so.
-fn check_number(rt: &impl Abort, spelling: &str, wanted: Option<&str>) {
-    match wanted {
-        Some(wanted) => equal(rt, &spelling, &wanted),
-        None => equal(rt, &spelling, &"no number"),
-    }
-}
-
 /// How a number is spelled. (Tests need none of the clauses of the call.)
 fn spelling<'a>(rt: &impl Abort, alloc: Global, text: &'a str) -> Option<Spelling<'a, Global>> {
     number_spelling(alloc, text).expect(rt, "no memory")
 }
 
-fn check_spelling(rt: &impl Abort, alloc: Global, row: &Row) {
-    match spelling(rt, alloc, row.0) {
-        Some(spelling) => check_number(rt, spelling.as_str(), row.1),
-        None => equal(rt, &row.1, &None),
+fn is_another(text: &str, spelling: Option<&str>) -> bool {
+    match spelling {
+        Some(spelling) => spelling != text,
+        None => false,
     }
 }
 
-fn check_spellings(rt: &impl Abort, alloc: Global, rows: &[Row]) {
-    for row in rows {
-        check_spelling(rt, alloc, row);
+/// A text has this spelling, which is changed where it is another text; it is no number where there is none.
+fn check_spelling(rt: &impl Abort, alloc: Global, text: &str, wanted: Option<&str>) {
+    let spelling = spelling(rt, alloc, text);
+    let is_changed = matches!(spelling, Some(Spelling::Changed(_)));
+    equal(rt, &is_changed, &is_another(text, wanted));
+    match &spelling {
+        Some(found) => equal(rt, &Some(found.as_str()), &wanted),
+        None => equal(rt, &None, &wanted),
     }
 }
 
-const NUMBERS: &[Row] = &[
-    ("0", Some("0")),
-    ("-0", Some("-0.0")),
-    ("-120", Some("-120")),
-    ("18446744073709551616", Some("18446744073709551616")),
-    ("1.50", Some("1.50")),
-    ("1e5", Some("1.0e+5")),
-    ("1E-5", Some("1.0e-5")),
-    ("12.5E+07", Some("12.5e+07")),
-    ("-1.25e10", Some("-1.25e+10")),
-    ("1.5e-3", Some("1.5e-3")),
-    ("-0e0", Some("-0.0e+0")),
+/// Numbers, and their spellings.
+const NUMBERS: &[(&str, &str)] = &[
+    ("0", "0"),
+    ("12", "12"),
+    ("-0", "-0.0"),
+    ("-120", "-120"),
+    ("18446744073709551616", "18446744073709551616"),
+    ("1.50", "1.50"),
+    ("1e5", "1.0e+5"),
+    ("1E-5", "1.0e-5"),
+    ("12.5E+07", "12.5e+07"),
+    ("-1.25e10", "-1.25e+10"),
+    ("1.5e-3", "1.5e-3"),
+    ("-0e0", "-0.0e+0"),
+];
+
+/// Texts that are no numbers.
+const OTHERS: &[&str] = &[
+    "", "-", "+1", "01", "1.", ".5", "1e", "1e+", "1_0", "0x1", "1.2.3", "1e5e6", " 1", "1 ", "é",
 ];
 
 #[test]
-fn numbers_are_spelled(rt: HostRuntime) {
-    check_spellings(&rt, rt.alloc(), NUMBERS);
-}
-
-const OTHERS: &[Row] = &[
-    ("", None),
-    ("-", None),
-    ("+1", None),
-    ("01", None),
-    ("1.", None),
-    (".5", None),
-    ("1e", None),
-    ("1e+", None),
-    ("1_0", None),
-    ("0x1", None),
-    ("1.2.3", None),
-    ("1e5e6", None),
-    (" 1", None),
-    ("1 ", None),
-    ("é", None),
-];
-
-#[test]
-fn other_texts_are_no_numbers(rt: HostRuntime) {
-    check_spellings(&rt, rt.alloc(), OTHERS);
-}
-
-/// A spelling that is the text itself.
-fn unchanged<'a>(rt: &impl Abort, alloc: Global, text: &'a str) -> Option<&'a str> {
-    match spelling(rt, alloc, text) {
-        Some(Spelling::Unchanged(same)) => Some(same),
-        _ => None,
+fn numbers_are_spelled_and_other_texts_are_none(rt: HostRuntime) {
+    for row in NUMBERS {
+        check_spelling(&rt, rt.alloc(), row.0, Some(row.1));
     }
-}
-
-fn is_changed(rt: &impl Abort, alloc: Global, text: &str) -> bool {
-    matches!(spelling(rt, alloc, text), Some(Spelling::Changed(_)))
-}
-
-#[test]
-fn what_is_spelled_so_stays(rt: HostRuntime) {
-    equal(&rt, &unchanged(&rt, rt.alloc(), "12"), &Some("12"));
-    equal(&rt, &is_changed(&rt, rt.alloc(), "1e5"), &true);
+    for text in OTHERS {
+        check_spelling(&rt, rt.alloc(), text, None);
+    }
 }
 
 /// A text, and whether it is an integer; none where it is no number.
 type Kind<'a> = (&'a str, Option<bool>);
 
-/// Whether a number, which keeps its text, is an integer.
-fn is_integer(rt: &impl Abort, text: &str) -> Option<bool> {
-    match number_of(text) {
+/// The number keeps its text, and is an integer or not.
+fn check_kind(rt: &impl Abort, row: &Kind) {
+    let found = match number_of(row.0) {
+        Some(number) => Some((number.as_str(), number.is_integer())),
         None => None,
-        Some(number) => {
-            equal(rt, &number.as_str(), &text);
-            Some(number.is_integer())
-        }
-    }
-}
-
-fn check_kinds(rt: &impl Abort, rows: &[Kind]) {
-    for row in rows {
-        equal(rt, &is_integer(rt, row.0), &row.1);
-    }
+    };
+    let wanted = match row.1 {
+        Some(is_integer) => Some((row.0, is_integer)),
+        None => None,
+    };
+    equal(rt, &found, &wanted);
 }
 
 const KINDS: &[Kind] = &[
@@ -124,5 +85,7 @@ const KINDS: &[Kind] = &[
 
 #[test]
 fn numbers_keep_their_texts(rt: HostRuntime) {
-    check_kinds(&rt, KINDS);
+    for row in KINDS {
+        check_kind(&rt, row);
+    }
 }

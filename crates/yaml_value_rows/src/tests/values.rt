@@ -14,12 +14,6 @@ type Heap<'a> = &'a Refusing<Global>;
 /// A value on a heap.
 type Made<'a> = Value<Heap<'a>>;
 
-/// Values on a heap.
-type Items<'a> = Vec<Made<'a>, Heap<'a>>;
-
-/// The pairs of a map.
-type Pairs<'a> = Vec<(Made<'a>, Made<'a>), Heap<'a>>;
-
 /// The canonical form of a value. (The clauses of the call are long, and tests need none of them.)
 fn canonical<'a>(heap: Heap<'a>, value: &Made<'a>) -> Result<Vec<u8, Heap<'a>>, yaml_error_t> {
     write_canonical(heap, value)
@@ -59,7 +53,7 @@ fn made<'a>(rt: &impl Abort, heap: Heap<'a>, example: &Example) -> Made<'a> {
         Example::Text(characters) => text(rt, heap, characters),
         Example::EmptyList => Value::List(Vec::new(heap)),
         Example::EmptyMap => Value::Map(Vec::new(heap)),
-        Example::List => Value::List(items(rt, heap)),
+        Example::List => list(rt, heap),
         Example::Map => falsehood(rt, heap),
         Example::Mixed => mixed(rt, heap),
         Example::Nested(count) => nested_lists(rt, heap, *count),
@@ -71,28 +65,15 @@ fn text<'a>(rt: &impl Abort, heap: Heap<'a>, characters: &str) -> Made<'a> {
     Value::Text(String::from_str(heap, characters).expect(rt, "no memory"))
 }
 
-/// One more item.
-fn add<'a>(rt: &impl Abort, items: &mut Items<'a>, value: Made<'a>) {
-    items.push(value).expect(rt, "no memory");
-}
-
 /// The integer 5 and the text `a`.
-fn items<'a>(rt: &impl Abort, heap: Heap<'a>) -> Items<'a> {
-    let mut items = Vec::new(heap);
-    add(rt, &mut items, Value::Int(5));
-    add(rt, &mut items, text(rt, heap, "a"));
-    items
-}
-
-fn add_pair<'a>(rt: &impl Abort, pairs: &mut Pairs<'a>, key: Made<'a>, value: Made<'a>) {
-    pairs.push((key, value)).expect(rt, "no memory");
+fn list<'a>(rt: &impl Abort, heap: Heap<'a>) -> Made<'a> {
+    let items = vec![in heap; Value::Int(5), text(rt, heap, "a")];
+    Value::List(items.expect(rt, "no memory"))
 }
 
 /// A map of one pair.
 fn map<'a>(rt: &impl Abort, heap: Heap<'a>, key: Made<'a>, value: Made<'a>) -> Made<'a> {
-    let mut pairs = Vec::new(heap);
-    add_pair(rt, &mut pairs, key, value);
-    Value::Map(pairs)
+    Value::Map(vec![in heap; (key, value)].expect(rt, "no memory"))
 }
 
 /// A map of the text `k` to false.
@@ -100,17 +81,15 @@ fn falsehood<'a>(rt: &impl Abort, heap: Heap<'a>) -> Made<'a> {
     map(rt, heap, text(rt, heap, "k"), Value::Bool(false))
 }
 
+/// The integer 5, the text `a`, and that map.
 fn mixed<'a>(rt: &impl Abort, heap: Heap<'a>) -> Made<'a> {
-    let mut items = items(rt, heap);
-    add(rt, &mut items, falsehood(rt, heap));
-    Value::List(items)
+    let items = vec![in heap; Value::Int(5), text(rt, heap, "a"), falsehood(rt, heap)];
+    Value::List(items.expect(rt, "no memory"))
 }
 
 /// A list of this value alone.
 fn around<'a>(rt: &impl Abort, heap: Heap<'a>, value: Made<'a>) -> Made<'a> {
-    let mut items = Vec::new(heap);
-    add(rt, &mut items, value);
-    Value::List(items)
+    Value::List(vec![in heap; value].expect(rt, "no memory"))
 }
 
 fn nested_lists<'a>(rt: &impl Abort, heap: Heap<'a>, count: u32) -> Made<'a> {

@@ -8,7 +8,7 @@ mod styles;
 mod texts;
 mod timestamps;
 
-use crate::tests::{Answer, answers, equal, finished};
+use crate::tests::{Answer, answers, equal, finished, writer};
 use std::alloc::Global;
 use std::process::Abort;
 use yaml_writer::{
@@ -103,10 +103,6 @@ fn give_all(rt: &impl Abort, writer: &mut Writer<Global>, calls: &[Call]) {
     }
 }
 
-fn writer(rt: &impl Abort, alloc: Global, settings: Settings) -> Writer<Global> {
-    Writer::new(alloc, settings).expect(rt, "no memory")
-}
-
 fn check_given(rt: &impl Abort, mut writer: Writer<Global>, calls: &[Call], wanted: &Answer) {
     give_all(rt, &mut writer, calls);
     answers(rt, finished(writer), wanted);
@@ -124,9 +120,13 @@ fn check_written(
     check_given(rt, writer, calls, wanted);
 }
 
-/// Checks what calls write in portable mode, where the stream has an end.
-fn check_portable(rt: &impl Abort, alloc: Global, calls: &[Call], wanted: &str) {
-    check_written(rt, alloc, value_settings(), calls, &Ok(wanted.as_bytes()));
+/// Calls, and what they write.
+type Row<'a> = (&'a [Call], &'a str);
+
+fn check_rows(rt: &impl Abort, alloc: Global, settings: Settings, rows: &[Row]) {
+    for row in rows {
+        check_written(rt, alloc, settings, row.0, &Ok(row.1.as_bytes()));
+    }
 }
 
 fn canonical() -> Settings {

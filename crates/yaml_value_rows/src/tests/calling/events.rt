@@ -1,7 +1,7 @@
 //! Streams, event by event.
 ghost use Rattle.std.specs.Prelude.{◌≡◌, true};
 
-use crate::tests::{equal, same};
+use crate::tests::equal;
 use std::alloc::{AllocError, Global};
 use std::process::Abort;
 use yaml_dump::{
@@ -10,7 +10,7 @@ use yaml_dump::{
     YAML_SEQUENCE_END_EVENT, YAML_SEQUENCE_START_EVENT, YAML_STREAM_END_EVENT,
     YAML_STREAM_START_EVENT, yaml_emitter_emit, yaml_emitter_emit_scalar, yaml_emitter_flush,
     yaml_emitter_initialize, yaml_emitter_set_output_string, yaml_emitter_t,
-    yaml_emitter_take_output, yaml_error_t, yaml_event_t,
+    yaml_emitter_take_output, yaml_error_t, yaml_error_type_t, yaml_event_t,
 };
 
 /// The start of a document without directives.
@@ -78,47 +78,46 @@ fn emit(
     yaml_emitter_emit(emitter, event)
 }
 
-/// Adds an event.
-fn add(rt: &impl Abort, events: &mut Events, event: yaml_event_t<Global>) {
-    events.push(event).expect(rt, "no memory");
-}
-
-/// Adds a scalar.
-fn add_scalar(rt: &impl Abort, alloc: Global, events: &mut Events, value: &str) {
-    let event = scalar(alloc, value).expect(rt, "no memory");
-    add(rt, events, event);
+/// A scalar with this text.
+fn text(rt: &impl Abort, alloc: Global, value: &str) -> yaml_event_t<Global> {
+    scalar(alloc, value).expect(rt, "no memory")
 }
 
 const DOCUMENT_END: yaml_event_t<Global> = YAML_DOCUMENT_END_EVENT { implicit: true };
 
+fn events<const N: usize>(
+    rt: &impl Abort,
+    alloc: Global,
+    events: [yaml_event_t<Global>; N],
+) -> Events {
+    Vec::from_array(alloc, events).expect(rt, "no memory")
+}
+
 /// The start of a flow sequence, and its first item.
 fn started(rt: &impl Abort, alloc: Global) -> Events {
-    let mut events = Vec::new(alloc);
-    add(rt, &mut events, stream_start());
-    add(rt, &mut events, document_start(alloc));
-    add(rt, &mut events, flow_sequence());
-    add_scalar(rt, alloc, &mut events, "a");
-    events
+    let first = text(rt, alloc, "a");
+    let started = [
+        stream_start(),
+        document_start(alloc),
+        flow_sequence(),
+        first,
+    ];
+    events(rt, alloc, started)
 }
 
 /// Its second item.
 fn item(rt: &impl Abort, alloc: Global) -> Events {
-    let mut events = Vec::new(alloc);
-    add_scalar(rt, alloc, &mut events, "b");
-    events
+    events(rt, alloc, [text(rt, alloc, "b")])
 }
 
 /// An item, the end of its sequence, and that of the document.
 fn rest(rt: &impl Abort, alloc: Global) -> Events {
-    let mut events = item(rt, alloc);
-    add(rt, &mut events, YAML_SEQUENCE_END_EVENT);
-    add(rt, &mut events, DOCUMENT_END);
-    events
+    let item = text(rt, alloc, "b");
+    events(rt, alloc, [item, YAML_SEQUENCE_END_EVENT, DOCUMENT_END])
 }
 
 fn check_output(rt: &impl Abort, emitter: &yaml_emitter_t<Global>, held: usize, output: &[u8]) {
-    equal(rt, &emitter.held(), &held);
-    same(rt, emitter.output(), output);
+    equal(rt, &(emitter.held(), emitter.output()), &(held, output));
 }
 
 /// An emitter whose output has at most a thousand bytes.
@@ -130,14 +129,27 @@ fn emitter_with_output(rt: &impl Abort, alloc: Global) -> yaml_emitter_t<Global>
     emitter
 }
 
+/// The events are emitted, and then so many are held and this is the output.
+fn check_emitted(
+    rt: &impl Abort,
+    emitter: &mut yaml_emitter_t<Global>,
+    events: Events,
+    held: usize,
+    output: &[u8],
+)
+    requires { emitter.old.has_output ≡ true }
+    ensures { emitter.new.has_output ≡ true }
+{
+    equal(rt, &emit_all(emitter, events), &Ok(()));
+    check_output(rt, emitter, held, output);
+}
+
 fn give_in_parts(rt: &impl Abort, alloc: Global, emitter: &mut yaml_emitter_t<Global>)
     requires { emitter.old.has_output ≡ true }
 {
-    equal(rt, &emit_all(emitter, started(rt, alloc)), &Ok(()));
     // The sequence's start is still queued: it awaits one more event.
-    check_output(rt, emitter, 2, b"");
-    equal(rt, &emit_all(emitter, rest(rt, alloc)), &Ok(()));
-    check_output(rt, emitter, 0, b"[a, b]\n");
+    check_emitted(rt, emitter, started(rt, alloc), 2, b"");
+    check_emitted(rt, emitter, rest(rt, alloc), 0, b"[a, b]\n");
     equal(rt, &emit(emitter, YAML_STREAM_END_EVENT), &Ok(()));
     check_output(rt, emitter, 0, b"[a, b]\n");
 }
@@ -167,11 +179,17 @@ fn emit_text(emitter: &mut yaml_emitter_t<Global>, value: &str) -> Result<(), ya
 fn give_texts(rt: &impl Abort, alloc: Global, emitter: &mut yaml_emitter_t<Global>)
     requires { emitter.old.has_output ≡ true }
 {
-    equal(rt, &emit_all(emitter, started(rt, alloc)), &Ok(()));
-    equal(rt, &emit_text(emitter, "second"), &Ok(()));
-    equal(rt, &emit_text(emitter, "no: 3"), &Ok(()));
-    equal(rt, &emit_all(emitter, rest(rt, alloc)), &Ok(()));
-    check_output(rt, emitter, 0, b"[a, second, 'no: 3', b]\n");
+    check_emitted(rt, emitter, started(rt, alloc), 2, b"");
+    let second = emit_text(emitter, "second");
+    let third = emit_text(emitter, "no: 3");
+    equal(rt, &(second, third), &(Ok(()), Ok(())));
+    check_emitted(
+        rt,
+        emitter,
+        rest(rt, alloc),
+        0,
+        b"[a, second, 'no: 3', b]\n",
+    );
 }
 
 #[test]
@@ -192,11 +210,10 @@ fn flush_text(emitter: &mut yaml_emitter_t<Global>) -> Result<usize, yaml_error_
 fn give_and_flush(rt: &impl Abort, alloc: Global, emitter: &mut yaml_emitter_t<Global>)
     requires { emitter.old.has_output ≡ true }
 {
-    equal(rt, &emit_all(emitter, started(rt, alloc)), &Ok(()));
-    equal(rt, &flush_text(emitter), &Ok(2));
-    equal(rt, &emitter.encoding_known(), &true);
-    equal(rt, &emit_all(emitter, item(rt, alloc)), &Ok(()));
-    check_output(rt, emitter, 0, b"");
+    check_emitted(rt, emitter, started(rt, alloc), 2, b"");
+    let held = flush_text(emitter);
+    equal(rt, &(held, emitter.encoding_known()), &(Ok(2), true));
+    check_emitted(rt, emitter, item(rt, alloc), 0, b"");
     equal(rt, &flush_text(emitter), &Ok(0));
     check_output(rt, emitter, 0, b"[a, b");
 }
@@ -216,25 +233,21 @@ fn send(emitter: &mut yaml_emitter_t<Global>, sent: &mut Vec<u8>) -> Result<(), 
         .map_err(|_| yaml_error_t::Memory)
 }
 
-/// Adds the events of a document.
-fn add_document(rt: &impl Abort, alloc: Global, events: &mut Events, value: &str) {
-    add(rt, events, document_start(alloc));
-    add_scalar(rt, alloc, events, value);
-    add(rt, events, DOCUMENT_END);
-}
-
 fn first_document(rt: &impl Abort, alloc: Global) -> Events {
-    let mut events = Vec::new(alloc);
-    add(rt, &mut events, stream_start());
-    add_document(rt, alloc, &mut events, "a");
-    events
+    let letter = text(rt, alloc, "a");
+    let first = [stream_start(), document_start(alloc), letter, DOCUMENT_END];
+    events(rt, alloc, first)
 }
 
 fn last_document(rt: &impl Abort, alloc: Global) -> Events {
-    let mut events = Vec::new(alloc);
-    add_document(rt, alloc, &mut events, "b");
-    add(rt, &mut events, YAML_STREAM_END_EVENT);
-    events
+    let letter = text(rt, alloc, "b");
+    let last = [
+        document_start(alloc),
+        letter,
+        DOCUMENT_END,
+        YAML_STREAM_END_EVENT,
+    ];
+    events(rt, alloc, last)
 }
 
 fn send_after(
@@ -247,10 +260,10 @@ fn send_after(
     requires { emitter.old.has_output ≡ true }
     ensures { emitter.new.has_output ≡ true }
 {
-    equal(rt, &emit_all(emitter, events), &Ok(()));
-    equal(rt, &send(emitter, sent), &Ok(()));
-    same(rt, sent.as_slice(), wanted);
-    same(rt, emitter.output(), b"");
+    let emitted = emit_all(emitter, events);
+    equal(rt, &(emitted, send(emitter, sent)), &(Ok(()), Ok(())));
+    let left = (sent.as_slice(), emitter.output());
+    equal(rt, &left, &(wanted, b"".as_slice()));
 }
 
 fn send_in_parts(
@@ -272,13 +285,11 @@ fn a_stream_is_sent_in_parts(rt: HostRuntime) {
     send_in_parts(&rt, rt.alloc(), &mut emitter, &mut Vec::new(rt.alloc()));
 }
 
-fn check_error(rt: &impl Abort, emitter: &yaml_emitter_t<Global>) {
+/// The kind of the emitter's error, and its words.
+fn error_of(emitter: &yaml_emitter_t<Global>) -> Option<(yaml_error_type_t, &'static str)> {
     match emitter.error() {
-        Some(error) => {
-            equal(rt, &error.kind(), &YAML_EMITTER_ERROR);
-            same(rt, error.problem().as_bytes(), b"expected STREAM-START");
-        }
-        None => equal(rt, &"no error", &"an error"),
+        Some(error) => Some((error.kind(), error.problem())),
+        None => None,
     }
 }
 
@@ -288,7 +299,8 @@ fn check_refused(rt: &impl Abort, emitter: &mut yaml_emitter_t<Global>, event: y
 {
     let answer = emit(emitter, event);
     equal(rt, &answer, &Err(yaml_error_t::ExpectedStreamStart));
-    check_error(rt, emitter);
+    let words = "expected STREAM-START";
+    equal(rt, &error_of(emitter), &Some((YAML_EMITTER_ERROR, words)));
 }
 
 fn give_refused(rt: &impl Abort, emitter: &mut yaml_emitter_t<Global>)

@@ -31,8 +31,9 @@ const REFUSED: run_answer_t = run_answer_t::Refused(2, yaml_error_t::ExpectedDoc
 // A run that ended so is told by this line.
 fn check_line(rt: &impl Abort, alloc: Global, answer: &run_answer_t, wanted: &str) {
     let mut line: Vec<u8> = Vec::new(alloc);
-    equal(rt, &write_line(answer, &mut line).is_ok(), &true);
-    same(rt, line.as_slice(), wanted.as_bytes());
+    let is_written = write_line(answer, &mut line).is_ok();
+    let written = (is_written, line.as_slice());
+    equal(rt, &written, &(true, wanted.as_bytes()));
 }
 
 #[test]
@@ -47,8 +48,8 @@ fn read(alloc: Global, script: &[u8]) -> Result<Script<Global>, ScriptError> {
 }
 
 fn check_script(rt: &impl Abort, script: &Script<Global>) {
-    equal(rt, &script.settings.width, &Some(40));
-    equal(rt, &script.events.len(), &2);
+    let read = (script.settings.width, script.events.len());
+    equal(rt, &read, &(Some(40), 2));
 }
 
 #[test]

@@ -1,5 +1,5 @@
 //! Emitters, made and set.
-use crate::tests::{equal, same};
+use crate::tests::equal;
 use std::alloc::Global;
 use std::process::Abort;
 use yaml_dump::{
@@ -39,14 +39,16 @@ fn emitter_set(alloc: Global, limit: usize) -> Result<yaml_emitter_t<Global>, ya
 
 // Nothing was begun, and nothing is queued.
 fn check_unstarted(rt: &impl Abort, emitter: &yaml_emitter_t<Global>) {
-    equal(rt, &emitter.has_output(), &true);
-    equal(rt, &emitter.encoding_known(), &true);
-    equal(rt, &emitter.is_started(), &false);
-    equal(rt, &emitter.is_opened(), &false);
-    equal(rt, &emitter.is_closed(), &false);
-    same(rt, emitter.output(), b"");
-    equal(rt, &emitter.error(), &None);
-    equal(rt, &emitter.held(), &0);
+    let known = (emitter.has_output(), emitter.encoding_known());
+    equal(rt, &known, &(true, true));
+    let stream = (
+        emitter.is_started(),
+        emitter.is_opened(),
+        emitter.is_closed(),
+    );
+    equal(rt, &stream, &(false, false, false));
+    let made = (emitter.output(), emitter.error(), emitter.held());
+    equal(rt, &made, &(b"".as_slice(), None, 0));
 }
 
 #[test]

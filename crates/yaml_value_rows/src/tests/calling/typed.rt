@@ -38,6 +38,7 @@ fn a_value_has_one_form(rt: HostRuntime) {
 fn equal_values_have_equal_bytes(rt: HostRuntime) {
     let list = made(&rt, rt.alloc(), "a");
     let other = made(&rt, rt.alloc(), "5");
-    equal(&rt, &are_same(rt.alloc(), &list, &list), &Ok(true));
-    equal(&rt, &are_same(rt.alloc(), &list, &other), &Ok(false));
+    let itself = are_same(rt.alloc(), &list, &list);
+    let another = are_same(rt.alloc(), &list, &other);
+    equal(&rt, &(itself, another), &(Ok(true), Ok(false)));
 }

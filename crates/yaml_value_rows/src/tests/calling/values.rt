@@ -1,7 +1,6 @@
 //! Values, a call each.
-use crate::tests::{answers, equal, finished, gives, same};
+use crate::tests::{answers, equal, finished, same, writer};
 use std::alloc::Global;
-use std::process::Abort;
 use yaml_writer::{
     Date, Time, Timestamp, Writer, YAML_BLOCK_MAPPING_STYLE, YAML_FLOW_SEQUENCE_STYLE,
     value_settings, yaml_error_t,
@@ -74,29 +73,25 @@ fn send_document(writer: &mut Writer<Global>, sent: &mut Vec<u8>) -> Result<(), 
 #[test]
 fn values_are_written(rt: HostRuntime) {
     let expected = "---\ncountry: 'no'\nvalues: [-5, true, null]\n";
-    gives(&rt, values(rt.alloc()), expected);
-}
-
-fn writer(rt: &impl Abort, alloc: Global) -> Writer<Global> {
-    Writer::new(alloc, value_settings()).expect(rt, "no memory")
+    answers(&rt, values(rt.alloc()), &Ok(expected.as_bytes()));
 }
 
 #[test]
 fn an_alias_stands_for_a_value(rt: HostRuntime) {
-    let mut writer = writer(&rt, rt.alloc());
+    let mut writer = writer(&rt, rt.alloc(), value_settings());
     equal(&rt, &give_shared(&mut writer), &Ok(()));
     let expected = "---\nfrom: &place !city Oslo\nto: *place\n";
-    gives(&rt, finished(writer), expected);
+    answers(&rt, finished(writer), &Ok(expected.as_bytes()));
 }
 
 #[test]
 fn dates_and_times_are_written(rt: HostRuntime) {
-    let mut writer = writer(&rt, rt.alloc());
+    let mut writer = writer(&rt, rt.alloc(), value_settings());
     let date = Date::new(2001, 12, 14).expect(&rt, "there is such a date");
     let at = minute(date, 21, 59).expect(&rt, "there is such a time");
     equal(&rt, &give_times(&mut writer, date, &at), &Ok(()));
     let expected = "---\nday: 2001-12-14\nat: !!timestamp 2001-12-14T21:59:00Z\n";
-    gives(&rt, finished(writer), expected);
+    answers(&rt, finished(writer), &Ok(expected.as_bytes()));
     equal(&rt, &Date::new(2001, 2, 29), &None);
 }
 
@@ -110,7 +105,7 @@ fn send_text(writer: &mut Writer<Global>, sent: &mut Vec<u8>) -> Result<(), yaml
 #[test]
 fn documents_are_sent_one_by_one(rt: HostRuntime) {
     let mut sent = Vec::new(rt.alloc());
-    let mut writer = writer(&rt, rt.alloc());
+    let mut writer = writer(&rt, rt.alloc(), value_settings());
     equal(&rt, &send_text(&mut writer, &mut sent), &Ok(()));
     same(&rt, sent.as_slice(), b"--- a\n");
     answers(&rt, finished(writer), &Ok(b"--- b\n"));

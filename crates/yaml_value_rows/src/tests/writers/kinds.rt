@@ -1,6 +1,8 @@
 //! Values of each kind, with their properties, in documents that follow one another, and in canonical mode.
-use super::{Call, canonical, check_portable, check_written};
+use super::{Call, Row, canonical, check_rows};
+use yaml_writer::value_settings;
 
+/// A value of each kind.
 const KINDS: &[Call] = &[
     Call::Mapping,
     Call::Text("true"),
@@ -15,13 +17,6 @@ const KINDS: &[Call] = &[
     Call::End,
 ];
 
-#[test]
-fn values_of_each_kind_are_written(rt: HostRuntime) {
-    let expected =
-        "---\n'true': true\nfalse: null\nnumbers: [-9223372036854775808, 18446744073709551615]\n";
-    check_portable(&rt, rt.alloc(), KINDS, expected);
-}
-
 const PROPERTIES: &[Call] = &[
     Call::Sequence,
     Call::Anchored("a"),
@@ -31,12 +26,7 @@ const PROPERTIES: &[Call] = &[
     Call::End,
 ];
 
-#[test]
-fn nodes_have_properties(rt: HostRuntime) {
-    let expected = "---\n- &a !!str 5\n- *a\n";
-    check_portable(&rt, rt.alloc(), PROPERTIES, expected);
-}
-
+/// Documents that follow one another.
 const DOCUMENTS: &[Call] = &[
     Call::Sequence,
     Call::Text("a"),
@@ -47,19 +37,9 @@ const DOCUMENTS: &[Call] = &[
     Call::End,
 ];
 
-#[test]
-fn documents_follow_one_another(rt: HostRuntime) {
-    check_portable(&rt, rt.alloc(), DOCUMENTS, "---\n- a\n---\n- b\n");
-}
-
 const NULL_AND_TEXT: &[Call] = &[Call::Sequence, Call::Null, Call::Text("no"), Call::End];
 
-#[test]
-fn canonical_values_have_tags(rt: HostRuntime) {
-    let expected = b"---\n[\n  !!null \"null\",\n  \"no\",\n]\n".as_slice();
-    check_written(&rt, rt.alloc(), canonical(), NULL_AND_TEXT, &Ok(expected));
-}
-
+/// Numbers of JSON, which stand plain.
 const NUMBERS: &[Call] = &[
     Call::Sequence,
     Call::Number("0"),
@@ -72,34 +52,43 @@ const NUMBERS: &[Call] = &[
     Call::End,
 ];
 
-#[test]
-fn numbers_of_json_stand_plain(rt: HostRuntime) {
-    let expected =
-        "---\n- 0\n- -0.0\n- 1.0e+400\n- 1.0e+5\n- 0.5\n- -1.5e-7\n- 12345678901234567890123\n";
-    check_portable(&rt, rt.alloc(), NUMBERS, expected);
-}
-
-#[test]
-fn canonical_numbers_have_the_tag_of_their_spelling(rt: HostRuntime) {
-    let expected =
-        "---\n[\n  !!int \"0\",\n  !!float \"-0.0\",\n  !!float \"1.0e+400\",\n  !!float \"1.0e+5\",\n  \
-         !!float \"0.5\",\n  !!float \"-1.5e-7\",\n  !!int \"12345678901234567890123\",\n]\n";
-    check_written(
-        &rt,
-        rt.alloc(),
-        canonical(),
-        NUMBERS,
-        &Ok(expected.as_bytes()),
-    );
-}
-
+/// A number takes the properties of the next node.
 const FLOAT: &[Call] = &[
     Call::Anchored("a"),
     Call::Tagged("tag:yaml.org,2002:float"),
     Call::Number("5"),
 ];
 
+const WRITTEN: &[Row] = &[
+    (
+        KINDS,
+        "---\n'true': true\nfalse: null\nnumbers: [-9223372036854775808, 18446744073709551615]\n",
+    ),
+    (PROPERTIES, "---\n- &a !!str 5\n- *a\n"),
+    (DOCUMENTS, "---\n- a\n---\n- b\n"),
+    (
+        NUMBERS,
+        "---\n- 0\n- -0.0\n- 1.0e+400\n- 1.0e+5\n- 0.5\n- -1.5e-7\n- 12345678901234567890123\n",
+    ),
+    (FLOAT, "--- &a !!float 5\n"),
+];
+
 #[test]
-fn a_number_takes_the_properties_of_the_next_node(rt: HostRuntime) {
-    check_portable(&rt, rt.alloc(), FLOAT, "--- &a !!float 5\n");
+fn values_of_each_kind_are_written_with_their_properties(rt: HostRuntime) {
+    check_rows(&rt, rt.alloc(), value_settings(), WRITTEN);
+}
+
+/// Numbers have the tag of their spelling.
+const CANONICAL: &[Row] = &[
+    (NULL_AND_TEXT, "---\n[\n  !!null \"null\",\n  \"no\",\n]\n"),
+    (
+        NUMBERS,
+        "---\n[\n  !!int \"0\",\n  !!float \"-0.0\",\n  !!float \"1.0e+400\",\n  !!float \"1.0e+5\",\n  \
+         !!float \"0.5\",\n  !!float \"-1.5e-7\",\n  !!int \"12345678901234567890123\",\n]\n",
+    ),
+];
+
+#[test]
+fn canonical_values_have_tags(rt: HostRuntime) {
+    check_rows(&rt, rt.alloc(), canonical(), CANONICAL);
 }

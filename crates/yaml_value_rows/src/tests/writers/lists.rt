@@ -1,5 +1,5 @@
 //! Lists in mappings, indented and undented.
-use super::{Call, check_portable, check_written};
+use super::{Call, check_written};
 use std::alloc::Global;
 use std::process::Abort;
 use yaml_writer::{Settings, value_settings};
@@ -32,28 +32,42 @@ const LISTS: &[Call] = &[
     Call::End,
 ];
 
-fn check_lists(rt: &impl Abort, alloc: Global, indented: bool, indent: i32, wanted: &str) {
+/// Whether lists in mappings are indented, by how many columns nodes are, and what is written.
+type Layout = (bool, i32, &'static str);
+
+fn check_layout(rt: &impl Abort, alloc: Global, row: &Layout) {
     let settings = Settings {
-        indented_sequences: indented,
-        indent: Some(indent),
+        indented_sequences: row.0,
+        indent: Some(row.1),
         ..value_settings()
     };
-    check_written(rt, alloc, settings, LISTS, &Ok(wanted.as_bytes()));
+    check_written(rt, alloc, settings, LISTS, &Ok(row.2.as_bytes()));
 }
 
-#[test]
-fn lists_in_mappings_are_indented(rt: HostRuntime) {
-    let expected = "---\na:\n  - - b\n  - c\nd: &x\n  - e\n? - f\n  - - g\n: !t\n  - h\n";
-    check_portable(&rt, rt.alloc(), LISTS, expected);
-    let by_four =
-        "---\na:\n    -   - b\n    - c\nd: &x\n    - e\n?   - f\n    -   - g\n: !t\n    - h\n";
-    check_lists(&rt, rt.alloc(), true, 4, by_four);
-}
+/// Where they aren't indented, lists stand in the column of the keys.
+const LAYOUTS: &[Layout] = &[
+    (
+        true,
+        4,
+        "---\na:\n    -   - b\n    - c\nd: &x\n    - e\n?   - f\n    -   - g\n: !t\n    - h\n",
+    ),
+    (
+        false,
+        2,
+        "---\na:\n- - b\n- c\nd: &x\n- e\n? - f\n  - - g\n: !t\n- h\n",
+    ),
+    (
+        false,
+        4,
+        "---\na:\n-   - b\n- c\nd: &x\n- e\n?   - f\n    -   - g\n: !t\n- h\n",
+    ),
+];
 
 #[test]
-fn lists_in_mappings_stand_in_the_column_of_the_keys_where_asked(rt: HostRuntime) {
-    let expected = "---\na:\n- - b\n- c\nd: &x\n- e\n? - f\n  - - g\n: !t\n- h\n";
-    check_lists(&rt, rt.alloc(), false, 2, expected);
-    let by_four = "---\na:\n-   - b\n- c\nd: &x\n- e\n?   - f\n    -   - g\n: !t\n- h\n";
-    check_lists(&rt, rt.alloc(), false, 4, by_four);
+fn lists_in_mappings_are_indented_where_asked(rt: HostRuntime) {
+    let expected = b"---\na:\n  - - b\n  - c\nd: &x\n  - e\n? - f\n  - - g\n: !t\n  - h\n";
+    check_written(&rt, rt.alloc(), value_settings(), LISTS, &Ok(expected));
+    for row in LAYOUTS {
+        check_layout(&rt, rt.alloc(), row);
+    }
 }

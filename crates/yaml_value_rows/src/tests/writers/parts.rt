@@ -1,9 +1,9 @@
 //! Streams that are taken in parts, and their limit.
-use super::{Answer, Call, check_portable, check_written, equal, give_all, limited, writer};
+use super::{Answer, Call, check_written, equal, give_all, limited, writer};
 use crate::tests::{came, finished, same};
 use std::alloc::Global;
 use std::process::Abort;
-use yaml_writer::{Writer, yaml_error_t};
+use yaml_writer::{Writer, value_settings, yaml_error_t};
 
 /// What came since the last call is added to these bytes.
 fn take(rt: &impl Abort, writer: &mut Writer<Global>, sent: &mut Vec<u8>) {
@@ -92,7 +92,8 @@ const PARTS: &[Part] = &[(LETTER, "---\n- a\n"), (WORD, "---\n- a\n---\n- 'no'\n
 
 #[test]
 fn parts_that_are_taken_make_the_stream(rt: HostRuntime) {
-    check_portable(&rt, rt.alloc(), WHOLE, THREE);
+    let whole = Ok(THREE.as_bytes());
+    check_written(&rt, rt.alloc(), value_settings(), WHOLE, &whole);
     let last = (LAST, Ok(THREE.as_bytes()));
     check_in_parts(&rt, rt.alloc(), usize::MAX, PARTS, last);
 }

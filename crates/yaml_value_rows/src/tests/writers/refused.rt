@@ -25,6 +25,7 @@ fn check_refused(rt: &impl Abort, alloc: Global, row: &Refused) {
     check_given(rt, writer, row.after, &row.end);
 }
 
+/// A collection ends after the node of its anchor.
 const EARLY_END: &Refused = &Refused {
     before: &[Call::Sequence, Call::Anchored("a")],
     call: Call::End,
@@ -33,11 +34,7 @@ const EARLY_END: &Refused = &Refused {
     end: Ok(b"---\n- &a null\n"),
 };
 
-#[test]
-fn a_collection_ends_after_the_node_of_its_anchor(rt: HostRuntime) {
-    check_refused(&rt, rt.alloc(), EARLY_END);
-}
-
+/// An alias takes no anchor.
 const ANCHORED_ALIAS: &Refused = &Refused {
     before: &[Call::Sequence, Call::Anchored("a")],
     call: Call::Alias("a"),
@@ -46,11 +43,7 @@ const ANCHORED_ALIAS: &Refused = &Refused {
     end: Ok(b"---\n- &a null\n"),
 };
 
-#[test]
-fn an_alias_takes_no_anchor(rt: HostRuntime) {
-    check_refused(&rt, rt.alloc(), ANCHORED_ALIAS);
-}
-
+/// A document ends after the node of its tag.
 const EARLY_NEXT: &Refused = &Refused {
     before: &[Call::Tagged("!a")],
     call: Call::Next,
@@ -58,22 +51,6 @@ const EARLY_NEXT: &Refused = &Refused {
     after: &[Call::Null],
     end: Ok(b"--- !a null\n"),
 };
-
-#[test]
-fn a_document_ends_after_the_node_of_its_tag(rt: HostRuntime) {
-    check_refused(&rt, rt.alloc(), EARLY_NEXT);
-}
-
-/// The stream has no end after these calls.
-fn check_unfinished(rt: &impl Abort, alloc: Global, calls: &[Call]) {
-    let error = Err(yaml_error_t::ExpectedNode);
-    check_written(rt, alloc, value_settings(), calls, &error);
-}
-
-#[test]
-fn a_stream_ends_after_the_node_of_its_tag(rt: HostRuntime) {
-    check_unfinished(&rt, rt.alloc(), &[Call::Null, Call::Tagged("!a")]);
-}
 
 const NO_VALUE: &Refused = &Refused {
     before: &[Call::Mapping, Call::Text("a")],
@@ -91,9 +68,28 @@ const NO_COLLECTION: &Refused = &Refused {
     end: Err(yaml_error_t::ExpectedNode),
 };
 
+const REFUSED: &[&Refused] = &[
+    EARLY_END,
+    ANCHORED_ALIAS,
+    EARLY_NEXT,
+    NO_VALUE,
+    NO_COLLECTION,
+];
+
 #[test]
-fn what_is_no_stream_is_refused(rt: HostRuntime) {
-    check_unfinished(&rt, rt.alloc(), &[Call::Mapping]);
-    check_refused(&rt, rt.alloc(), NO_VALUE);
-    check_refused(&rt, rt.alloc(), NO_COLLECTION);
+fn a_call_is_refused_where_a_node_is_expected(rt: HostRuntime) {
+    for row in REFUSED {
+        check_refused(&rt, rt.alloc(), row);
+    }
+}
+
+/// A stream ends after the node of its tag, and after the end of its mapping.
+const UNFINISHED: &[&[Call]] = &[&[Call::Null, Call::Tagged("!a")], &[Call::Mapping]];
+
+#[test]
+fn what_is_no_stream_has_no_end(rt: HostRuntime) {
+    let error = Err(yaml_error_t::ExpectedNode);
+    for calls in UNFINISHED {
+        check_written(&rt, rt.alloc(), value_settings(), calls, &error);
+    }
 }

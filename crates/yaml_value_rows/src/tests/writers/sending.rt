@@ -1,6 +1,6 @@
 //! Streams that are handed on to a sink.
 use super::{Call, give_all, writer};
-use crate::tests::{Narrow, answers, equal, finished, same};
+use crate::tests::{Narrow, answers, equal, finished};
 use std::alloc::Global;
 use std::io;
 use std::process::Abort;
@@ -10,27 +10,30 @@ const FIRST: &[Call] = &[Call::Sequence, Call::Text("a"), Call::End, Call::Next]
 
 const SECOND: &[Call] = &[Call::Text("b")];
 
-/// The writer hands its bytes on. (Tests need none of the clauses of the call.)
-fn is_sent(writer: &mut Writer<Global>, sink: &mut Narrow) -> bool {
-    writer.send(sink).is_ok()
-}
-
-/// The kind of the sink's error, where it fails.
+/// The kind of the sink's error, where it fails. (Tests need none of the clauses of the call.)
 fn failure(writer: &mut Writer<Global>, sink: &mut Narrow) -> Option<io::ErrorKind> {
     writer.send(sink).err().map(|error| error.kind())
+}
+
+/// The writer hands its bytes on; the sink fails so or not, and then has these bytes.
+fn check_sent(
+    rt: &impl Abort,
+    writer: &mut Writer<Global>,
+    sink: &mut Narrow,
+    wanted: (Option<io::ErrorKind>, &[u8]),
+) {
+    let failed = failure(writer, sink);
+    equal(rt, &(failed, sink.taken.as_slice()), &wanted);
 }
 
 #[test]
 fn what_is_sent_is_taken(rt: HostRuntime) {
     let mut sink = Narrow::new(rt.alloc(), 100);
     let mut writer = writer(&rt, rt.alloc(), value_settings());
-    equal(&rt, &is_sent(&mut writer, &mut sink), &true);
-    same(&rt, sink.taken.as_slice(), b"");
+    check_sent(&rt, &mut writer, &mut sink, (None, b""));
     give_all(&rt, &mut writer, FIRST);
-    equal(&rt, &is_sent(&mut writer, &mut sink), &true);
-    same(&rt, sink.taken.as_slice(), b"---\n- a\n");
-    equal(&rt, &is_sent(&mut writer, &mut sink), &true);
-    same(&rt, sink.taken.as_slice(), b"---\n- a\n");
+    check_sent(&rt, &mut writer, &mut sink, (None, b"---\n- a\n"));
+    check_sent(&rt, &mut writer, &mut sink, (None, b"---\n- a\n"));
     give_all(&rt, &mut writer, SECOND);
     answers(&rt, finished(writer), &Ok(b"--- b\n"));
 }
@@ -41,8 +44,7 @@ fn what_a_sink_refuses_is_left(rt: HostRuntime) {
     let mut writer = writer(&rt, rt.alloc(), value_settings());
     give_all(&rt, &mut writer, FIRST);
     let full = Some(io::ErrorKind::StorageFull);
-    equal(&rt, &failure(&mut writer, &mut sink), &full);
-    same(&rt, sink.taken.as_slice(), b"---\n-");
+    check_sent(&rt, &mut writer, &mut sink, (full, b"---\n-"));
     give_all(&rt, &mut writer, SECOND);
     answers(&rt, finished(writer), &Ok(b"---\n- a\n--- b\n"));
 }

@@ -1,5 +1,5 @@
 //! Texts in a style that is asked for, and ends of documents that are.
-use super::{Call, canonical, check_portable, check_written, give_all, writer};
+use super::{Call, Row, canonical, check_rows, check_written, give_all, writer};
 use crate::tests::answers;
 use std::alloc::Global;
 use yaml_writer::{
@@ -19,12 +19,6 @@ const PLAIN: &[Call] = &[
     Call::End,
 ];
 
-#[test]
-fn a_plain_text_is_one_that_may_stand_plain(rt: HostRuntime) {
-    let expected = "---\n- a b\n- 'no'\n- '1.0'\n- 'a: b'\n- 'a\n\n  b'\n- |-\n  a\n  b\n";
-    check_portable(&rt, rt.alloc(), PLAIN, expected);
-}
-
 const QUOTED: &[Call] = &[
     Call::Sequence,
     Call::Styled(YAML_SINGLE_QUOTED_SCALAR_STYLE, "a"),
@@ -32,11 +26,6 @@ const QUOTED: &[Call] = &[
     Call::Styled(YAML_DOUBLE_QUOTED_SCALAR_STYLE, "a"),
     Call::End,
 ];
-
-#[test]
-fn a_text_stands_in_the_quotes_that_are_asked_for(rt: HostRuntime) {
-    check_portable(&rt, rt.alloc(), QUOTED, "---\n- 'a'\n- \"a\\a\"\n- \"a\"\n");
-}
 
 const BLOCKS: &[Call] = &[
     Call::Sequence,
@@ -55,20 +44,6 @@ const BLOCKS: &[Call] = &[
     Call::End,
 ];
 
-#[test]
-fn a_text_stands_in_a_block_where_it_can(rt: HostRuntime) {
-    let expected =
-        "---\n- |-\n  a\n- \"\"\n- >\n  a b\n\n  c\n- !t |-\n  no\n- \"k\": >-\n    v\n- [\"f\"]\n";
-    check_portable(&rt, rt.alloc(), BLOCKS, expected);
-}
-
-#[test]
-fn canonical_form_asks_for_double_quotes(rt: HostRuntime) {
-    let calls = &[Call::Styled(YAML_LITERAL_SCALAR_STYLE, "a")];
-    let expected = b"---\n\"a\"\n".as_slice();
-    check_written(&rt, rt.alloc(), canonical(), calls, &Ok(expected));
-}
-
 const ENDED: &[Call] = &[
     Call::Sequence,
     Call::Text("a"),
@@ -77,14 +52,38 @@ const ENDED: &[Call] = &[
     Call::Text("b"),
 ];
 
+/// A plain text is one that may stand plain, and a text stands in a block where it can.
+const WRITTEN: &[Row] = &[
+    (
+        PLAIN,
+        "---\n- a b\n- 'no'\n- '1.0'\n- 'a: b'\n- 'a\n\n  b'\n- |-\n  a\n  b\n",
+    ),
+    (QUOTED, "---\n- 'a'\n- \"a\\a\"\n- \"a\"\n"),
+    (
+        BLOCKS,
+        "---\n- |-\n  a\n- \"\"\n- >\n  a b\n\n  c\n- !t |-\n  no\n- \"k\": >-\n    v\n- [\"f\"]\n",
+    ),
+    (ENDED, "---\n- a\n...\n--- b\n"),
+];
+
+#[test]
+fn texts_and_ends_have_the_style_that_is_asked_for(rt: HostRuntime) {
+    check_rows(&rt, rt.alloc(), value_settings(), WRITTEN);
+}
+
+#[test]
+fn canonical_form_asks_for_double_quotes(rt: HostRuntime) {
+    let calls = &[Call::Styled(YAML_LITERAL_SCALAR_STYLE, "a")];
+    check_written(&rt, rt.alloc(), canonical(), calls, &Ok(b"---\n\"a\"\n"));
+}
+
 /// The bytes of a writer whose document ends with `...`. (Tests need none of the clauses of the call.)
 fn ended(writer: Writer<Global>) -> Result<Vec<u8>, yaml_error_t> {
     writer.finish_after(DocumentEnd::Explicit)
 }
 
 #[test]
-fn a_document_ends_with_dots_where_asked(rt: HostRuntime) {
-    check_portable(&rt, rt.alloc(), ENDED, "---\n- a\n...\n--- b\n");
+fn a_stream_ends_with_dots_where_asked(rt: HostRuntime) {
     let mut writer = writer(&rt, rt.alloc(), value_settings());
     give_all(&rt, &mut writer, ENDED);
     let expected = b"---\n- a\n...\n--- b\n...\n".as_slice();

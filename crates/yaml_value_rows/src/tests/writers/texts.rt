@@ -1,6 +1,8 @@
 //! Which texts stand plain, and which in quotes or literally.
-use super::{Call, check_portable};
+use super::{Call, Row, check_rows};
+use yaml_writer::value_settings;
 
+/// Words, which stand in quotes.
 const WORDS: &[Call] = &[
     Call::Sequence,
     Call::Text("no"),
@@ -19,13 +21,7 @@ const WORDS: &[Call] = &[
     Call::End,
 ];
 
-#[test]
-fn words_stand_in_quotes(rt: HostRuntime) {
-    let expected =
-        "---\n- 'no'\n- 'NO'\n- 'n'\n- 'off'\n- '~'\n- ''\n- '='\n- '<<'\n- 'null'\n- 'True'\n- 'tRue'\n- 'inf'\n- 'No\u{eb}l'\n";
-    check_portable(&rt, rt.alloc(), WORDS, expected);
-}
-
+/// What may be a number or a symbol, which stands in quotes.
 const NUMBERS: &[Call] = &[
     Call::Sequence,
     Call::Text("1:30"),
@@ -47,13 +43,7 @@ const NUMBERS: &[Call] = &[
     Call::End,
 ];
 
-#[test]
-fn what_may_be_a_number_or_a_symbol_stands_in_quotes(rt: HostRuntime) {
-    let expected =
-        "---\n- '1:30'\n- '0o10'\n- '010'\n- '1_000'\n- '.5'\n- '1e5'\n- '2001-12-14'\n- '0x1F'\n- '+1'\n- '-.inf'\n- '12e03'\n- 'E5'\n- '_0'\n- '-_0'\n- '-:1'\n- ':a'\n";
-    check_portable(&rt, rt.alloc(), NUMBERS, expected);
-}
-
+/// What no reader takes for a number, which stands plain.
 const AMOUNTS: &[Call] = &[
     Call::Sequence,
     Call::Text("100Mi"),
@@ -68,13 +58,7 @@ const AMOUNTS: &[Call] = &[
     Call::End,
 ];
 
-#[test]
-fn what_no_reader_takes_for_a_number_stands_plain(rt: HostRuntime) {
-    let expected =
-        "---\n- 100Mi\n- 5s\n- 3rd\n- ./run.sh\n- .github\n- 8080/tcp\n- 10.0.0.0/8\n- -x\n- 5\u{e9}\n";
-    check_portable(&rt, rt.alloc(), AMOUNTS, expected);
-}
-
+/// Other texts, which stand plain, in quotes or literally.
 const OTHERS: &[Call] = &[
     Call::Sequence,
     Call::Text("none"),
@@ -86,8 +70,26 @@ const OTHERS: &[Call] = &[
     Call::End,
 ];
 
+const WRITTEN: &[Row] = &[
+    (
+        WORDS,
+        "---\n- 'no'\n- 'NO'\n- 'n'\n- 'off'\n- '~'\n- ''\n- '='\n- '<<'\n- 'null'\n- 'True'\n- 'tRue'\n- 'inf'\n- 'No\u{eb}l'\n",
+    ),
+    (
+        NUMBERS,
+        "---\n- '1:30'\n- '0o10'\n- '010'\n- '1_000'\n- '.5'\n- '1e5'\n- '2001-12-14'\n- '0x1F'\n- '+1'\n- '-.inf'\n- '12e03'\n- 'E5'\n- '_0'\n- '-_0'\n- '-:1'\n- ':a'\n",
+    ),
+    (
+        AMOUNTS,
+        "---\n- 100Mi\n- 5s\n- 3rd\n- ./run.sh\n- .github\n- 8080/tcp\n- 10.0.0.0/8\n- -x\n- 5\u{e9}\n",
+    ),
+    (
+        OTHERS,
+        "---\n- none\n- 'null '\n- a b\n- '# c'\n- |\n  a\n  b\n- |-\n  1\n  2\n",
+    ),
+];
+
 #[test]
-fn other_texts_stand_plain_quoted_or_literally(rt: HostRuntime) {
-    let expected = "---\n- none\n- 'null '\n- a b\n- '# c'\n- |\n  a\n  b\n- |-\n  1\n  2\n";
-    check_portable(&rt, rt.alloc(), OTHERS, expected);
+fn texts_stand_in_quotes_where_a_reader_takes_them_for_something_else(rt: HostRuntime) {
+    check_rows(&rt, rt.alloc(), value_settings(), WRITTEN);
 }

@@ -1,9 +1,9 @@
 //! Dates and times of day, against texts written by hand.
-use super::{Call, canonical, check_portable, check_written};
+use super::{Call, Row, canonical, check_rows, check_written};
 use crate::tests::{equal, same};
 use std::alloc::Global;
 use std::process::Abort;
-use yaml_writer::{Date, Offset, Sign, Time, Timestamp};
+use yaml_writer::{Date, Offset, Sign, Time, Timestamp, value_settings};
 
 fn check_text(rt: &impl Abort, alloc: Global, timestamp: &Timestamp, wanted: &str) {
     let text = timestamp.text(alloc).expect(rt, "no memory");
@@ -20,12 +20,6 @@ type DateRow = (u16, u8, u8, &'static str);
 fn check_date(rt: &impl Abort, alloc: Global, row: &DateRow) {
     let date = date(rt, row.0, row.1, row.2);
     check_text(rt, alloc, &Timestamp { date, time: None }, row.3);
-}
-
-fn check_dates(rt: &impl Abort, alloc: Global, rows: &[DateRow]) {
-    for row in rows {
-        check_date(rt, alloc, row);
-    }
 }
 
 const DATES: &[DateRow] = &[
@@ -48,11 +42,7 @@ const DATES: &[DateRow] = &[
     (2001, 12, 31, "2001-12-31"),
 ];
 
-#[test]
-fn dates_have_ten_characters(rt: HostRuntime) {
-    check_dates(&rt, rt.alloc(), DATES);
-}
-
+/// Leap years have a day more.
 const LEAP_DAYS: &[DateRow] = &[
     (1900, 2, 28, "1900-02-28"),
     (2000, 2, 29, "2000-02-29"),
@@ -62,8 +52,13 @@ const LEAP_DAYS: &[DateRow] = &[
 ];
 
 #[test]
-fn leap_years_have_a_day_more(rt: HostRuntime) {
-    check_dates(&rt, rt.alloc(), LEAP_DAYS);
+fn dates_have_ten_characters(rt: HostRuntime) {
+    for row in DATES {
+        check_date(&rt, rt.alloc(), row);
+    }
+    for row in LEAP_DAYS {
+        check_date(&rt, rt.alloc(), row);
+    }
 }
 
 const NO_DATES: &[(u16, u8, u8)] = &[
@@ -205,8 +200,9 @@ fn no_clock_shows_other_times(rt: HostRuntime) {
 
 #[test]
 fn offsets_are_less_than_a_day(rt: HostRuntime) {
-    equal(&rt, &Offset::new(Sign::Plus, 24, 0), &None);
-    equal(&rt, &Offset::new(Sign::Minus, 0, 60), &None);
+    let day = Offset::new(Sign::Plus, 24, 0);
+    let hour = Offset::new(Sign::Minus, 0, 60);
+    equal(&rt, &(day, hour), &(None, None));
 }
 
 /// Dates and times as keys and values, in block and in flow.
@@ -225,14 +221,7 @@ const TIMESTAMPS: &[Call] = &[
     Call::End,
 ];
 
-#[test]
-fn dates_stand_plain_and_times_have_their_tag(rt: HostRuntime) {
-    let expected = "---\n2001-01-01: 9999-12-31\n\
-        !!timestamp 2001-12-14T00:00:00Z: !!timestamp 2001-12-14T21:59:43Z\n\
-        flow: [2000-02-29, !!timestamp '2001-12-14T21:59:43Z', '2000-02-29']\n";
-    check_portable(&rt, rt.alloc(), TIMESTAMPS, expected);
-}
-
+/// Timestamps take the properties of the next node.
 const PROPERTIES: &[Call] = &[
     Call::Sequence,
     Call::Anchored("a"),
@@ -245,10 +234,22 @@ const PROPERTIES: &[Call] = &[
     Call::End,
 ];
 
+const WRITTEN: &[Row] = &[
+    (
+        TIMESTAMPS,
+        "---\n2001-01-01: 9999-12-31\n\
+         !!timestamp 2001-12-14T00:00:00Z: !!timestamp 2001-12-14T21:59:43Z\n\
+         flow: [2000-02-29, !!timestamp '2001-12-14T21:59:43Z', '2000-02-29']\n",
+    ),
+    (
+        PROPERTIES,
+        "---\n- &a 2002-12-14\n- !day 2002-12-14\n- &b !time 2001-12-14T12:00:00Z\n",
+    ),
+];
+
 #[test]
-fn timestamps_take_the_properties_of_the_next_node(rt: HostRuntime) {
-    let expected = "---\n- &a 2002-12-14\n- !day 2002-12-14\n- &b !time 2001-12-14T12:00:00Z\n";
-    check_portable(&rt, rt.alloc(), PROPERTIES, expected);
+fn dates_stand_plain_and_times_have_their_tag(rt: HostRuntime) {
+    check_rows(&rt, rt.alloc(), value_settings(), WRITTEN);
 }
 
 const DATE_AND_TIME: &[Call] = &[
