@@ -21,3 +21,4 @@ pub mod Taking
 pub mod KeptDocuments
 pub mod EmittingEvents
 pub mod EmitterKept
+pub mod WritingAll

@@ -4,23 +4,24 @@ ghost use Rattle.std.specs.Prelude.{◌≡◌, ◌⊎◌, None, IfOk, IfErr, fal
 ghost use Rattle.std.specs.Str.{all_scalars};
 ghost use Rattle.yaml_base.specs.Event.{scalar};
 ghost use Rattle.yaml_base.specs.Meaning.{has_scalar_texts};
-ghost use Rattle.yaml_base.specs.Seen.{seen_event, seen_text};
+ghost use Rattle.yaml_base.specs.Seen.{seen_event, seen_events, seen_text};
 ghost use Rattle.yaml_emitter.specs.BorrowedTexts.{seen_name, seen_scalar};
-ghost use Rattle.yaml_emitter.specs.EmitsEvent.{CopyFailed, EmitsEvent, WroteAlone};
+ghost use Rattle.yaml_emitter.specs.EmitsEvent.{CopyFailed, EmitsEvent, WroteAlone, WroteBehind};
 ghost use Rattle.yaml_emitter.specs.Processing.{Processed};
+ghost use Rattle.yaml_emitter.specs.Queue.{are_ready_by_one_more};
 
 use crate::check::check_scalar_names;
-use crate::emit::yaml_emitter_emit;
+use crate::emit::{write_all, yaml_emitter_emit};
 use crate::emitter::yaml_emitter_t;
 use crate::machine::Machine;
-use crate::queue::nothing_waits;
+use crate::queue::{are_ready_by_one_more, nothing_waits};
 use crate::stage::Stage;
 use crate::writing::ScalarContent;
 use std::alloc::Allocator;
 use yaml_base::{YAML_SCALAR_EVENT, yaml_error_t, yaml_event_t};
 
-/// Takes a scalar whose texts are borrowed, as `yaml_emitter_emit` takes its event. Where no event waits, it is written
-/// at once, and nothing is copied. Else it is copied and waits behind them.
+/// Takes a scalar whose texts are borrowed, as `yaml_emitter_emit` takes its event. Where no event waits, or all that wait
+/// can be written with it, it is written at once, and nothing is copied. Else it is copied and waits behind them.
 ///
 /// Returns the first error, of this call or an earlier one, or `Memory` if the copy can't be allocated: then nothing
 /// changed, the emitter has no error, and the call may be made again.
@@ -41,6 +42,28 @@ pub fn yaml_emitter_emit_scalar<A: Allocator + Copy>(
         emitter.started = true;
         return emitter.machine.write_scalar_alone(content);
     }
+    emit_behind(emitter, content)
+}
+
+/// Takes a scalar where events may wait.
+fn emit_behind<A: Allocator + Copy>(
+    emitter: &mut yaml_emitter_t<A>,
+    content: &ScalarContent<'_>,
+) -> Result<(), yaml_error_t>
+    requires no_error { emitter.old.error ≡ None }
+    requires output { emitter.old.has_output ≡ true }
+    requires texts { has_scalar_texts (scalar (seen_scalar content.now)) ≡ true }
+    ensures emits { EmitsEvent emitter.old (scalar (seen_scalar content.now)) result emitter.new ⊎ CopyFailed emitter.old result emitter.new }
+    ensures output { emitter.new.has_output ≡ true }
+{
+    if are_ready_by_one_more(emitter.queue.as_slice()) {
+        emitter.started = true;
+        let answer = emitter
+            .machine
+            .write_scalar_behind(emitter.queue.as_slice(), content);
+        emitter.queue.clear();
+        return answer;
+    }
     let event = copied_scalar(emitter.machine.allocator(), content)?;
     yaml_emitter_emit(emitter, event)
 }
@@ -48,6 +71,23 @@ pub fn yaml_emitter_emit_scalar<A: Allocator + Copy>(
 impl<A: Allocator + Copy> Machine<A> {
     fn allocator(&self) -> A {
         self.alloc
+    }
+
+    /// Writes the events that wait, and a scalar with which all of them are ready.
+    fn write_scalar_behind(
+        &mut self,
+        waiting: &[yaml_event_t<A>],
+        content: &ScalarContent,
+    ) -> Result<(), yaml_error_t>
+        requires ready { are_ready_by_one_more (seen_events waiting.now) ≡ true }
+        requires no_error { self.old.error ≡ None }
+        ensures { WroteBehind (seen_events waiting.now) self.old (scalar (seen_scalar content.now)) result self.new }
+    {
+        if let Err(error) = write_all(self, waiting) {
+            self.fail(error);
+            return Err(error);
+        }
+        self.write_scalar_alone(content)
     }
 
     /// Writes a scalar where no event waits.

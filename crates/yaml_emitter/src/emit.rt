@@ -1,17 +1,17 @@
 //! Events that wait are written where they are ready.
 
-ghost use Rattle.std.specs.Prelude.{◌≡◌, None, List, [], ◌∷◌, ◌++◌, OnOk, IfOk, IfErr, IsOk, IsSome, Err, false, true};
-ghost use Rattle.yaml_base.specs.Event.{Event};
+ghost use Rattle.std.specs.Prelude.{◌≡◌, ◌<◌, None, List, [], ◌∷◌, ◌++◌, length, OnOk, IfOk, IfErr, IsOk, IsSome, Err, false, true};
+ghost use Rattle.yaml_base.specs.Event.{Event, Scalar, scalar};
 ghost use Rattle.yaml_base.specs.Seen.{seen_event, seen_events};
 ghost use Rattle.yaml_base.specs.Ready.{written};
 ghost use Rattle.yaml_base.specs.Settings.{Settings};
 ghost use Rattle.yaml_pen.specs.Page.{result_of_error, output_left};
 ghost use Rattle.yaml_pen.specs.Wrote.{Grows};
 ghost use Rattle.yaml_emitter.specs.Promises.{FitsLimit, HasAllBytes, Promised};
-ghost use Rattle.yaml_emitter.specs.Queue.{is_head_ready};
+ghost use Rattle.yaml_emitter.specs.Queue.{are_ready_by_one_more, is_head_ready};
 ghost use Rattle.yaml_emitter.specs.State.{KeepsGiven, KeepsSet, with_all_taken};
 ghost use Rattle.yaml_emitter.specs.EmitsEvent.{WroteAlone, kept_error};
-ghost use Rattle.yaml_emitter.specs.StandsAfter.{FailedReady, StandsAfter, ProcessedFirst, WroteReady};
+ghost use Rattle.yaml_emitter.specs.StandsAfter.{FailedReady, StandsAfter, ProcessedFirst, ReachedOn, WroteReady};
 
 use crate::emitter::yaml_emitter_t;
 use crate::machine::Machine;
@@ -165,12 +165,35 @@ fn write_ready<A: Allocator + Copy>(
     Ok(count)
 }
 
+/// Writes all events of a queue, in order up to the first error, where a scalar makes them ready that stands behind them.
+pub(crate) fn write_all<A: Allocator + Copy>(
+    machine: &mut Machine<A>,
+    waiting: &[yaml_event_t<A>],
+) -> Result<(), yaml_error_t>
+    requires ready { are_ready_by_one_more (seen_events waiting.now) ≡ true }
+    requires no_error { machine.old.error ≡ None }
+    ensures written { OnOk result ((next : Scalar) → ReachedOn (seen_events waiting.now ++ scalar next ∷ []) machine.old (scalar next ∷ []) machine.new) }
+    ensures failed { IfErr result (λ error. (next : Scalar) → FailedReady (seen_events waiting.now ++ scalar next ∷ []) error machine.old machine.new) }
+    ensures error { machine.new.error ≡ None }
+    ensures grows { Grows machine.old.page machine.new.page }
+    ensures set { KeepsGiven machine.old machine.new }
+{
+    let mut count = 0usize;
+    'events: while count < waiting.len() {
+        match write_next(machine, &waiting[count..]) {
+            Ok(()) => count += 1,
+            Err(error) => return Err(error),
+        }
+    }
+    Ok(())
+}
+
 /// Writes the first of the events that wait.
 fn write_next<A: Allocator + Copy>(
     machine: &mut Machine<A>,
     waiting: &[yaml_event_t<A>],
 ) -> Result<(), yaml_error_t>
-    requires { is_head_ready (seen_events waiting.now) ≡ true }
+    requires { 0 < length waiting.now }
     ensures { ProcessedFirst (seen_events waiting.now) machine.old machine.new result }
 {
     let (event, rest) = first_and_rest(waiting);

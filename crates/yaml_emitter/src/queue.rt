@@ -1,12 +1,12 @@
 //! Which events can be written: the head of the queue waits for those that decide how it is written.
 
-ghost use Rattle.std.specs.Prelude.{◌≡◌, ◌≤◌, ◌==◌, ◌∷◌, [], true, drop, length, vec_len, vec_capacity, if◌then◌else◌};
+ghost use Rattle.std.specs.Prelude.{◌≡◌, ◌<◌, ◌≤◌, ◌==◌, ◌∷◌, [], true, drop, length, vec_len, vec_capacity, if◌then◌else◌};
 ghost use Rattle.std.specs.List.{list_any};
 ghost use Rattle.yaml_base.specs.Ready.{is_start, is_end, awaited, is_balanced, nonempty_prefixes, is_ready};
 ghost use Rattle.yaml_base.specs.Seen.{seen_event, seen_events};
 ghost use Rattle.yaml_emitter.specs.Processing as processing;
 ghost use Rattle.yaml_emitter.specs.Processing.{ends_mapping, ends_sequence};
-ghost use Rattle.yaml_emitter.specs.Queue.{is_head_ready};
+ghost use Rattle.yaml_emitter.specs.Queue.{are_ready_by_one_more, is_head_ready};
 
 use crate::emitter::WaitingEvents;
 use std::alloc::Allocator;
@@ -113,6 +113,20 @@ fn awaits_nothing<A: Allocator>(event: &yaml_event_t<A>) -> bool
     followers(event) == 0
 }
 
+/// Whether each of the events that wait can be written once one more stands behind them.
+pub(crate) fn are_ready_by_one_more<A: Allocator>(waiting: &[yaml_event_t<A>]) -> bool
+    ensures { result ≡ are_ready_by_one_more (seen_events waiting.now) }
+{
+    let mut left = waiting.len();
+    for event in waiting {
+        if followers(event) > left {
+            return false;
+        }
+        left -= 1;
+    }
+    true
+}
+
 /// Whether an event starts a collection that the next event ends.
 pub(crate) fn closes_at_once<A: Allocator>(
     event: &yaml_event_t<A>,
@@ -139,11 +153,11 @@ fn begins_with_mapping_end<A: Allocator>(rest: &[yaml_event_t<A>]) -> bool
     matches!(rest, [YAML_MAPPING_END_EVENT, ..])
 }
 
-/// The first of the events that wait, which is ready, and those behind it.
+/// The first of the events that wait, and those behind it.
 pub(crate) fn first_and_rest<A: Allocator>(
     waiting: &[yaml_event_t<A>],
 ) -> (&yaml_event_t<A>, &[yaml_event_t<A>])
-    requires { is_head_ready (seen_events waiting.now) ≡ true }
+    requires { 0 < length waiting.now }
     ensures { seen_events waiting.now ≡ seen_event result.0.now ∷ seen_events result.1.now }
 {
     (&waiting[0], &waiting[1..])

@@ -1,7 +1,7 @@
 -- The canonical reader finds a text in its bytes.
 use Rattle.yaml_emitter.proofs.Common.{ℕ, ◌%◌, ◌+◌, ◌-◌, ◌/◌, ◌<◌, ◌≤◌, ◌==◌, option_map, option_and_then, None, Some, nat_le, nat_lt, Bool, false, true}
 use Rattle.yaml_emitter.proofs.Common.{◌&&◌, List, [], ◌++◌, ◌∷◌, refl, ◌≡◌, le-ltb, inl, inr, ap, ◌∙◌, arith, and_parts, nat_tests, list_all-append}
-use Rattle.yaml_emitter.proofs.Common.{list_all, all_scalars, Text, text_bytes, Encoding, utf8, utf16_little, utf16_big}
+use Rattle.yaml_emitter.proofs.Common.{list_all, all_scalars, Text, Encoding, utf8, utf16_little, utf16_big}
 use Rattle.yaml_base.proofs.Common.{◌*◌, le-leb, lt-ltb, chars-encodes, scalar_cases, scalars, characters_read}
 use Rattle.std.{proofs.Common.⊎_elim, proofs.lemmas.Bool.lt-leb, proofs.lemmas.Bool.cases_lt, proofs.lemmas.Str.is_utf8-from_IsUtf8, specs.Char.IsScalar}
 use Rattle.std.{specs.Char.Utf16.is_high_surrogate, specs.Char.Utf16.is_low_surrogate, specs.Str.is_utf8}

@@ -90,7 +90,7 @@ none_became_ready given all event before h none same =
     (head_unready (held_back all ++ event ∷ []) (omega (arith, count, same)))
 
 -- Nothing follows an event that stands alone.
-closes_none : (event : Event) → closes_at_once event [] ≡ false
+pub closes_none : (event : Event) → closes_at_once event [] ≡ false
 closes_none (stream_start _) = refl
 closes_none stream_end = refl
 closes_none (document_start _) = refl
@@ -139,12 +139,3 @@ pub stands_failing : (given : Settings) (all : List Event) (event : Event) (stat
     → MachineStands given (all ++ event ∷ []) (Some error) [] (failed_by error machine)
 stands_failing given all event state waiting error machine h none is failed =
     (refl, failed given (all ++ event ∷ []) (take (written all) all) (waits_behind given all event state waiting h none is))
-
-pub stands_alone : (given : Settings) (all : List Event) (event : Event) (state : State) (machine : MachineState) → StateStands given all state
-    → state.error ≡ None → state.held ≡ []
-    → ((given : Settings) (all prefix : List Event) → Reached given all prefix (event ∷ []) (machine_of state)
-    → MachineStands given all machine.error [] machine)
-    → MachineStands given (all ++ event ∷ []) machine.error [] machine
-stands_alone given all event state machine h none alone stands =
-    stands given (all ++ event ∷ []) (take (written all) all)
-    (waits_behind given all event state (event ∷ []) h none (ap (λ (l : List Event). l ++ event ∷ []) (sym alone)))

@@ -1,5 +1,5 @@
 -- A call that gives an event, from what its steps did.
-use Rattle.yaml_emitter.proofs.Common.{IsSome, Option, None, Some, Result, Err, Ok, false, true, List, [], ◌++◌, ◌∷◌, refl, ◌≡◌, ap, subst, sym, ◌∙◌}
+use Rattle.yaml_emitter.proofs.Common.{IsSome, Option, None, Some, Result, Err, Ok, take, false, true, List, [], ◌++◌, ◌∷◌, refl, ◌≡◌, ap, subst, sym, ◌∙◌}
 use Rattle.yaml_emitter.proofs.Common.{false≢true, Event, has_scalar_texts, written, Settings, is_head_ready, Processed, MachineStands, StateStands}
 use Rattle.yaml_emitter.proofs.Common.{StandsAfter, State, MachineState, machine_of, KeepsSet, result_of_error, Grows}
 use Rattle.std.specs.Prelude.{IsOk}
@@ -7,8 +7,8 @@ use Rattle.yaml_base.specs.declared.errors.{yaml_error_t.yaml_error_t}
 use Rattle.yaml_emitter.proofs.events_done.{SeenTexts.texts_more}
 use Rattle.yaml_emitter.proofs.standing.{Growing.grows_page, Growing.processed_grows, KeepsSet.emitting_keeps, KeepsSet.processed_keeps_given}
 use Rattle.yaml_emitter.proofs.standing.{Promising.promised, PromisingRoom.memory_only, StandingMore.failed_more}
-use Rattle.yaml_emitter.proofs.standing.Emitting.{none_became_ready, processed_error, stands_alone, stands_on_end, took_alone, took_failed, took_next}
-use Rattle.yaml_emitter.specs.EmitsEvent.{EmitsEvent, WroteAlone, kept_error}
+use Rattle.yaml_emitter.proofs.standing.Emitting.{none_became_ready, processed_error, reached_taken, stands_on_end, took_alone, took_failed, took_next}
+use Rattle.yaml_emitter.specs.EmitsEvent.{EmitsEvent, WroteAlone, WroteBehind, kept_error}
 
 -- A machine where none waits processed an event, and its error is kept.
 wrote_keeping : (event : Event) (before between after : MachineState) (answer : Result (Unit {0}) yaml_error_t) → before.error ≡ None
@@ -78,11 +78,12 @@ emits_failed event before error text is output =
     (record { given = refl; started = refl; has_output = refl; opened = refl; closed = refl; taken = refl })
     (sym (ap result_of_error is)) output
 
--- An emitter with what a machine holds.
-abbrev pub with_machine : State → MachineState → State
-with_machine before machine =
+-- An emitter with what a machine holds, where these events wait.
+abbrev pub with_machine : State → (held : List Event) → MachineState → State
+with_machine before held machine =
     record before {
       started = true;
+      held = held;
       given = machine.given;
       settings = machine.settings;
       stage = machine.stage;
@@ -95,19 +96,24 @@ some_error : (error : Option yaml_error_t) → error ≡ None → IsSome error �
 some_error None none some = cc
 some_error (Some error) none some = cc
 
+-- All that waited, and an event with which they are ready, were written.
+pub emits_behind : (event : Event) (before : State) (held : List Event) (machine : MachineState) (answer : Result (Unit {0}) yaml_error_t)
+    → has_scalar_texts event ≡ true → before.error ≡ None → held ≡ [] → before.has_output ≡ true → is_head_ready (before.held ++ event ∷ []) ≡ true
+    → WroteBehind before.held (machine_of before) event answer machine → EmitsEvent before event answer (with_machine before held machine)
+emits_behind event before held machine answer text none empty output ready wrote =
+    emits_by event before (with_machine before held machine) answer text
+    (λ given all h.
+    subst (λ (l : List Event). MachineStands given (all ++ event ∷ []) machine.error l machine) (sym empty)
+    (wrote.stands given (all ++ event ∷ []) (take (written all) all) (reached_taken given all event before h none)))
+    wrote.grows
+    (λ given all h none same. absurd (false≢true (sym (none_became_ready given all event before h none same) ∙ ready)))
+    (λ some. absurd (some_error before.error none some))
+    (emitting_keeps before held machine wrote.set) wrote.answered output
+
 -- Where none waits, an event that needn't wait is written.
 pub emits_alone : (event : Event) (before : State) (machine : MachineState) (answer : Result (Unit {0}) yaml_error_t) → has_scalar_texts event ≡ true
     → before.error ≡ None → before.held ≡ [] → before.has_output ≡ true → is_head_ready (event ∷ []) ≡ true
-    → WroteAlone (machine_of before) event answer machine → EmitsEvent before event answer (with_machine before machine)
+    → WroteAlone (machine_of before) event answer machine → EmitsEvent before event answer (with_machine before before.held machine)
 emits_alone event before machine answer text none alone output ready wrote =
-    emits_by event before (with_machine before machine) answer text
-    (λ given all h.
-    subst (λ (l : List Event). MachineStands given (all ++ event ∷ []) machine.error l machine) (sym alone)
-    (stands_alone given all event before machine h none alone wrote.stands))
-    wrote.grows
-    (λ given all h none same.
-    let unready : is_head_ready (event ∷ []) ≡ false =
-    subst (λ (l : List Event). is_head_ready (l ++ event ∷ []) ≡ false) alone (none_became_ready given all event before h none same) in
-    absurd (false≢true (sym unready ∙ ready)))
-    (λ some. absurd (some_error before.error none some))
-    (emitting_keeps before before.held machine wrote.set) wrote.answered output
+    emits_behind event before before.held machine answer text none alone output (ap (λ (l : List Event). is_head_ready (l ++ event ∷ [])) alone ∙ ready)
+    (subst (λ (l : List Event). WroteBehind l (machine_of before) event answer machine) (sym alone) wrote)

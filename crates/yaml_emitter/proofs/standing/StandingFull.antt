@@ -2,7 +2,7 @@
 use Rattle.yaml_emitter.proofs.Common.{ℕ, ◌<◌, ◌≤◌, Some, drop, length, take, Bool, false, true, List, [], ◌++◌, ◌∷◌, refl, ◌≡◌, take-append-drop}
 use Rattle.yaml_emitter.proofs.Common.{append_assoc, ap, subst, sym, ◌∙◌, arith, prefix_is_partial, steps_same, list_layout_steps, prefix_layout, prefix_same}
 use Rattle.yaml_emitter.proofs.Common.{open_at_written, stream_pushed, cut, Event, sequence_start, mapping_start, Partial, before_stream, after_stream}
-use Rattle.yaml_emitter.proofs.Common.{partial_of, first_standing, Piece, settings_for, text_written, bytes_written, list_layout, pieces}
+use Rattle.yaml_emitter.proofs.Common.{partial_of, first_standing, Piece, settings_for, text_written, bytes_written, list_layout}
 use Rattle.yaml_emitter.proofs.Common.{last_begins_collection, IsPrefix, is_ready, written, begins_collection, IsAccepted, Settings, Effective, at_stream}
 use Rattle.yaml_emitter.proofs.Common.{ends_next, Steps, steps, closes_at_once, IsPage, HoldsPiecesWith, holds_before, holds_part, StandsCut, StandsUnflushed}
 use Rattle.yaml_emitter.proofs.Common.{at_event, between_events, StateStands, State, machine_of, IsUncut, Page, encoded, IsFlushedOutput}

@@ -47,7 +47,7 @@ closes_grown (sequence_start c) (sequence_end ∷ later) more is = refl
 closes_grown (mapping_start c) (mapping_end ∷ later) more is = refl
 closes_grown event later more is = refl
 
-closes_one : (event next : Event) (later more : List Event) → closes_at_once event (next ∷ (later ++ more)) ≡ closes_at_once event (next ∷ later)
+pub closes_one : (event next : Event) (later more : List Event) → closes_at_once event (next ∷ (later ++ more)) ≡ closes_at_once event (next ∷ later)
 closes_one (sequence_start c) sequence_end later more = refl
 closes_one (mapping_start c) mapping_end later more = refl
 closes_one event next later more = refl

@@ -68,7 +68,7 @@ closes_after-none events =
         ∙ ap (λ n. (0 + count_by is_start prefix) == n) (sym (zero-add (count_by is_end prefix)))
 
 -- a list seen from an element on
-seen_from : {E : Type 0} (seen : E → Event) (xs : List E) (i : ℕ) (x : E) → i < length xs → x ≡ get_or xs i x
+pub seen_from : {E : Type 0} (seen : E → Event) (xs : List E) (i : ℕ) (x : E) → i < length xs → x ≡ get_or xs i x
     → map seen (drop i xs) ≡ seen x ∷ map seen (drop (i + 1) xs)
 seen_from seen xs i x within at =
     let here : drop i xs ≡ get_or xs i x ∷ drop (i + 1) xs = rw add-one (drop-cons xs i x within) in

@@ -1,4 +1,4 @@
-use Rattle.yaml_emitter.proofs.Common.{◌≤◌, Some, Result, Err, drop, false, true, List, [], ◌++◌, ◌∷◌, refl, ap, subst, sym, ◌∙◌, false≢true, Event, seen_event}
+use Rattle.yaml_emitter.proofs.Common.{◌≤◌, Some, Result, Err, drop, true, List, [], ◌++◌, ◌∷◌, refl, ap, subst, sym, ◌∙◌, false≢true, Event, seen_event}
 use Rattle.yaml_emitter.proofs.Common.{seen_events, state_of, is_head_ready, MachineStands, StandsAfter, failed_by, State, MachineState, machine_of}
 use Rattle.yaml_emitter.proofs.Common.{KeepsGiven, KeepsSet, result_of_error, Grows}
 use Rattle.yaml_emitter.proofs.standing.{KeepsSet.emitting_keeps, Promising.promised, Promising.stands_with, PromisingRoom.memory_only}
@@ -63,7 +63,7 @@ returns-then-is_ready_alone g c =
     let before : State = state_of c.emitter.inside in
     let event = seen_event c.args.event in
     let emitted =
-    subst (λ (s : State). EmitsEvent s event c.write_alone.result (with_machine before c.write_alone.new.self)) c.emitter.view_is
+    subst (λ (s : State). EmitsEvent s event c.write_alone.result (with_machine before before.held c.write_alone.new.self)) c.emitter.view_is
     (emits_alone event before c.write_alone.new.self c.write_alone.result (seen_scalars c.args.event) (sym c.error.ensures ∙ c.in_default.is)
     (ap seen_events (c.is_ready_alone.ensures.alone c.if-is_ready_alone.true)) (has_output_inside c.emitter.inside c.emitter.view_is c.requires)
     (c.is_ready_alone.ensures.ready c.if-is_ready_alone.true) c.write_alone.ensures) in

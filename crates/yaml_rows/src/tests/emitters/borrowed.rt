@@ -41,7 +41,7 @@ const TAGGED: ScalarContent<'static> = ScalarContent {
     ..TEXT
 };
 
-/// Keys and values of each kind, of which the first ones of collections and the roots wait.
+/// Keys and values of each kind: the first key and value of the mapping wait, and the first item of the sequence.
 const ENTRIES: &[Part] = &[
     Other(Stream),
     Other(Document),
@@ -329,45 +329,59 @@ fn borrowed_scalars_are_refused_as_their_events_are(rt: HostRuntime) {
     }
 }
 
-// A scalar that can be written at once asks for no memory; where one has to wait and isn't granted any, nothing changes, and
-// it is taken when it comes again.
-fn give_sparingly(
+// A scalar that is queued takes memory: where it isn't granted any, nothing changes, and it is taken when it comes again. One
+// that is written at once takes none. Returns whether it was queued.
+fn is_queued(
     rt: &impl Abort,
     heap: &Refusing<Global>,
     emitter: &mut yaml_emitter_t<&Refusing<Global>>,
     content: &ScalarContent,
-) {
+) -> bool {
     let held = emitter.held();
     heap.refuse(1);
     let answer = give_borrowed(rt, emitter, content);
-    if held == 0 {
-        equal(rt, &(answer, heap.left()), &(Ok(()), 1));
+    if answer.is_ok() {
+        equal(rt, &(heap.left(), emitter.held()), &(1, 0));
         heap.refuse(0);
-    } else {
-        let got = (answer, emitter.error(), emitter.held());
-        equal(rt, &got, &(Err(yaml_error_t::Memory), None, held));
-        equal(rt, &give_borrowed(rt, emitter, content), &Ok(()));
+        return false;
     }
+    let got = (answer, emitter.error(), emitter.held());
+    equal(rt, &got, &(Err(yaml_error_t::Memory), None, held));
+    let again = give_borrowed(rt, emitter, content);
+    equal(
+        rt,
+        &(again, emitter.held()),
+        &(Ok(()), held.saturating_add(1)),
+    );
+    true
 }
 
-fn give_all_sparingly<'a>(
+// Gives all parts, and returns how many scalars were queued.
+fn queued_of<'a>(
     rt: &impl Abort,
     heap: &'a Refusing<Global>,
     emitter: &mut yaml_emitter_t<&'a Refusing<Global>>,
     parts: &[Part],
-) {
+) -> u64 {
+    let mut queued = 0u64;
     for part in parts {
         match part {
-            Borrowed(content) => give_sparingly(rt, heap, emitter, content),
+            Borrowed(content) => {
+                if is_queued(rt, heap, emitter, content) {
+                    queued = queued.saturating_add(1);
+                }
+            }
             Other(given) => emit(rt, heap, emitter, given),
         }
     }
+    queued
 }
 
+// These are the first key and value of the mapping, and the first item of the sequence.
 #[test]
 fn borrowed_scalars_take_memory_only_where_they_wait(rt: HostRuntime) {
     let heap = Refusing::new(rt.alloc());
     let mut emitter = made(&rt, &heap, &UNSET);
-    give_all_sparingly(&rt, &heap, &mut emitter, ENTRIES);
+    equal(&rt, &queued_of(&rt, &heap, &mut emitter, ENTRIES), &3);
     same(&rt, emitter.output(), ENTRIES_TEXT.as_bytes());
 }
