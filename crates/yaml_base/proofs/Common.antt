@@ -61,7 +61,7 @@ pub use Rattle.yaml_base.specs.Settings.{Encoding, utf8, utf16_little, utf16_big
 pub use Rattle.yaml_base.specs.Settings.{Effective, effective_indent, effective}
 pub use Rattle.yaml_base.specs.Steps.{Frame, Stage, at_stream, at_document, at_node, at_document_end, at_nothing, next_place, stage_after, Stepped, leaf_step}
 pub use Rattle.yaml_base.specs.Steps.{frame_opened, start_step, step, ends_next, Steps, then_steps, steps}
-pub use Rattle.yaml_base.specs.StreamLaw.{is_written_as_nothing, loses_document, document_has_flow_indicator, are_portable, reads_alike}
+pub use Rattle.yaml_base.specs.StreamLaw.{is_written_as_nothing, loses_document, document_has_flow_indicator, all_read_alike, reads_alike}
 pub use Rattle.yaml_base.specs.Tags.{name_fault, anchor_fault, alias_fault, tag_fault, version_fault, exclamation_mark, handle_fault, prefix_fault}
 pub use Rattle.yaml_base.specs.Tags.{directive_fault, gives_handle, next_directive_fault, directives_fault_after, directives_fault, directives_in_force}
 pub use Rattle.yaml_base.specs.Tags.{Spelling, shorthand, verbatim, spelling, spelled}

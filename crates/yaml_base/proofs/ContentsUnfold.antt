@@ -36,20 +36,20 @@ labels_same : (found : Option GraphNode) (label : Label) → option_map (label_o
     → option_map (label_of false) found ≡ Some (unstyled label)
 labels_same found label is = label_unstyled found ∙ ap (option_map unstyled) is
 
--- a node of a graph has a tag, so it is told
+-- a node of a graph has a tag, so its event states one
 tag_in : Option Label → Option Text
 tag_in None = None
 tag_in (Some label) = label.tag
 
-told_some : (tag : Option Text) (text : Text) (implicit : Bool) → Some text ≡ tag → tag ≡ explicit_tag (content_tag tag implicit)
-told_some None text implicit is = cc
-told_some (Some other) text implicit is = refl
+stated_some : (tag : Option Text) (text : Text) (implicit : Bool) → Some text ≡ tag → tag ≡ explicit_tag (content_tag tag implicit)
+stated_some None text implicit is = cc
+stated_some (Some other) text implicit is = refl
 
 tag_kept : (found : Option GraphNode) (label : Label) (implicit : Bool) → option_map (label_of true) found ≡ Some label
     → label.tag ≡ explicit_tag (content_tag label.tag implicit)
 unfolding tag_in
 tag_kept None label implicit is = cc
-tag_kept (Some node) label implicit is = told_some label.tag node.tag implicit (ap tag_in is)
+tag_kept (Some node) label implicit is = stated_some label.tag node.tag implicit (ap tag_in is)
 
 scalar_label : (found : Option GraphNode) (label : Label) (implicit : Bool) → option_map (label_of true) found ≡ Some label
     → option_map (label_of false) found ≡ Some (record { tag = explicit_tag (content_tag label.tag implicit); kind = unstyled_kind label.kind })
@@ -59,9 +59,9 @@ scalar_label found label implicit is =
 mutual
   content_fits : (graph : Graph) (tree : Node) (placed : Placed) → HasShape true graph placed (node_shape_of tree)
       → HasShape false graph placed (content_shape (node_content tree))
-  content_fits graph (alias_node name) (alias_placed told number) fits = fits
+  content_fits graph (alias_node name) (alias_placed stated number) fits = fits
   content_fits graph (alias_node name) (node_placed anchor number below) fits = fits
-  content_fits graph (scalar_node content) (alias_placed told number) fits = fits
+  content_fits graph (scalar_node content) (alias_placed stated number) fits = fits
   content_fits graph (scalar_node content) (node_placed anchor number none_placed) fits = (
     fits.0,
     scalar_label (node_numbered graph number)
@@ -70,14 +70,14 @@ mutual
     fits.3,
   )
   content_fits graph (scalar_node content) (node_placed anchor number (placed_and before last)) fits = absurd fits.3
-  content_fits graph (sequence_node start items) (alias_placed told number) fits = fits
+  content_fits graph (sequence_node start items) (alias_placed stated number) fits = fits
   content_fits graph (sequence_node start items) (node_placed anchor number below) fits = (
     fits.0,
     labels_same (node_numbered graph number) (record { tag = start.tag; kind = sequence_kind (Some start.style) }) fits.1,
     fits.2,
     contents_fit graph items below fits.3,
   )
-  content_fits graph (mapping_node start pairs) (alias_placed told number) fits = fits
+  content_fits graph (mapping_node start pairs) (alias_placed stated number) fits = fits
   content_fits graph (mapping_node start pairs) (node_placed anchor number below) fits = (
     fits.0,
     labels_same (node_numbered graph number) (record { tag = start.tag; kind = mapping_kind (Some start.style) }) fits.1,

@@ -124,8 +124,8 @@ alias_named : (named : ℕ → Option Text) (before : List Step) (all : List Occ
     → count_by (has_anchor name) all ≡ 1
     → list_any (is_entry_of number) before ≡ true → IsNamed all (filter_map (place_of named) before) (alias_occurrence (unwrap_or (named number) []) number)
 alias_named named before all number name is once entered =
-    let told : unwrap_or (named number) [] ≡ name = ap (λ (o : Option Text). unwrap_or o []) is in
-    subst (λ (alias : Text). IsNamed all (filter_map (place_of named) before) (alias_occurrence alias number)) (sym told) (
+    let stated : unwrap_or (named number) [] ≡ name = ap (λ (o : Option Text). unwrap_or o []) is in
+    subst (λ (alias : Text). IsNamed all (filter_map (place_of named) before) (alias_occurrence alias number)) (sym stated) (
       once,
       subst (λ (anchor : Option Text). Contains (filter_map (place_of named) before) (node_occurrence anchor number)) is
           (has_place named number before entered),

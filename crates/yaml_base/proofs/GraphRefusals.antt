@@ -104,13 +104,13 @@ only_tag [] None error none is = cc
 only_tag (c ∷ tag) None error none is = cc
 only_tag tag (Some other) error none is = cc
 
-beginning_writable : (anchor : Option Text) (tag : Text) (held : Held) → option_and_then anchor_fault anchor ≡ None
+prefix_writable : (anchor : Option Text) (tag : Text) (held : Held) → option_and_then anchor_fault anchor ≡ None
     → IsWritable (opening_event_of anchor tag held)
-beginning_writable anchor tag (scalar_held value style) none =
+prefix_writable anchor tag (scalar_held value style) none =
     record { named = λ error is. only_tag tag (option_and_then anchor_fault anchor) error none is; content = refl }
-beginning_writable anchor tag (sequence_held items style) none =
+prefix_writable anchor tag (sequence_held items style) none =
     record { named = λ error is. only_tag tag (option_and_then anchor_fault anchor) error none is; content = refl }
-beginning_writable anchor tag (mapping_held pairs style) none =
+prefix_writable anchor tag (mapping_held pairs style) none =
     record { named = λ error is. only_tag tag (option_and_then anchor_fault anchor) error none is; content = refl }
 
 -- each of some events
@@ -125,10 +125,10 @@ both_writable : (some others : List Event) → AreWritable some → AreWritable 
 both_writable some others all more event within =
     elim (in_either event some others within) as (λ _. IsWritable event) [ inl earlier ↦ all event earlier | inr later ↦ more event later ]
 
-beginnings_writable : (anchor : Option Text) (found : Option GraphNode) → option_and_then anchor_fault anchor ≡ None → AreWritable (opening_events anchor found)
-beginnings_writable anchor None none event within = absurd within
-beginnings_writable anchor (Some node) none event within =
-    one_writable (opening_event_of anchor node.tag node.held) (beginning_writable anchor node.tag node.held none) event within
+prefixes_writable : (anchor : Option Text) (found : Option GraphNode) → option_and_then anchor_fault anchor ≡ None → AreWritable (opening_events anchor found)
+prefixes_writable anchor None none event within = absurd within
+prefixes_writable anchor (Some node) none event within =
+    one_writable (opening_event_of anchor node.tag node.held) (prefix_writable anchor node.tag node.held none) event within
 
 held_writable : (held : Held) → AreWritable (closing_event_of held)
 held_writable (scalar_held value style) event within = absurd within
@@ -152,7 +152,7 @@ again_has number (meets_again other ∷ walk) (inr later) =
     ap (λ (b : Bool). other == number || b) (again_has number walk later) ∙ or-true (other == number)
 
 step_writable : (graph : Graph) (walk : List Step) (step : Step) → IsIn step walk → AreWritable (step_events graph walk step)
-step_writable graph walk (enters number) within = beginnings_writable (anchor_of walk number) (node_numbered graph number) (anchor_stands walk number)
+step_writable graph walk (enters number) within = prefixes_writable (anchor_of walk number) (node_numbered graph number) (anchor_stands walk number)
 step_writable graph walk (leaves number) within = endings_writable (node_numbered graph number)
 step_writable graph walk (meets_again number) within =
     let name = shared_named walk number (again_has number walk within) in

@@ -1,4 +1,4 @@
--- One piece for each event; and the pieces of a beginning are those of each list that goes on from it.
+-- One piece for each event; and written pieces are final: every continuation begins with them.
 use Rattle.yaml_base.proofs.Common.{arith, suc, unwrap_or, option_map, option_and_then, Option, None, Some, length, take, Bool, false, true, ◌&&◌, List, []}
 use Rattle.yaml_base.proofs.Common.{◌++◌, ◌∷◌, refl, ◌≡◌, ap, sym, ◌∙◌, Event, stream_start, stream_end, document_start, document_end, alias, scalar}
 use Rattle.yaml_base.proofs.Common.{sequence_start, sequence_end, mapping_start, mapping_end, Stream, stream_events, Partial, within_document, after_stream}
@@ -122,7 +122,7 @@ completion_not_closed [] p q given = refl
 completion_not_closed (event ∷ rest) p q given =
     not_closed_next event rest p q (push p event) refl given (λ r. completion_not_closed rest r q)
 
--- The pieces of a beginning, event by event.
+-- The pieces of a prefix, event by event.
 pub begun_pieces : (prefix : List Event) (p : Partial) (s : Effective) → partial_of prefix ≡ Some p
     → take (length prefix) (list_layout s (completion prefix)) ≡ (steps s false prefix at_stream first_standing).pieces
 begun_pieces prefix p s begins = grind (arith, prefix_layout, completion_pushed, completion_not_closed)

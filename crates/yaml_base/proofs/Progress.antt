@@ -4,7 +4,7 @@ use Rattle.yaml_base.proofs.Common.{sym, ◌∙◌, arith, Event, Partial, parti
 use Rattle.yaml_base.{proofs.PieceLaws.begun_pieces, proofs.QueueLaws.written_within, proofs.ReadyLaws.ready_stays, specs.Pieces.pieces}
 use Rattle.yaml_base.{specs.Ready.held_back, specs.Steps.progress}
 
--- What was ready stays ready, and the rest is told by what was held back and what came.
+-- What was ready stays ready, and the rest depends on what was held back and what came.
 more_written : (event : Event) (rest more : List Event) (b : Bool) → is_ready event rest ≡ b
     → written (rest ++ more) ≡ written rest + written (drop (written rest) rest ++ more)
     → written (event ∷ (rest ++ more)) ≡ (if b then suc (written rest) else 0) + written (drop (if b then suc (written rest) else 0) (event ∷ rest) ++ more)

@@ -22,18 +22,18 @@ scan_first_byte anchor tag (sequence_kind style) =
 scan_first_byte anchor tag (mapping_kind style) =
     mapping_start (record { anchor = anchor; tag = Some tag; implicit = bytes_eq tag mapping_tag; style = any_layout })
 
-abbrev beginning_by : Option Text → Option Label → List Event
-beginning_by anchor None = []
-beginning_by anchor (Some label) = scan_first_byte anchor (unwrap_or label.tag []) label.kind ∷ []
+abbrev prefix_by : Option Text → Option Label → List Event
+prefix_by anchor None = []
+prefix_by anchor (Some label) = scan_first_byte anchor (unwrap_or label.tag []) label.kind ∷ []
 
 held_begins : (anchor : Option Text) (tag : Text) (held : Held)
-    → map unstyled (opening_event_of anchor tag held ∷ []) ≡ beginning_by anchor (Some (label_of false (record { tag = tag; held = held })))
+    → map unstyled (opening_event_of anchor tag held ∷ []) ≡ prefix_by anchor (Some (label_of false (record { tag = tag; held = held })))
 held_begins anchor tag (scalar_held value style) = refl
 held_begins anchor tag (sequence_held items style) = refl
 held_begins anchor tag (mapping_held pairs style) = refl
 
 begins_by : (anchor : Option Text) (found : Option GraphNode)
-    → map unstyled (opening_events anchor found) ≡ beginning_by anchor (option_map (label_of false) found)
+    → map unstyled (opening_events anchor found) ≡ prefix_by anchor (option_map (label_of false) found)
 begins_by anchor None = refl
 begins_by anchor (Some node) = held_begins anchor node.tag node.held
 
@@ -63,8 +63,8 @@ step_alike : (first second : Graph) (iso : Isomorphic first second) (walk : List
     ≡ map unstyled (step_events first walk step)
 step_alike first second iso walk (enters number) all reached =
     begins_by (anchor_of (map (renumbered iso.partner) walk) (iso.partner number)) (node_numbered second (iso.partner number))
-    ∙ ap (λ (anchor : Option Text). beginning_by anchor (label_at second (iso.partner number))) (anchors_alike first second iso walk number all reached)
-    ∙ ap (beginning_by (anchor_of walk number)) (iso.labels number reached)
+    ∙ ap (λ (anchor : Option Text). prefix_by anchor (label_at second (iso.partner number))) (anchors_alike first second iso walk number all reached)
+    ∙ ap (prefix_by (anchor_of walk number)) (iso.labels number reached)
     ∙ sym (begins_by (anchor_of walk number) (node_numbered first number))
 step_alike first second iso walk (leaves number) all reached = grind (arith, ends_by)
 step_alike first second iso walk (meets_again number) all reached =

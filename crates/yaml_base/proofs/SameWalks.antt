@@ -134,19 +134,20 @@ mutual
       → AllReached first before → AreStepsOf before (placed_steps one ++ after)
       → AreStepsOf (map (renumbered iso.partner) before) (placed_steps two ++ later)
       → placed_steps two ≡ map (renumbered iso.partner) (placed_steps one)
-  mirrored first second iso named also (alias_placed name number) (alias_placed told other) before after later fits matches is reached all turns takes =
+  mirrored first second iso named also (alias_placed name number) (alias_placed stated other) before after later fits matches is reached all turns takes =
       ap (λ (n : ℕ). meets_again n ∷ []) is
   mirrored first second iso named also (alias_placed name number) (node_placed anchor other below) before after later fits matches is reached all turns takes =
       let entered : list_any (is_entry_of other) (map (renumbered iso.partner) before) ≡ true =
       ap (λ (n : ℕ). list_any (is_entry_of n) (map (renumbered iso.partner) before)) is
       ∙ entered_alike first second iso number before reached all ∙ turns.0 in
       absurd (let no : true ≡ false = sym entered ∙ takes.0 in cc)
-  mirrored first second iso named also (node_placed anchor number below) (alias_placed told other) before after later fits matches is reached all turns takes =
+  mirrored first second iso named also (node_placed anchor number below)
+      (alias_placed stated other) before after later fits matches is reached all turns takes =
       let entered : list_any (is_entry_of other) (map (renumbered iso.partner) before) ≡ false =
       ap (λ (n : ℕ). list_any (is_entry_of n) (map (renumbered iso.partner) before)) is
       ∙ entered_alike first second iso number before reached all ∙ turns.0 in
       absurd (let no : true ≡ false = sym takes.0 ∙ entered in cc)
-  mirrored first second iso named also (node_placed anchor number below) (node_placed told other lower) before after later fits matches is reached all turns
+  mirrored first second iso named also (node_placed anchor number below) (node_placed stated other lower) before after later fits matches is reached all turns
       takes =
       let partner = iso.partner in
       let held : numbers_at lower ≡ map partner (numbers_at below) =

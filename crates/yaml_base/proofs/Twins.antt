@@ -68,13 +68,13 @@ record JoinsAll (first second : Graph) (some others : PlacedNodes) : Type 0 wher
 mutual
   pub joined : (first second : Graph) (shape : Shape) (one other : Placed) → HasShape false first one shape → HasShape false second other shape
       → Joins first second one other
-  joined first second (alias_shape told) (alias_placed name number) (alias_placed also again) fits matches =
+  joined first second (alias_shape stated) (alias_placed name number) (alias_placed also again) fits matches =
       record { twin = alias_twin name number again; is_first = refl; is_second = ap (λ (n : Text). alias_placed n again) (fits ∙ sym matches); fits = tt }
-  joined first second (alias_shape told) (alias_placed name number) (node_placed anchor again below) fits matches = absurd matches
-  joined first second (alias_shape told) (node_placed anchor number below) other fits matches = absurd fits
-  joined first second (node_shape told label inside) (alias_placed name number) other fits matches = absurd fits
-  joined first second (node_shape told label inside) (node_placed anchor number below) (alias_placed name again) fits matches = absurd matches
-  joined first second (node_shape told label inside) (node_placed anchor number below) (node_placed also again lower) fits matches =
+  joined first second (alias_shape stated) (alias_placed name number) (node_placed anchor again below) fits matches = absurd matches
+  joined first second (alias_shape stated) (node_placed anchor number below) other fits matches = absurd fits
+  joined first second (node_shape stated label inside) (alias_placed name number) other fits matches = absurd fits
+  joined first second (node_shape stated label inside) (node_placed anchor number below) (alias_placed name again) fits matches = absurd matches
+  joined first second (node_shape stated label inside) (node_placed anchor number below) (node_placed also again lower) fits matches =
       let all = joined_all first second inside below lower fits.3 matches.3 in
       record {
         twin = node_twin anchor number again all.twins;
@@ -205,10 +205,10 @@ mutual
       → (found : Occurrence) → IsIn found (occurrences placed) → IsReached graph (number_in found)
   occurrence_reached graph shape (alias_placed name number) fits reached found (inl is) = subst (λ o. IsReached graph (number_in o)) is reached
   occurrence_reached graph shape (alias_placed name number) fits reached found (inr none) = absurd none
-  occurrence_reached graph (alias_shape told) (node_placed anchor number below) fits reached found within = absurd fits
-  occurrence_reached graph (node_shape told label inside) (node_placed anchor number below) fits reached found (inl is) =
+  occurrence_reached graph (alias_shape stated) (node_placed anchor number below) fits reached found within = absurd fits
+  occurrence_reached graph (node_shape stated label inside) (node_placed anchor number below) fits reached found (inl is) =
       subst (λ o. IsReached graph (number_in o)) is reached
-  occurrence_reached graph (node_shape told label inside) (node_placed anchor number below) fits reached found (inr later) =
+  occurrence_reached graph (node_shape stated label inside) (node_placed anchor number below) fits reached found (inr later) =
       occurrence_below_reached graph inside below fits.3
       (λ child within. child_reached reached (subst (λ (numbers : List ℕ). Contains numbers child) fits.2 within)) found later
 

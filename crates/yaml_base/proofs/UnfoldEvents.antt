@@ -108,11 +108,11 @@ no_steps of below is = ap (λ (all : PlacedNodes). flat_map of (below_steps all)
 mutual
   pub node_at_events : (graph : Graph) (walk : List Step) (placed : Placed) → Fits (anchor_of walk) graph placed
       → node_events (node_at graph placed) ≡ flat_map (step_events graph walk) (placed_steps placed)
-  node_at_events graph walk (alias_placed name number) fits = ap (λ (told : Text). alias told ∷ []) fits
+  node_at_events graph walk (alias_placed name number) fits = ap (λ (stated : Text). alias stated ∷ []) fits
   node_at_events graph walk (node_placed anchor number below) fits =
       with_events anchor graph number (node_numbered graph number) fits.1.node below (flat_map (step_events graph walk) (below_steps below)) fits.1.is fits.2
       (items_at_events graph walk below fits.3) (pairs_at_events graph walk below fits.3) (no_steps (step_events graph walk) below)
-      ∙ ap (λ (told : Option Text). opening_events told (node_numbered graph number)
+      ∙ ap (λ (stated : Option Text). opening_events stated (node_numbered graph number)
       ++ (flat_map (step_events graph walk) (below_steps below) ++ closing_events (node_numbered graph number))) fits.0
       ∙ ap (λ (events : List Event). opening_events (anchor_of walk number) (node_numbered graph number) ++ events)
       (sym (end_events (step_events graph walk) (below_steps below) (leaves number)))

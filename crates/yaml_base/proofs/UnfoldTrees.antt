@@ -273,9 +273,9 @@ place_of named (leaves number) = None
 mutual
   pub places_are : (named : ℕ → Option Text) (graph : Graph) (placed : Placed) → Fits named graph placed
       → occurrences placed ≡ filter_map (place_of named) (placed_steps placed)
-  places_are named graph (alias_placed name number) fits = ap (λ (told : Text). alias_occurrence told number ∷ []) fits
+  places_are named graph (alias_placed name number) fits = ap (λ (stated : Text). alias_occurrence stated number ∷ []) fits
   places_are named graph (node_placed anchor number below) fits =
-      ap (λ (told : Option Text). node_occurrence told number ∷ occurrences_below below) fits.0
+      ap (λ (stated : Option Text). node_occurrence stated number ∷ occurrences_below below) fits.0
       ∙ ap (λ (rest : List Occurrence). node_occurrence (named number) number ∷ rest)
       (places_below_are named graph below fits.3
       ∙ sym (append-nil (filter_map (place_of named) (below_steps below)))

@@ -13,7 +13,7 @@ pub mod StreamWholeReads
 pub mod StreamLawStands
 pub mod StreamHeadings
 pub mod StreamHeadingLines
-pub mod StreamLeafMarks
+pub mod StreamLeafMarkers
 pub mod StreamRootLeaves
 pub mod StreamRootBegins
 pub mod StreamAllStand

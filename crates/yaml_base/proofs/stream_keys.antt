@@ -5,6 +5,6 @@ pub mod StreamNoKeys
 pub mod StreamKeyBodies
 pub mod StreamKeyLengths
 pub mod StreamKeysFit
-pub mod StreamKeyBeginnings
+pub mod StreamKeyPrefixes
 pub mod StreamKeyReads
 pub mod StreamSimpleKeys

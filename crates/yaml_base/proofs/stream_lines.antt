@@ -5,7 +5,7 @@ pub mod StreamBytes
 pub mod StreamSections
 pub mod StreamTidyLaws
 pub mod StreamClosed
-pub mod StreamUnmarked
+pub mod StreamMarkerless
 pub mod StreamStrip
 pub mod StreamUnread
 pub mod StreamDeepBreaks

@@ -73,7 +73,7 @@ pub data Level : Type 0 where
   at_key : Collection → Pairs → Level
   at_value : Collection → Pairs → Node → Level
 
--- the beginning of a stream as a tree whose last parts are still missing: within a document the open
+-- a prefix of a stream as a tree whose last parts are still missing: within a document the open
 -- collections stand innermost first
 pub data Partial : Type 0 where
   before_stream : Partial
@@ -129,7 +129,7 @@ abbrev pub pushed : Partial → List Event → Option Partial
 pushed partial [] = Some partial
 pushed partial (event ∷ events) = option_and_then (λ next. pushed next events) (push partial event)
 
--- the beginning of a tree that a list is
+-- the tree, with parts still missing, that a list of events is a prefix of
 abbrev pub partial_of : List Event → Option Partial
 partial_of events = pushed before_stream events
 

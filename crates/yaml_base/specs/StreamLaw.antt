@@ -67,13 +67,13 @@ document_has_flow_indicator canonical document =
     node_has_flow_indicator canonical (directives_in_force document.start.directives) document.root
 
 -- no document is lost, and no tag has a flow indicator after its handle
-abbrev pub are_portable : Bool → List Document → Bool
-are_portable canonical documents = not (loses_document canonical documents) && not (list_any (document_has_flow_indicator canonical) documents)
+abbrev pub all_read_alike : Bool → List Document → Bool
+all_read_alike canonical documents = not (loses_document canonical documents) && not (list_any (document_has_flow_indicator canonical) documents)
 
 -- what readers of YAML read alike of all that the layout writes: all in portable mode, else all but those two kinds
 abbrev pub reads_alike : (portable canonical : Bool) → List Event → Bool
 reads_alike portable canonical events =
-    portable || unwrap_or (option_map (λ stream. are_portable canonical (documents_in_order stream.documents)) (tree_of events)) false
+    portable || unwrap_or (option_map (λ stream. all_read_alike canonical (documents_in_order stream.documents)) (tree_of events)) false
 
 -- under all settings all bytes of an accepted list, uncut, read as documents that agree with it
 abbrev pub StreamReadsBack : Type 0

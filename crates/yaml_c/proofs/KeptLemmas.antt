@@ -16,8 +16,8 @@ changed relation old new before after taken put output related =
 
 -- no error was returned
 pub none_of_ok : (error : Option yaml_error_t) (answer : Result (Unit {0}) yaml_error_t) → answer ≡ result_of_error error → IsOk answer → error ≡ None
-none_of_ok None answer told is = refl
-none_of_ok (Some error) answer told is = let no : IsOk (result_of_error (Some error)) = subst IsOk told is in cc
+none_of_ok None answer returned is = refl
+none_of_ok (Some error) answer returned is = let no : IsOk (result_of_error (Some error)) = subst IsOk returned is in cc
 
 pub takes_event : (event : Event) (answer : Result (Unit {0}) yaml_error_t) (before after : State) → EmitsEvent before event answer after
     → TakesEvent event before after

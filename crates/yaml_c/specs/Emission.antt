@@ -39,7 +39,7 @@ EmitsRecords given all records (Refused number error) state =
 EmitsRecords given all records (BadEvent number) state = StopsAtBad given all records number state
 EmitsRecords given all records NoMemory state = ⊤
 
--- what the last flush does, with the number that it is told
+-- what the last flush does, given the number of its call
 abbrev pub FlushesAfter : ℕ → State → Emission → State → Type 0
 FlushesAfter number before Done after = FlushesLast number before run.Done after
 FlushesAfter number before (Refused report error) after = FlushesLast number before (run.Refused report error) after

@@ -11,7 +11,8 @@ use Rattle.yaml_base.{proofs.ContentsUnfold.dumped_stream, proofs.GraphRefusals.
 use Rattle.yaml_base.{proofs.Twins.in_right, specs.Settings.largest_usize, specs.declared.errors.yaml_error_t.yaml_error_t}
 use Rattle.yaml_base.{specs.graphs.Isomorphic.IsWrittenAlike}
 use Rattle.yaml_base.specs.declared.errors.yaml_error_t.TheVariants.{Memory, TagEmpty, TooDeep, WriteError}
-use Rattle.yaml_caller.{proofs.Dumped.copy_holds, proofs.KnownStreams.told_none, specs.GraphBytes.WritesGraph, specs.GraphBytes.AreRefused}
+use Rattle.yaml_caller.{proofs.Dumped.copy_holds, specs.GraphBytes.WritesGraph, specs.GraphBytes.AreRefused}
+use Rattle.yaml_pen.proofs.Writing.{none_from_result, some_from_result}
 use Rattle.yaml_dump.proofs.{EqualBytesLemmas.one_reading, EqualBytesLemmas.equal_documents, GraphLemmas.written_whole}
 
 -- ---- a graph and its nodes alone
@@ -187,19 +188,12 @@ dump_fails graph before after error unopened is nonempty stands (inr emits) =
     ∙ ap (λ events. events ++ stream_end ∷ []) parts)
     fails.promised fails.failed
 
-error_of : (error : yaml_error_t) (state : State) → Err error ≡ result_of_error state.error → state.error ≡ Some error
-error_of error state is = by state.error is
-  where
-    by : (given : Option yaml_error_t) → Err error ≡ result_of_error given → given ≡ Some error
-    by None is = cc
-    by (Some other) is = cc
-
 -- what closing the stream comes to
 pub close_fails : (graph : Graph) (state : State) (answer : Result (Unit {0}) yaml_error_t) → Promised typed_settings (graph_events graph) state
     → answer ≡ result_of_error state.error → IfErr answer (λ error. Fails (graph_events graph) error state)
 close_fails graph state (Ok done) promised is = tt
 close_fails graph state (Err error) promised is =
-    why_failed (graph_events graph) (graph_events graph) [] state error (append-nil (graph_events graph)) promised (error_of error state is)
+    why_failed (graph_events graph) (graph_events graph) [] state error (append-nil (graph_events graph)) promised (some_from_result state.error error is)
 
 pub close_writes : (graph : Graph) (state : State) (answer : Result (Unit {0}) yaml_error_t) → IsDocument (bare graph)
     → Promised typed_settings (graph_events graph) state → answer ≡ result_of_error state.error
@@ -208,7 +202,7 @@ pub close_writes : (graph : Graph) (state : State) (answer : Result (Unit {0}) y
 close_writes graph state (Ok done) document promised is reads =
     let dumped = one_dumped graph document in
     record {
-      output = (written_whole typed_settings (before_end graph) (bare graph ∷ []) state promised (told_none state is) dumped).output;
+      output = (written_whole typed_settings (before_end graph) (bare graph ∷ []) state promised (none_from_result state.error is) dumped).output;
       reads = reads (bare graph ∷ []) dumped;
     }
 close_writes graph state (Err error) document promised is reads = tt

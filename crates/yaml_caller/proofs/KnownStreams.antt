@@ -5,13 +5,7 @@ use Rattle.yaml_caller.proofs.Common.{Promised, State, result_of_error}
 use Rattle.std.specs.Char.{encode_utf8}
 use Rattle.yaml_base.specs.{Event.document_start, Event.document_end, declared.errors.yaml_error_t.yaml_error_t}
 use Rattle.yaml_emitter.specs.Promises.{HasRoom, ends_stream, IsWritten}
-
-pub told_none : (state : State) → Ok tt ≡ result_of_error state.error → state.error ≡ None
-told_none state is = by state.error is
-  where
-    by : (error : _) → Ok tt ≡ result_of_error error → error ≡ None
-    by None is = refl
-    by (Some error) is = cc
+use Rattle.yaml_pen.proofs.Writing.{none_from_result}
 
 -- a finished stream with no event queued and no error is written whole
 pub whole : (given : Settings) (events : List Event) (state : State) → ends_stream events ≡ true → held_back events ≡ [] → Promised given events state
@@ -29,7 +23,7 @@ written events bytes state ended ready row promised none = (whole letter_setting
 pub stream_bytes : (events : List Event) (bytes : List ℕ) (answer : Result (Unit {0}) yaml_error_t) (state : State) → ends_stream events ≡ true
     → held_back events ≡ [] → output_of letter_settings events ≡ bytes → Promised letter_settings events state → answer ≡ result_of_error state.error
     → OnOk answer (state.page.output ≡ bytes)
-stream_bytes events bytes (Ok _) state ended ready row promised is = written events bytes state ended ready row promised (told_none state is)
+stream_bytes events bytes (Ok _) state ended ready row promised is = written events bytes state ended ready row promised (none_from_result state.error is)
 stream_bytes events bytes (Err error) state ended ready row promised is = tt
 
 -- ---- the stream of one letter

@@ -8,6 +8,7 @@ use Rattle.std.{proofs.lemmas.List.take-append-drop, specs.Char.encode_utf8}
 use Rattle.yaml_base.specs.declared.errors.{yaml_error_t.yaml_error_t, yaml_error_t.TheVariants.Memory, yaml_error_t.TheVariants.WriteError}
 use Rattle.yaml_caller.proofs.KnownStreams.{events_of}
 use Rattle.yaml_emitter.specs.Promises.{FillsLimit}
+use Rattle.yaml_pen.proofs.Writing.{some_from_result}
 
 -- each of some events, after those before it, is refused nowhere
 abbrev unrefused : (before events : List Event) → Bool
@@ -72,18 +73,12 @@ only_memory events all rest state Memory fits begins promised is = refl
 only_memory events all rest state error fits begins promised is =
     absurd (never_refused events all rest error state fits begins (promised.refused error is tt))
 
-failed : (error : yaml_error_t) (state : State) → Err error ≡ result_of_error state.error → state.error ≡ Some error
-failed error state is = by state.error is
-  where
-    by : (given : Option yaml_error_t) → Err error ≡ result_of_error given → given ≡ Some error
-    by None is = cc
-    by (Some other) is = cc
-
 -- what a call answers after a prefix of the stream
 pub prefix_memory : (events all rest : List Event) (state : State) (answer : Result (Unit {0}) yaml_error_t) → Fits events
     → all ++ rest ≡ events → Promised letter_settings all state → answer ≡ result_of_error state.error → IfErr answer (λ error. error ≡ Memory)
 prefix_memory events all rest state (Ok _) fits begins promised is = tt
-prefix_memory events all rest state (Err error) fits begins promised is = only_memory events all rest state error fits begins promised (failed error state is)
+prefix_memory events all rest state (Err error) fits begins promised is =
+    only_memory events all rest state error fits begins promised (some_from_result state.error error is)
 
 -- what is passed on
 pub exit_memory : (error : yaml_error_t) (answer : Result (Unit {0}) yaml_error_t) → error ≡ Memory → IsErr answer × IsErrAnd answer (λ given. given ≡ error)

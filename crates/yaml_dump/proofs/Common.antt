@@ -17,4 +17,4 @@ pub use Rattle.yaml_dump.specs.{Events.seen_events_of, GraphTrees.tree_shape, Gr
 pub use Rattle.yaml_dump.specs.{WalkState.seen_walker, WalkSteps.seen_step}
 pub use Rattle.yaml_dump.specs.Anchors.{IsNumbered, is_numbered, anchor_of_place, HasPlaces, Places}
 pub use Rattle.yaml_dump.specs.Dumps.{EmitsAll, FailsAt, IsBegun, EmitsEach, opening, closing}
-pub use Rattle.yaml_pen.{proofs.Composing.grows_then, proofs.Writing.none_from_result, specs.Wrote.Grows}
+pub use Rattle.yaml_pen.{proofs.Composing.grows_then, proofs.Writing.none_from_result, proofs.Writing.some_from_result, specs.Wrote.Grows}

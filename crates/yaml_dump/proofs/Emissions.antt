@@ -6,7 +6,7 @@ use Rattle.yaml_emitter.proofs.Common.{Promised, StandsAfter, State, KeepsSet}
 use Rattle.std.specs.Prelude.{Err, Ok, Result, IsErrAnd, IsErr, OnOk, OnErr}
 use Rattle.yaml_base.specs.{Seen.seen_event, declared.errors.yaml_error_t.yaml_error_t, declared.events.yaml_event_t.yaml_event_t}
 use Rattle.yaml_dump.specs.Dumps.{EmitsAll, FailsAt, IsBegun, EmitsEach, has_some, FailsDump, EmitsDump, opening, closing}
-use Rattle.yaml_pen.{proofs.Writing.none_from_result, specs.Page.result_of_error, specs.Wrote.Grows}
+use Rattle.yaml_pen.{proofs.Writing.none_from_result, proofs.Writing.some_from_result, specs.Page.result_of_error, specs.Wrote.Grows}
 
 -- what the caller set stays, but for whether the stream was begun
 abbrev pub KeepsButStart : State → State → Type 0
@@ -26,11 +26,6 @@ keeps_more before middle after kept more =
       closed = more.closed ∙ kept.closed;
       taken = more.taken ∙ kept.taken;
     }
-
--- an error that was returned
-pub some_told : (given : Option yaml_error_t) (error : yaml_error_t) → Err error ≡ result_of_error given → given ≡ Some error
-some_told None error is = cc
-some_told (Some other) error is = cc
 
 -- one more event
 pub events_more : {A : Type 0} (all : List Event) (emitted : List (yaml_event_t A)) (next : yaml_event_t A)
@@ -96,7 +91,7 @@ emits_one given all event before after (Err error) none stood stands kept grew i
       stands = subst (λ events. StandsAfter given (events ++ event ∷ []) after) (sym (append-nil all)) stands;
       promised = subst (λ events. Promised given (events ++ event ∷ []) after) (sym (append-nil all)) kept;
       grew = grew;
-      failed = some_told after.error error is;
+      failed = some_from_result after.error error is;
     }
 
 -- more events after some
@@ -198,7 +193,7 @@ dumps_failed given all opened more error after was now h =
 -- its error is passed on
 pub exit_dumps : (given : Settings) (all : List Event) (opened : Bool) (more : List Event) (error : yaml_error_t) (answer : Result (Unit {0}) yaml_error_t)
     (after : State) → (opened ≡ false) × (after.opened ≡ false)
-    → FailsAt given all (opening opened) error after → IsErr answer × IsErrAnd answer (λ told. told ≡ error)
+    → FailsAt given all (opening opened) error after → IsErr answer × IsErrAnd answer (λ returned. returned ≡ error)
     → EmitsDump opened given all (opening opened ++ more) answer after
 exit_dumps given all opened more error (Ok _) after unopened h is = absurd (false≢true is.0)
 exit_dumps given all opened more error (Err other) after unopened h is =

@@ -52,10 +52,10 @@ own_flags own tag true flag is = same_bytes tag
 own_flags own tag false true is = ap (λ text. bytes_eq text tag) (sym (from_bytes tag own (sym is))) ∙ same_bytes tag
 own_flags own tag false false is = same_bytes tag
 
-beginning_keeps : (canonical : Bool) (anchor : Option Text) (tag : Text) (held : Held) → has_kept_tag canonical (opening_event_of anchor tag held) ≡ true
-beginning_keeps canonical anchor tag (scalar_held value style) = own_flags string_tag tag canonical (bytes_eq tag string_tag) refl
-beginning_keeps canonical anchor tag (sequence_held items style) = own_flag sequence_tag tag canonical (bytes_eq tag sequence_tag) refl
-beginning_keeps canonical anchor tag (mapping_held pairs style) = own_flag mapping_tag tag canonical (bytes_eq tag mapping_tag) refl
+prefix_keeps : (canonical : Bool) (anchor : Option Text) (tag : Text) (held : Held) → has_kept_tag canonical (opening_event_of anchor tag held) ≡ true
+prefix_keeps canonical anchor tag (scalar_held value style) = own_flags string_tag tag canonical (bytes_eq tag string_tag) refl
+prefix_keeps canonical anchor tag (sequence_held items style) = own_flag sequence_tag tag canonical (bytes_eq tag sequence_tag) refl
+prefix_keeps canonical anchor tag (mapping_held pairs style) = own_flag mapping_tag tag canonical (bytes_eq tag mapping_tag) refl
 
 -- ---- so of all events of dumped graphs
 
@@ -78,9 +78,9 @@ keep_each canonical events_of each [] = refl
 keep_each canonical events_of each (item ∷ items) =
     keep_both canonical (events_of item) (flat_map events_of items) (each item) (keep_each canonical events_of each items)
 
-beginnings_keep : (canonical : Bool) (anchor : Option Text) (found : Option GraphNode) → all_keep canonical (opening_events anchor found)
-beginnings_keep canonical anchor None = refl
-beginnings_keep canonical anchor (Some node) = and_from _ _ (beginning_keeps canonical anchor node.tag node.held) refl
+prefixes_keep : (canonical : Bool) (anchor : Option Text) (found : Option GraphNode) → all_keep canonical (opening_events anchor found)
+prefixes_keep canonical anchor None = refl
+prefixes_keep canonical anchor (Some node) = and_from _ _ (prefix_keeps canonical anchor node.tag node.held) refl
 
 endings_keep : (canonical : Bool) (found : Option GraphNode) → all_keep canonical (closing_events found)
 endings_keep canonical None = refl
@@ -92,7 +92,7 @@ endings_keep canonical (Some node) = by node.held
     by (mapping_held pairs style) = refl
 
 step_keeps : (canonical : Bool) (graph : Graph) (walk : List Step) (step : Step) → all_keep canonical (step_events graph walk step)
-step_keeps canonical graph walk (enters number) = beginnings_keep canonical _ _
+step_keeps canonical graph walk (enters number) = prefixes_keep canonical _ _
 step_keeps canonical graph walk (leaves number) = endings_keep canonical _
 step_keeps canonical graph walk (meets_again number) = refl
 
@@ -134,10 +134,10 @@ scalar_tag_is content None (with_tag tag) is = absurd (false≢true is)
 scalar_tag_is content (Some tag) (with_tag read) is = sym (from_bytes tag read is)
 scalar_tag_is content (Some tag) (without_tag standing) is = absurd (false≢true is)
 
--- a scalar's tag is told
-tag_told_is : (tag : Option Text) (text : Text) (implicit : Bool) → Some text ≡ tag → Some text ≡ explicit_tag (content_tag tag implicit)
-tag_told_is None text implicit is = cc
-tag_told_is (Some other) text implicit is = is
+-- the tag that a scalar's event states is the scalar's
+stated_tag_is : (tag : Option Text) (text : Text) (implicit : Bool) → Some text ≡ tag → Some text ≡ explicit_tag (content_tag tag implicit)
+stated_tag_is None text implicit is = cc
+stated_tag_is (Some other) text implicit is = is
 
 -- equal parts make equal shapes
 shapes_same : (a b : Option Text) (s t : Option Text) (k l : NodeKind) (x y : Shapes) → a ≡ b → s ≡ t → k ≡ l → x ≡ y
@@ -168,7 +168,7 @@ mutual
       (scalar_kind value None) (scalar_kind content.value None) no_shapes no_shapes
       (sym (same_option content.anchor anchor anchor_too.0))
       (ap (λ tag. Some tag) (scalar_tag_is content written tagging anchor_too.1)
-      ∙ tag_told_is content.tag (unwrap_or written string_tag) content.quoted_implicit kept)
+      ∙ stated_tag_is content.tag (unwrap_or written string_tag) content.quoted_implicit kept)
       (ap (λ text. scalar_kind text None) (sym (from_bytes content.value value value_too.1)))
       refl
   tree_is canonical (scalar_node content) (sequence_tree anchor tag trees) keep agree = absurd (false≢true agree)

@@ -60,7 +60,8 @@ pub use Rattle.yaml_emitter.specs.{Atoms.name_breaks, Atoms.some_handle_breaks, 
 pub use Rattle.yaml_emitter.specs.{BorrowedTexts.seen_collection, Given.seen_effective, Given.nothing_given, Inside.state_of, Inside.IsEmitter}
 pub use Rattle.yaml_emitter.specs.{MachineInside.machine_state, MachineInside.IsMachine, NodeEvents.start_event, NodeEvents.end_event, NodeEvents.brackets_of}
 pub use Rattle.yaml_emitter.specs.{Queue.is_head_ready, ScalarTexts.render_scalar_text, ScalarTexts.style_fits, Stages.seen_stage, StaysFlushed.StaysFlushed}
-pub use Rattle.yaml_emitter.specs.{StaysFlushed.whole_documents, StaysFlushed.KeepsDocuments, Uncut.IsUncut, UsualScalars.StandsPlain, WrittenPieces.piece_at}
+pub use Rattle.yaml_emitter.specs.{StaysFlushed.whole_documents, StaysFlushed.KeepsDocuments, Uncut.IsUncut, SimpleAsciiScalars.StandsPlain}
+pub use Rattle.yaml_emitter.specs.{WrittenPieces.piece_at}
 pub use Rattle.yaml_emitter.specs.{WrittenPieces.seen_open_ended, WrittenPieces.render_document_end}
 pub use Rattle.yaml_emitter.specs.Places.{is_mapping, seen_role, seen_place, seen_frame}
 pub use Rattle.yaml_emitter.specs.Processing.{closes_at_once, event_stepped, render_event, refusal_now, Keeps, WritesPage, WritesEvent, CutPage, unwritten}
@@ -72,7 +73,8 @@ pub use Rattle.yaml_emitter.specs.StandsAfter.{StandsFailed, MachineStands, Stat
 pub use Rattle.yaml_emitter.specs.State.{State, MachineState, machine_of, new_machine, standing_of, FitsPage, with_all_taken, is_at_stream, KeepsGiven}
 pub use Rattle.yaml_emitter.specs.State.{KeepsSet}
 pub use Rattle.yaml_emitter.specs.WrittenAtoms.{seen_indicator, render_atoms, seen_tag, render_spelled_tag, spelled_count}
-pub use Rattle.yaml_pen.{proofs.Adding.encode-append, proofs.Writing.none_from_result, specs.Wrote.Grows, specs.Wrote.Wrote, specs.Wrote.Flushed}
+pub use Rattle.yaml_pen.{proofs.Adding.encode-append, proofs.Writing.none_from_result, proofs.Writing.some_from_result, specs.Wrote.Grows, specs.Wrote.Wrote}
+pub use Rattle.yaml_pen.{specs.Wrote.Flushed}
 pub use Rattle.yaml_pen.proofs.Composing.{wrote_all, wrote_then, wrote_failed, wrote_as, wrote_exit}
 pub use Rattle.yaml_pen.specs.Page.{Page, encoded, all_taken, IsUntouched, IsReady, result_of_error, IsFlushedOutput, new_page}
 pub use Rattle.yaml_scalar.proofs.{LineTexts.any_both, LineTexts.any_one, Sparing.is_graph, Sparing.Spares, Sparing.lacks_line}

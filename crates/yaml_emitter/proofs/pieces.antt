@@ -6,4 +6,4 @@ pub mod WritingPieces
 pub mod AtomsWritten
 pub mod WritingDirectives
 pub mod WritingTags
-pub mod UsualChoices
+pub mod SimpleAsciiChoices

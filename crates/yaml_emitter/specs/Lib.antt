@@ -1,5 +1,5 @@
 pub mod ScalarTexts
-pub mod UsualScalars
+pub mod SimpleAsciiScalars
 pub mod BorrowedTexts
 pub mod Given
 pub mod Queue

@@ -11,14 +11,14 @@ ghost use Rattle.yaml_base.specs.Steps.{is_first};
 ghost use Rattle.yaml_base.specs.scalars.Style as style;
 ghost use Rattle.yaml_pen.specs.Page.{IsReady};
 ghost use Rattle.yaml_pen.specs.Wrote.{Wrote};
-ghost use Rattle.yaml_scalar.specs.UsualTexts.{IsUsual};
+ghost use Rattle.yaml_scalar.specs.SimpleAsciiTexts.{IsSimpleAscii};
 ghost use Rattle.yaml_emitter.specs.BorrowedTexts.{seen_collection, seen_scalar};
 ghost use Rattle.yaml_emitter.specs.Given.{seen_effective};
 ghost use Rattle.yaml_emitter.specs.NodeEvents.{brackets_of, end_event, first_entry, is_at_node, start_event, starts_undented};
 ghost use Rattle.yaml_emitter.specs.Places.{is_mapping, seen_frame, seen_place, seen_role};
 ghost use Rattle.yaml_emitter.specs.Processing.{Processed};
 ghost use Rattle.yaml_emitter.specs.Reach.{most_column};
-ghost use Rattle.yaml_emitter.specs.UsualScalars.{StandsPlain};
+ghost use Rattle.yaml_emitter.specs.SimpleAsciiScalars.{StandsPlain};
 ghost use Rattle.yaml_emitter.specs.WrittenPieces.{piece_at};
 
 use crate::machine::Machine;
@@ -26,9 +26,9 @@ use crate::place::CollectionKind::{Mapping, Sequence};
 use crate::place::{CollectionKind, Frame, Place, Role};
 use crate::writing::{
     CollectionContent, ScalarContent, Site, borrowed_text, entries_column, is_simple_alias_key,
-    is_simple_collection_key, is_simple_scalar_key, is_simple_usual_key, is_written_in_flow, spell,
+    is_simple_ascii_key, is_simple_collection_key, is_simple_scalar_key, is_written_in_flow, spell,
     stands_plain, write_alias, write_collection_end, write_collection_start, write_scalar,
-    write_usual, written_collection_tag, written_scalar_tag,
+    write_simple_ascii, written_collection_tag, written_scalar_tag,
 };
 use std::alloc::Allocator;
 use yaml_base::{
@@ -116,28 +116,28 @@ impl<A: Allocator + Copy> Machine<A> {
         ensures { (empty : Bool) → Processed (scalar (seen_scalar content.now)) empty self.old self.new result }
     {
         if stands_plain(&self.settings, content) {
-            self.put_usual(content.value)
+            self.put_simple_ascii(content.value)
         } else {
             self.put_chosen(content)
         }
     }
 
     /// A scalar that stands plain as it is, by its value: what it calls then has one copy, which can be inlined here.
-    fn put_usual(&mut self, value: &str) -> Result<(), yaml_error_t>
+    fn put_simple_ascii(&mut self, value: &str) -> Result<(), yaml_error_t>
         requires stage { is_at_node self.old.stage ≡ true }
-        requires usual { IsUsual value.now }
+        requires simple_ascii { IsSimpleAscii value.now }
         ensures { (content : ScalarContent) → StandsPlain self.old.settings.canonical content → content.value.now ≡ value.now
             → name_or_tag_fault self.old.given.canonical (scalar (seen_scalar content)) ≡ None
             → (empty : Bool) → Processed (scalar (seen_scalar content)) empty self.old self.new result }
     {
         let place = self.frames.next_place();
-        let simple = is_simple_usual_key(&place, value);
+        let simple = is_simple_ascii_key(&place, value);
         let site = Site {
             settings: &self.settings,
             place,
             simple,
         };
-        write_usual(&mut self.pen, &site, value)?;
+        write_simple_ascii(&mut self.pen, &site, value)?;
         self.stage = self.frames.advance(simple);
         Ok(())
     }

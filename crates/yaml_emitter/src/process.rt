@@ -33,7 +33,7 @@ use yaml_mark::Directives;
 use yaml_pen::Pen;
 
 impl<A: Allocator + Copy> Machine<A> {
-    /// One event. The most frequent, a usual scalar in a collection, has a copy of the work, in which no test of its
+    /// One event. The most frequent, a simple_ascii scalar in a collection, has a copy of the work, in which no test of its
     /// names and flags is left; and where it is called, so that no call is left either.
     #[inline(always)]
     pub(crate) fn process(
@@ -44,7 +44,7 @@ impl<A: Allocator + Copy> Machine<A> {
         ensures { Processed (seen_event event.now) empty self.old self.new result }
     {
         let within = matches!(self.stage, Stage::Node) && self.frames.is_open();
-        if within && is_usual_scalar(event) {
+        if within && is_simple_ascii_scalar(event) {
             self.process_at_stage(event, empty)
         } else {
             self.process_other(event, empty)
@@ -209,8 +209,8 @@ impl<A: Allocator + Copy> Machine<A> {
 }
 
 /// Whether an event is a scalar without anchor and tag that needs no tag in any style.
-fn is_usual_scalar<A: Allocator>(event: &yaml_event_t<A>) -> bool
-    ensures { result ≡ node_events.is_usual_scalar (seen_event event.now) }
+fn is_simple_ascii_scalar<A: Allocator>(event: &yaml_event_t<A>) -> bool
+    ensures { result ≡ node_events.is_simple_ascii_scalar (seen_event event.now) }
 {
     matches!(
         event,

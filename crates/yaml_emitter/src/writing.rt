@@ -9,11 +9,11 @@ mod open_ended;
 mod places;
 mod properties;
 mod scalars;
+mod simple_ascii;
 mod simple_keys;
 mod site;
 mod spelling;
 mod styles;
-mod usual;
 
 pub use contents::ScalarContent;
 pub(crate) use contents::{
@@ -27,9 +27,9 @@ pub(crate) use nodes::{
 };
 pub(crate) use open_ended::OpenEnded;
 pub(crate) use scalars::write_scalar;
+pub(crate) use simple_ascii::{stands_plain, write_simple_ascii};
 pub(crate) use simple_keys::{
-    is_simple_alias_key, is_simple_collection_key, is_simple_scalar_key, is_simple_usual_key,
+    is_simple_alias_key, is_simple_ascii_key, is_simple_collection_key, is_simple_scalar_key,
 };
 pub(crate) use site::Site;
 pub(crate) use spelling::{SpelledTag, spell};
-pub(crate) use usual::{stands_plain, write_usual};

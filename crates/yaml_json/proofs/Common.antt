@@ -20,7 +20,7 @@ pub use Rattle.json.specs.Tree.{json_tokens, items_tokens, members_tokens, depth
 pub use Rattle.yaml_base.{proofs.Trees.stream_pushed, proofs.stream_nodes.StreamAgrees.node_tree, specs.Prefix.IsPrefix}
 pub use Rattle.yaml_base.{specs.values.JsonNumbers.fraction_or_default, specs.values.JsonNumbers.is_json_integer}
 pub use Rattle.yaml_base.specs.values.TypedValues.{null_tag, bool_tag, int_tag, bool_text}
-pub use Rattle.yaml_emitter.{proofs.standing.StandingMore.some_from_result, specs.Promises.RefusedAt, specs.StandsAfter.StateStands, specs.State.State}
+pub use Rattle.yaml_emitter.{proofs.Common.some_from_result, specs.Promises.RefusedAt, specs.StandsAfter.StateStands, specs.State.State}
 pub use Rattle.yaml_json.specs.{Begins.BeginsValue, Begins.NoneGoesOn, Cuts.HasScanned, Cuts.CutsAt, HeldNames.HaveNames, HeldNames.HoldsNames}
 pub use Rattle.yaml_json.specs.{HeldNames.AddsName, Means.Schema, Texts.after_byte, Texts.texts_in, Texts.CutsFirstText, TokenEvents.token_events}
 pub use Rattle.yaml_json.specs.{TokenEvents.tokens_events}

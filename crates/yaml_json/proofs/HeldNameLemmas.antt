@@ -162,7 +162,7 @@ module _ {A : Type 0} (few : Keys) (levels : List (Level A)) (n : ℕ) (long : n
     adds_listed few_now is empty =
         let cut_now : part ++ key ∷ [] ≡ drop level.first few_now =
         ap (λ (keys : Keys). keys ++ key ∷ []) cut ∙ sym (drop-append-le level.first few (key ∷ []) inner.0) ∙ ap (drop level.first) (sym is) in
-        let same_front : take level.first few ≡ take level.first few_now =
+        let same_prefix : take level.first few ≡ take level.first few_now =
         sym (take-append-le level.first few (key ∷ []) inner.0) ∙ ap (take level.first) (sym is) in (
           λ same. (
             have.0,
@@ -170,7 +170,7 @@ module _ {A : Type 0} (few : Keys) (levels : List (Level A)) (n : ℕ) (long : n
             set_last levels have.0 have.1 level n have.2 long,
             omega (arith, inner.0, ap length is, length-append few (key ∷ [])),
             subst (λ (keys : Keys). HasNames keys level.many (key.now ∷ names)) cut_now (has_listed part level.many names has key),
-            subst (λ (keys : Keys). HaveNames keys have.0 outer) same_front inner.2,
+            subst (λ (keys : Keys). HaveNames keys have.0 outer) same_prefix inner.2,
           ),
           λ new same. new_among names key.now (known_by_set part level.many names has key none ∙ none_in_empty level.many.keys _ empty),
           (λ is. cc),

@@ -102,8 +102,8 @@ module _ {A : Type 0} where
     ] where
       never_kept : held.are_kept ≡ false → ⊥
       never_kept none =
-          let told = (adds [] [] (λ wanted. absurd (both_ways held.are_kept none wanted))).2 old in
-          both_ways held.are_kept none (sym same ∙ told.0)
+          let returned = (adds [] [] (λ wanted. absurd (both_ways held.are_kept none wanted))).2 old in
+          both_ways held.are_kept none (sym same ∙ returned.0)
 
   -- some tokens, and then others
   pub keeps_then : (held between later : Names A) (one other : List Token) → Keeps held one between → Keeps between other later

@@ -19,9 +19,9 @@ last_fault name place content last error no_name no_place no_content is =
     ∙ ap (λ (o : Option yaml_error_t). option_or o last) no_content)
     ∙ is
 
-depth_told : (wrong : Bool) (error : yaml_error_t) → some_if wrong TooDeep ≡ Some error → error ≡ TooDeep
-depth_told true error is = sym (ap (λ (o : Option yaml_error_t). unwrap_or o TooDeep) is)
-depth_told false error is = cc
+depth_returned : (wrong : Bool) (error : yaml_error_t) → some_if wrong TooDeep ≡ Some error → error ≡ TooDeep
+depth_returned true error is = sym (ap (λ (o : Option yaml_error_t). unwrap_or o TooDeep) is)
+depth_returned false error is = cc
 
 -- ---- each event has its place, and nothing is wrong with its content
 
@@ -70,14 +70,14 @@ module _ (canonical in_flow : Bool) (json : Json) (prefix later : List Event) (e
       let p = placed.before in
       let none = neither (name_or_tag_fault canonical event) (content_fault canonical event)
       (is_none_none (option_or (name_or_tag_fault canonical event) (content_fault canonical event)) placed.in_order) in
-      let told : refusal_at canonical p event ≡ Some error =
+      let returned : refusal_at canonical p event ≡ Some error =
       sym (ap (λ (o : Option Partial). option_and_then (λ partial. refusal_at canonical partial event) o) placed.is_before) ∙ refused in
       let no_place : place_fault p event ≡ None = ap (λ (o : Option Partial). some_if (is_none o) (expected p)) placed.is_after in
       let last : depth_fault p event ≡ Some error =
       last_fault (name_or_tag_fault canonical event) (place_fault p event) (content_fault canonical event) (depth_fault p event) error
-      none.0 no_place none.1 told in
+      none.0 no_place none.1 returned in
       let wrong = begins_collection event && not (nat_lt (length (open_levels p)) most_open) in
-      depth_told wrong error last
+      depth_returned wrong error last
 
 -- ---- an emitter that refused one of them
 

@@ -7,7 +7,7 @@ use Rattle.yaml_json.proofs.Common.{no_documents, documents_and, Stream, directi
 use Rattle.yaml_json.proofs.Common.{fraction_or_default, is_json_integer, yaml_number, are_digits, null_tag, bool_tag, int_tag, bool_text, word_content}
 use Rattle.yaml_json.proofs.Common.{number_content, text_content, collection_in, number_in, float_tag, number_tag}
 use Rattle.yaml_base.proofs.Common.{and_right, or_from, option_map, tree_of, is_explicit, is_written_as_nothing, loses_document, document_has_flow_indicator}
-use Rattle.yaml_base.proofs.Common.{are_portable, reads_alike, requested_style, documents_in_order, exponent_spelled}
+use Rattle.yaml_base.proofs.Common.{all_read_alike, reads_alike, requested_style, documents_in_order, exponent_spelled}
 use Rattle.yaml_base.proofs.Trees.{tree_of-stream_events}
 use Rattle.yaml_base.specs.StreamLaw.{tag_has_flow_indicator, node_has_flow_indicator, nodes_have_flow_indicator, pairs_have_flow_indicator}
 use Rattle.yaml_json.proofs.NumberBridge.{number_is}
@@ -139,7 +139,7 @@ first_kept json values canonical in_flow numbers =
     (is_written_as_nothing canonical (json_node json canonical in_flow)) (value_written json canonical in_flow numbers)
 
 are_read_alike : (json : Json) (values : List Json) (canonical in_flow : Bool) → HasNumbers json
-    → are_portable canonical (documents_for (json ∷ values) canonical in_flow) ≡ true
+    → all_read_alike canonical (documents_for (json ∷ values) canonical in_flow) ≡ true
 are_read_alike json values canonical in_flow numbers =
     let documents = documents_for (json ∷ values) canonical in_flow in
     and_from (not (loses_document canonical documents)) (not (list_any (document_has_flow_indicator canonical) documents))
@@ -153,8 +153,8 @@ pub portable_events : (portable canonical in_flow : Bool) (part : List ℕ × Js
     → reads_alike portable canonical (all_events (part ∷ rest) canonical in_flow) ≡ true
 portable_events true canonical in_flow part rest numbers = refl
 portable_events false canonical in_flow part rest numbers =
-    ap (λ (tree : Option Stream). unwrap_or (option_map (λ stream. are_portable canonical (documents_in_order stream.documents)) tree) false) found
-    ∙ ap (are_portable canonical) (documents_are (values_of (part ∷ rest)) canonical in_flow no_documents)
+    ap (λ (tree : Option Stream). unwrap_or (option_map (λ stream. all_read_alike canonical (documents_in_order stream.documents)) tree) false) found
+    ∙ ap (all_read_alike canonical) (documents_are (values_of (part ∷ rest)) canonical in_flow no_documents)
     ∙ are_read_alike part.1 (values_of rest) canonical in_flow numbers
   where
     stream : Stream

@@ -263,24 +263,24 @@ why_no_json depth unique text errors.TooDeep why is = deep_is_none depth unique 
 why_no_json depth unique text (errors.DuplicateName line column) why is = absurd is
 why_no_json depth unique text (errors.Emitter error) why is = absurd is
 
-pub why_told : (depth : ℕ) (unique : Bool) (text : List ℕ) (stop : Stop) (error : JsonError) → MatchesStop stop error
+pub why_returned : (depth : ℕ) (unique : Bool) (text : List ℕ) (stop : Stop) (error : JsonError) → MatchesStop stop error
     → WhyStopped depth unique (tokens text) stop → ExplainsError depth unique text error
-why_told depth unique text (stops.NotJson spot) (errors.NotJson line column) same why = why
-why_told depth unique text (stops.NotJson spot) errors.TooDeep same why = absurd same
-why_told depth unique text (stops.NotJson spot) (errors.DuplicateName line column) same why = absurd same
-why_told depth unique text (stops.NotJson spot) (errors.Emitter told) same why = absurd same
-why_told depth unique text stops.TooDeep (errors.NotJson line column) same why = absurd same
-why_told depth unique text stops.TooDeep errors.TooDeep same why = why
-why_told depth unique text stops.TooDeep (errors.DuplicateName line column) same why = absurd same
-why_told depth unique text stops.TooDeep (errors.Emitter told) same why = absurd same
-why_told depth unique text (stops.NameAgain offset) (errors.NotJson line column) same why = absurd same
-why_told depth unique text (stops.NameAgain offset) errors.TooDeep same why = absurd same
-why_told depth unique text (stops.NameAgain offset) (errors.DuplicateName line column) same why = why
-why_told depth unique text (stops.NameAgain offset) (errors.Emitter told) same why = absurd same
-why_told depth unique text (stops.Failed error) (errors.NotJson line column) same why = absurd same
-why_told depth unique text (stops.Failed error) errors.TooDeep same why = absurd same
-why_told depth unique text (stops.Failed error) (errors.DuplicateName line column) same why = absurd same
-why_told depth unique text (stops.Failed error) (errors.Emitter told) same why = tt
+why_returned depth unique text (stops.NotJson spot) (errors.NotJson line column) same why = why
+why_returned depth unique text (stops.NotJson spot) errors.TooDeep same why = absurd same
+why_returned depth unique text (stops.NotJson spot) (errors.DuplicateName line column) same why = absurd same
+why_returned depth unique text (stops.NotJson spot) (errors.Emitter returned) same why = absurd same
+why_returned depth unique text stops.TooDeep (errors.NotJson line column) same why = absurd same
+why_returned depth unique text stops.TooDeep errors.TooDeep same why = why
+why_returned depth unique text stops.TooDeep (errors.DuplicateName line column) same why = absurd same
+why_returned depth unique text stops.TooDeep (errors.Emitter returned) same why = absurd same
+why_returned depth unique text (stops.NameAgain offset) (errors.NotJson line column) same why = absurd same
+why_returned depth unique text (stops.NameAgain offset) errors.TooDeep same why = absurd same
+why_returned depth unique text (stops.NameAgain offset) (errors.DuplicateName line column) same why = why
+why_returned depth unique text (stops.NameAgain offset) (errors.Emitter returned) same why = absurd same
+why_returned depth unique text (stops.Failed error) (errors.NotJson line column) same why = absurd same
+why_returned depth unique text (stops.Failed error) errors.TooDeep same why = absurd same
+why_returned depth unique text (stops.Failed error) (errors.DuplicateName line column) same why = absurd same
+why_returned depth unique text (stops.Failed error) (errors.Emitter returned) same why = tt
 
 -- a call that doesn't refuse the text says nothing of it
 pub unrefused : (answer : Result (Unit {0}) Stop) → (RefusesText answer → ⊥) → (P : Stop → Type 0) → ((error : _) → P (stops.Failed error)) → IfErr answer P

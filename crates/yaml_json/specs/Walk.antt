@@ -237,5 +237,5 @@ abbrev pub MatchesStop : Stop → JsonError → Type 0
 MatchesStop (stops.NotJson spot) (errors.NotJson line column) = Unit {0}
 MatchesStop stops.TooDeep errors.TooDeep = Unit {0}
 MatchesStop (stops.NameAgain offset) (errors.DuplicateName line column) = Unit {0}
-MatchesStop (stops.Failed error) (errors.Emitter told) = Unit {0}
+MatchesStop (stops.Failed error) (errors.Emitter returned) = Unit {0}
 MatchesStop _ _ = ⊥

@@ -313,9 +313,9 @@ module _ (portable : Bool) where
 -- A prefix by its bytes.
 
 -- a prefix is written as a tag is, portably too where no `!` begins it
-pub prefix_unmarked : (bytes : List ℕ) → IsUtf8 bytes → ((rest : List ℕ) → bytes ≢ exclamation_mark ∷ rest)
+pub prefix_markerless : (bytes : List ℕ) → IsUtf8 bytes → ((rest : List ℕ) → bytes ≢ exclamation_mark ∷ rest)
     → prefix_escaped true (chars bytes) ≡ percent_escaped (chars bytes)
-prefix_unmarked bytes u h = by (chars bytes) (encodes-chars bytes u)
+prefix_markerless bytes u h = by (chars bytes) (encodes-chars bytes u)
   where
     other : (c : ℕ) (text : Text) → encodes (c ∷ text) ≡ bytes → (c == exclamation_mark) ≡ false
     other c text e =
@@ -337,7 +337,7 @@ pub prefix_answer : (bytes : List ℕ) (portable : Bool) (answer : Option (Bor (
     → MatchOption answer ((rest : List ℕ) → bytes ≢ exclamation_mark ∷ rest) (λ rest. bytes ≡ exclamation_mark ∷ rest.now)
     → MatchOption answer (prefix_escaped portable (chars bytes) ≡ percent_escaped (chars bytes))
     (λ rest. (bytes ≡ exclamation_mark ∷ rest.now) × (prefix_escaped portable (chars bytes) ≡ exclamation_mark ∷ percent_escaped (chars rest.now)))
-prefix_answer bytes portable None e u h = ap (λ b. prefix_escaped b (chars bytes)) e ∙ prefix_unmarked bytes u h
+prefix_answer bytes portable None e u h = ap (λ b. prefix_escaped b (chars bytes)) e ∙ prefix_markerless bytes u h
 prefix_answer bytes portable (Some rest) e u h = (h, ap (λ b. prefix_escaped b (chars bytes)) e ∙ prefix_marked bytes rest.now u h)
 
 -- without a raw `!` a prefix begins with the run of a tag

@@ -196,7 +196,7 @@ wrote_text_failed {xs} ys {before} one = wrote_as (render_text (xs ++ ys)) (rend
 
 -- the exit of a `?` tells the error of the call that failed
 pub wrote_exit : {render : Cursor → Rendered} {before after : Page} {error : yaml_error_t} {answer : Result (Unit {0}) yaml_error_t}
-    → IsErr answer × IsErrAnd answer (λ told. told ≡ error) → Wrote render before after (Err error) → Wrote render before after answer
+    → IsErr answer × IsErrAnd answer (λ returned. returned ≡ error) → Wrote render before after (Err error) → Wrote render before after answer
 wrote_exit {render} {before} {after} {error} {answer} is wrote =
     let p = err_from_is_err_and answer is.1 in
     subst (λ (r : Result (Unit {0}) yaml_error_t). Wrote render before after r)

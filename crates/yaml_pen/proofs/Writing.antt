@@ -1,5 +1,6 @@
 -- What it does to a pen that its bytes grow by those of a text.
-use Rattle.yaml_pen.proofs.Common.{min, ℕ, ◌+◌, if◌then◌else◌, ◌==◌, unwrap_or, IsSome, IsUtf8, Option, None, Some, Ok, length, Bool, false, true, List, []}
+use Rattle.yaml_pen.proofs.Common.{min, ℕ, ◌+◌, if◌then◌else◌, ◌==◌, unwrap_or, IsSome, IsUtf8, Option, None, Some, Err, Ok, length, Bool, false, true, List}
+use Rattle.yaml_pen.proofs.Common.{[]}
 use Rattle.yaml_pen.proofs.Common.{◌++◌, ◌∷◌, refl, ◌≡◌, append-nil, ap, subst, sym, ◌∙◌, arith, and_from, or_parts, false≢true, encodes-chars, list_any}
 use Rattle.yaml_pen.proofs.Common.{all_scalars, chars, encode_utf8_all, Text, line_feed, is_break, Cursor, Rendered, column_after, render_text, decode}
 use Rattle.yaml_pen.proofs.Common.{character_bytes, text_bytes, encode, break_text, with_breaks_written, IsPrefix, seen_encoding, seen_break, Encoding, utf8}
@@ -24,6 +25,11 @@ pub record Names (raw : Text) (render : Cursor → Rendered) (page : Page) : Typ
 pub none_from_result : (error : Option yaml_error_t) → Ok tt ≡ result_of_error error → error ≡ None
 none_from_result None e = refl
 none_from_result (Some error) e = cc
+
+-- a call that returned an error left it
+pub some_from_result : (given : Option yaml_error_t) (error : yaml_error_t) → Err error ≡ result_of_error given → given ≡ Some error
+some_from_result None error is = cc
+some_from_result (Some other) error is = cc
 
 -- bytes grew by those of a text, and nothing failed
 pub record AddsEvent (e : Encoding) (raw : Text) (before after : Bytes) : Type 0 where

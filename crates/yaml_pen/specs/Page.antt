@@ -63,10 +63,10 @@ abbrev pub result_of_error : Option yaml_error_t → Result (Unit {0}) yaml_erro
 result_of_error None = Ok tt
 result_of_error (Some error) = Err error
 
--- what is flushed of these bytes: a beginning within the limit; after the limit was passed all that it
+-- what is flushed of these bytes: a prefix within the limit; after the limit was passed all that it
 -- leaves; a pen fails by its limit and by memory alone
 pub record IsFlushedOutput (bytes : List ℕ) (output : List ℕ) (limit : ℕ) (error : Option yaml_error_t) : Type 0 where
-  pub opening_event : output ≡ cut (length output) bytes
+  pub prefix : output ≡ cut (length output) bytes
   pub within : length output ≤ limit
   pub full : error ≡ Some WriteError → (limit < length bytes) × (output ≡ cut limit bytes)
   pub named : (error ≡ None) ⊎ (error ≡ Some WriteError) ⊎ (error ≡ Some Memory)

@@ -113,7 +113,7 @@ wrote_batch {unicode} {before} {last} {text} {bytes} {rest} are last_is rest_is 
     record { bytes = bytes; last = last; rest = chars rest; are = are; wrote = wrote; next = (sym last_is, ap chars (sym rest_is)) }
 
 pub failed_batched : {unicode : Bool} {before last : ℕ} {text rest : Text} {bytes : List ℕ} {old new : Page} {error : yaml_error_t}
-    (answer : Result (ℕ × Bor (List ℕ)) yaml_error_t) → IsErr answer × IsErrAnd answer (λ told. told ≡ error)
+    (answer : Result (ℕ × Bor (List ℕ)) yaml_error_t) → IsErr answer × IsErrAnd answer (λ returned. returned ≡ error)
     → AreBatched unicode before text bytes last rest → Wrote (render_text bytes) old new (Err error)
     → WroteBatch unicode before text old new answer
 failed_batched {unicode} {before} {last} {text} {rest} {bytes} {old} {new} {error} answer is are wrote =

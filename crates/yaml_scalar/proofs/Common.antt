@@ -41,7 +41,8 @@ pub use Rattle.yaml_pen.proofs.Composing.{wrote_all, wrote_then, wrote_failed, w
 pub use Rattle.yaml_pen.proofs.Composing.{wrote_failed_as}
 pub use Rattle.yaml_scalar.specs.{Batch.AreBatched, BlockCode.is_folded, ByteClasses.is_free, ByteClasses.IsFreeRun, ByteClasses.ImpliesTest}
 pub use Rattle.yaml_scalar.specs.{EscapeBytes.is_plain, ReadsBack.ReadsBack, ScalarData.seen_charset, ShortRuns.most_short, ShortRuns.IsShortRun}
-pub use Rattle.yaml_scalar.specs.{ShortRuns.IsShortLine, UsualTexts.has_usual_ends, UsualTexts.is_usual_character, Width.limit_of, Width.limit_where}
+pub use Rattle.yaml_scalar.specs.{ShortRuns.IsShortLine, SimpleAsciiTexts.has_simple_ascii_ends, SimpleAsciiTexts.is_simple_ascii_character, Width.limit_of}
+pub use Rattle.yaml_scalar.specs.{Width.limit_where}
 pub use Rattle.yaml_scalar.specs.Barred.{Barred, seen_barred, barred_by, barred_in, none_barred, either, is_ordinary, is_quiet, barred_by_space, allowed_by}
 pub use Rattle.yaml_scalar.specs.BlockSteps.{place_after, render_content, render_inner, is_doubled, render_end, render_step, stays_at, lines_from}
 pub use Rattle.yaml_scalar.specs.BlockSteps.{separated_header, header_end}

@@ -31,5 +31,5 @@ pub mod InsideSteps
 pub mod BatchTexts
 pub mod QuotedSteps
 pub mod ShortRuns
-pub mod UsualTexts
+pub mod SimpleAsciiTexts
 pub mod LastCharacters

@@ -7,7 +7,7 @@ pub mod BlockCode
 pub mod BlockSteps
 pub mod WholeRuns
 pub mod ShortRuns
-pub mod UsualTexts
+pub mod SimpleAsciiTexts
 pub mod ByteClasses
 pub mod EscapeBytes
 pub mod Batch

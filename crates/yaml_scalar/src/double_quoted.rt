@@ -212,7 +212,7 @@ fn ending_classes(unicode: bool, folds: bool) -> u8
     }
 }
 
-/// Those where printable characters past ASCII stand as themselves.
+/// The classes of bytes that end a run where printable characters past ASCII stand as themselves.
 fn unicode_ending_classes(folds: bool) -> u8
     ensures { ImpliesTest result (stays_where true folds) }
 {
@@ -223,7 +223,7 @@ fn unicode_ending_classes(folds: bool) -> u8
     }
 }
 
-/// Those where all past ASCII is escaped.
+/// The classes of bytes that end a run where all characters past ASCII are escaped.
 fn ascii_ending_classes(folds: bool) -> u8
     ensures { ImpliesTest result (stays_where false folds) }
 {

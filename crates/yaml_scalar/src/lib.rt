@@ -15,9 +15,9 @@ mod plain;
 mod runs;
 mod shared;
 mod short_runs;
+mod simple_ascii;
 mod single_quoted;
 mod style;
-mod usual;
 mod width;
 
 pub use analysis::{analyze_for_style, analyze_scalar, holds_break, scalar_data_t};
@@ -26,6 +26,6 @@ pub use double_quoted::write_double_quoted_scalar;
 pub use folded::write_folded_scalar;
 pub use literal::write_literal_scalar;
 pub use plain::write_plain_scalar;
+pub use simple_ascii::{is_simple_ascii, write_simple_ascii_scalar};
 pub use single_quoted::write_single_quoted_scalar;
 pub use style::select_scalar_style;
-pub use usual::{is_usual, write_usual_scalar};

@@ -65,7 +65,7 @@ fn lacks_tag_and_flags(tag_written: bool, plain_implicit: bool, quoted_implicit:
 }
 
 /// Plain fits where the value allows it in its context, isn't empty in flow or as a simple key, and is
-/// told apart from a quoted scalar by a tag or by its flag.
+/// returned apart from a quoted scalar by a tag or by its flag.
 fn fits_plain(
     allowed: &scalar_data_t,
     empty: bool,

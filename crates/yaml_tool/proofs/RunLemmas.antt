@@ -17,11 +17,6 @@ pub tells_all : (left : Option (List ℕ)) (given : Settings) (all : List Number
 tells_all None given all answer old new is tells = tt
 tells_all (Some bytes) given all answer old new is tells = subst (λ script. AnswersScript script answer old new) (sym is) tells
 
--- an error that was returned
-pub some_told : (given : Option yaml_error_t) (error : yaml_error_t) → Err error ≡ result_of_error given → given ≡ Some error
-some_told None error is = cc
-some_told (Some other) error is = cc
-
 -- one more event
 pub events_more : {A : Type 0} (given : List (NumberedEvent A)) (next : NumberedEvent A)
     → events_in (map seen_numbered given) ++ seen_event next.event ∷ [] ≡ events_in (map seen_numbered (given ++ next ∷ []))
@@ -118,14 +113,14 @@ ended_without set all None state is stands kept none ends =
 ended_without set all (Some line) state is stands kept none ends = cc
 
 -- what is returned where the output was written, or couldn't be
-pub told_answer : (set : Settings) (all : List Numbered) (answer : run_answer_t) (state : State) (old new : Option (List ℕ)) → Emits set all answer state
+pub returned_answer : (set : Settings) (all : List Numbered) (answer : run_answer_t) (state : State) (old new : Option (List ℕ)) → Emits set all answer state
     → Appends old new state.page.output → AnswersEvents set all answer old new
-told_answer set all Done state old new emits appends = (state, emits, appends)
-told_answer set all (Refused line error) state old new emits appends = (state, emits, appends)
-told_answer set all (BadLine line) state old new emits appends = emits
-told_answer set all ReadFailed state old new emits appends = tt
-told_answer set all WriteFailed state old new emits appends = tt
-told_answer set all NoMemory state old new emits appends = tt
+returned_answer set all Done state old new emits appends = (state, emits, appends)
+returned_answer set all (Refused line error) state old new emits appends = (state, emits, appends)
+returned_answer set all (BadLine line) state old new emits appends = emits
+returned_answer set all ReadFailed state old new emits appends = tt
+returned_answer set all WriteFailed state old new emits appends = tt
+returned_answer set all NoMemory state old new emits appends = tt
 
 pub silent_only : (set : Settings) (all : List Numbered) (answer : run_answer_t) (state : State) (old new : Option (List ℕ)) → Emits set all answer state
     → WritesNothing answer old new

@@ -124,7 +124,7 @@ abbrev pub LastLine : List Numbered → Option ℕ → State → Type 0
 LastLine all None state = (all ≡ []) × (state.page.output ≡ [])
 LastLine all (Some line) state = EndsAt all line
 
--- what the last flush does, with the line that it is told
+-- what the last flush does, given the line of its call
 abbrev pub FlushesLast : ℕ → State → run_answer_t → State → Type 0
 FlushesLast line before Done after =
     (after.error ≡ None) × ((given : Settings) (all : List Event) → StandsAfter given all before → StandsAfter given all after × Promised given all after

@@ -171,8 +171,8 @@ dates_read date h =
 -- ---- plain
 
 pub dates_plain : WrittenDatesArePlain
-dates_plain date charset tag_written plain_implicit quoted_implicit flow simple_key h told =
+dates_plain date charset tag_written plain_implicit quoted_implicit flow simple_key h returned =
     let parts = date_says date h in
     stands_plain (date_text date) (date_passes is_harmless (λ c digit. digits_pass is_harmless refl c digit) refl date parts) refl
     (begins_as_plain false (0x30 + date.year / 1000 % 10) (behind_first date) (first_digit date parts))
-    charset tag_written plain_implicit quoted_implicit flow simple_key told
+    charset tag_written plain_implicit quoted_implicit flow simple_key returned

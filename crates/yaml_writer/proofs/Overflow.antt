@@ -23,7 +23,7 @@ held_encoding (x ∷ prefix) s pieces error page h some = h.0.encoding
 cut_encoding : (given : Settings) (all : List Event) (state : State) → StandsCut given all WriteError (machine_of state)
     → state.page.encoding ≡ Some (settings_for given all).encoding
 cut_encoding given all state h =
-    elim h.page [ holds_before memory page ↦ absurd (not_memory memory) | holds_part begun page told least most ↦ page.encoding ]
+    elim h.page [ holds_before memory page ↦ absurd (not_memory memory) | holds_part begun page returned least most ↦ page.encoding ]
 
 stopped_encoding : (given : Settings) (all : List Event) (state : State) → StandsStopped given all WriteError (machine_of state)
     → 0 < length (encoded state.page)

@@ -164,11 +164,11 @@ module _ (text : Text) (flow : Bool) (free : (charset : Charset) → somewhere (
 
   fits : (charset : Charset) (tag_written plain_implicit simple_key : Bool) → (tag_written || plain_implicit) ≡ true
       → fits_plain (allowances charset text) (is_empty text) tag_written plain_implicit flow simple_key ≡ true
-  fits charset tag_written plain_implicit simple_key told =
+  fits charset tag_written plain_implicit simple_key returned =
       and_from (allowed flow && not (is_empty text && (flow || simple_key))) (tag_written || plain_implicit)
       (and_from (allowed flow) (not (is_empty text && (flow || simple_key))) (by flow ∙ allows charset)
       (not_from_false (is_empty text && (flow || simple_key)) (and_left (is_empty text) (flow || simple_key) filled)))
-      told
+      returned
     where
       allowed : Bool → Bool
       allowed x = if x then allows_plain charset true text else allows_plain charset false text
@@ -179,9 +179,9 @@ module _ (text : Text) (flow : Bool) (free : (charset : Charset) → somewhere (
 
   pub stands_plain_there : (charset : Charset) (tag_written plain_implicit quoted_implicit simple_key : Bool) → (tag_written || plain_implicit) ≡ true
       → (chosen (allowances charset text) plain (is_empty text) tag_written plain_implicit quoted_implicit flow simple_key false).style ≡ plain
-  stands_plain_there charset tag_written plain_implicit quoted_implicit simple_key told =
+  stands_plain_there charset tag_written plain_implicit quoted_implicit simple_key returned =
       ap (λ double. fitting_style allowed fit block (requested_style double plain)) (and_right simple_key (list_any is_break text) one_line)
-      ∙ ap (λ x. if x then plain else quoted_style allowed) (fits charset tag_written plain_implicit simple_key told)
+      ∙ ap (λ x. if x then plain else quoted_style allowed) (fits charset tag_written plain_implicit simple_key returned)
     where
       allowed : Allowances
       allowed = allowances charset text
@@ -196,14 +196,14 @@ module _ (text : Text) (flow : Bool) (free : (charset : Charset) → somewhere (
 pub stands_plain : (text : Text) → list_all is_harmless text ≡ true → is_empty text ≡ false → begins_unlike_plain text ≡ false
     → (charset : Charset) (tag_written plain_implicit quoted_implicit flow simple_key : Bool) → (tag_written || plain_implicit) ≡ true
     → (chosen (allowances charset text) plain (is_empty text) tag_written plain_implicit quoted_implicit flow simple_key false).style ≡ plain
-stands_plain text harmless filled begins charset tag_written plain_implicit quoted_implicit flow simple_key told =
+stands_plain text harmless filled begins charset tag_written plain_implicit quoted_implicit flow simple_key returned =
     stands_plain_there text flow (λ charset. nowhere_barred charset flow text harmless) (unbroken text harmless) filled begins
-    charset tag_written plain_implicit quoted_implicit simple_key told
+    charset tag_written plain_implicit quoted_implicit simple_key returned
 
 -- a number is written plain, and both schemas read it
 pub written_numbers : WrittenNumbersAreRead
-written_numbers number charset tag_written plain_implicit quoted_implicit flow simple_key valid told =
-    (stands_plain (yaml_number number) harmless first.0 first.1 charset tag_written plain_implicit quoted_implicit flow simple_key told, read.0, read.1)
+written_numbers number charset tag_written plain_implicit quoted_implicit flow simple_key valid returned =
+    (stands_plain (yaml_number number) harmless first.0 first.1 charset tag_written plain_implicit quoted_implicit flow simple_key returned, read.0, read.1)
   where
     harmless : list_all is_harmless (yaml_number number) ≡ true
     harmless = spelling_passes is_harmless harmless_passes number valid

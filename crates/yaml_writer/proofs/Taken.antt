@@ -73,12 +73,12 @@ module _ (inside before : WriterState) (emitter : State) (anchor tag : Option Te
         no_tag = no_tag;
       }
 
-  by_ok : (told_so : Result (Unit {0}) yaml_error_t) → told_so ≡ result_of_error emitter.error → OnOk told_so (GaveEvent before event None after)
+  by_ok : (returned : Result (Unit {0}) yaml_error_t) → returned ≡ result_of_error emitter.error → OnOk returned (GaveEvent before event None after)
   by_ok (Ok done) so = gave None (none_from_result emitter.error so)
   by_ok (Err error) so = tt
 
-  by_failed : (told_so : Result (Unit {0}) yaml_error_t) → told_so ≡ result_of_error emitter.error
-      → IfErr told_so (λ error. GaveEvent before event (Some error) after)
+  by_failed : (returned : Result (Unit {0}) yaml_error_t) → returned ≡ result_of_error emitter.error
+      → IfErr returned (λ error. GaveEvent before event (Some error) after)
   by_failed (Ok done) so = tt
   by_failed (Err error) so = gave (Some error) (some_from_result emitter.error error so)
 

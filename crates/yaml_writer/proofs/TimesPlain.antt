@@ -75,7 +75,7 @@ unbroken_ascii (c ∷ text) h =
     or_from (is_break c) (list_any is_break text) (not-true (is_break c) (and_parts (nat_lt c 128) (not (is_break c)) both.0).1) (unbroken_ascii text both.1)
 
 pub timestamps_plain : WrittenTimestampsArePlain
-timestamps_plain moment charset tag_written plain_implicit quoted_implicit simple_key h told =
+timestamps_plain moment charset tag_written plain_implicit quoted_implicit simple_key h returned =
     let both = and_parts (is_calendar_date moment.date) (is_time_or_none moment.time) h in
     let parts = date_says moment.date both.0 in
     let time = time_text moment.time in
@@ -85,4 +85,4 @@ timestamps_plain moment charset tag_written plain_implicit quoted_implicit simpl
     (time_free charset moment.time both.1))
     (unbroken_ascii (timestamp_text moment) (timestamp_ascii moment h)) refl
     (begins_as_plain false (0x30 + moment.date.year / 1000 % 10) (behind_first moment.date ++ time) (first_digit moment.date parts))
-    charset tag_written plain_implicit quoted_implicit simple_key told
+    charset tag_written plain_implicit quoted_implicit simple_key returned

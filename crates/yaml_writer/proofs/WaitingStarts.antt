@@ -114,7 +114,7 @@ module _ (implicit : Bool) where
             (λ none. let is = sym none ∙ some in cc) in
             at before.0 (sym (append_assoc one.prefix (one.event ∷ []) before.0) ∙ before.1)
 
-  -- the settings are told by the first event
+  -- the first event decides the settings
   settings_more : (given : Settings) (all more : List Event) → settings_for given ((all ++ closing) ++ more) ≡ settings_for given (all ++ closing)
   settings_more given [] more = settings_grown given (document_end implicit) [] (stream_end ∷ []) closing more refl
   settings_more given (event ∷ all) more = settings_grown given event [] (all ++ closing) (event ∷ (all ++ closing)) more refl

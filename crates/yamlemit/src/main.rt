@@ -5,10 +5,10 @@ use std::io;
 use std::process::ExitCode;
 use yaml_tool::{run, status, write_line};
 
-/// Ends with the run's status, also where what went wrong can't be told. Arguments are ignored.
+/// Ends with the run's status, also where the line that says what went wrong can't be written. Arguments are ignored.
 fn main(rt: HostRuntime) -> ExitCode {
     let answer = run(rt.alloc(), &mut rt.reader(), &mut io::writer(&rt));
     let stderr = rt.stderr();
-    let _told = write_line(&answer, &mut io::writer(&stderr));
+    let _written = write_line(&answer, &mut io::writer(&stderr));
     ExitCode::from(status(&answer))
 }

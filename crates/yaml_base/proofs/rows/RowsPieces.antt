@@ -1,4 +1,4 @@
--- Worked rows: the text of beginnings, their completion, and outputs as bytes.
+-- Worked rows: the text of prefixes, their completion, and outputs as bytes.
 use Rattle.yaml_base.proofs.Common.{None, Some, codes, true, List, [], ◌∷◌, refl, ◌≡◌, Text, literal, any_layout, block, flow, Event, stream_start, stream_end}
 use Rattle.yaml_base.proofs.Common.{sequence_start, sequence_end, mapping_start, mapping_end, output_of, empty_scalar, completion, written, utf16_little}
 use Rattle.yaml_base.proofs.Common.{utf16_big, both_break, Settings, effective}

@@ -33,14 +33,14 @@ shared = graph_of (sequence_of (2 ∷ 2 ∷ []) ∷ string_of (codes "a") ∷ []
 abbrev alias_first : Node
 alias_first = a_sequence None (alias_node (codes "id001")) (a_string (Some (codes "id001")) (codes "a") any_style)
 
-abbrev anchor_told : Occurrence → Option Text
-anchor_told (alias_occurrence name number) = None
-anchor_told (node_occurrence anchor number) = anchor
+abbrev anchor_stated : Occurrence → Option Text
+anchor_stated (alias_occurrence name number) = None
+anchor_stated (node_occurrence anchor number) = anchor
 
 not_before : (anchor : Option Text) (number other : ℕ) (name : Text) → anchor ≡ None
     → Contains (node_occurrence anchor number ∷ []) (node_occurrence (Some name) other)
     → ⊥
-not_before anchor number other name none (zero, within, is) = let both : None ≡ Some name = sym none ∙ ap anchor_told is in cc
+not_before anchor number other name none (zero, within, is) = let both : None ≡ Some name = sym none ∙ ap anchor_stated is in cc
 not_before anchor number other name none (suc k, within, is) = omega (arith, within)
 
 alias_first_fails : (p : Placed) → HasShape true shared p (node_shape_of alias_first) → AreNamed (occurrences p) [] (occurrences p) → ⊥
@@ -65,22 +65,22 @@ value_in (scalar_kind value style) = value
 value_in (sequence_kind style) = []
 value_in (mapping_kind style) = []
 
-abbrev value_told : Option Label → Text
-value_told None = []
-value_told (Some label) = value_in label.kind
+abbrev value_stated : Option Label → Text
+value_stated None = []
+value_stated (Some label) = value_in label.kind
 
 first_differs : (number first second : ℕ) → number ≡ 1 → first ∷ second ∷ [] ≡ children two_strings number
-    → value_told (option_map (label_of true) (node_numbered two_strings first)) ≡ codes "b" → ⊥
-first_differs number first second root numbers told =
+    → value_stated (option_map (label_of true) (node_numbered two_strings first)) ≡ codes "b" → ⊥
+first_differs number first second root numbers stated =
     let at_root : first ∷ second ∷ [] ≡ 2 ∷ 3 ∷ [] = subst (λ n. first ∷ second ∷ [] ≡ children two_strings n) root numbers in
     let first_meets : first ≡ 2 = ap (λ xs. slice_index xs 0) at_root in
-    let is : codes "a" ≡ codes "b" = subst (λ n. value_told (option_map (label_of true) (node_numbered two_strings n)) ≡ codes "b") first_meets told in
+    let is : codes "a" ≡ codes "b" = subst (λ n. value_stated (option_map (label_of true) (node_numbered two_strings n)) ≡ codes "b") first_meets stated in
     omega (arith, ap (λ text. slice_index text 0) is)
 
 exchanged_fails : (p : Placed) → number_at p ≡ 1 → HasShape true two_strings p (node_shape_of exchanged) → ⊥
 exchanged_fails (node_placed anchor number (placed_and (placed_and none_placed (node_placed given first none_placed)) (node_placed other second none_placed)))
     root fits =
-    first_differs number first second root fits.2 (ap value_told fits.3.0.1.1)
+    first_differs number first second root fits.2 (ap value_stated fits.3.0.1.1)
 exchanged_fails p root fits = absurd assumption
 
 exchanged_refused : TreeUnfolds two_strings exchanged → ⊥
@@ -102,16 +102,16 @@ abbrev quotes_in : NodeKind → Bool
 quotes_in (scalar_kind value style) = is_quoted style
 quotes_in _ = false
 
-abbrev quotes_told : Option Label → Bool
-quotes_told None = false
-quotes_told (Some label) = quotes_in label.kind
+abbrev quotes_stated : Option Label → Bool
+quotes_stated None = false
+quotes_stated (Some label) = quotes_in label.kind
 
-style_differs : (number : ℕ) → number ≡ 1 → quotes_told (option_map (label_of true) (node_numbered one_string number)) ≡ true → ⊥
-style_differs number root told = let is : false
-    ≡ true = subst (λ n. quotes_told (option_map (label_of true) (node_numbered one_string n)) ≡ true) root told in cc
+style_differs : (number : ℕ) → number ≡ 1 → quotes_stated (option_map (label_of true) (node_numbered one_string number)) ≡ true → ⊥
+style_differs number root stated = let is : false
+    ≡ true = subst (λ n. quotes_stated (option_map (label_of true) (node_numbered one_string n)) ≡ true) root stated in cc
 
 quoted_fails : (p : Placed) → number_at p ≡ 1 → HasShape true one_string p (node_shape_of quoted) → ⊥
-quoted_fails (node_placed anchor number none_placed) root fits = style_differs number root (ap quotes_told fits.1)
+quoted_fails (node_placed anchor number none_placed) root fits = style_differs number root (ap quotes_stated fits.1)
 quoted_fails p root fits = absurd assumption
 
 quoted_refused : TreeUnfolds one_string quoted → ⊥

@@ -5,7 +5,7 @@ use Rattle.yaml_base.proofs.Common.{DocumentStart, has_directives, Effective, Do
 use Rattle.yaml_base.proofs.Common.{after_heading, with_heading, section_by_kind, lines_of}
 use Rattle.yaml_base.proofs.stream_lines.{StreamClosed.lines_broken, StreamClosed.closed_both, StreamLineLaws.is_closed, StreamLineLaws.OneLine}
 use Rattle.yaml_base.proofs.stream_documents.StreamRootsStand.{heading_text, HeadingStands}
-use Rattle.yaml_base.proofs.stream_documents.StreamSoFar.{WalkProgress, prefix_alone, one_more, Percents, percents_unmarked, percents_shown, prefix_heading}
+use Rattle.yaml_base.proofs.stream_documents.StreamSoFar.{WalkProgress, prefix_alone, one_more, Percents, percents_markerless, percents_shown, prefix_heading}
 use Rattle.yaml_base.specs.streams.StreamDocuments.{StreamPlace, after_root, document_read}
 
 -- Ends
@@ -25,7 +25,7 @@ Awaits breaks12 depth text documents false = WalkProgress breaks12 depth text (r
 
 -- so it is at a stream's start
 pub awaits_first : (breaks12 : Bool) (depth : ℕ) → Awaits breaks12 depth [] [] true
-awaits_first breaks12 depth = grind (arith, prefix_alone, percents_unmarked, prefix_heading)
+awaits_first breaks12 depth = grind (arith, prefix_alone, percents_markerless, prefix_heading)
 
 -- three indicators break no line
 dots_line : (breaks12 : Bool) → OneLine breaks12 (codes "...")
@@ -41,7 +41,7 @@ awaits_ended breaks12 depth text documents so = λ lines parsed ends percents re
     (one_more breaks12 depth text (dots ++ lines) (record { documents = documents; place = after_root })
     (record { documents = documents; place = after_heading parsed })
     (record { text = codes "..."; ending = line_feed ∷ [] }) (lines_of breaks12 lines) so (closed_both breaks12 dots lines refl ends)
-    (lines_broken breaks12 (codes "...") lines (dots_line breaks12)) refl (percents_unmarked (lines_of breaks12 lines) percents)
+    (lines_broken breaks12 (codes "...") lines (dots_line breaks12)) refl (percents_markerless (lines_of breaks12 lines) percents)
     (ap (λ ls. with_heading documents (heading_of ls)) (percents_shown (lines_of breaks12 lines) percents) ∙ ap (with_heading documents) reads))
 
 -- Directives

@@ -5,7 +5,7 @@ use Rattle.yaml_base.proofs.Common.{TagDirective, DocumentStart, Document, rende
 use Rattle.yaml_base.proofs.Common.{has_directives, is_explicit, render_document_marker, render_document_start, document_start_piece, document_end_piece}
 use Rattle.yaml_base.proofs.Common.{root_place, render_document, Piece, piece_text, text_of, Standing, RenderedPiece, RenderedPieces, one_piece, render_node}
 use Rattle.yaml_base.proofs.Common.{Effective, directives_in_force}
-use Rattle.yaml_base.proofs.stream_documents.{StreamDocumentReads.dots_if, StreamRootAdded.marked_text}
+use Rattle.yaml_base.proofs.stream_documents.{StreamDocumentReads.dots_if, StreamRootAdded.text_with_marker}
 use Rattle.yaml_base.proofs.stream_documents.StreamRootsStand.{root_cursor, render_root, heading_text}
 use Rattle.yaml_base.proofs.stream_lines.StreamClosed.{closing, closed, Settled, new_line_closes, margin_cursor}
 use Rattle.yaml_base.proofs.stream_nodes.StreamTexts.{node_own, node_joined}
@@ -73,7 +73,7 @@ end_marker false standing = refl
 
 -- a root with its marker
 abbrev pub root_part : (explicit : Bool) → Effective → Document → Text
-root_part true s document = marked_text (not s.canonical) s document
+root_part true s document = text_with_marker (not s.canonical) s document
 root_part false s document = closed (render_root false s document)
 
 -- the text of a document after one that is ended or open

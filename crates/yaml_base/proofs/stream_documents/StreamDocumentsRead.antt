@@ -5,7 +5,7 @@ use Rattle.yaml_base.proofs.Common.{subst, sym, ◌∙◌, or_parts, Text, Docum
 use Rattle.yaml_base.proofs.Common.{Document, has_directives, is_explicit, Effective, is_written_as_nothing, DocumentTree}
 use Rattle.yaml_base.{proofs.stream_lines.StreamClosed.closed, proofs.stream_nodes.StreamFits.size, specs.streams.StreamDocuments.after_root}
 use Rattle.yaml_base.proofs.stream_documents.{StreamDocumentTexts.before_root, StreamDocumentTexts.root_part, StreamDocumentTexts.document_text}
-use Rattle.yaml_base.proofs.stream_documents.{StreamRootAdded.with_document, StreamRootAdded.marked_added, StreamRootAdded.unmarked_added}
+use Rattle.yaml_base.proofs.stream_documents.{StreamRootAdded.with_document, StreamRootAdded.added_with_marker, StreamRootAdded.markerless_added}
 use Rattle.yaml_base.proofs.stream_documents.{StreamRootStood.root_fits, StreamRootStood.root_stood, StreamSoFar.WalkProgress}
 use Rattle.yaml_base.proofs.stream_documents.StreamDocumentReads.{Awaits, awaits_ended, dots_if, nothing_headed, headed}
 use Rattle.yaml_base.proofs.stream_documents.StreamRootsStand.{render_root, RootStands, heading_text, HeadingStands, DocumentStands}
@@ -40,7 +40,7 @@ explicit_more s depth text documents document ended deep stands heading small aw
     subst (λ t. Awaits s.breaks12 depth t (with_document s documents document) (not document.end_implicit))
     (append_assoc (text ++ before) root (dots_if (not document.end_implicit)) ∙ append_assoc text before (root ++ dots_if (not document.end_implicit)))
     (ended_more s.breaks12 depth ((text ++ before) ++ root) (with_document s documents document) document.end_implicit
-    (marked_added (not s.canonical) s depth (text ++ before) documents document (headed s depth text documents document.start ended awaits heading)
+    (added_with_marker (not s.canonical) s depth (text ++ before) documents document (headed s depth text documents document.start ended awaits heading)
     (root_fits s document (not s.canonical) deep stands) small stood))
   where
     by : (x : Bool) → not x ≡ false → x ≡ true
@@ -58,7 +58,7 @@ implicit_more s depth document ended deep stands small none some =
     (not document.end_implicit))
     (sym (ap (λ x. dots_if (x && not ended) ++ heading_text s document.start) none ∙ nothing_headed s document.start none))
     (ended_more s.breaks12 depth (closed (render_root false s document)) (with_document s [] document) document.end_implicit
-    (unmarked_added s depth document none (root_fits s document false deep stands) small stood))
+    (markerless_added s depth document none (root_fits s document false deep stands) small stood))
 
 -- a document that isn't the first has its marker
 pub later_explicit : (each : Bool) (start : DocumentStart) → is_explicit each false start ≡ true

@@ -6,7 +6,8 @@ use Rattle.yaml_base.proofs.Common.{mapping_end, scalar_tag, Node, alias_node, s
 use Rattle.yaml_base.proofs.Common.{no_pairs, pairs_and, Document, Documents, no_documents, documents_and, Stream, node_events, nodes_events, pairs_events}
 use Rattle.yaml_base.proofs.Common.{documents_events, stream_events, tree_of, layout, Piece, text_of, with_breaks_written, bytes_written, list_layout, is_sound}
 use Rattle.yaml_base.proofs.Common.{IsAccepted, Encoding, Settings, Effective, effective_indent, effective, loses_document, document_has_flow_indicator}
-use Rattle.yaml_base.proofs.Common.{are_portable, reads_alike, characters_read, lacks_tag_and_flags, DocumentTree, document_agrees, documents_in_order, agrees}
+use Rattle.yaml_base.proofs.Common.{all_read_alike, reads_alike, characters_read, lacks_tag_and_flags, DocumentTree, document_agrees, documents_in_order}
+use Rattle.yaml_base.proofs.Common.{agrees}
 use Rattle.yaml_base.proofs.Common.{documents_of, stream_trees}
 use Rattle.yaml_base.{proofs.Trees.tree_of-stream_events, proofs.stream_lines.StreamBytes.trees_of_bytes, specs.streams.StreamContent.documents_agree}
 use Rattle.yaml_base.proofs.stream_documents.StreamRootsStand.{DocumentsStand}
@@ -147,7 +148,8 @@ stream_read_back given encoding events accepted portable stands =
         not_true (loses_document given.canonical (documents_in_order accepted.stream.documents))
         (and_parts (not (loses_document given.canonical (documents_in_order accepted.stream.documents)))
         (not (list_any (document_has_flow_indicator given.canonical) (documents_in_order accepted.stream.documents)))
-        (sym (ap (λ found. unwrap_or (option_map (λ (stream : Stream). are_portable given.canonical (documents_in_order stream.documents)) found) false) found)
+        (sym (ap (λ found.
+            unwrap_or (option_map (λ (stream : Stream). all_read_alike given.canonical (documents_in_order stream.documents)) found) false) found)
         ∙ h)).0
       where
         not_true : (x : Bool) → not x ≡ true → x ≡ false

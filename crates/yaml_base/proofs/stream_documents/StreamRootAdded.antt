@@ -8,10 +8,11 @@ use Rattle.yaml_base.proofs.Common.{lines_before_marker_read, Line, lines_of, is
 use Rattle.yaml_base.{proofs.stream_nodes.StreamAgrees.document_tree, specs.streams.StreamDocuments.after_root}
 use Rattle.yaml_base.proofs.stream_documents.{StreamDocumentReads.Headed, StreamDocumentReads.heading_parsed, StreamDocumentReads.nothing_parsed}
 use Rattle.yaml_base.proofs.stream_documents.{StreamRootLines.begins_shown, StreamRootLines.stands_below, StreamRootLines.Stood, StreamRootStood.root_tree}
-use Rattle.yaml_base.proofs.stream_documents.{StreamRoots.root_reads, StreamRoots.root_marked_reads, StreamRootsStand.rules_of, StreamRootsStand.root_cursor}
+use Rattle.yaml_base.proofs.stream_documents.{StreamRoots.root_reads, StreamRoots.root_with_marker_reads, StreamRootsStand.rules_of}
+use Rattle.yaml_base.proofs.stream_documents.{StreamRootsStand.root_cursor}
 use Rattle.yaml_base.proofs.stream_documents.{StreamRootsStand.render_root, StreamSoFar.WalkProgress, StreamSoFar.prefix_alone, StreamSoFar.one_more}
-use Rattle.yaml_base.proofs.stream_lines.{StreamLineLaws.OneLine, StreamSections.is_unmarked, StreamSections.AllUnmarked, StreamTidyLaws.lines_after_first}
-use Rattle.yaml_base.proofs.stream_lines.{StreamUnread.read_unmarked, StreamUnread.read_no_percent}
+use Rattle.yaml_base.proofs.stream_lines.{StreamLineLaws.OneLine, StreamSections.is_markerless, StreamSections.AllMarkerless, StreamTidyLaws.lines_after_first}
+use Rattle.yaml_base.proofs.stream_lines.{StreamUnread.read_markerless, StreamUnread.read_no_percent}
 use Rattle.yaml_base.proofs.stream_lines.StreamClosed.{closed, lines_behind, lines_broken, closed_behind, closed_both}
 use Rattle.yaml_base.proofs.stream_nodes.StreamFits.{size, Opens, Fits, indicated_ends}
 
@@ -28,11 +29,11 @@ shown_whole [] h = refl
 shown_whole (line ∷ rest) h = grind (arith, false≢true)
 
 -- no line of what reads as a node is a marker, where none after its first is
-unmarked_whole : (lines : List Line) (depth : ℕ) (rules : Rules) (here : Bool) (column : Option ℕ) (tree : Tree)
+markerless_whole : (lines : List Line) (depth : ℕ) (rules : Rules) (here : Bool) (column : Option ℕ) (tree : Tree)
     → node_read depth rules here column lines ≡ Some tree
-    → AllUnmarked (lines_after_first lines) → AllUnmarked lines
-unmarked_whole [] depth rules here column tree reads after = refl
-unmarked_whole (line ∷ rest) depth rules here column tree reads after = grind (arith, and_from, read_unmarked)
+    → AllMarkerless (lines_after_first lines) → AllMarkerless lines
+markerless_whole [] depth rules here column tree reads after = refl
+markerless_whole (line ∷ rest) depth rules here column tree reads after = grind (arith, and_from, read_markerless)
 
 -- Documents behind `---`
 
@@ -46,8 +47,8 @@ abbrev pub with_document : Effective → List DocumentTree → Document → List
 with_document s documents document = documents ++ document_tree s document ∷ []
 
 -- the root of a document behind `---`, on its line or below it
-abbrev pub marked_text : (on_marker : Bool) → Effective → Document → Text
-marked_text on_marker s document = (if on_marker then codes "---" else codes "---" ++ (line_feed ∷ [])) ++ closed (render_root on_marker s document)
+abbrev pub text_with_marker : (on_marker : Bool) → Effective → Document → Text
+text_with_marker on_marker s document = (if on_marker then codes "---" else codes "---" ++ (line_feed ∷ [])) ++ closed (render_root on_marker s document)
 
 -- a root that begins on the line of `---`
 on_marker_added : (s : Effective) (depth : ℕ) (text : Text) (documents : List DocumentTree) (document : Document)
@@ -55,17 +56,17 @@ on_marker_added : (s : Effective) (depth : ℕ) (text : Text) (documents : List 
     → (fit : Fits (rules_of s document) (size document.root) (render_root true s document) (root_tree s document) root_place (root_cursor true))
     → size document.root ≤ depth
     → Stood true (lines_of s.breaks12 (closed (render_root true s document)))
-    → WalkProgress s.breaks12 depth (text ++ marked_text true s document) (record { documents = with_document s documents document; place = after_root })
+    → WalkProgress s.breaks12 depth (text ++ text_with_marker true s document) (record { documents = with_document s documents document; place = after_root })
 on_marker_added s depth text documents document headed fit deep stood =
-    one_more s.breaks12 depth text (marked_text true s document) (record { documents = documents; place = headed.place })
+    one_more s.breaks12 depth text (text_with_marker true s document) (record { documents = documents; place = headed.place })
     (record { documents = with_document s documents document; place = after_root }) line o.rest headed.so_far
     (closed_behind s.breaks12 (codes "--") 0x2D own (indicated_ends s.breaks12 0 0x2D own o fit.ends))
     (lines_behind s.breaks12 (codes "---") own o.head o.ending o.rest (dashes_line s.breaks12) o.is)
-    (ap is_unmarked markers) (ap (λ ls. list_all (λ line. is_unmarked (marker_of line.text)) (lines_after_first ls)) (sym o.is) ∙ stood.0)
+    (ap is_markerless markers) (ap (λ ls. list_all (λ line. is_markerless (marker_of line.text)) (lines_after_first ls)) (sym o.is) ∙ stood.0)
     (ap (λ m. section_by_kind m depth s.breaks12 documents headed.place (record { marker = m; line = line; rest = o.rest })) markers
     ∙ headed.opens (record { marker = start_marker; line = line; rest = o.rest })
     ∙ ap (with_read_document documents (heading_parsed document.start))
-    (root_marked_reads (rules_of s document) (size document.root) (render_root true s document) (root_tree s document) fit margin depth deep))
+    (root_with_marker_reads (rules_of s document) (size document.root) (render_root true s document) (root_tree s document) fit margin depth deep))
   where
     own : Text
     own = closed (render_root true s document)
@@ -88,13 +89,13 @@ below_marker_added : (s : Effective) (depth : ℕ) (text : Text) (documents : Li
     → (fit : Fits (rules_of s document) (size document.root) (render_root false s document) (root_tree s document) root_place (root_cursor false))
     → size document.root ≤ depth
     → Stood false (lines_of s.breaks12 (closed (render_root false s document)))
-    → WalkProgress s.breaks12 depth (text ++ marked_text false s document) (record { documents = with_document s documents document; place = after_root })
+    → WalkProgress s.breaks12 depth (text ++ text_with_marker false s document) (record { documents = with_document s documents document; place = after_root })
 below_marker_added s depth text documents document headed fit deep stood =
-    one_more s.breaks12 depth text (marked_text false s document) (record { documents = documents; place = headed.place })
+    one_more s.breaks12 depth text (text_with_marker false s document) (record { documents = documents; place = headed.place })
     (record { documents = with_document s documents document; place = after_root }) line lines headed.so_far
     (closed_both s.breaks12 (codes "---" ++ (line_feed ∷ [])) own refl fit.ends)
     (lines_broken s.breaks12 (codes "---") own (dashes_line s.breaks12)) refl
-    (unmarked_whole lines depth rules true None (root_tree s document) (fit.reads depth deep true 0 (λ h. (refl, refl))) stood.0)
+    (markerless_whole lines depth rules true None (root_tree s document) (fit.reads depth deep true 0 (λ h. (refl, refl))) stood.0)
     (headed.opens (record { marker = start_marker; line = line; rest = lines })
     ∙ ap (λ ls. with_read_document documents (heading_parsed document.start) (root_below depth rules ls)) (shown_whole lines stood.1)
     ∙ ap (with_read_document documents (heading_parsed document.start))
@@ -113,14 +114,15 @@ below_marker_added s depth text documents document headed fit deep stood =
     line = record { text = codes "---"; ending = line_feed ∷ [] }
 
 -- either
-pub marked_added : (on_marker : Bool) (s : Effective) (depth : ℕ) (text : Text) (documents : List DocumentTree) (document : Document)
+pub added_with_marker : (on_marker : Bool) (s : Effective) (depth : ℕ) (text : Text) (documents : List DocumentTree) (document : Document)
     → Headed s.breaks12 depth text documents (heading_parsed document.start)
     → (fit : Fits (rules_of s document) (size document.root) (render_root on_marker s document) (root_tree s document) root_place (root_cursor on_marker))
     → size document.root ≤ depth
     → Stood on_marker (lines_of s.breaks12 (closed (render_root on_marker s document)))
-    → WalkProgress s.breaks12 depth (text ++ marked_text on_marker s document) (record { documents = with_document s documents document; place = after_root })
-marked_added true = on_marker_added
-marked_added false = below_marker_added
+    → WalkProgress s.breaks12 depth (text ++ text_with_marker on_marker s document)
+        (record { documents = with_document s documents document; place = after_root })
+added_with_marker true = on_marker_added
+added_with_marker false = below_marker_added
 
 -- Documents without `---`
 
@@ -133,14 +135,14 @@ prefix_document (line ∷ rest) depth rules here column tree reads shown =
     ap (λ x. if x then directive_lines else document_lines) (read_no_percent line rest depth rules here column tree reads)
 
 -- a root at the stream's start
-pub unmarked_added : (s : Effective) (depth : ℕ) (document : Document) → has_directives document.start ≡ false
+pub markerless_added : (s : Effective) (depth : ℕ) (document : Document) → has_directives document.start ≡ false
     → (fit : Fits (rules_of s document) (size document.root) (render_root false s document) (root_tree s document) root_place (root_cursor false))
     → size document.root ≤ depth
     → Stood false (lines_of s.breaks12 (closed (render_root false s document)))
     → WalkProgress s.breaks12 depth (closed (render_root false s document)) (record { documents = with_document s [] document; place = after_root })
-unmarked_added s depth document none fit deep stood =
+markerless_added s depth document none fit deep stood =
     prefix_alone s.breaks12 depth own (record { documents = with_document s [] document; place = after_root }) fit.ends
-    (unmarked_whole lines depth rules true None (root_tree s document) reads stood.0)
+    (markerless_whole lines depth rules true None (root_tree s document) reads stood.0)
     (ap (λ k. lines_before_marker_read k depth s.breaks12 lines) (prefix_document lines depth rules true None (root_tree s document) reads stood.1)
     ∙ ap (λ (h : Heading). with_read_document [] h (root_below depth (record { breaks12 = s.breaks12; directives = h.directives }) lines))
     (nothing_parsed document.start none)

@@ -3,7 +3,7 @@ use Rattle.yaml_base.proofs.Common.{◌≤◌, is_some, Option, None, Bool, fals
 use Rattle.yaml_base.proofs.Common.{and_from, false≢true, list_all, Text, is_printable, Cursor, TagDirective, Scalar, scalar_tag, collection_tag, Node}
 use Rattle.yaml_base.proofs.Common.{alias_node, scalar_node, sequence_node, mapping_node, Document, root_place, render_properties, choice_of, as_root, deeper}
 use Rattle.yaml_base.proofs.Common.{Effective, is_written_as_nothing, directives_in_force, has_deep_lines, is_tidy_style, is_empty, Choice, is_plain}
-use Rattle.yaml_base.proofs.{stream_documents.StreamLeafMarks.leaf_unmarked, stream_flow.StreamFlowFits.flows_fit, stream_flow.StreamFlowKinds.KeysFit}
+use Rattle.yaml_base.proofs.{stream_documents.StreamLeafMarkers.leaf_markerless, stream_flow.StreamFlowFits.flows_fit, stream_flow.StreamFlowKinds.KeysFit}
 use Rattle.yaml_base.proofs.{stream_flow.StreamFlowReads.sequence_reads, stream_flow.StreamFlowReads.mapping_reads, stream_flow.StreamFlowScalars.rules_of}
 use Rattle.yaml_base.proofs.{stream_flow.StreamFlowTakes.and_false, stream_nodes.StreamAgrees.node_tree, stream_nodes.StreamLeads.tag_is_written}
 use Rattle.yaml_base.proofs.{stream_nodes.StreamNodesFit.Stands, stream_nodes.StreamScalarsFit.body_cursor, stream_nodes.StreamTexts.node_own}
@@ -74,7 +74,7 @@ pub leaf_stands : (s : Effective) (document : Document) (on_marker : Bool)
     1 ≤ s.indent → KeysFit s own directives → NamesStand s.portable own s.canonical directives document.root
     → BodiesHold (BodyStands s) document.root s directives root_place (root_cursor on_marker) → is_leaf s document.root ≡ true
     → LeafStands on_marker s document)
-leaf_stands s document on_marker deep keys names bodies leaf = grind (arith, leaf_begins, leaf_unmarked)
+leaf_stands s document on_marker deep keys names bodies leaf = grind (arith, leaf_begins, leaf_markerless)
 
 -- without properties nothing is rendered for them
 rendered_as_nothing : (s : Effective) (directives : List TagDirective) (anchor tag : Option Text) (cursor : Cursor) → anchor ≡ None → tag ≡ None

@@ -3,8 +3,8 @@ use Rattle.yaml_base.proofs.Common.{arith, suc, zero, ℕ, ◌==◌, Option, Boo
 use Rattle.yaml_base.proofs.Common.{ap, subst, sym, ◌∙◌, and_parts, list_all, list_any, Text, line_feed, space, Rendered, is_read_break, is_empty, marker_of}
 use Rattle.yaml_base.proofs.Common.{stands_at_margin, Line, prepend_to_first_line, prepend_character, lines_of, is_spaces, without_blank_lines, ends_indicator}
 use Rattle.yaml_base.proofs.Common.{spaces, NodeKind, Rules}
-use Rattle.yaml_base.proofs.{stream_lines.StreamInside.not_blank, stream_lines.StreamLineLaws.one_line_both, stream_lines.StreamSections.is_unmarked}
-use Rattle.yaml_base.proofs.{stream_lines.StreamSections.AllUnmarked, stream_lines.StreamTidyLaws.lines_after_first, stream_nodes.StreamItems.Lays}
+use Rattle.yaml_base.proofs.{stream_lines.StreamInside.not_blank, stream_lines.StreamLineLaws.one_line_both, stream_lines.StreamSections.is_markerless}
+use Rattle.yaml_base.proofs.{stream_lines.StreamSections.AllMarkerless, stream_lines.StreamTidyLaws.lines_after_first, stream_nodes.StreamItems.Lays}
 use Rattle.yaml_base.proofs.stream_documents.StreamRootsStand.{root_cursor, Begins}
 use Rattle.yaml_base.proofs.stream_lines.StreamClosed.{closing, closed, spaces_line, lines_behind, lines_broken}
 use Rattle.yaml_base.proofs.stream_nodes.StreamBlocks.{Opened, opened_shows, BegunKind, unsaid, is_parsed, block_own, own_closed, below}
@@ -26,7 +26,7 @@ FirstStands false lines = begins_shown lines ≡ true
 
 -- lines of which none after the first is a marker, where a root may begin with the first
 abbrev pub Stood : (on_marker : Bool) → List Line → Type 0
-Stood on_marker lines = AllUnmarked (lines_after_first lines) × FirstStands on_marker lines
+Stood on_marker lines = AllMarkerless (lines_after_first lines) × FirstStands on_marker lines
 
 -- First lines
 
@@ -82,9 +82,9 @@ begins_stands breaks12 on_marker own b =
 -- Collections in blocks
 
 -- the lines after the first are among all
-later_unmarked : (lines : List Line) → AllUnmarked lines → AllUnmarked (lines_after_first lines)
-later_unmarked [] h = refl
-later_unmarked (line ∷ rest) h = (and_parts (is_unmarked (marker_of line.text)) (list_all (λ line. is_unmarked (marker_of line.text)) rest) h).1
+later_markerless : (lines : List Line) → AllMarkerless lines → AllMarkerless (lines_after_first lines)
+later_markerless [] h = refl
+later_markerless (line ∷ rest) h = (and_parts (is_markerless (marker_of line.text)) (list_all (λ line. is_markerless (marker_of line.text)) rest) h).1
 
 -- lines that begin a node at column 0 stand at the margin
 opened_margin : (rules : Rules) (lines : List Line) (kind : NodeKind) → Opened rules 0 lines kind → begins_shown lines ≡ true
@@ -97,16 +97,16 @@ opened_below rules lines kind o = ap stands_at_margin ((opened_shows rules 0 lin
 -- entries at column 0, behind properties or without them
 pub block_stands : (rules : Rules) (on_marker : Bool) (anchor tag : Option Text) (begun entries : Rendered) (text : Text) (kind : NodeKind)
     → BegunKind rules anchor tag (root_cursor on_marker) begun → Lays 0 begun.cursor entries text → Opened rules 0 (lines_of rules.breaks12 text) kind
-    → AllUnmarked (lines_of rules.breaks12 text) → ((begun.text ≡ [] → ⊥) → Begins rules.breaks12 (root_cursor on_marker) begun)
+    → AllMarkerless (lines_of rules.breaks12 text) → ((begun.text ≡ [] → ⊥) → Begins rules.breaks12 (root_cursor on_marker) begun)
     → Stood on_marker (lines_of rules.breaks12 (closed (block_own begun entries)))
-block_stands rules on_marker anchor tag begun entries text kind (is_parsed parsed) lays opened unmarked properties =
+block_stands rules on_marker anchor tag begun entries text kind (is_parsed parsed) lays opened markerless properties =
     let core = parsed.head ∷ parsed.tail in
     let b = properties (λ e. not_empty parsed.count (sym parsed.text ∙ e)) in
     let is = ap (lines_of rules.breaks12) (own_closed begun entries ∙ ap (λ t. begun.text ++ t) (below rules 0 begun.cursor entries text lays parsed.ends))
     ∙ lines_broken rules.breaks12 begun.text text (ap (λ t. list_any (is_read_break rules.breaks12) t) parsed.text
     ∙ one_line_both rules.breaks12 (spaces parsed.count) core (spaces_line rules.breaks12 parsed.count) parsed.one_line) in
     subst (Stood on_marker) (sym is) (
-      unmarked,
+      markerless,
       subst (λ t. FirstStands on_marker (record { text = t; ending = line_feed ∷ [] } ∷ lines_of rules.breaks12 text)) (sym b.text)
           (first_stands on_marker b.count b.head b.tail (line_feed ∷ []) (lines_of rules.breaks12 text) b.margin b.shows),
     )
@@ -114,5 +114,5 @@ block_stands rules on_marker anchor tag begun entries text kind (is_parsed parse
     not_empty : (k : ℕ) → spaces k ++ (parsed.head ∷ parsed.tail) ≡ [] → ⊥
     not_empty zero e = absurd (true≢false (sym (ap is_empty e)))
     not_empty (suc k) e = absurd (true≢false (sym (ap is_empty e)))
-block_stands rules on_marker anchor tag begun entries text kind (unsaid no_anchor no_tag nothing) lays opened unmarked properties =
-    grind (arith, own_closed, below, opened_below, later_unmarked, opened_margin)
+block_stands rules on_marker anchor tag begun entries text kind (unsaid no_anchor no_tag nothing) lays opened markerless properties =
+    grind (arith, own_closed, below, opened_below, later_markerless, opened_margin)

@@ -7,7 +7,8 @@ use Rattle.yaml_base.proofs.Common.{Tagging, Tree, scalar_tree, sequence_tree, m
 use Rattle.yaml_base.proofs.Common.{indented, blanked, Reads, NodeKind, begins_sequence, begins_mapping, begins_text, kind_of_node, ReadsText, node_by_kind}
 use Rattle.yaml_base.proofs.Common.{node_at, begins_properties, text_or_properties, node_read, Rules, no_properties}
 use Rattle.yaml_base.proofs.{stream_documents.StreamRoots.marker_cursor, stream_lines.StreamClosed.closed, stream_lines.StreamCuts.none_not_some}
-use Rattle.yaml_base.proofs.{stream_lines.StreamUnmarked.items_unmarked, stream_lines.StreamUnmarked.pairs_unmarked, stream_nodes.StreamAgrees.node_tree}
+use Rattle.yaml_base.proofs.{stream_lines.StreamMarkerless.items_markerless, stream_lines.StreamMarkerless.pairs_markerless}
+use Rattle.yaml_base.proofs.{stream_nodes.StreamAgrees.node_tree}
 use Rattle.yaml_base.proofs.{stream_nodes.StreamCentral.items_block, stream_nodes.StreamCentral.pairs_block, stream_nodes.StreamItems.items_text}
 use Rattle.yaml_base.proofs.{stream_nodes.StreamItems.items_lay, stream_nodes.StreamPairReads.pairs_lay, stream_nodes.StreamPairs.pairs_text}
 use Rattle.yaml_base.proofs.stream_documents.StreamRootLines.{FirstStands, Stood, begins_stands, block_stands}
@@ -50,7 +51,7 @@ sequence_stood start items given s directives on_marker deep block leaves proper
         let reads = items_block rules s directives items 0 fit some in
         block_stands rules on_marker start.anchor (collection_tag s.canonical start) begun (items_own items s directives false 0 begun.cursor)
         (items_text items s directives 0) reads.kind
-        each.0 (items_lay rules s directives items 0 begun.cursor fit some) reads.opened (items_unmarked rules s directives items fit) properties
+        each.0 (items_lay rules s directives items 0 begun.cursor fit some) reads.opened (items_markerless rules s directives items fit) properties
 
 -- a mapping in a block
 mapping_stood : (start : Collection) (pairs : Pairs) (given : List TagDirective) (s : Effective) (directives : List TagDirective) (on_marker : Bool)
@@ -79,7 +80,7 @@ mapping_stood start pairs given s directives on_marker deep block leaves propert
         let reads = pairs_block rules s directives pairs 0 fit some in
         block_stands rules on_marker start.anchor (collection_tag s.canonical start) begun (pairs_own pairs s directives false 0 begun.cursor)
         (pairs_text pairs s directives 0) reads.kind
-        each.0 (pairs_lay rules s directives pairs 0 begun.cursor fit some) reads.opened (pairs_unmarked rules s directives pairs fit) properties
+        each.0 (pairs_lay rules s directives pairs 0 begun.cursor fit some) reads.opened (pairs_markerless rules s directives pairs fit) properties
 
 -- any of them
 block_stood : (n : Node) (given : List TagDirective) (s : Effective) (directives : List TagDirective) (on_marker : Bool) → 2 ≤ s.indent → is_leaf s n ≡ false

@@ -5,7 +5,7 @@ use Rattle.yaml_base.proofs.Common.{without_blank_lines, begins_blank, indented,
 use Rattle.yaml_base.proofs.Common.{kind_of_node, ReadsText, node_by_kind, node_at, node_read, Rules, Properties}
 use Rattle.yaml_base.proofs.stream_lines.{StreamClosed.closed, StreamClosed.margin_cursor, StreamCuts.none_not_some}
 use Rattle.yaml_base.proofs.stream_nodes.StreamFits.{Opens, Fits, blanked_lines}
-use Rattle.yaml_base.specs.streams.StreamDocuments.{root_after_marker, root_marked}
+use Rattle.yaml_base.specs.streams.StreamDocuments.{root_after_marker, root_with_marker}
 
 -- the cursor behind `---`
 abbrev pub marker_cursor : Cursor
@@ -44,10 +44,10 @@ below_blank zero rules line rest tree blank h = absurd (none_not_some h)
 below_blank (suc depth) rules line rest tree blank h = grind (arith, shown_once, first_more)
 
 -- a root behind `---`, on its line or below it
-pub root_marked_reads : (rules : Rules) (n : ℕ) (own : Rendered) (tree : Tree) (fit : Fits rules n own tree root_place marker_cursor)
+pub root_with_marker_reads : (rules : Rules) (n : ℕ) (own : Rendered) (tree : Tree) (fit : Fits rules n own tree root_place marker_cursor)
     → (is_spaces (fit.opens refl).head ≡ true → stands_at_margin (without_blank_lines (fit.opens refl).rest) ≡ true) → (depth : ℕ) → n ≤ depth
-    → root_marked depth rules (record { text = codes "---" ++ (fit.opens refl).head; ending = (fit.opens refl).ending }) (fit.opens refl).rest ≡ Some tree
-root_marked_reads rules n own tree fit margin depth deep = by (is_spaces o.head) refl
+    → root_with_marker depth rules (record { text = codes "---" ++ (fit.opens refl).head; ending = (fit.opens refl).ending }) (fit.opens refl).rest ≡ Some tree
+root_with_marker_reads rules n own tree fit margin depth deep = by (is_spaces o.head) refl
   where
     o : Opens rules.breaks12 (closed own)
     o = fit.opens refl

@@ -5,7 +5,7 @@ use Rattle.yaml_base.proofs.Common.{Heading, heading_of, after_heading, with_hea
 use Rattle.yaml_base.proofs.Common.{documents_at_end, sections_read, Line, lines_of, is_spaces, without_blank_lines}
 use Rattle.std.proofs.lemmas.Grind.{fold-append}
 use Rattle.yaml_base.proofs.stream_lines.{StreamClosed.closed_both, StreamLineLaws.is_closed, StreamLineLaws.lines_after_break}
-use Rattle.yaml_base.proofs.stream_lines.StreamSections.{is_unmarked, AllUnmarked, unmarked_before, IsMark, markers_one}
+use Rattle.yaml_base.proofs.stream_lines.StreamSections.{is_markerless, AllMarkerless, markerless_before, IsMarker, markers_one}
 use Rattle.yaml_base.specs.streams.StreamDocuments.{StreamRead, section_read, may_end}
 
 -- a text, up to its last line's end, whose lines are read as this
@@ -18,15 +18,15 @@ pub record WalkProgress (breaks12 : Bool) (depth : ℕ) (text : Text) (read : St
   pub reads : fold (section_read depth breaks12) (lines_before_marker_read (prefix_kind prefix) depth breaks12 prefix) sections ≡ Some read
 
 -- lines without a marker that are read by what they begin with
-pub prefix_alone : (breaks12 : Bool) (depth : ℕ) (text : Text) (read : StreamRead) → is_closed breaks12 text ≡ true → AllUnmarked (lines_of breaks12 text)
+pub prefix_alone : (breaks12 : Bool) (depth : ℕ) (text : Text) (read : StreamRead) → is_closed breaks12 text ≡ true → AllMarkerless (lines_of breaks12 text)
     → lines_before_marker_read (prefix_kind (lines_of breaks12 text)) depth breaks12 (lines_of breaks12 text) ≡ Some read
     → WalkProgress breaks12 depth text read
-prefix_alone breaks12 depth text read ends unmarked reads = record {
+prefix_alone breaks12 depth text read ends markerless reads = record {
   ends = ends;
   prefix = lines_of breaks12 text;
   sections = [];
   cuts = λ rest none.
-      unmarked_before (lines_of breaks12 text) rest unmarked
+      markerless_before (lines_of breaks12 text) rest markerless
       ∙ ap (λ b. record { before = lines_of breaks12 text ++ b; sections = (sections_of rest).sections }) none
       ∙ ap (λ b. record { before = b; sections = (sections_of rest).sections }) (append-nil (lines_of breaks12 text));
   reads = reads;
@@ -35,15 +35,15 @@ prefix_alone breaks12 depth text read ends unmarked reads = record {
 -- one section more
 pub one_more : (breaks12 : Bool) (depth : ℕ) (text more : Text) (read next : StreamRead) (line : Line) (body : List Line)
     → WalkProgress breaks12 depth text read
-    → is_closed breaks12 more ≡ true → lines_of breaks12 more ≡ line ∷ body → IsMark (marker_of line.text) → AllUnmarked body
+    → is_closed breaks12 more ≡ true → lines_of breaks12 more ≡ line ∷ body → IsMarker (marker_of line.text) → AllMarkerless body
     → section_read depth breaks12 (Some read) (record { marker = marker_of line.text; line = line; rest = body }) ≡ Some next
     → WalkProgress breaks12 depth (text ++ more) next
-one_more breaks12 depth text more read next line body so ends is marker unmarked reads = record {
+one_more breaks12 depth text more read next line body so ends is marker markerless reads = record {
   ends = closed_both breaks12 text more so.ends ends;
   prefix = so.prefix;
   sections = so.sections ++ one;
   cuts = λ rest none.
-      let after = (markers_one line body marker unmarked).markers rest none in
+      let after = (markers_one line body marker markerless).markers rest none in
       ap (λ ls. sections_of (ls ++ rest)) (lines_after_break breaks12 text more so.ends ∙ ap (λ ls. lines_of breaks12 text ++ ls) is)
       ∙ ap sections_of (append_assoc (lines_of breaks12 text) (line ∷ body) rest)
       ∙ so.cuts ((line ∷ body) ++ rest) (ap (λ g. g.before) after)
@@ -74,17 +74,17 @@ abbrev pub Percents : List Line → Type 0
 Percents lines = list_all (λ line. begins_with_percent line.text) lines ≡ true
 
 -- such a line is no marker
-percent_unmarked : (t : Text) → begins_with_percent t ≡ true → is_unmarked (marker_of t) ≡ true
-percent_unmarked [] h = absurd (false≢true h)
-percent_unmarked (c ∷ t) h = grind (arith, eqb-true)
+percent_markerless : (t : Text) → begins_with_percent t ≡ true → is_markerless (marker_of t) ≡ true
+percent_markerless [] h = absurd (false≢true h)
+percent_markerless (c ∷ t) h = grind (arith, eqb-true)
 
 -- none of them is
-pub percents_unmarked : (lines : List Line) → Percents lines → AllUnmarked lines
-percents_unmarked [] h = refl
-percents_unmarked (line ∷ rest) h =
+pub percents_markerless : (lines : List Line) → Percents lines → AllMarkerless lines
+percents_markerless [] h = refl
+percents_markerless (line ∷ rest) h =
     let parts = and_parts (begins_with_percent line.text) (list_all (λ line. begins_with_percent line.text) rest) h in
-    and_from (is_unmarked (marker_of line.text)) (list_all (λ line. is_unmarked (marker_of line.text)) rest) (percent_unmarked line.text parts.0)
-    (percents_unmarked rest parts.1)
+    and_from (is_markerless (marker_of line.text)) (list_all (λ line. is_markerless (marker_of line.text)) rest) (percent_markerless line.text parts.0)
+    (percents_markerless rest parts.1)
 
 -- nor is such a line blank
 percent_shows : (t : Text) → begins_with_percent t ≡ true → is_spaces t ≡ false

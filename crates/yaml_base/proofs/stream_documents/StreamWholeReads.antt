@@ -11,7 +11,7 @@ use Rattle.yaml_base.{proofs.stream_documents.StreamSizes.block_node, proofs.str
 use Rattle.yaml_base.{proofs.stream_lines.StreamCuts.none_not_some, proofs.stream_nodes.StreamFits.size, specs.streams.StreamLines.all_blank}
 use Rattle.yaml_base.proofs.stream_documents.StreamDocumentsRead.{later_more, first_more}
 use Rattle.yaml_base.proofs.stream_lines.StreamClosed.{closing, margin_cursor}
-use Rattle.yaml_base.proofs.stream_lines.StreamSections.{is_unmarked, AllUnmarked, unmarked_before}
+use Rattle.yaml_base.proofs.stream_lines.StreamSections.{is_markerless, AllMarkerless, markerless_before}
 use Rattle.yaml_base.proofs.stream_documents.StreamDocumentReads.{Awaits, awaits_first, awaits_ended, dots_if}
 use Rattle.yaml_base.proofs.stream_documents.StreamDocumentTexts.{before_root, dots_rendered, root_part, document_text, RenderedDocument, document_joined}
 use Rattle.yaml_base.proofs.stream_documents.StreamRootsStand.{rules_of, root_cursor, render_root, RootStands, is_on_marker, DocumentStands, DocumentsStand}
@@ -153,16 +153,16 @@ ended_read breaks12 depth text documents marker awaits = by (marker == 0) refl (
 -- Blank lines
 
 -- a blank line is no marker, and begins no text
-blank_unmarked : (t : Text) → is_spaces t ≡ true → is_unmarked (marker_of t) ≡ true
-blank_unmarked [] h = refl
-blank_unmarked (c ∷ t) h = grind (arith, and_parts, eqb-true)
+blank_markerless : (t : Text) → is_spaces t ≡ true → is_markerless (marker_of t) ≡ true
+blank_markerless [] h = refl
+blank_markerless (c ∷ t) h = grind (arith, and_parts, eqb-true)
 
-blank_lines_unmarked : (lines : List Line) → all_blank lines ≡ true → AllUnmarked lines
-blank_lines_unmarked [] h = refl
-blank_lines_unmarked (line ∷ rest) h =
+blank_lines_markerless : (lines : List Line) → all_blank lines ≡ true → AllMarkerless lines
+blank_lines_markerless [] h = refl
+blank_lines_markerless (line ∷ rest) h =
     let parts = and_parts (is_spaces line.text) (all_blank rest) h in
-    and_from (is_unmarked (marker_of line.text)) (list_all (λ line. is_unmarked (marker_of line.text)) rest) (blank_unmarked line.text parts.0)
-    (blank_lines_unmarked rest parts.1)
+    and_from (is_markerless (marker_of line.text)) (list_all (λ line. is_markerless (marker_of line.text)) rest) (blank_markerless line.text parts.0)
+    (blank_lines_markerless rest parts.1)
 
 blank_no_text : (t : Text) → is_spaces t ≡ true → (begins_with_percent t ≡ false) × (ends_indicator t ≡ true)
 blank_no_text [] h = (refl, refl)
@@ -172,7 +172,7 @@ blank_no_text (c ∷ t) h = grind (arith, and_parts, eqb-true)
 blank_read : (breaks12 : Bool) (depth : ℕ) (lines : List Line) (documents : List DocumentTree) → all_blank lines ≡ true
     → sections_read depth breaks12 (sections_of lines) ≡ Some documents → documents ≡ []
 blank_read breaks12 depth lines documents blank reads =
-    let alone = ap sections_of (sym (append-nil lines)) ∙ unmarked_before lines [] (blank_lines_unmarked lines blank)
+    let alone = ap sections_of (sym (append-nil lines)) ∙ markerless_before lines [] (blank_lines_markerless lines blank)
     ∙ ap (λ b. let all : Sections = record { before = b; sections = [] } in all) (append-nil lines) in
     by lines blank (ap (sections_read depth breaks12) (sym alone) ∙ reads)
   where

@@ -18,7 +18,7 @@ use Rattle.yaml_base.proofs.stream_flow.StreamFlowScalars.{rules_of, is_flow_sty
 use Rattle.yaml_base.proofs.stream_keys.StreamPlainKeys.{begins, reads_plain, tidy_begins}
 use Rattle.yaml_base.proofs.stream_nodes.StreamLeads.{lead_rendered, tag_is_written}
 use Rattle.yaml_base.proofs.stream_nodes.StreamProperties.{IsNamed, name_letters}
-use Rattle.yaml_base.proofs.stream_keys.StreamKeyBeginnings.{beginning_unmarked, key_fits, other_prefix, lead_prefix, plain_prefix}
+use Rattle.yaml_base.proofs.stream_keys.StreamKeyPrefixes.{prefix_markerless, key_fits, other_prefix, lead_prefix, plain_prefix}
 use Rattle.yaml_base.proofs.stream_keys.StreamKeyReads.{double_key_read, single_key_read, plain_key_read, square_key_read, curly_key_read}
 use Rattle.yaml_base.proofs.stream_keys.StreamKeysFit.{KeyText, key_style, SimpleScalar, simple_scalar, scalar_key_text, alias_key_text, empty_key_text}
 use Rattle.yaml_base.proofs.stream_keys.StreamKeysFit.{square_line, curly_line, simple_collection}
@@ -134,7 +134,7 @@ scalar_key_placed s own directives content pairs e simple names body =
 alias_key_fits : (rules : Rules) (n : ℕ) (name : Text) → list_all is_alpha (n ∷ name) ≡ true → suc (length (0x2A ∷ n ∷ name)) ≤ longest_key
     → KeyText rules.breaks12 (0x2A ∷ n ∷ name) → KeyFits rules (0x2A ∷ n ∷ (name ++ (space ∷ []))) (alias_tree (n ∷ name))
 alias_key_fits rules n name letters short of =
-    grind (arith, other_prefix, length-append, one_line_both, spaces_line, beginning_unmarked, alias_key, le-leb)
+    grind (arith, other_prefix, length-append, one_line_both, spaces_line, prefix_markerless, alias_key, le-leb)
 
 -- Collections
 

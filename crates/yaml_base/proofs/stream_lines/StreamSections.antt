@@ -4,23 +4,23 @@ use Rattle.yaml_base.proofs.Common.{start_marker, end_marker, no_exclamation, ma
 use Rattle.yaml_base.specs.streams.StreamDocuments.{MarkerKind, prepend_section}
 
 -- a line is no marker
-abbrev pub is_unmarked : MarkerKind → Bool
-is_unmarked no_exclamation = true
-is_unmarked _ = false
+abbrev pub is_markerless : MarkerKind → Bool
+is_markerless no_exclamation = true
+is_markerless _ = false
 
 -- no line of these is a marker
-abbrev pub AllUnmarked : List Line → Type 0
-AllUnmarked lines = list_all (λ line. is_unmarked (marker_of line.text)) lines ≡ true
+abbrev pub AllMarkerless : List Line → Type 0
+AllMarkerless lines = list_all (λ line. is_markerless (marker_of line.text)) lines ≡ true
 
 -- lines without a marker stand before the first section
-pub unmarked_before : (body lines : List Line) → AllUnmarked body
+pub markerless_before : (body lines : List Line) → AllMarkerless body
     → sections_of (body ++ lines) ≡ record { before = body ++ (sections_of lines).before; sections = (sections_of lines).sections }
-unmarked_before [] lines h = refl
-unmarked_before (line ∷ body) lines h =
-    let parts = and_parts (is_unmarked (marker_of line.text)) (list_all (λ line. is_unmarked (marker_of line.text)) body) h in
-    by (marker_of line.text) parts.0 (unmarked_before body lines parts.1)
+markerless_before [] lines h = refl
+markerless_before (line ∷ body) lines h =
+    let parts = and_parts (is_markerless (marker_of line.text)) (list_all (λ line. is_markerless (marker_of line.text)) body) h in
+    by (marker_of line.text) parts.0 (markerless_before body lines parts.1)
   where
-    by : (marker : MarkerKind) → is_unmarked marker ≡ true
+    by : (marker : MarkerKind) → is_markerless marker ≡ true
         → sections_of (body ++ lines) ≡ record { before = body ++ (sections_of lines).before; sections = (sections_of lines).sections }
         → prepend_section marker line (sections_of (body ++ lines))
         ≡ record { before = line ∷ (body ++ (sections_of lines).before); sections = (sections_of lines).sections }
@@ -34,10 +34,10 @@ pub record Marks (lines : List Line) (sections : List Section) : Type 0 where
       → sections_of (lines ++ rest) ≡ record { before = []; sections = sections ++ (sections_of rest).sections }
 
 -- a marker is one
-abbrev pub IsMark : MarkerKind → Type 0
-IsMark marker = is_unmarked marker ≡ false
+abbrev pub IsMarker : MarkerKind → Type 0
+IsMarker marker = is_markerless marker ≡ false
 
 -- a line with a marker, and lines without one
-pub markers_one : (line : Line) (body : List Line) → IsMark (marker_of line.text) → AllUnmarked body
+pub markers_one : (line : Line) (body : List Line) → IsMarker (marker_of line.text) → AllMarkerless body
     → Marks (line ∷ body) (record { marker = marker_of line.text; line = line; rest = body } ∷ [])
-markers_one line body is h = grind (arith, unmarked_before, append-nil, true≢false)
+markers_one line body is h = grind (arith, markerless_before, append-nil, true≢false)

@@ -5,15 +5,15 @@ use Rattle.yaml_base.proofs.Common.{Text, plain, read_plain, is_tidy, stood_plai
 use Rattle.yaml_base.proofs.Common.{marker_of, begins_with_percent, Line, ends_indicator, SimpleKey, without_last_space, key_of_text, key_ends, key_from}
 use Rattle.yaml_base.proofs.Common.{key_of_line, trimmed, word_text, kind_of_text, text_read, begins_mapping, begins_text, kind_of_node, node_by_kind}
 use Rattle.yaml_base.proofs.Common.{begins_properties, text_or_properties, node_read, Rules, Properties, no_properties, scalar_parsed, word_after, word_read}
-use Rattle.yaml_base.proofs.stream_lines.{StreamCuts.none_not_some, StreamSections.is_unmarked}
+use Rattle.yaml_base.proofs.stream_lines.{StreamCuts.none_not_some, StreamSections.is_markerless}
 
 -- what a document's text doesn't begin with
-data Sign : Type 0 where
-  percent : Sign
-  dashes : Sign
-  dots : Sign
+data LineStart : Type 0 where
+  percent : LineStart
+  dashes : LineStart
+  dots : LineStart
 
-abbrev indicator_text : Sign → Text
+abbrev indicator_text : LineStart → Text
 indicator_text percent = codes "%"
 indicator_text dashes = codes "---"
 indicator_text dots = codes "..."
@@ -28,11 +28,11 @@ unsaid false properties value h = refl
 percent_plain : (breaks12 : Bool) (t : Text) → read_plain breaks12 false (0x25 ∷ t) ≡ None
 percent_plain breaks12 t = grind (arith, nat_tests)
 
-indicator_word : (symbol : Sign) (t : Text) (rules : Rules) (column : Option ℕ) (properties : Properties)
+indicator_word : (symbol : LineStart) (t : Text) (rules : Rules) (column : Option ℕ) (properties : Properties)
     → word_after rules false column properties (indicator_text symbol ++ t) ≡ None
 indicator_word symbol t rules column properties = grind (arith, nat_tests, unsaid, percent_plain)
 
-indicator_read : (symbol : Sign) (t : Text) (rules : Rules) → word_read rules false (indicator_text symbol ++ t) ≡ None
+indicator_read : (symbol : LineStart) (t : Text) (rules : Rules) → word_read rules false (indicator_text symbol ++ t) ≡ None
 indicator_read percent t rules = indicator_word percent t rules None no_properties
 indicator_read dashes t rules = indicator_word dashes t rules None no_properties
 indicator_read dots t rules = indicator_word dots t rules None no_properties
@@ -40,15 +40,16 @@ indicator_read dots t rules = indicator_word dots t rules None no_properties
 -- Keys
 
 -- a text's last space is one of what follows the indicator
-space_after : (symbol : Sign) (t : Text) → without_last_space (indicator_text symbol ++ t) ≡ option_map (λ u. indicator_text symbol ++ u) (without_last_space t)
+space_after : (symbol : LineStart) (t : Text) → without_last_space (indicator_text symbol ++ t)
+    ≡ option_map (λ u. indicator_text symbol ++ u) (without_last_space t)
 space_after symbol t = grind (arith, nat_tests)
 
 -- no such text is a key
-indicator_key : (symbol : Sign) (t : Text) (rules : Rules) → key_of_text rules (indicator_text symbol ++ t) ≡ None
+indicator_key : (symbol : LineStart) (t : Text) (rules : Rules) → key_of_text rules (indicator_text symbol ++ t) ≡ None
 indicator_key symbol t rules = grind (arith, indicator_read, space_after)
 
 -- nor does one stand before a `:` later on
-no_key_after : (symbol : Sign) (before t : Text) (rules : Rules) → key_from rules (indicator_text symbol ++ before) t ≡ None
+no_key_after : (symbol : LineStart) (before t : Text) (rules : Rules) → key_from rules (indicator_text symbol ++ before) t ≡ None
 no_key_after symbol before [] rules = refl
 no_key_after symbol before (c ∷ t) rules =
     ap (λ o. option_or o (key_from rules ((indicator_text symbol ++ before) ++ (c ∷ [])) t)) (by ((c == 0x3A) && ends_indicator t))
@@ -61,30 +62,31 @@ no_key_after symbol before (c ∷ t) rules =
         (indicator_key symbol before rules)
 
 -- so such a line begins with no key
-indicator_line : (symbol : Sign) (t : Text) (rules : Rules) → key_of_line rules (indicator_text symbol ++ t) ≡ None
+indicator_line : (symbol : LineStart) (t : Text) (rules : Rules) → key_of_line rules (indicator_text symbol ++ t) ≡ None
 indicator_line percent t rules = no_key_after percent [] t rules
 indicator_line dashes t rules = no_key_after dashes [] t rules
 indicator_line dots t rules = no_key_after dots [] t rules
 
-indicator_kind : (symbol : Sign) (t : Text) (rules : Rules) → kind_of_node rules (indicator_text symbol ++ t) ≡ begins_text
+indicator_kind : (symbol : LineStart) (t : Text) (rules : Rules) → kind_of_node rules (indicator_text symbol ++ t) ≡ begins_text
 indicator_kind symbol t rules = grind (arith, nat_tests, indicator_line)
 
 -- Texts
 
 -- white space at a text's end is none of the indicator
-indicator_trimmed : (breaks12 : Bool) (symbol : Sign) (t : Text) → trimmed breaks12 (indicator_text symbol ++ t) ≡ indicator_text symbol ++ trimmed breaks12 t
+indicator_trimmed : (breaks12 : Bool) (symbol : LineStart) (t : Text) → trimmed breaks12 (indicator_text symbol ++ t)
+    ≡ indicator_text symbol ++ trimmed breaks12 t
 indicator_trimmed breaks12 symbol t = grind (arith, nat_tests)
 
-indicator_text_kind : (symbol : Sign) (t : Text) → kind_of_text (indicator_text symbol ++ t) ≡ word_text
+indicator_text_kind : (symbol : LineStart) (t : Text) → kind_of_text (indicator_text symbol ++ t) ≡ word_text
 indicator_text_kind symbol t = grind (arith, nat_tests)
 
 -- no text is read of such a line
-indicator_text_read : (symbol : Sign) (t ending : Text) (rest : List Line) (rules : Rules) (column : Option ℕ) (properties : Properties)
+indicator_text_read : (symbol : LineStart) (t ending : Text) (rest : List Line) (rules : Rules) (column : Option ℕ) (properties : Properties)
     → text_read rules column properties (indicator_text symbol ++ t) ending rest ≡ None
 indicator_text_read symbol t ending rest rules column properties = grind (arith, indicator_text_kind, append_assoc, indicator_trimmed, indicator_word)
 
 -- nor a node
-indicator_unread : (symbol : Sign) (t ending : Text) (rest : List Line) (depth : ℕ) (rules : Rules) (here : Bool) (column : Option ℕ)
+indicator_unread : (symbol : LineStart) (t ending : Text) (rest : List Line) (depth : ℕ) (rules : Rules) (here : Bool) (column : Option ℕ)
     → node_read depth rules here column (record { text = indicator_text symbol ++ t; ending = ending } ∷ rest) ≡ None
 indicator_unread symbol t ending rest depth rules here column = grind (arith, nat_tests, indicator_kind, indicator_text_read)
 
@@ -95,17 +97,17 @@ marker_shape : (symbol : ℕ) (t : Text) → begins_with_marker symbol t ≡ tru
 marker_shape symbol t h = grind (arith, nat_tests, false≢true, and_parts, eqb-true)
 
 -- the first line of what reads as a node is no marker
-pub read_unmarked : (line : Line) (rest : List Line) (depth : ℕ) (rules : Rules) (here : Bool) (column : Option ℕ) (tree : Tree)
-    → node_read depth rules here column (line ∷ rest) ≡ Some tree → is_unmarked (marker_of line.text) ≡ true
-read_unmarked line rest depth rules here column tree h = by (begins_with_marker 0x2D line.text) refl (begins_with_marker 0x2E line.text) refl
+pub read_markerless : (line : Line) (rest : List Line) (depth : ℕ) (rules : Rules) (here : Bool) (column : Option ℕ) (tree : Tree)
+    → node_read depth rules here column (line ∷ rest) ≡ Some tree → is_markerless (marker_of line.text) ≡ true
+read_markerless line rest depth rules here column tree h = by (begins_with_marker 0x2D line.text) refl (begins_with_marker 0x2E line.text) refl
   where
-    refused : (symbol : Sign) (t : Text) → line.text ≡ indicator_text symbol ++ t → ⊥
+    refused : (symbol : LineStart) (t : Text) → line.text ≡ indicator_text symbol ++ t → ⊥
     refused symbol t e =
         none_not_some (sym (indicator_unread symbol t line.ending rest depth rules here column)
         ∙ ap (λ u. node_read depth rules here column (record { text = u; ending = line.ending } ∷ rest)) (sym e) ∙ h)
 
     by : (x : Bool) → begins_with_marker 0x2D line.text ≡ x → (y : Bool) → begins_with_marker 0x2E line.text ≡ y
-        → is_unmarked (if x then start_marker else (if y then end_marker else no_exclamation)) ≡ true
+        → is_markerless (if x then start_marker else (if y then end_marker else no_exclamation)) ≡ true
     by true e y f = let shape = marker_shape 0x2D line.text e in absurd (refused dashes shape.0 shape.1)
     by false e true f = let shape = marker_shape 0x2E line.text f in absurd (refused dots shape.0 shape.1)
     by false e false f = refl

@@ -4,7 +4,7 @@ use Rattle.yaml_base.proofs.Common.{ℕ, ◌+◌, ◌<◌, ◌≤◌, ◌==◌, 
 use Rattle.yaml_base.proofs.Common.{subst, sym, ◌∙◌, arith, and_from, list_all, Text, space, Cursor, Rendered, indicator, TagDirective, Node, Pairs, no_pairs}
 use Rattle.yaml_base.proofs.Common.{pairs_and, entry_place, Role, as_key, as_value, Place, has_no_pairs, is_simple, Effective, Tree, marker_of}
 use Rattle.yaml_base.proofs.Common.{Line, lines_of, ends_indicator, begins_with_indicator, belongs_to_entry, spaces, key_of_line, simple_entry, Rules}
-use Rattle.yaml_base.{proofs.stream_lines.StreamSections.is_unmarked}
+use Rattle.yaml_base.{proofs.stream_lines.StreamSections.is_markerless}
 use Rattle.yaml_base.{proofs.stream_nodes.StreamAgrees.node_tree, proofs.stream_nodes.StreamTexts.node_own, specs.streams.StreamNodes.kind_of_entry}
 use Rattle.yaml_base.proofs.stream_lines.StreamLineLaws.{is_closed, OneLine, lines_after_break}
 use Rattle.yaml_base.proofs.stream_lines.StreamClosed.{closed, indicator_cursor, margin_cursor, spaces_line, lines_behind, closed_behind, closed_both, rank}
@@ -22,7 +22,7 @@ pub record KeyFits (rules : Rules) (text : Text) (tree : Tree) : Type 0 where
   pub one_line : OneLine rules.breaks12 text
   pub no_dash : (after : Text) → ends_indicator after ≡ true → begins_with_indicator 0x2D (text ++ (0x3A ∷ after)) ≡ false
   pub simple : (after : Text) → ends_indicator after ≡ true → kind_of_entry (text ++ (0x3A ∷ after)) ≡ simple_entry
-  pub unmarked : (after : Text) → ends_indicator after ≡ true → is_unmarked (marker_of (text ++ (0x3A ∷ after))) ≡ true
+  pub markerless : (after : Text) → ends_indicator after ≡ true → is_markerless (marker_of (text ++ (0x3A ∷ after))) ≡ true
   pub cut : (after : Text) → ends_indicator after ≡ true
       → key_of_line rules (text ++ (0x3A ∷ after)) ≡ Some (record { key = tree; length = length text; after = after })
 

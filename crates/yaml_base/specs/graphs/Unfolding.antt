@@ -120,9 +120,9 @@ label_of styled node = record { tag = Some node.tag; kind = kind_held styled nod
 -- those of the occurrences below, in order
 abbrev mutual
   pub HasShape : Bool → Graph → Placed → Shape → Type 0
-  HasShape styled graph (alias_placed name number) (alias_shape told) = name ≡ told
-  HasShape styled graph (node_placed anchor number below) (node_shape told label shapes) =
-      (anchor ≡ told)
+  HasShape styled graph (alias_placed name number) (alias_shape stated) = name ≡ stated
+  HasShape styled graph (node_placed anchor number below) (node_shape stated label shapes) =
+      (anchor ≡ stated)
       × (option_map (label_of styled) (node_numbered graph number) ≡ Some label)
       × (numbers_at below ≡ children graph number)
       × HaveShapes styled graph below shapes

@@ -125,8 +125,8 @@ after_marker (a ∷ b ∷ c ∷ rest) = rest
 after_marker _ = []
 
 -- the root of a document that begins with `---` (YAML 1.1, section 7.3 Documents, l-explicit-document)
-abbrev pub root_marked : ℕ → Rules → Line → List Line → Option Tree
-root_marked depth rules line rest =
+abbrev pub root_with_marker : ℕ → Rules → Line → List Line → Option Tree
+root_with_marker depth rules line rest =
     root_after_marker (is_spaces (after_marker line.text)) depth rules (blanked 3 (after_marker line.text) line.ending) rest
 
 -- Streams. Source: helpers of this project's reader for l-yaml-stream (YAML 1.1, section 7.4 Complete Stream).
@@ -155,7 +155,7 @@ with_read_document documents heading root =
 abbrev pub document_read : ℕ → Bool → List DocumentTree → Heading → Section → Option StreamRead
 document_read depth breaks12 documents heading section =
     with_read_document documents heading
-    (root_marked depth (record { breaks12 = breaks12; directives = heading.directives }) section.line section.rest)
+    (root_with_marker depth (record { breaks12 = breaks12; directives = heading.directives }) section.line section.rest)
 
 -- directives before a `---` (YAML 1.1, section 7.1 Directives, l-directive)
 abbrev pub with_heading : List DocumentTree → Option Heading → Option StreamRead

@@ -21,7 +21,7 @@ fails later events error state h =
     (documents_stay nothing_given all h.earlier.page.output state.page.output
     (documents_kept nothing_given all h.earlier (promised nothing_given all h.earlier h.stood) h.no_error) h.grew.output)
 
--- so no state whose output was emptied is told of it
+-- so no state whose output was emptied follows it
 emptied_refused : (later events : List Event) (error : yaml_error_t) (state : State) → FailsAt nothing_given (two ++ later) events error state
     → state.page.output ≡ [] → ⊥
 emptied_refused later events error state h = not_empty state.page.output (fails later events error state h)

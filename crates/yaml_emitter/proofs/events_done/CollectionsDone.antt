@@ -83,9 +83,9 @@ start_cut before directives frames mapping start empty simple place page error a
     (start_refusal before.given.canonical directives frames mapping start true none room)
     (start_wrote before directives frames mapping start empty simple place page (Err error) place_is simple_is wrote)
 
-told_well : (given : Option yaml_error_t) → Ok tt ≡ result_of_error given → given ≡ None
-told_well None is = refl
-told_well (Some other) is = cc
+stated_well : (given : Option yaml_error_t) → Ok tt ≡ result_of_error given → given ≡ None
+stated_well None is = refl
+stated_well (Some other) is = cc
 
 -- want of memory for what is open, after the start was written
 pub start_unkept : (before : MachineState) (directives : List TagDirective) (frames : List Frame) (mapping : Bool) (start : Collection) (empty simple : Bool)
@@ -96,7 +96,7 @@ pub start_unkept : (before : MachineState) (directives : List TagDirective) (fra
     → Wrote (piece_at (start_piece before.settings directives place simple start) before.open_ended) before.page page (Ok tt)
     → Processed (start_event mapping start) empty before (record before { stage = after; page = page }) (Err Memory)
 start_unkept before directives frames mapping start empty simple place after page at none room place_is simple_is wrote =
-    let well = told_well page.error wrote.answered in
+    let well = stated_well page.error wrote.answered in
     processed_after_writing (start_event mapping start) empty before (record before { stage = after; page = page }) (at_node directives frames) at refl refl
     (start_refusal before.given.canonical directives frames mapping start true none room) well
     (start_wrote before directives frames mapping start empty simple place page (Ok tt) place_is simple_is wrote)
@@ -128,7 +128,7 @@ start_written before directives frames mapping start empty simple in_flow place 
     ∙ ap (λ (b : Bool). opened s mapping (is_written_in_flow s place start empty) b place page.cursor) simple_is
     ∙ ap (λ (p : Place). opened s mapping (is_written_in_flow s p start empty) (start_simple s directives start empty p) p page.cursor) place_is
     ∙ ap (λ (c : Cursor). opened s mapping (is_written_in_flow s (next_place frames) start empty) (start_simple s directives start empty (next_place frames))
-    (next_place frames) c) (whole.all (told_well page.error whole.answered)).cursor in
+    (next_place frames) c) (whole.all (stated_well page.error whole.answered)).cursor in
     processed_written_at (start_event mapping start) empty before (record before { stage = after; page = page }) (at_node directives frames) at
     (in_stream mapping) refl
     (start_refusal before.given.canonical directives frames mapping start true none room) refl

@@ -158,7 +158,7 @@ later canonical stage event =
     option_or (some_if (not (stage_allows stage event)) (stage_expected stage))
     (option_or (content_fault canonical event) (some_if (begins_collection event && not (nat_lt (open_frames stage) most_open)) TooDeep))
 
--- a faulty name or tag is told before anything else
+-- a faulty name or tag is refused before anything else
 pub names_refused : (event : Event) (empty : Bool) (state : MachineState) (error : yaml_error_t)
     → Some error ≡ name_or_tag_fault state.given.canonical event → Processed event empty state state (Err error)
 names_refused event empty state error fault =

@@ -24,12 +24,12 @@ kept_writing e pen after frames open_ended kept fits =
       page = fits;
     }
 
-pub kept_beginning : {A : Type 0} (e : Inside A) (pen : Page) (after : stage.Stage) (directives : List TagDirective) (frames : List Frame)
+pub kept_prefix : {A : Type 0} (e : Inside A) (pen : Page) (after : stage.Stage) (directives : List TagDirective) (frames : List Frame)
     (open_ended : OpenEnded)
     → IsMachine e
     → some_handle_breaks directives ≡ false → FitsPage (seen_stage after directives frames) pen
     → IsMachine (record e { pen = pen; stage = after; directives = directives; frames = frames; open_ended = open_ended })
-kept_beginning e pen after directives frames open_ended kept handles fits =
+kept_prefix e pen after directives frames open_ended kept handles fits =
     record {
       handles = handles;
       canonical = kept.canonical;

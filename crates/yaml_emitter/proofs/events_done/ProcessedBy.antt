@@ -2,7 +2,7 @@
 use Rattle.yaml_emitter.proofs.Common.{IsErrAnd, IsErr, Option, None, Some, Result, Err, Ok, Bool, true, ◌⊎◌, refl, ◌≡◌, inl, inr, ap, subst, sym, ◌∙◌}
 use Rattle.yaml_emitter.proofs.Common.{err_from_is_err_and, Event, stream_start, flushes, Stage, step, stage_refusal, event_stepped, render_event}
 use Rattle.yaml_emitter.proofs.Common.{refusal_now, Keeps, WritesPage, unwritten, partly_written, CutShort, Processed, IsRefusal, MachineState, standing_of}
-use Rattle.yaml_emitter.proofs.Common.{piece_at, encoded, result_of_error, Wrote}
+use Rattle.yaml_emitter.proofs.Common.{piece_at, encoded, result_of_error, some_from_result, Wrote}
 use Rattle.yaml_base.specs.declared.errors.{yaml_error_t.yaml_error_t, yaml_error_t.TheVariants.Memory, yaml_error_t.TheVariants.WriteError}
 
 -- a refused event changes nothing
@@ -62,10 +62,6 @@ cut error event empty before after kept settings accepted wrote failed =
           });
     }
 
-told_failed : (given : Option yaml_error_t) (error : yaml_error_t) → Err error ≡ result_of_error given → given ≡ Some error
-told_failed None error is = cc
-told_failed (Some other) error is = cc
-
 -- the pen fails by the limit or by memory alone
 pen_error : (error : yaml_error_t) → (Some error ≡ None) ⊎ (Some error ≡ Some WriteError) ⊎ (Some error ≡ Some Memory) → (error ≡ WriteError) ⊎ (error ≡ Memory)
 pen_error error named = elim named [ inl none ↦ cc | inr other ↦ elim other [ inl full ↦ inl (some_same full) | inr memory ↦ inr (some_same memory) ] ]
@@ -84,7 +80,7 @@ pub processed_cut : (event : Event) (empty : Bool) (before after : MachineState)
     → refusal_now before event ≡ None → Wrote (render_event before event empty) before.page after.page (Err error)
     → Processed event empty before after (Err error)
 processed_cut event empty before after error kept settings accepted wrote =
-    let failed = told_failed after.page.error error wrote.answered in
+    let failed = some_from_result after.page.error error wrote.answered in
     let named : (Some error ≡ None) ⊎ (Some error ≡ Some WriteError) ⊎ (Some error ≡ Some Memory) =
     subst (λ (o : Option yaml_error_t). (o ≡ None) ⊎ (o ≡ Some WriteError) ⊎ (o ≡ Some Memory)) failed wrote.sound_output.named in
     elim (pen_error error named) [

@@ -24,7 +24,7 @@ use Rattle.yaml_pen.specs.Page.{natural}
 
 -- the exit of a `?` tells the error of the call that failed
 pub wrote_exit_from : {T : Type 0} {render : Cursor → Rendered} {before after : Page} {error : yaml_error_t} (answer : Result T yaml_error_t)
-    → IsErr answer × IsErrAnd answer (λ told. told ≡ error) → Wrote render before after (Err error) → Wrote render before after (without_answer answer)
+    → IsErr answer × IsErrAnd answer (λ returned. returned ≡ error) → Wrote render before after (Err error) → Wrote render before after (without_answer answer)
 wrote_exit_from {T} {render} {before} {after} {error} answer is wrote =
     let p = err_from_is_err_and answer is.1 in
     subst (λ (r : Result T yaml_error_t). Wrote render before after (without_answer r))
@@ -81,17 +81,17 @@ module _ (settings : EffectiveSettings) (in_flow simple : Bool) (value : Text) {
   abbrev text : ScalarStyle → Cursor → Rendered
   text style = render_scalar_text style (seen_effective settings) in_flow simple column value
 
-  -- text in a style, told of the style's name
-  told : {style : yaml_scalar_style_t} (name : yaml_scalar_style_t) {before after : Page} {answer : Result (Unit {0}) yaml_error_t}
+  -- text in a style that is given by its name
+  returned : {style : yaml_scalar_style_t} (name : yaml_scalar_style_t) {before after : Page} {answer : Result (Unit {0}) yaml_error_t}
       → style ≡ name → Wrote (text (seen_scalar_style name)) before after answer → Wrote (text (seen_scalar_style style)) before after answer
-  told name {before} {after} {answer} style_is wrote =
+  returned name {before} {after} {answer} style_is wrote =
       subst (λ (s : yaml_scalar_style_t). Wrote (text (seen_scalar_style s)) before after answer) (sym style_is) wrote
 
   pub wrote_plain : {style : yaml_scalar_style_t} → style ≡ YAML_PLAIN_SCALAR_STYLE → {before after : Page} {answer : Result (Unit {0}) yaml_error_t}
       → Wrote (render_plain in_flow (limit_where (not simple) width) (natural indent) value) before after answer
       → Wrote (render_scalar_text (seen_scalar_style style) (seen_effective settings) in_flow simple column value) before after answer
   wrote_plain style_is {before} wrote =
-      told YAML_PLAIN_SCALAR_STYLE style_is
+      returned YAML_PLAIN_SCALAR_STYLE style_is
       (wrote_as (text plain)
       (ap (λ (l : Option ℕ). render_plain in_flow l (natural indent) value before.cursor) limit_is
       ∙ ap (λ (i : ℤ). render_plain in_flow (if simple then None else seen_width settings.width) (natural i) value before.cursor) is)
@@ -102,7 +102,7 @@ module _ (settings : EffectiveSettings) (in_flow simple : Bool) (value : Text) {
       → Wrote (render_single_quoted (limit_where (not simple) width) (natural indent) value) before after answer
       → Wrote (render_scalar_text (seen_scalar_style style) (seen_effective settings) in_flow simple column value) before after answer
   wrote_single style_is {before} wrote =
-      told YAML_SINGLE_QUOTED_SCALAR_STYLE style_is
+      returned YAML_SINGLE_QUOTED_SCALAR_STYLE style_is
       (wrote_as (text single_quoted)
       (ap (λ (l : Option ℕ). render_single_quoted l (natural indent) value before.cursor) limit_is
       ∙ ap (λ (i : ℤ). render_single_quoted (if simple then None else seen_width settings.width) (natural i) value before.cursor) is)
@@ -125,7 +125,7 @@ module _ (settings : EffectiveSettings) (in_flow simple : Bool) (value : Text) {
       → Wrote (render_literal (natural indent) (natural best) value) before after answer
       → Wrote (render_scalar_text (seen_scalar_style style) (seen_effective settings) in_flow simple column value) before after answer
   wrote_literal {best} best_is style_is {before} wrote =
-      told YAML_LITERAL_SCALAR_STYLE style_is
+      returned YAML_LITERAL_SCALAR_STYLE style_is
       (wrote_as (text literal)
       (ap (λ (i : ℤ). render_literal (natural i) (natural best) value before.cursor) is
       ∙ ap (λ (i : ℤ). render_literal column (natural i) value before.cursor) best_is)
@@ -139,7 +139,7 @@ module _ (settings : EffectiveSettings) (in_flow simple : Bool) (value : Text) {
   wrote_folded {best} best_is style_is fits {before} wrote =
       let long : simple ≡ false =
       block_long value simple (subst (λ (s : yaml_scalar_style_t). style_fits (seen_scalar_style s) value simple ≡ true) style_is fits) in
-      told YAML_FOLDED_SCALAR_STYLE style_is
+      returned YAML_FOLDED_SCALAR_STYLE style_is
       (wrote_as (text folded)
       (ap (λ (l : Option ℕ). render_folded l (natural indent) (natural best) value before.cursor) (ap limit_of width_is ∙ width_limit settings.width low)
       ∙ ap (λ (i : ℤ). render_folded (seen_width settings.width) (natural i) (natural best) value before.cursor) is

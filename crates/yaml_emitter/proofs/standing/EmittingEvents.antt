@@ -38,8 +38,8 @@ wrote_keeping event before between after (Err error) none ready done is =
 pub wrote_alone : (event : Event) (before between after : MachineState) (answer result : Result (Unit {0}) yaml_error_t) → before.error ≡ None
     → is_head_ready (event ∷ []) ≡ true → Processed event false before between answer → after ≡ kept_error answer between → result ≡ answer
     → WroteAlone before event result after
-wrote_alone event before between after answer result none ready done is told =
-    subst (λ (r : Result (Unit {0}) yaml_error_t). WroteAlone before event r after) (sym told)
+wrote_alone event before between after answer result none ready done is returned =
+    subst (λ (r : Result (Unit {0}) yaml_error_t). WroteAlone before event r after) (sym returned)
     (wrote_keeping event before between after answer none ready done is)
 
 -- An emitter was given an event.

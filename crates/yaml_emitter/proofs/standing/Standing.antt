@@ -263,7 +263,7 @@ page_started s encoding = (
     bom_written = refl;
     line_break = refl;
     limit = refl;
-    sound_output = record { opening_event = refl; within = omega arith; full = λ h. cc; named = inl refl };
+    sound_output = record { prefix = refl; within = omega arith; full = λ h. cc; named = inl refl };
   },
   refl,
   refl,

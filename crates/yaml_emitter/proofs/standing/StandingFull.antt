@@ -118,8 +118,8 @@ cut_fills given all state h =
     let ready = ready_at h.prefix h.event h.later (subst (λ events. length h.prefix < written events) (sym h.failed.parts) h.failed.became_ready) in
     elim h.page [
       | holds_before memory page ↦ absurd (not_memory memory)
-      | holds_part begun page told least most ↦
-          fills_by given all state (steps s (closes_at_once h.event h.later) longer at_stream first_standing).pieces page (told refl) most
+      | holds_part begun page returned least most ↦
+          fills_by given all state (steps s (closes_at_once h.event h.later) longer at_stream first_standing).pieces page (returned refl) most
           (λ more. settings_failed h.prefix given all h.event h.later more h.failed.parts)
           (λ more accepted. begun_layout given.canonical s h.prefix h.later more all h.event parts ready accepted)
     ]

@@ -6,7 +6,7 @@ use Rattle.yaml_emitter.proofs.Common.{mapping_end, before_stream, first_standin
 use Rattle.yaml_emitter.proofs.Common.{BeginsAccepted, Settings, Effective, at_stream, steps, progress, nothing_given, closes_at_once, HoldsPiecesWith}
 use Rattle.yaml_emitter.proofs.Common.{HoldsPieces, StandsWithoutError, FailedAt, closes_last, StandsRefused, HoldsCut, StandsCut, StandsUnflushed}
 use Rattle.yaml_emitter.proofs.Common.{StandsStopped, at_event, between_events, StandsFailed, MachineStands, StateStands, State, MachineState, machine_of}
-use Rattle.yaml_emitter.proofs.Common.{new_machine, StaysFlushed, none_from_result, Page, result_of_error, new_page, Flushed}
+use Rattle.yaml_emitter.proofs.Common.{new_machine, StaysFlushed, none_from_result, some_from_result, Page, result_of_error, new_page, Flushed}
 use Rattle.yaml_base.{proofs.Accepted.begins_from_stands, proofs.ReadyLaws.written_grows, specs.declared.errors.yaml_error_t.yaml_error_t}
 use Rattle.yaml_base.{specs.declared.errors.yaml_error_t.TheVariants.Memory, specs.declared.errors.yaml_error_t.TheVariants.WriteError}
 use Rattle.yaml_emitter.proofs.standing.Flushing.{flushed_none, flushed_output, flushed_grown}
@@ -229,7 +229,7 @@ flushed_page : (prefix : List Event) (s : Effective) (pieces : List Piece) (befo
 flushed_page [] s pieces before after answer h flushed =
     let encoding : after.encoding ≡ None = ap (λ (p : Page). p.encoding) flushed.kept ∙ ap (λ (p : Page). p.encoding) h in
     let output : after.output ≡ [] =
-    flushed.sound_output.opening_event ∙ ap (λ e. take (length after.output) (encode e after.text)) encoding ∙ take-nil (length after.output) in
+    flushed.sound_output.prefix ∙ ap (λ e. take (length after.output) (encode e after.text)) encoding ∙ take-nil (length after.output) in
     flushed.kept
     ∙ ap (λ (p : Page). let made : Page = record p { output = after.output; error = after.error } in made) h
     ∙ ap (λ output. let made : Page = record (new_page s.limit) { output = output; error = after.error } in made) output
@@ -281,10 +281,6 @@ flush_stands given all held before after h none same flushed =
     subst (λ e. MachineStands given all e held after) (sym (ap (λ (m : MachineState). m.error) same ∙ none_from_result after.page.error flushed.answered))
     (subst (λ (m : MachineState). StandsWithoutError given all held m) (sym same) (flushed_stands given all held before after.page well flushed))
 
-pub some_from_result : (given : Option yaml_error_t) (error : yaml_error_t) → Err error ≡ result_of_error given → given ≡ Some error
-some_from_result None error is = cc
-some_from_result (Some other) error is = cc
-
 unflushed_stands : (given : Settings) (all held : List Event) (machine : MachineState) (page : Page) (error : yaml_error_t)
     → StandsWithoutError given all held machine
     → Flushed machine.page page (Err error) → StandsUnflushed given all error (record machine { page = page; error = page.error })
@@ -334,10 +330,10 @@ pub flush_failed : (given : Settings) (all held : List Event) (before after : Ma
     → MachineStands given all after.error [] after
 flush_failed given all held before after error h none same flushed =
     let well : StandsWithoutError given all held before = subst (λ e. MachineStands given all e held before) none h in
-    let told = some_from_result after.page.error error flushed.answered in
+    let returned = some_from_result after.page.error error flushed.answered in
     let now : MachineState = record before { page = after.page; error = after.page.error } in
     let failed : StandsFailed given all error now =
-    failed_if_stopped given all error now (limit_or_memory after.page.error error told flushed.sound_output.named)
+    failed_if_stopped given all error now (limit_or_memory after.page.error error returned flushed.sound_output.named)
     (between_events (unflushed_stands given all held before after.page error well flushed)) in
-    subst (λ e. MachineStands given all e [] after) (sym (ap (λ (m : MachineState). m.error) same ∙ told))
+    subst (λ e. MachineStands given all e [] after) (sym (ap (λ (m : MachineState). m.error) same ∙ returned))
     (refl, subst (λ (m : MachineState). StandsFailed given all error m) (sym same) failed)

@@ -83,7 +83,7 @@ well_set held before after set h =
 handed_set : (limit most : ℕ) (error : yaml_error_t) → IsFlushedOutput [] [] limit (Some error) → IsFlushedOutput [] [] most (Some error)
 handed_set limit most error h =
     record {
-      opening_event = refl;
+      prefix = refl;
       within = omega arith;
       full = λ full. absurd (omega (arith, (h.full full).0));
       named = h.named;

@@ -130,8 +130,8 @@ pub output_begins : (s : Effective) (page : Page) (whole : List Piece) → IsPag
     → page.output ≡ cut (length page.output) (bytes_written s whole)
 output_begins s page whole h prefix =
     let n = length page.output in
-    let within : n ≤ length (encoded page) = taken_within n (encoded page) (sym (ap length h.sound_output.opening_event)) in
-    h.sound_output.opening_event
+    let within : n ≤ length (encoded page) = taken_within n (encoded page) (sym (ap length h.sound_output.prefix)) in
+    h.sound_output.prefix
     ∙ sym (take_longer n (encoded page) (text_bytes s.encoding prefix.rest) within)
     ∙ ap (take n) (sym (page_bytes s page whole h prefix))
 

@@ -10,7 +10,7 @@ ghost use Rattle.yaml_base.specs.Event.{collection_tag, scalar_tag};
 ghost use Rattle.yaml_base.specs.Tags.{spelling};
 ghost use Rattle.yaml_emitter.specs.Places.{seen_place};
 ghost use Rattle.yaml_emitter.specs.BorrowedTexts.{seen_name, seen_collection, seen_scalar, seen_spelling};
-ghost use Rattle.yaml_emitter.specs.UsualScalars.{StandsPlain};
+ghost use Rattle.yaml_emitter.specs.SimpleAsciiScalars.{StandsPlain};
 ghost use Rattle.yaml_emitter.specs.WrittenAtoms.{seen_tag, spelled_count};
 
 use crate::effective::EffectiveSettings;
@@ -49,7 +49,7 @@ pub(crate) fn is_simple_scalar_key(
 }
 
 /// Whether a scalar that stands plain as it is is a simple key at a place, by its value.
-pub(crate) fn is_simple_usual_key(place: &Place, value: &str) -> bool
+pub(crate) fn is_simple_ascii_key(place: &Place, value: &str) -> bool
     ensures { (canonical : Bool) (directives : List TagDirective) (content : ScalarContent)
         → StandsPlain canonical content
         → content.value.now ≡ value.now

@@ -74,9 +74,9 @@ impl<'a> Row<'a> {
     }
 }
 
-/// What a run wrote and told.
+/// What a run wrote and returned.
 #[derive(Drop)]
-struct Told {
+struct Returned {
     status: u8,
     output: Vec<u8>,
     line: Vec<u8>,
@@ -89,19 +89,19 @@ fn line_of(rt: &impl Abort, alloc: Global, answer: &run_answer_t) -> Vec<u8> {
     line
 }
 
-fn ran(rt: &impl Abort, alloc: Global, script: &[u8]) -> Told {
+fn ran(rt: &impl Abort, alloc: Global, script: &[u8]) -> Returned {
     let mut output = Vec::new(alloc);
     let answer = answered(rt, alloc, script, &mut output);
     let line = line_of(rt, alloc, &answer);
-    Told {
+    Returned {
         status: status(&answer),
         output,
         line,
     }
 }
 
-// This is written and told.
-fn check_reported(rt: &impl Abort, reported: &Told, output: &[u8], line: &str) {
+// This is written and returned.
+fn check_reported(rt: &impl Abort, reported: &Returned, output: &[u8], line: &str) {
     same(rt, reported.output.as_slice(), output);
     same(rt, reported.line.as_slice(), line.as_bytes());
 }

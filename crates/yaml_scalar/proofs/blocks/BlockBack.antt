@@ -9,7 +9,7 @@ use Rattle.yaml_scalar.proofs.{LinesReadBack.two_or_more, LinesReadBack.body_bac
 
 -- the exit of a `?` tells the error of the call that failed, also where an answer holds the open-ended state
 pub block_exit : {render : Cursor → Rendered} {before after : Page} {error : yaml_error_t} (answer : Result ℤ yaml_error_t)
-    → IsErr answer × IsErrAnd answer (λ told. told ≡ error) → Wrote render before after (Err error)
+    → IsErr answer × IsErrAnd answer (λ returned. returned ≡ error) → Wrote render before after (Err error)
     → Wrote render before after (without_open_ended answer)
 block_exit {render} {before} {after} {error} answer is wrote =
     let p = err_from_is_err_and answer is.1 in

@@ -23,7 +23,7 @@ module _ (all : List Numbered) (line : ℕ) (later : List Event) (state : State)
   memory_in_flush : (h : FlushFails nothing_given all line Memory state) → events_in all ≡ begun → IsPrefix both state.page.output
   memory_in_flush h is = kept (events_in all) third state.page.output is h.documents
 
-  -- so no state whose output was emptied is told of such a run
+  -- so no state whose output was emptied follows such a run
   emptied_refused : (error : yaml_error_t) (h : RefusesAt nothing_given all line error state) → events_in h.before ≡ two ++ later
       → state.page.output ≡ [] → ⊥
   emptied_refused error h is = not_empty state.page.output (stops error h is)

@@ -26,7 +26,7 @@ module _ (later : List Event) (sent : List ℕ) (before : WriterState) (stood : 
       (documents_kept nothing_given (two ++ later) before.emitter (promised nothing_given (two ++ later) before.emitter stood.stands) none))
       grows.output
 
-  -- so no state whose output was emptied is told of a call, whether it gave an event, and whatever its error is,
+  -- so no state whose output was emptied follows a call, whether it gave an event, and whatever its error is,
   emptied_giving : (event : Event) (error : Option yaml_error_t) → GaveEvent before event error after → after.emitter.page.output ≡ [] → ⊥
   emptied_giving event error h = not_empty after.emitter.page.output (stays h.grows)
 

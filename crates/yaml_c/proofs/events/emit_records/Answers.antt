@@ -3,8 +3,7 @@ use Rattle.std.proofs.Common.{Err, Ok}
 use Rattle.yaml_c.proofs.EmissionLemmas.{given_more, refused_next, ended_flushed}
 use Rattle.yaml_c.proofs.GivingLemmas.{took}
 use Rattle.yaml_c.specs.declared.giving.Giving.TheVariants.{Emitted}
-use Rattle.yaml_pen.proofs.Writing.{none_from_result}
-use Rattle.yaml_tool.proofs.RunLemmas.{some_told}
+use Rattle.yaml_pen.proofs.Writing.{none_from_result, some_from_result}
 use Rattle.yaml_c.proofs.events.emit_records.Goals as goal
 
 pub returns-in-Emitted-Err-clause-emits : goal.returns-in-Emitted-Err-clause-emits
@@ -21,7 +20,7 @@ returns-in-Emitted-Err-clause-emits g c given stands =
     (refused_next c.args.arena.now c.args.directives.now c.args.events.now c.args.emitter.now now.emitter after now.record-index now.number now.last _ event.0
     given error has now.invariant.4 c.loop-record-test.true (sym event.1) now.invariant.3
     stood (c.standing_is_promised.ensures given (events_in has.given) now.emitter stood)
-    (some_told after.error error emits.answered) (emits.stands given (events_in has.given) stood)
+    (some_from_result after.error error emits.answered) (emits.stands given (events_in has.given) stood)
     (emits.promised given (events_in has.given) stood) emits.grows)
 
 pub loop-record-preserved : goal.loop-record-preserved

@@ -1,7 +1,7 @@
 use Rattle.yaml_dump.proofs.Common.{map, ◌++◌, refl, rules, append-nil, inl, inr, ap, subst, sym, ◌∙◌, into_iter_items, seen_event, StandsAfter, grows_then}
-use Rattle.yaml_dump.proofs.Common.{none_from_result}
+use Rattle.yaml_dump.proofs.Common.{none_from_result, some_from_result}
 use Rattle.std.proofs.lemmas.{Iterator.Adapters.YieldsList-from_vec, Iterator.Consumers.YieldsList-end, List.map-id}
-use Rattle.yaml_dump.proofs.Emissions.{keeps_same, keeps_more, some_told, events_more, parts_more, failed_at}
+use Rattle.yaml_dump.proofs.Emissions.{keeps_same, keeps_more, events_more, parts_more, failed_at}
 use Rattle.yaml_pen.proofs.Composing.{grows_itself}
 use Rattle.yaml_dump.proofs.emitting.emit_each.Goals as goal
 
@@ -11,7 +11,8 @@ returns-in-Err-clause-emits g c given all stands =
     let stood = now.invariant.5 given all stands in
     failed_at given all now.yielded c.in-Some.event (into_iter_items c.next.new.self)
     (into_iter_items now.event-iterator) c.args.events.items c.in-Err.error now.emitter c.yaml_emitter_emit.new.emitter
-    now.invariant.4 c.in-Some.ensures.steps.0 now.invariant.3 stood (some_told c.yaml_emitter_emit.new.emitter.error c.in-Err.error c.in-Err.ensures.answered)
+    now.invariant.4 c.in-Some.ensures.steps.0 now.invariant.3 stood
+    (some_from_result c.yaml_emitter_emit.new.emitter.error c.in-Err.error c.in-Err.ensures.answered)
     (c.yaml_emitter_emit.ensures.stands given (all ++ map seen_event now.yielded) stood)
     (c.yaml_emitter_emit.ensures.promised given (all ++ map seen_event now.yielded) stood) c.yaml_emitter_emit.ensures.grows
 

@@ -1,8 +1,8 @@
 use Rattle.yaml_emitter.proofs.Common.{◌≤◌, None, Some, Err, List, refl, ◌≡◌, ap, subst, sym, ◌∙◌, Event, seen_events, state_of, is_head_ready, MachineStands}
-use Rattle.yaml_emitter.proofs.Common.{StandsAfter, State, MachineState, none_from_result, encoded, result_of_error, Grows}
+use Rattle.yaml_emitter.proofs.Common.{StandsAfter, State, MachineState, none_from_result, some_from_result, encoded, result_of_error, Grows}
 use Rattle.yaml_base.specs.declared.errors.yaml_error_t.TheVariants.{Memory}
 use Rattle.yaml_emitter.proofs.standing.{EmitterKept.has_output_inside, EmitterKept.kept_emitting, Growing.flushed_unflushed, PromisingRoom.memory_only}
-use Rattle.yaml_emitter.proofs.standing.{StandingMore.flush_stands, StandingMore.some_from_result, StandingMore.flush_failed}
+use Rattle.yaml_emitter.proofs.standing.{StandingMore.flush_stands, StandingMore.flush_failed}
 use Rattle.yaml_emitter.proofs.standing.Promising.{promises_bytes, promised, stands_unfailed, stands_encoded}
 use Rattle.yaml_pen.proofs.Composing.{flushed_grows}
 use Rattle.yaml_emitter.proofs.emit.yaml_emitter_flush.Goals as goal

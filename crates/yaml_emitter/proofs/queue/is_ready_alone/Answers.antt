@@ -9,8 +9,8 @@ ready_alone event none =
     ap (λ (b : Bool). b || nat_lt (awaited event) (length (event ∷ [])) || list_any is_balanced (nonempty_prefixes (event ∷ []))) none
 
 pub returns-then-nothing_waits-clause-alone : goal.returns-then-nothing_waits-clause-alone
-returns-then-nothing_waits-clause-alone g c told =
+returns-then-nothing_waits-clause-alone g c returned =
     nil_from_length c.args.queue.now.items (eqb-true _ 0 (sym c.nothing_waits.ensures ∙ c.if-nothing_waits.true))
 
 pub returns-then-nothing_waits-clause-ready : goal.returns-then-nothing_waits-clause-ready
-returns-then-nothing_waits-clause-ready g c told = ready_alone (seen_event c.args.event.now) (sym c.awaits_nothing.ensures ∙ told)
+returns-then-nothing_waits-clause-ready g c returned = ready_alone (seen_event c.args.event.now) (sym c.awaits_nothing.ensures ∙ returned)

@@ -1,7 +1,7 @@
 use Rattle.yaml_json.proofs.Common.{IfSome, Option, subst, sym, failure_of, FailedInTexts}
 use Rattle.std.proofs.Common.{rules}
 use Rattle.yaml_base.specs.declared.errors.yaml_error_t.{yaml_error_t}
-use Rattle.yaml_json.proofs.{Refusing.why_told, Stopping.if_some, WroteLemmas.bare_awaits_none}
+use Rattle.yaml_json.proofs.{Refusing.why_returned, Stopping.if_some, WroteLemmas.bare_awaits_none}
 use Rattle.yaml_json.proofs.TextsInTurn.{texts_begin, texts_go_on, next_failed, texts_done, texts_names, texts_read, no_more, is_more, some_more}
 use Rattle.yaml_json.proofs.TextsInTurn.{text_refused, texts_failed}
 use Rattle.yaml_json.proofs.several.write_json_texts.Goals as goal
@@ -68,7 +68,7 @@ returns-in-Err-clause-refused g c is =
     text_refused c.args.settings.depth c.args.settings.flow c.args.settings.unique_names c.args.text.now c.args.writer.now c.texts.rest.now
     c.first_cut.result.0.now
     c.first_cut.result.1.now c.texts.writer c.first_cut.ensures c.texts.invariant.1 c.error_of.result
-    (why_told c.args.settings.depth c.args.settings.unique_names c.first_cut.result.0.now c.in-Err.stop c.error_of.result c.error_of.ensures.says
+    (why_returned c.args.settings.depth c.args.settings.unique_names c.first_cut.result.0.now c.in-Err.stop c.error_of.result c.error_of.ensures.says
     c.in-Err.ensures.refused)
 
 pub returns-then-is_empty-clause-names : goal.returns-then-is_empty-clause-names

@@ -47,7 +47,7 @@ const ENTRIES: &[Part] = &[
     Other(Document),
     Other(BlockMapping),
     Borrowed(ScalarContent {
-        value: "usual",
+        value: "simple_ascii",
         ..TEXT
     }),
     Borrowed(ScalarContent {
@@ -114,7 +114,7 @@ const ENTRIES: &[Part] = &[
     Other(StreamEnd),
 ];
 
-const ENTRIES_TEXT: &str = "usual: a value
+const ENTRIES_TEXT: &str = "simple_ascii: a value
 'quoted': \"a\\nb\"
 !city Oslo: &place named
 ? 'two
@@ -129,7 +129,7 @@ const ENTRIES_TEXT: &str = "usual: a value
 
 const ENTRIES_IN_CANONICAL_FORM: &str = "---
 {
-  ? \"usual\"
+  ? \"simple_ascii\"
   : \"a value\",
   ? \"quoted\"
   : \"a\\nb\",

@@ -4,7 +4,7 @@ use crate::tests::equal;
 use std::alloc::Global;
 use std::process::Abort;
 
-/// A line that is told, and scripts after which it is.
+/// A line that is returned, and scripts after which it is.
 type Bad<'a> = (&'a str, &'a [&'a str]);
 
 fn check_bad(rt: &impl Abort, alloc: Global, script: &str, line: &str) {

@@ -45,7 +45,7 @@ fn emitter_with<A: Allocator + Copy>(
 /// An output below this size is flushed at ends and by the caller alone.
 const BUFFER_SIZE: usize = 16_384;
 
-/// How an event's call is answered. The limit of a short output is told by a flush, which only the ends of documents and of
+/// How an event's call is answered. The limit of a short output is returned by a flush, which only the ends of documents and of
 /// the stream make.
 fn emit_answer(row: &Row, line: u64, kind: Kind) -> Answer {
     let flushes = matches!(kind, Kind::FlushingEnd) || row.output.len() >= BUFFER_SIZE;

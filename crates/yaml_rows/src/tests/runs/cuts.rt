@@ -15,7 +15,7 @@ const LINES: &[(&str, &str)] = &[
     ("-STR", "---\n\"a\"\n"),
 ];
 
-/// What is told of a bad line of this number.
+/// What is returned of a bad line of this number.
 fn reported_of(rt: &impl Abort, alloc: Global, bad_line: Option<u8>) -> String {
     match bad_line {
         Some(number) => format!(in alloc; "yamlemit: line {number}: cannot be read\n").expect(

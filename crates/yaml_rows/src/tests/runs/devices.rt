@@ -1,4 +1,4 @@
-//! Readers and writers that fail at a call: only they are told so, and each is.
+//! Readers and writers that fail at a call: only they are returned so, and each is.
 use super::FIRST;
 use crate::tests::{equal, same};
 use std::alloc::Global;

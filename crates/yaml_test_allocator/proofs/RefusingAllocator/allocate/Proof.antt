@@ -68,14 +68,14 @@ module _ {M : Type 1} {𝓤 : Ura M} (𝓛 : Logic 𝓤) (at_mem : Memory → SP
         feq_i ! (List Val) (vptr c.0 c.1 ∷ []) (vptr c.0 c.1 ∷ []) refl $ fjoin ! $ nothing ! $ move ! (1 ∷ []) $ fjoin ! $
         nothing ! $ move ! (2 ∷ []) $ join ! $ join ! $ nothing ! $ move ! (1 ∷ []) $ done !
 
-    abbrev Told : Val → Bool → SProp 𝓤
-    Told v x = guard 𝓤 (v ≡ vbool x) (A.lft κ q)
+    abbrev Returned : Val → Bool → SProp 𝓤
+    Returned v x = guard 𝓤 (v ≡ vbool x) (A.lft κ q)
 
-    asked-gives : (v : Val) → ent 𝓤 (Asks.post asked v) (H.⇛ (ex 𝓤 (Told v)))
+    asked-gives : (v : Val) → ent 𝓤 (Asks.post asked v) (H.⇛ (ex 𝓤 (Returned v)))
     asked-gives v = qed 𝓛 (raw (Asks.post asked v) ∷ []) ∵ updating ! $
         use1 𝓛 (later (some (λ (x : Bool). ((‵ (flft κ q) ⊛ ‵ ftrue) ⊛ ‵ (bool.own_val x (v ∷ []))) ⊛ some
         (λ (ws : Unit {0} × Unit {0}). ‵ (fsep ftrue ftrue) ⊛ ‵ ftrue)))) (id⊢ 𝓤 _) $ await ! tt $ pick ! (λ x.
-        split ! $ split ! $ move ! (1 ∷ []) $ feq_l ! (λ e. split ! $ at_once ! $ show ! (Told v) x $ check ! (ap only e) $ keep ! (0 ∷ []) $ done !))
+        split ! $ split ! $ move ! (1 ∷ []) $ feq_l ! (λ e. split ! $ at_once ! $ show ! (Returned v) x $ check ! (ap only e) $ keep ! (0 ∷ []) $ done !))
 
 module _ (Z : Al) where
   abbrev args : Args

@@ -1,7 +1,7 @@
 use Rattle.yaml_tool.proofs.Common.{map, ap, subst, sym, ◌∙◌, into_iter_items, StandsAfter, events_in, LastLine, seen_numbered}
 use Rattle.std.proofs.{Common.inl, lemmas.Iterator.Adapters.YieldsList-from_vec, lemmas.Iterator.Consumers.YieldsList-end, lemmas.List.map-id}
-use Rattle.yaml_pen.proofs.Writing.{none_from_result}
-use Rattle.yaml_tool.proofs.RunLemmas.{some_told, events_more, parts_more, ends_more, refused_at, ended_with, ended_without}
+use Rattle.yaml_pen.proofs.Writing.{none_from_result, some_from_result}
+use Rattle.yaml_tool.proofs.RunLemmas.{events_more, parts_more, ends_more, refused_at, ended_with, ended_without}
 use Rattle.yaml_tool.proofs.runs.emit_all.Goals as goal
 
 pub returns-in-Err-clause-emits : goal.returns-in-Err-clause-emits
@@ -13,7 +13,7 @@ returns-in-Err-clause-emits g c given stands =
     (into_iter_items now.numbered-iterator) c.args.events.items c.in-Err.error now.emitter c.yaml_emitter_emit.new.emitter
     now.invariant.4 c.in-Some.ensures.steps.0 now.invariant.3 stood
     (c.standing_is_promised.ensures given (events_in (map seen_numbered now.yielded)) now.emitter stood)
-    (some_told c.yaml_emitter_emit.new.emitter.error c.in-Err.error c.in-Err.ensures.answered)
+    (some_from_result c.yaml_emitter_emit.new.emitter.error c.in-Err.error c.in-Err.ensures.answered)
     (c.yaml_emitter_emit.ensures.stands given (events_in (map seen_numbered now.yielded)) stood)
     (c.yaml_emitter_emit.ensures.promised given (events_in (map seen_numbered now.yielded)) stood) c.yaml_emitter_emit.ensures.grows)
 

@@ -1,5 +1,5 @@
 use Rattle.yaml_tool.proofs.Common.{map, ap, subst, ◌∙◌, Appends, State, seen_numbered, seen_settings}
-use Rattle.yaml_tool.proofs.RunLemmas.{tells_all, told_answer, silent_only}
+use Rattle.yaml_tool.proofs.RunLemmas.{tells_all, returned_answer, silent_only}
 use Rattle.yaml_tool.proofs.runs.run.Goals as goal
 
 pub returns-in-Ok-write_all-clause-reported : goal.returns-in-Ok-write_all-clause-reported
@@ -12,7 +12,7 @@ returns-in-Ok-write_all-clause-reported g c =
     let emits = c.emit_all-answer.ensures.emits set c.in-Ok-with_settings.ensures.stands in
     let untaken = c.emit_all-answer.ensures.taken ∙ ap (λ (s : State). s.page.taken) c.in-Ok-with_settings.ensures.made in
     tells_all (g.R.Read.remaining c.args.reader.now) set all answer old new c.in-Ok.ensures.understood
-    (told_answer set all answer c.emit_all-answer.new.emitter old new emits
+    (returned_answer set all answer c.emit_all-answer.new.emitter old new emits
     (subst (Appends old new) (c.output.ensures.untaken untaken) c.in-Ok-write_all.ensures.bytes))
 
 pub returns-in-Ok-write_all-clause-unwritten : goal.returns-in-Ok-write_all-clause-unwritten

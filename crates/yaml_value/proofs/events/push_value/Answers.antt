@@ -13,7 +13,8 @@ loop-rest-init g c =
 pub loop-rest-smaller : goal.loop-rest-smaller
 loop-rest-smaller g c =
     step_smaller (map seen_rest c.loop-rest.levels.items) (map seen_rest c.pop.new.self.items) (seen_rest c.in-Some.rest)
-    (map seen_rest c.step.new.levels.items) (popped c.loop-rest.levels.items c.pop.new.self.items c.in-Some.rest c.in-Some.ensures.items) (ap (λ made. made.1) c.in_ok-entered.ensures)
+    (map seen_rest c.step.new.levels.items) (popped c.loop-rest.levels.items c.pop.new.self.items c.in-Some.rest c.in-Some.ensures.items)
+    (ap (λ made. made.1) c.in_ok-entered.ensures)
 
 pub loop-rest-preserved : goal.loop-rest-preserved
 loop-rest-preserved g c =

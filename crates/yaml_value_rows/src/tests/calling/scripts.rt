@@ -28,7 +28,7 @@ fn a_script_is_run(rt: HostRuntime) {
 
 const REFUSED: run_answer_t = run_answer_t::Refused(2, yaml_error_t::ExpectedDocumentStart);
 
-// A run that ended so is told by this line.
+// A run that ended so is returned by this line.
 fn check_line(rt: &impl Abort, alloc: Global, answer: &run_answer_t, wanted: &str) {
     let mut line: Vec<u8> = Vec::new(alloc);
     let is_written = write_line(answer, &mut line).is_ok();

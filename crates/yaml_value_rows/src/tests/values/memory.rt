@@ -7,7 +7,7 @@ use yaml_base::yaml_error_t;
 use yaml_test_allocator::Refusing;
 use yaml_value::Value;
 
-// Writes a value with this growth refused, and answers whether there is one. It is told, and then the value is
+// Writes a value with this growth refused, and answers whether there is one. It is returned, and then the value is
 // written as ever.
 fn is_reported<'a>(
     rt: &impl Abort,

@@ -13,8 +13,8 @@ returns-in_err-yaml_emitter_emit-clause-unfinished g c =
     let between = c.yaml_emitter_emit.new.emitter in
     let after = c.yaml_emitter_emit-2.new.emitter in
     let error = c.in_err-yaml_emitter_emit.field-0.0 in
-    let told = err_from_is_err_and c.from_residual.result c.from_residual.ensures.1 in
-    subst (λ answer. IfErr answer (λ error. IsUnfinishedBy (is_implicit c.args.end) before error)) (sym (told.1 ∙ ap (λ e. Err e) told.2))
+    let returned = err_from_is_err_and c.from_residual.result c.from_residual.ensures.1 in
+    subst (λ answer. IfErr answer (λ error. IsUnfinishedBy (is_implicit c.args.end) before error)) (sym (returned.1 ∙ ap (λ e. Err e) returned.2))
     (subst (λ (end : Bool). IsUnfinishedBy end before error) c.is_implicit-implicit.ensures
     (failed_unfinished implicit before after error
     (λ error is.

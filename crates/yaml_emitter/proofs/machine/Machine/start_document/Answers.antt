@@ -2,7 +2,7 @@ use Rattle.yaml_emitter.proofs.Common.{option_map, option_and_then, map, refl, a
 use Rattle.yaml_emitter.proofs.Common.{seen_directive, version_fault, directives_fault, some_handle_breaks, machine_state, Processed, MachineState}
 use Rattle.yaml_emitter.proofs.{events_done.ProcessedBy.processed_exit, pieces.WritingNames.sound_handles, pieces.WritingNames.sound_in_force}
 use Rattle.yaml_emitter.proofs.events_done.DocumentsDone.{document_refused, document_start_cut, document_begun, none_behind}
-use Rattle.yaml_emitter.proofs.events_done.KeptInside.{fits_ready, kept_writing, kept_beginning, seen_without, kept_without, stage_inside, behind_start}
+use Rattle.yaml_emitter.proofs.events_done.KeptInside.{fits_ready, kept_writing, kept_prefix, seen_without, kept_without, stage_inside, behind_start}
 use Rattle.yaml_emitter.proofs.machine.Machine.start_document.Goals as goal
 
 pub invariant_of-self : goal.invariant_of-self
@@ -61,7 +61,7 @@ returns-in_err-write_document_start g c = λ empty.
 pub invariant_of-self-2 : goal.invariant_of-self-2
 invariant_of-self-2 g c =
     let own = map seen_directive c.args.own.now in
-    kept_beginning c.self.inside c.write_document_start.new.pen _ c.in_ok-directives.directives c.clear.new.self _ c.self.invariant
+    kept_prefix c.self.inside c.write_document_start.new.pen _ c.in_ok-directives.directives c.clear.new.self _ c.self.invariant
     (ap some_handle_breaks c.in_ok-directives.ensures.in_force
     ∙ sound_in_force own
     (sound_handles own

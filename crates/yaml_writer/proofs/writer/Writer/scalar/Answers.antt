@@ -17,9 +17,9 @@ returns-then-was_taken g c =
     ap scalar c.scalar_content-content.ensures ∙ ap event c.self.view_is in
     let emits = subst (λ (e : Event). EmitsEvent before.emitter e answer emitter ⊎ CopyFailed before.emitter answer emitter) same
     c.yaml_emitter_emit_scalar-answer.ensures.emits in
-    let told = ap (λ (o : Option yaml_error_t). is_ok answer || is_some o) (sym c.error.ensures) ∙ sym c.was_taken.ensures ∙ c.if-was_taken.true in
+    let returned = ap (λ (o : Option yaml_error_t). is_ok answer || is_some o) (sym c.error.ensures) ∙ sym c.was_taken.ensures ∙ c.if-was_taken.true in
     let both = gave_taken before c.args.self.now emitter (option_map seen_text c.use_up.new.anchor) (option_map seen_text c.use_up.new.tag)
-    (event c.args.self.now) answer c.self.view_is emits told (ap (option_map seen_text) c.use_up.ensures.anchor)
+    (event c.args.self.now) answer c.self.view_is emits returned (ap (option_map seen_text) c.use_up.ensures.anchor)
     (ap (option_map seen_text) c.use_up.ensures.tag) in
     record { given = both.0; failed = both.1 }
 
@@ -33,6 +33,6 @@ returns-else-was_taken g c =
     ap scalar c.scalar_content-content.ensures ∙ ap event c.self.view_is in
     let emits = subst (λ (e : Event). EmitsEvent before.emitter e answer emitter ⊎ CopyFailed before.emitter answer emitter) same
     c.yaml_emitter_emit_scalar-answer.ensures.emits in
-    let told = ap (λ (o : Option yaml_error_t). is_ok answer || is_some o) (sym c.error.ensures) ∙ sym c.was_taken.ensures ∙ c.if-was_taken.false in
-    let both = gave_untaken before c.args.self.now emitter (event c.args.self.now) answer c.self.view_is emits told in
+    let returned = ap (λ (o : Option yaml_error_t). is_ok answer || is_some o) (sym c.error.ensures) ∙ sym c.was_taken.ensures ∙ c.if-was_taken.false in
+    let both = gave_untaken before c.args.self.now emitter (event c.args.self.now) answer c.self.view_is emits returned in
     record { given = both.0; failed = both.1 }

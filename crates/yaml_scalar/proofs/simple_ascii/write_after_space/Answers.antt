@@ -1,0 +1,18 @@
+use Rattle.yaml_scalar.proofs.Common.{chars, Err, Ok, Bool, subst, sym, render_text, space_if, plain_body, wrote_then, wrote_failed, wrote_exit, Wrote}
+use Rattle.yaml_scalar.proofs.Common.{limit_where}
+use Rattle.yaml_scalar.proofs.SimpleAsciiTexts.{simple_ascii_spaced}
+use Rattle.yaml_scalar.proofs.simple_ascii.write_after_space.Goals as goal
+
+pub returns-in_err-separate : goal.returns-in_err-separate
+returns-in_err-separate g c = λ flow.
+    let limit = limit_where c.args.lines.allow_breaks c.args.lines.width in
+    let lead = subst (λ (need : Bool).
+    Wrote (λ cursor. render_text (space_if need cursor) cursor) c.args.pen.now c.separate.new.self (Err c.in_err-separate.field-0.0))
+    (sym (simple_ascii_spaced flow c.requires.simple_ascii)) c.in_err-separate.ensures.written in
+    wrote_exit c.from_residual.ensures (wrote_failed (plain_body limit c.args.lines.indent (chars c.args.value.now)) lead)
+
+pub returns : goal.returns
+returns g c = λ flow.
+    let lead = subst (λ (need : Bool). Wrote (λ cursor. render_text (space_if need cursor) cursor) c.args.pen.now c.separate.new.self (Ok tt))
+    (sym (simple_ascii_spaced flow c.requires.simple_ascii)) c.in_ok-separate.ensures.written in
+    wrote_then lead c.write_body.ensures

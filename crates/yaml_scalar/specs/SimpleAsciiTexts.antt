@@ -1,0 +1,30 @@
+-- SimpleAscii texts: short, one line, and free in every style.
+use Rattle.std.specs.List.{list_all}
+use Rattle.std.specs.Prelude.{◌≡◌, ℕ, Bool, true, false, List, ◌==◌, ◌||◌, ◌&&◌, not, codes, length, nat_le}
+use Rattle.std.specs.Str.{chars}
+use Rattle.yaml_base.specs.scalars.Analysis.{Allowances, Charset, allowances, begins_with}
+use Rattle.yaml_base.specs.Characters.{is_among, is_between, is_space}
+use Rattle.yaml_scalar.specs.Barred.{is_ordinary}
+use Rattle.yaml_scalar.specs.ShortRuns.{IsShortRun, most_short}
+use Rattle.yaml_scalar.specs.WholeRuns.{last_from, stays_in_line}
+
+-- one line, which every style may hold
+abbrev pub all_allowed : Allowances
+all_allowed = record { multiline = false; flow_plain = true; block_plain = true; single_quoted = true; block = true }
+
+-- a short text of ASCII that is one line, and allowed in every style whatever may stand as itself
+pub record IsSimpleAscii (text : List ℕ) : Type 0 where
+  pub allows : (charset : Charset) → allowances charset (chars text) ≡ all_allowed
+  pub line : IsShortRun (stays_in_line false false) text
+
+-- it begins with a letter or a digit, and doesn't end with a space
+abbrev pub has_simple_ascii_ends : List ℕ → Bool
+has_simple_ascii_ends text = begins_with is_ordinary text && not (is_space (last_from 0 text))
+
+-- printable ASCII but the indicators that may end a plain scalar
+abbrev pub is_simple_ascii_character : ℕ → Bool
+is_simple_ascii_character c = is_between 0x20 0x7E c && not (c == 35 || is_among (codes ",?:[]{}") c)
+
+-- it has such ends, and so many such characters at most
+abbrev pub is_simple_ascii : List ℕ → Bool
+is_simple_ascii text = has_simple_ascii_ends text && nat_le (length text) most_short && list_all is_simple_ascii_character (chars text)

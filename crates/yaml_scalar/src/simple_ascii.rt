@@ -1,0 +1,122 @@
+//! SimpleAscii scalars: short texts of one line that every style may hold, of which no character needs a look at what
+//! follows it.
+ghost use Rattle.std.specs.Prelude.{◌≡◌, pos, ◌≤ℤ◌, Bool, true, false};
+ghost use Rattle.std.specs.Str.{chars};
+ghost use Rattle.yaml_base.specs.scalars.Plain.{plain_body, render_plain, runs, render_runs};
+ghost use Rattle.yaml_pen.specs.Page.{IsReady, natural};
+ghost use Rattle.yaml_pen.specs.Wrote.{Wrote};
+ghost use Rattle.yaml_scalar.specs.Barred.{is_ordinary};
+ghost use Rattle.yaml_scalar.specs.SimpleAsciiTexts.{IsSimpleAscii, has_simple_ascii_ends, is_simple_ascii};
+ghost use Rattle.yaml_scalar.specs.Width.{limit_where};
+
+use crate::classes::{BREAK, INDICATOR, UNPRINTABLE, WIDE};
+use crate::lines::{Lines, line_room, write_runs};
+use crate::short_runs::{is_short_run, write_short_run};
+use std::alloc::Allocator;
+use yaml_base::yaml_error_t;
+use yaml_pen::Pen;
+
+/// The classes of bytes that no simple ASCII text holds.
+const NOT_SIMPLE_ASCII: u8 = BREAK | UNPRINTABLE | INDICATOR | WIDE;
+
+/// Returns whether a text is simple ASCII: at most 512 bytes of ASCII, a letter or a digit first and no space last, without
+/// a break, a control character, `#`, `:`, `?` and the flow indicators. Every style may hold such a text.
+#[inline(always)]
+pub fn is_simple_ascii(text: &str) -> bool
+    ensures value { result ≡ is_simple_ascii text.now }
+    ensures simple_ascii { result ≡ true → IsSimpleAscii text.now }
+{
+    has_simple_ascii_ends(text.as_bytes()) && is_short_run(text, NOT_SIMPLE_ASCII)
+}
+
+/// Whether a text begins with a letter or a digit and ends with no space.
+fn has_simple_ascii_ends(bytes: &[u8]) -> bool
+    ensures { result ≡ has_simple_ascii_ends bytes.now }
+{
+    match bytes.len() {
+        0 => false,
+        count => is_ordinary_byte(bytes[0]) && bytes[count - 1] != b' ',
+    }
+}
+
+/// Whether a byte is a letter or a digit.
+fn is_ordinary_byte(byte: u8) -> bool
+    ensures { result ≡ is_ordinary byte }
+{
+    matches!(byte, b'a'..=b'z' | b'A'..=b'Z' | b'0'..=b'9')
+}
+
+/// Writes a simple ASCII text as a plain scalar: as `write_plain_scalar` does, in flow or not, without looking at its
+/// characters again.
+///
+/// # Errors
+/// `WriteError` where the output passes its limit, `Memory` where a growth was refused, else the pen's first
+/// error.
+pub fn write_simple_ascii_scalar<A: Allocator>(
+    pen: &mut Pen<A>,
+    value: &str,
+    allow_breaks: bool,
+    indent: i32,
+    width: i32,
+) -> Result<(), yaml_error_t>
+    requires ready { IsReady pen.old }
+    requires simple_ascii { IsSimpleAscii value.now }
+    requires indented { pos 2 ≤ℤ indent }
+    ensures { (flow : Bool) → Wrote (render_plain flow (limit_where allow_breaks width) (natural indent) (chars value.now)) pen.old pen.new result }
+{
+    write_after_space(
+        pen,
+        value,
+        Lines {
+            quoted: false,
+            allow_breaks,
+            indent: indent as u32,
+            width,
+        },
+    )
+}
+
+fn write_after_space<A: Allocator>(
+    pen: &mut Pen<A>,
+    value: &str,
+    lines: Lines,
+) -> Result<(), yaml_error_t>
+    requires ready { IsReady pen.old }
+    requires simple_ascii { IsSimpleAscii value.now }
+    requires plain { lines.quoted ≡ false }
+    ensures { (flow : Bool) → Wrote (render_plain flow (limit_where lines.allow_breaks lines.width) lines.indent (chars value.now)) pen.old pen.new result }
+{
+    pen.separate()?;
+    write_body(pen, value, lines)
+}
+
+fn write_body<A: Allocator>(pen: &mut Pen<A>, value: &str, lines: Lines) -> Result<(), yaml_error_t>
+    requires ready { IsReady pen.old }
+    requires simple_ascii { IsSimpleAscii value.now }
+    requires plain { lines.quoted ≡ false }
+    ensures { Wrote (plain_body (limit_where lines.allow_breaks lines.width) lines.indent (chars value.now)) pen.old pen.new result }
+{
+    write_simple_ascii_line(pen, value, lines)?;
+    pen.set_whitespace(false);
+    pen.set_indention(false);
+    Ok(())
+}
+
+/// At once where the width isn't passed.
+fn write_simple_ascii_line<A: Allocator>(
+    pen: &mut Pen<A>,
+    value: &str,
+    lines: Lines,
+) -> Result<(), yaml_error_t>
+    requires ready { IsReady pen.old }
+    requires simple_ascii { IsSimpleAscii value.now }
+    requires plain { lines.quoted ≡ false }
+    ensures { Wrote (render_runs (λ text. text) (limit_where lines.allow_breaks lines.width) lines.indent true (runs (chars value.now)))
+        pen.old pen.new result }
+{
+    if value.len() <= line_room(pen, lines) {
+        write_short_run(pen, value)
+    } else {
+        write_runs(pen, value, lines)
+    }
+}
