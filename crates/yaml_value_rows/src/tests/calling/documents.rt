@@ -1,13 +1,15 @@
 //! Documents, from their nodes to bytes.
-use crate::tests::{answers, equal};
+ghost use Rattle.std.specs.Prelude.{◌≡◌, true};
+
+use crate::tests::{answers, equal, same};
 use std::alloc::{AllocError, Global};
 use std::process::Abort;
 use yaml_dump::{
-    NodeNumber, YAML_ANY_MAPPING_STYLE, YAML_ANY_SCALAR_STYLE, YAML_MAP_TAG, YAML_STR_TAG,
-    document_events, yaml_document_t, yaml_emitter_close, yaml_emitter_dump,
-    yaml_emitter_initialize, yaml_emitter_open, yaml_emitter_set_output_string,
-    yaml_emitter_set_width, yaml_emitter_t, yaml_error_t, yaml_node_data_t, yaml_node_pair_t,
-    yaml_node_t,
+    NodeNumber, YAML_ANY_ENCODING, YAML_ANY_MAPPING_STYLE, YAML_ANY_SCALAR_STYLE, YAML_MAP_TAG,
+    YAML_STR_TAG, YAML_STREAM_START_EVENT, document_events, emit_each, yaml_document_t,
+    yaml_emitter_close, yaml_emitter_dump, yaml_emitter_emit, yaml_emitter_initialize,
+    yaml_emitter_open, yaml_emitter_set_output_string, yaml_emitter_set_width, yaml_emitter_t,
+    yaml_error_t, yaml_node_data_t, yaml_node_pair_t, yaml_node_t,
 };
 
 /// A document as YAML of at most `limit` bytes.
@@ -69,6 +71,23 @@ fn two_dumps(
     yaml_emitter_dump(alloc, &mut emitter, first)?;
     yaml_emitter_dump(alloc, &mut emitter, empty)?;
     Vec::from_slice(alloc, emitter.output()).map_err(|_| yaml_error_t::Memory)
+}
+
+/// Gives the nodes of a document without its directives, in a stream whose start was emitted as an event.
+fn emit_bare(
+    alloc: Global,
+    emitter: &mut yaml_emitter_t<Global>,
+    document: yaml_document_t<Global>,
+) -> Result<(), yaml_error_t>
+    requires { emitter.old.has_output ≡ true }
+    ensures { emitter.new.has_output ≡ true }
+{
+    if let Some(error) = emitter.error() {
+        return Err(error);
+    }
+    emitter.mark_opened();
+    let events = document_events(alloc, &document.bare())?;
+    emit_each(emitter, events)
 }
 
 /// Closes the stream where it was opened and no call has failed.
@@ -169,6 +188,30 @@ fn opened(rt: &impl Abort, alloc: Global) -> yaml_emitter_t<Global> {
     yaml_emitter_set_output_string(&mut emitter, 100);
     equal(rt, &yaml_emitter_open(&mut emitter), &Ok(()));
     emitter
+}
+
+/// Emits the stream's start and a document's nodes.
+fn start_bare(
+    alloc: Global,
+    emitter: &mut yaml_emitter_t<Global>,
+    document: yaml_document_t<Global>,
+) -> Result<(), yaml_error_t>
+    requires { emitter.old.has_output ≡ true }
+{
+    let encoding = YAML_ANY_ENCODING;
+    yaml_emitter_emit(emitter, YAML_STREAM_START_EVENT { encoding })?;
+    emit_bare(alloc, emitter, document)
+}
+
+#[test]
+fn nodes_follow_a_stream_start(rt: HostRuntime) {
+    let nodes = named_nodes(&rt, rt.alloc(), 3);
+    let document = document(&rt, rt.alloc(), nodes);
+    let mut emitter = yaml_emitter_initialize(rt.alloc()).expect(&rt, "no memory");
+    yaml_emitter_set_output_string(&mut emitter, 100);
+    let answer = start_bare(rt.alloc(), &mut emitter, document);
+    equal(&rt, &(answer, emitter.is_opened()), &(Ok(()), true));
+    same(&rt, emitter.output(), b"name: beta\n");
 }
 
 /// How the call ends, and whether the stream is then closed.

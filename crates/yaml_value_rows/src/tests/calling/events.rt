@@ -1,7 +1,7 @@
 //! Streams, event by event.
 ghost use Rattle.std.specs.Prelude.{◌≡◌, true};
 
-use crate::tests::equal;
+use crate::tests::{equal, same};
 use std::alloc::{AllocError, Global};
 use std::process::Abort;
 use yaml_dump::{
@@ -198,39 +198,39 @@ fn borrowed_texts_stand_between_events(rt: HostRuntime) {
     give_texts(&rt, rt.alloc(), &mut emitter);
 }
 
-/// Flushes all text so far. Returns how many events still wait for those that follow.
-fn flush_text(emitter: &mut yaml_emitter_t<Global>) -> Result<usize, yaml_error_t>
+/// Flushes all text so far, and sends what was flushed since the last call. Returns how many events still wait.
+fn send(emitter: &mut yaml_emitter_t<Global>, sent: &mut Vec<u8>) -> Result<usize, yaml_error_t>
     requires { emitter.old.has_output ≡ true }
     ensures { emitter.new.has_output ≡ true }
 {
     yaml_emitter_flush(emitter)?;
-    Ok(emitter.held())
+    let part = yaml_emitter_take_output(emitter);
+    match sent.extend_from_slice(part.as_slice()) {
+        Ok(()) => Ok(emitter.held()),
+        Err(_) => Err(yaml_error_t::Memory),
+    }
 }
 
-fn give_and_flush(rt: &impl Abort, alloc: Global, emitter: &mut yaml_emitter_t<Global>)
+fn give_and_send(
+    rt: &impl Abort,
+    alloc: Global,
+    emitter: &mut yaml_emitter_t<Global>,
+    sent: &mut Vec<u8>,
+)
     requires { emitter.old.has_output ≡ true }
 {
     check_emitted(rt, emitter, started(rt, alloc), 2, b"");
-    let held = flush_text(emitter);
+    let held = send(emitter, sent);
     equal(rt, &(held, emitter.encoding_known()), &(Ok(2), true));
     check_emitted(rt, emitter, item(rt, alloc), 0, b"");
-    equal(rt, &flush_text(emitter), &Ok(0));
-    check_output(rt, emitter, 0, b"[a, b");
+    equal(rt, &send(emitter, sent), &Ok(0));
+    same(rt, sent.as_slice(), b"[a, b");
 }
 
 #[test]
 fn a_flush_writes_what_is_ready(rt: HostRuntime) {
     let mut emitter = emitter_with_output(&rt, rt.alloc());
-    give_and_flush(&rt, rt.alloc(), &mut emitter);
-}
-
-/// Sends what was flushed since the last call.
-fn send(emitter: &mut yaml_emitter_t<Global>, sent: &mut Vec<u8>) -> Result<(), yaml_error_t>
-    ensures { emitter.new.has_output ≡ emitter.old.has_output }
-{
-    let part = yaml_emitter_take_output(emitter);
-    sent.extend_from_slice(part.as_slice())
-        .map_err(|_| yaml_error_t::Memory)
+    give_and_send(&rt, rt.alloc(), &mut emitter, &mut Vec::new(rt.alloc()));
 }
 
 fn first_document(rt: &impl Abort, alloc: Global) -> Events {
@@ -261,7 +261,7 @@ fn send_after(
     ensures { emitter.new.has_output ≡ true }
 {
     let emitted = emit_all(emitter, events);
-    equal(rt, &(emitted, send(emitter, sent)), &(Ok(()), Ok(())));
+    equal(rt, &(emitted, send(emitter, sent)), &(Ok(()), Ok(0)));
     let left = (sent.as_slice(), emitter.output());
     equal(rt, &left, &(wanted, b"".as_slice()));
 }

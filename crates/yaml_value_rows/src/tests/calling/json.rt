@@ -1,13 +1,39 @@
 //! JSON, written as YAML.
-use crate::tests::same;
+use crate::tests::{equal, same};
 use std::alloc::Global;
-use yaml_json::{JsonError, JsonSettings, yaml_from_json};
+use std::io::{Read, Write};
+use yaml_json::{
+    JsonError, JsonSettings, StreamError, Writer, send_json_texts, value_settings, yaml_from_json,
+};
 
 /// The YAML of a JSON text, with an indent of 4.
 fn yaml_of_json(alloc: Global, text: &str) -> Result<Vec<u8>, JsonError> {
     let mut settings = JsonSettings::default();
     settings.writer.indent = Some(4);
     yaml_from_json(alloc, text, settings)
+}
+
+/// The JSON texts of a reader as the documents of a stream, each handed on to a sink as the next begins.
+fn send_texts<R: Read, W: Write>(
+    alloc: Global,
+    reader: &mut R,
+    sink: &mut W,
+) -> Result<(), StreamError> {
+    let refused = |error| StreamError::Refused(JsonError::Emitter(error));
+    let mut writer = Writer::new(alloc, value_settings()).map_err(refused)?;
+    send_json_texts(alloc, &mut writer, reader, sink, JsonSettings::default())?;
+    let rest = writer.finish().map_err(refused)?;
+    sink.write_all(rest.as_slice())
+        .map_err(StreamError::WriteFailed)
+}
+
+#[test]
+fn texts_are_sent_one_by_one(rt: HostRuntime) {
+    let mut sink: Vec<u8> = Vec::new(rt.alloc());
+    let mut reader = b"{\"a\": 1} \"no\"".as_slice();
+    let is_sent = send_texts(rt.alloc(), &mut reader, &mut sink).is_ok();
+    equal(&rt, &is_sent, &true);
+    same(&rt, sink.as_slice(), b"---\na: 1\n--- 'no'\n");
 }
 
 #[test]

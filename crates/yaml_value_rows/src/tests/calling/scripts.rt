@@ -1,6 +1,7 @@
 //! Scripts, run and read.
 use crate::tests::{equal, same};
 use std::alloc::Global;
+use std::io;
 use std::process::Abort;
 use yaml_dump::yaml_error_t;
 use yaml_tool::{Script, ScriptError, read_script, run, run_answer_t, status, write_line};
@@ -28,10 +29,16 @@ fn a_script_is_run(rt: HostRuntime) {
 
 const REFUSED: run_answer_t = run_answer_t::Refused(2, yaml_error_t::ExpectedDocumentStart);
 
+/// Writes the program's line of a run, and returns the program's status.
+fn reported(answer: &run_answer_t, line: &mut Vec<u8>) -> io::Result<u8> {
+    write_line(answer, line)?;
+    Ok(status(answer))
+}
+
 // A run that ended so is returned by this line.
 fn check_line(rt: &impl Abort, alloc: Global, answer: &run_answer_t, wanted: &str) {
     let mut line: Vec<u8> = Vec::new(alloc);
-    let is_written = write_line(answer, &mut line).is_ok();
+    let is_written = reported(answer, &mut line).is_ok();
     let written = (is_written, line.as_slice());
     equal(rt, &written, &(true, wanted.as_bytes()));
 }
@@ -43,19 +50,22 @@ fn a_refusal_has_its_line(rt: HostRuntime) {
     check_line(&rt, rt.alloc(), &REFUSED, words);
 }
 
-fn read(alloc: Global, script: &[u8]) -> Result<Script<Global>, ScriptError> {
-    read_script(alloc, script)
+/// How many events a script has; or the number of its first bad line.
+fn count_events(alloc: Global, script: &[u8]) -> Result<usize, ScriptError> {
+    let script = read_script(alloc, script)?;
+    Ok(script.events.len())
 }
 
-fn check_script(rt: &impl Abort, script: &Script<Global>) {
-    let read = (script.settings.width, script.events.len());
-    equal(rt, &read, &(Some(40), 2));
+fn read(rt: &impl Abort, alloc: Global, script: &[u8]) -> Script<Global> {
+    read_script(alloc, script).expect(rt, "a script")
 }
 
 #[test]
 fn a_script_is_read(rt: HostRuntime) {
-    let script = read(rt.alloc(), b"width 40\n+STR any\n-STR\n").expect(&rt, "a script");
-    check_script(&rt, &script);
-    let twice = read(rt.alloc(), b"width 40\nwidth 40\n").err();
-    equal(&rt, &twice, &Some(ScriptError::BadLine(2)));
+    let script = read(&rt, rt.alloc(), b"width 40\n");
+    equal(&rt, &script.settings.width, &Some(40));
+    let count = count_events(rt.alloc(), b"+STR any\n-STR\n");
+    equal(&rt, &count, &Ok(2));
+    let twice = count_events(rt.alloc(), b"width 40\nwidth 40\n");
+    equal(&rt, &twice, &Err(ScriptError::BadLine(2)));
 }

@@ -2,8 +2,8 @@
 use crate::tests::{answers, equal, finished, same, writer};
 use std::alloc::Global;
 use yaml_writer::{
-    Date, Time, Timestamp, Writer, YAML_BLOCK_MAPPING_STYLE, YAML_FLOW_SEQUENCE_STYLE,
-    value_settings, yaml_error_t,
+    Date, DocumentEnd, SpecialFloat, Time, Timestamp, Writer, YAML_BLOCK_MAPPING_STYLE,
+    YAML_DOUBLE_QUOTED_SCALAR_STYLE, YAML_FLOW_SEQUENCE_STYLE, value_settings, yaml_error_t,
 };
 
 /// A mapping of a text and of a sequence of values.
@@ -16,7 +16,11 @@ fn give_values(writer: &mut Writer<Global>) -> Result<(), yaml_error_t> {
     writer.int(-5)?;
     writer.bool(true)?;
     writer.null()?;
+    writer.unsigned(5)?;
+    writer.special_float(SpecialFloat::Infinity)?;
     writer.end()?;
+    writer.text("motto")?;
+    writer.text_styled(YAML_DOUBLE_QUOTED_SCALAR_STYLE, "go on")?;
     writer.end()
 }
 
@@ -25,6 +29,17 @@ fn values(alloc: Global) -> Result<Vec<u8>, yaml_error_t> {
     let mut writer = Writer::new(alloc, value_settings())?;
     give_values(&mut writer)?;
     writer.finish()
+}
+
+/// Ends what is open, with null for a node that is awaited, and the stream with `...`.
+fn ended(mut writer: Writer<Global>) -> Result<Vec<u8>, yaml_error_t> {
+    if writer.awaits_node() {
+        writer.null()?;
+    }
+    for _ in 0..writer.depth() {
+        writer.end()?;
+    }
+    writer.finish_after(DocumentEnd::Explicit)
 }
 
 /// A mapping of a text with an anchor and a tag, and of an alias for it.
@@ -62,9 +77,9 @@ fn give_times(
     writer.end()
 }
 
-/// Ends a document, begins the next, and sends what was flushed since the last call.
+/// Ends a document with `...`, begins the next, and sends what was flushed since the last call.
 fn send_document(writer: &mut Writer<Global>, sent: &mut Vec<u8>) -> Result<(), yaml_error_t> {
-    writer.next_document()?;
+    writer.next_document_after(DocumentEnd::Explicit)?;
     let part = writer.take_output();
     sent.extend_from_slice(part.as_slice())
         .map_err(|_| yaml_error_t::Memory)
@@ -72,7 +87,7 @@ fn send_document(writer: &mut Writer<Global>, sent: &mut Vec<u8>) -> Result<(), 
 
 #[test]
 fn values_are_written(rt: HostRuntime) {
-    let expected = "---\ncountry: 'no'\nvalues: [-5, true, null]\n";
+    let expected = "---\ncountry: 'no'\nvalues: [-5, true, null, 5, .inf]\nmotto: \"go on\"\n";
     answers(&rt, values(rt.alloc()), &Ok(expected.as_bytes()));
 }
 
@@ -82,6 +97,23 @@ fn an_alias_stands_for_a_value(rt: HostRuntime) {
     equal(&rt, &give_shared(&mut writer), &Ok(()));
     let expected = "---\nfrom: &place !city Oslo\nto: *place\n";
     answers(&rt, finished(writer), &Ok(expected.as_bytes()));
+}
+
+/// A list in a list, whose second item has only its tag.
+fn give_begun(writer: &mut Writer<Global>) -> Result<(), yaml_error_t> {
+    writer.begin_sequence(YAML_FLOW_SEQUENCE_STYLE)?;
+    writer.begin_sequence(YAML_FLOW_SEQUENCE_STYLE)?;
+    writer.text("a")?;
+    writer.tagged("!b")
+}
+
+#[test]
+fn what_is_open_is_ended(rt: HostRuntime) {
+    let mut writer = writer(&rt, rt.alloc(), value_settings());
+    equal(&rt, &give_begun(&mut writer), &Ok(()));
+    let open = (writer.depth(), writer.awaits_node());
+    equal(&rt, &open, &(2, true));
+    answers(&rt, ended(writer), &Ok(b"--- [[a, !b null]]\n...\n"));
 }
 
 #[test]
@@ -107,6 +139,6 @@ fn documents_are_sent_one_by_one(rt: HostRuntime) {
     let mut sent = Vec::new(rt.alloc());
     let mut writer = writer(&rt, rt.alloc(), value_settings());
     equal(&rt, &send_text(&mut writer, &mut sent), &Ok(()));
-    same(&rt, sent.as_slice(), b"--- a\n");
+    same(&rt, sent.as_slice(), b"--- a\n...\n");
     answers(&rt, finished(writer), &Ok(b"--- b\n"));
 }
