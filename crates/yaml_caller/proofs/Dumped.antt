@@ -1,6 +1,6 @@
 -- What the promises of a dump come to for a document that holds itself.
-use Rattle.yaml_caller.proofs.Common.{ℕ, if◌then◌else◌, ◌==◌, IfOk, OnOk, None, Result, Err, Ok, Vec, length, Bool, false, true, ◌||◌, List, [], ◌++◌, ◌∷◌}
-use Rattle.yaml_caller.proofs.Common.{refl, ◌≡◌, inl, inr, ap, subst, sym, ◌∙◌, All-nil, All-cons, Text, any_style, block, Event, stream_start, stream_end}
+use Rattle.yaml_caller.proofs.Common.{if◌then◌else◌, ◌==◌, OnOk, None, Result, Err, Ok, length, Bool, false, true, ◌||◌, List, [], ◌++◌, ◌∷◌}
+use Rattle.yaml_caller.proofs.Common.{refl, ◌≡◌, inl, inr, ap, subst, ◌∙◌, All-nil, All-cons, Text, any_style, block, Event, stream_start, stream_end}
 use Rattle.yaml_caller.proofs.Common.{output_of, held_back, AreDumped, GraphNode, Graph, document_event_list, IsDocument, cycle_graph, cycle_bytes}
 use Rattle.yaml_caller.proofs.Common.{letter_settings, opening, closing, Dumps, StandsAfter, State}
 use Rattle.yaml_base.proofs.Common.{reads_alike, NumberPair, scalar_held, mapping_held}
@@ -69,9 +69,3 @@ still_open graph was now is unclosed closed = closed ∙ ap (λ (b : Bool). b ||
 pub then_ok : {P Q : Type 0} (answer : Result (Unit {0}) yaml_error_t) → OnOk answer P → (P → Q) → OnOk answer Q
 then_ok (Ok _) p f = f p
 then_ok (Err error) p f = tt
-
--- what holds of bytes holds of their copy
-pub copy_holds : {A E : Type 0} (P : List ℕ → Type 0) (answer : Result (Vec ℕ A) E) (bytes : List ℕ) → IfOk answer (λ copy. copy.items ≡ bytes)
-    → P bytes → IfOk answer (λ copy. P copy.items)
-copy_holds P (Ok copy) bytes same holds = subst P (sym same) holds
-copy_holds P (Err error) bytes same holds = tt

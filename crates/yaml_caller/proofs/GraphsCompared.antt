@@ -1,6 +1,6 @@
 -- Two graphs are isomorphic exactly where their bytes are the same.
-use Rattle.yaml_caller.proofs.Common.{ℕ, ◌<◌, if◌then◌else◌, ◌==◌, Decides, is_none, IsErrAnd, IfOk, IfErr, IsErr, OnOk, bytes_eq, Option, None, Some, Result}
-use Rattle.yaml_caller.proofs.Common.{Err, Ok, Vec, length, Bool, false, true, List, [], map, ◌++◌, ◌∷◌, ◌⊎◌, refl, ◌≡◌, append-nil, append_assoc, inl, inr}
+use Rattle.yaml_caller.proofs.Common.{ℕ, ◌<◌, if◌then◌else◌, ◌==◌, Decides, is_none, IsErrAnd, IfErr, IsErr, OnOk, bytes_eq, Option, None, Some, Result}
+use Rattle.yaml_caller.proofs.Common.{Err, Ok, length, Bool, false, true, List, [], map, ◌++◌, ◌∷◌, ◌⊎◌, refl, ◌≡◌, append-nil, append_assoc, inl, inr}
 use Rattle.yaml_caller.proofs.Common.{ap, subst, sym, ◌∙◌, arith, All-nil, All-cons, bytes_eq-Decides, Event, stream_start, stream_end, AreDumped, GraphsRead}
 use Rattle.yaml_caller.proofs.Common.{bare, GraphNode, Graph, document_event_list, IsDocument, typed_settings, graph_events, IsRefused, opening, closing}
 use Rattle.yaml_caller.proofs.Common.{Dumps, RefusedAt, Promised, StandsAfter, State, result_of_error}
@@ -11,7 +11,7 @@ use Rattle.yaml_base.{proofs.ContentsUnfold.dumped_stream, proofs.GraphRefusals.
 use Rattle.yaml_base.{proofs.Twins.in_right, specs.Settings.largest_usize, specs.declared.errors.yaml_error_t.yaml_error_t}
 use Rattle.yaml_base.{specs.graphs.Isomorphic.IsWrittenAlike}
 use Rattle.yaml_base.specs.declared.errors.yaml_error_t.TheVariants.{Memory, TagEmpty, TooDeep, WriteError}
-use Rattle.yaml_caller.{proofs.Dumped.copy_holds, specs.GraphBytes.WritesGraph, specs.GraphBytes.AreRefused}
+use Rattle.yaml_caller.specs.{GraphBytes.WritesGraph, GraphBytes.AreRefused}
 use Rattle.yaml_pen.proofs.Writing.{none_from_result, some_from_result}
 use Rattle.yaml_dump.proofs.{EqualBytesLemmas.one_reading, EqualBytesLemmas.equal_documents, GraphLemmas.written_whole}
 
@@ -215,16 +215,12 @@ writes_nodes graph bytes writes = record { output = writes.output; reads = write
 pub is_document : (graph : Graph) → is_whole graph ≡ true → (length graph.nodes == 0) ≡ false → IsDocument (bare graph)
 is_document graph whole some = record { whole = whole; has_nodes = some }
 
--- the copy of the bytes of a dump that went well
-pub copy_writes : {A E : Type 0} (copy : Result (Vec ℕ A) E) (graph made : Graph) (bytes output : List ℕ) (answer : Result (Unit {0}) yaml_error_t)
-    (done : Unit {0})
-    → made ≡ bare graph → answer ≡ Ok done → bytes ≡ output → OnOk answer (WritesGraph made output) → IfOk copy (λ c. c.items ≡ bytes)
-    → IfOk copy (λ c. WritesGraph graph c.items)
-copy_writes copy graph made bytes output answer done is ok same writes copied =
+-- the bytes of a dump that went well
+pub dump_writes : (graph made : Graph) (bytes output : List ℕ) (answer : Result (Unit {0}) yaml_error_t) (done : Unit {0})
+    → made ≡ bare graph → answer ≡ Ok done → bytes ≡ output → OnOk answer (WritesGraph made output) → WritesGraph graph bytes
+dump_writes graph made bytes output answer done is ok same writes =
     let written : WritesGraph made output = subst (λ a. OnOk a (WritesGraph made output)) ok writes in
-    copy_holds (WritesGraph graph) copy bytes copied
-    (writes_nodes graph bytes
-    (subst (λ b. WritesGraph (bare graph) b) (sym same) (subst (λ g. WritesGraph g output) is written)))
+    writes_nodes graph bytes (subst (λ b. WritesGraph (bare graph) b) (sym same) (subst (λ g. WritesGraph g output) is written))
 
 -- why a dump failed, where its output is less than full
 pub dump_refused : (graph made : Graph) (error : yaml_error_t) (bytes output : List ℕ) (answer : Result (Unit {0}) yaml_error_t)
@@ -260,9 +256,3 @@ pub second_refused : (first second : Graph) (error : yaml_error_t) → (error �
     → (error ≡ Memory) ⊎ (IsRefused first error ⊎ IsRefused second error)
 second_refused first second error (inl memory) = inl memory
 second_refused first second error (inr refused) = inr (inr refused)
-
--- a copy fails for want of memory
-pub copy_fails : {A : Type 0} (P : yaml_error_t → Type 0) (answer : Result A yaml_error_t) → IfErr answer (λ error. error ≡ Memory)
-    → IfErr answer (λ error. (error ≡ Memory) ⊎ P error)
-copy_fails P (Ok copy) memory = tt
-copy_fails P (Err error) memory = inl memory

@@ -1,5 +1,5 @@
 -- What the promises of an emitter come to for a mapping of one text to another.
-use Rattle.yaml_caller.proofs.Common.{ℕ, IfOk, OnOk, Result, Err, Ok, Vec, false, true, List, [], refl, ◌≡◌, ap, subst, ◌∙◌, Text, TagDirective, Event}
+use Rattle.yaml_caller.proofs.Common.{OnOk, Result, Err, Ok, false, true, List, [], refl, ◌≡◌, subst, Text, TagDirective, Event}
 use Rattle.yaml_caller.proofs.Common.{agrees, stream_trees, portable_settings, pair_events, Promised, State, result_of_error}
 use Rattle.yaml_base.specs.declared.errors.yaml_error_t.{yaml_error_t}
 use Rattle.yaml_pen.proofs.Writing.{none_from_result}
@@ -20,10 +20,3 @@ pub pair_reads : (key value : Text) (answer : Result (Unit {0}) yaml_error_t) (s
 pair_reads key value (Ok _) state promised is =
     (whole portable_settings (pair_events key value) state refl refl promised (none_from_result state.error is)).reads_back refl
 pair_reads key value (Err error) state promised is = tt
-
--- and so does a copy
-pub copy_agrees : {A E : Type 0} (key value : Text) (answer : Result (Vec ℕ A) E) (bytes : List ℕ) → IfOk answer (λ copy. copy.items ≡ bytes)
-    → agrees false (pair_events key value) (stream_trees false bytes) ≡ true
-    → IfOk answer (λ copy. agrees false (pair_events key value) (stream_trees false copy.items) ≡ true)
-copy_agrees key value (Ok copy) bytes same agree = ap (λ (bytes : List ℕ). agrees false (pair_events key value) (stream_trees false bytes)) same ∙ agree
-copy_agrees key value (Err error) bytes same agree = tt

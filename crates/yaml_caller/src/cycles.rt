@@ -8,14 +8,14 @@ ghost use Rattle.yaml_emitter.specs.StandsAfter.{StandsAfter};
 ghost use Rattle.yaml_caller.specs.Letter.{letter_settings};
 ghost use Rattle.yaml_caller.specs.Cycle.{cycle_bytes, cycle_graph, key_node, map_node};
 
-use super::{canonical_emitter, copied};
+use super::canonical_emitter;
 use std::alloc::{AllocError, Allocator};
 use yaml_base::{
     YAML_ANY_SCALAR_STYLE, YAML_BLOCK_MAPPING_STYLE, yaml_document_t, yaml_error_t,
     yaml_node_data_t, yaml_node_pair_t, yaml_node_t,
 };
 use yaml_dump::{YAML_MAP_TAG, YAML_STR_TAG, yaml_emitter_close, yaml_emitter_dump};
-use yaml_emitter::yaml_emitter_t;
+use yaml_emitter::{yaml_emitter_t, yaml_emitter_take_output};
 
 /// The canonical bytes of a mapping whose one key is the string `k`, and whose value is the mapping itself.
 ///
@@ -30,7 +30,7 @@ pub fn cycle_written<A: Allocator + Copy>(alloc: A) -> Result<Vec<u8, A>, yaml_e
     let document = cycle(alloc)?;
     let mut emitter = canonical_emitter(alloc)?;
     dump_cycle(alloc, &mut emitter, document)?;
-    copied(alloc, emitter.output())
+    Ok(yaml_emitter_take_output(&mut emitter))
 }
 
 /// Dumps the document as a whole stream.
@@ -55,19 +55,13 @@ fn dump_cycle<A: Allocator + Copy>(
     yaml_emitter_close(emitter)
 }
 
-/// The document's start isn't written.
-const START_IMPLICIT: bool = true;
-
-/// Nor is its end.
-const END_IMPLICIT: bool = true;
-
 /// The document: its mapping is node 1, and the key is node 2.
 fn cycle<A: Allocator + Copy>(alloc: A) -> Result<yaml_document_t<A>, yaml_error_t>
     ensures graph { IfOk result (λ document. graph_of document ≡ cycle_graph) }
     ensures memory { IfErr result (λ error. error ≡ yaml_error_t.Memory) }
 {
     let nodes = cycle_nodes(alloc).map_err(|_| yaml_error_t::Memory)?;
-    match yaml_document_t::from_nodes(None, Vec::new(alloc), nodes, START_IMPLICIT, END_IMPLICIT) {
+    match yaml_document_t::from_nodes(None, Vec::new(alloc), nodes, true, true) {
         Ok(document) => Ok(document),
         Err(_) => unreachable!(),
     }

@@ -25,6 +25,7 @@ use yaml_base::{
 use yaml_emitter::{
     yaml_emitter_emit, yaml_emitter_initialize, yaml_emitter_set_canonical,
     yaml_emitter_set_output_string, yaml_emitter_set_width, yaml_emitter_t,
+    yaml_emitter_take_output,
 };
 
 /// An emitter that writes canonical form into at most 100 bytes.
@@ -54,7 +55,7 @@ pub fn letter_written<A: Allocator + Copy>(alloc: A) -> Result<Vec<u8, A>, yaml_
     let mut emitter = canonical_emitter(alloc)?;
     let value = letter(alloc)?;
     emit_letter(alloc, &mut emitter, value)?;
-    copied(alloc, emitter.output())
+    Ok(yaml_emitter_take_output(&mut emitter))
 }
 
 fn letter<A: Allocator>(alloc: A) -> Result<String<A>, yaml_error_t>
@@ -65,13 +66,6 @@ fn letter<A: Allocator>(alloc: A) -> Result<String<A>, yaml_error_t>
         Ok(text) => Ok(text),
         Err(_) => Err(yaml_error_t::Memory),
     }
-}
-
-fn copied<A: Allocator>(alloc: A, bytes: &[u8]) -> Result<Vec<u8, A>, yaml_error_t>
-    ensures bytes { IfOk result (λ copy. copy.items ≡ bytes.now) }
-    ensures memory { IfErr result (λ error. error ≡ yaml_error_t.Memory) }
-{
-    Vec::from_slice(alloc, bytes).map_err(|_| yaml_error_t::Memory)
 }
 
 /// Emits the stream's five events.

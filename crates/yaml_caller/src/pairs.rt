@@ -6,7 +6,6 @@ ghost use Rattle.yaml_base.specs.streams.StreamReader.{stream_trees};
 ghost use Rattle.yaml_emitter.specs.StandsAfter.{StandsAfter};
 ghost use Rattle.yaml_caller.specs.Pair.{pair_events, portable_settings, text_scalar};
 
-use super::copied;
 use std::alloc::Allocator;
 use yaml_base::{
     YAML_ANY_ENCODING, YAML_ANY_SCALAR_STYLE, YAML_BLOCK_MAPPING_STYLE, YAML_DOCUMENT_END_EVENT,
@@ -15,7 +14,7 @@ use yaml_base::{
 };
 use yaml_emitter::{
     yaml_emitter_emit, yaml_emitter_initialize, yaml_emitter_set_output_string,
-    yaml_emitter_set_portable, yaml_emitter_t,
+    yaml_emitter_set_portable, yaml_emitter_t, yaml_emitter_take_output,
 };
 
 /// The bytes of a stream of one document, a block mapping of the key to the value, whatever these texts are: what the
@@ -32,7 +31,7 @@ pub fn pair_written<A: Allocator + Copy>(
 {
     let mut emitter = portable_emitter(alloc)?;
     emit_pair(alloc, &mut emitter, key, value)?;
-    copied(alloc, emitter.output())
+    Ok(yaml_emitter_take_output(&mut emitter))
 }
 
 /// An emitter in portable mode.

@@ -36,8 +36,7 @@ impl Given for Brand {
     ghost keeps = { true };
 }
 
-/// A writer, where its bytes go, and that what it was given since goes on with the document. Each call adds to its text and its
-/// output, and takes nothing of them back, whatever it returns.
+/// A document being written: its writer, and where the bytes go.
 #[derive(Drop)]
 pub(crate) struct Document<G: Given, W: Write + Drop> {
     writer: Writer<Global>,

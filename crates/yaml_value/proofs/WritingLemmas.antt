@@ -4,8 +4,7 @@ use Rattle.yaml_value.proofs.Common.{ap, subst, sym, ◌∙◌, arith, nat_tests
 use Rattle.yaml_value.proofs.Common.{value_events, typed_settings, WritesValue}
 use Rattle.yaml_emitter.proofs.Common.{RefusedAt, State}
 use Rattle.yaml_dump.proofs.Common.{EmitsAll, FailsAt, EmitsEach}
-use Rattle.std.proofs.lemmas.Result.{IfOk-weaker}
-use Rattle.std.specs.Prelude.{Err, Ok, Vec, ◌↔◌, IfOk}
+use Rattle.std.specs.Prelude.{Err, Ok, Vec, ◌↔◌}
 use Rattle.yaml_base.specs.{declared.errors.yaml_error_t.yaml_error_t, declared.errors.yaml_error_t.TheVariants.Memory}
 use Rattle.yaml_base.specs.{declared.errors.yaml_error_t.TheVariants.TooDeep, declared.errors.yaml_error_t.TheVariants.WriteError, values.TypedValues.ReadsAs}
 use Rattle.yaml_value.proofs.{AcceptedLemmas.value_accepted, ContentLemmas.stream_tells_value, ContentLemmas.content_of-value_events}
@@ -74,8 +73,6 @@ pub memory_alone : {T : Type 0} (answer : Result T yaml_error_t) → IfErr answe
 memory_alone (Ok value) is = tt
 memory_alone (Err error) is = inr is
 
--- a copy of the output
-pub copy_written : {A : Type 0} (answer : Result (Vec ℕ A) yaml_error_t) (value : TypedValue) (output lent : List ℕ) → lent ≡ output → WritesValue value output
-    → IfOk answer (λ copy. copy.items ≡ lent)
-    → IfOk answer (λ copy. WritesValue value copy.items)
-copy_written answer value output lent same writes = IfOk-weaker answer _ _ (λ copy is. subst (WritesValue value) (sym (is ∙ same)) writes)
+-- no vector reaches the largest limit
+pub below_limit : {A : Type 0} (bytes : Vec ℕ A) → length bytes.items < largest_usize
+below_limit bytes = omega (arith, bytes.ok.0, bytes.ok.1, bytes.small)

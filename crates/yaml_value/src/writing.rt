@@ -1,9 +1,8 @@
 //! Values written.
-ghost use Rattle.std.specs.Prelude.{◌≡◌, ◌↔◌, ◌⊎◌, ◌<◌, ◌≤◌, Err, IfOk, IfErr, length};
+ghost use Rattle.std.specs.Prelude.{◌≡◌, ◌↔◌, ◌⊎◌, ◌<◌, ◌≤◌, Err, IfOk, IfErr};
 ghost use Rattle.yaml_base.specs.values.TypedValues.{WritesValue, most_nested, nesting, typed_settings};
 ghost use Rattle.yaml_emitter.specs.Given.{seen_settings};
 ghost use Rattle.yaml_value.specs.SeenValues.{seen_value};
-ghost use Rattle.yaml_base.specs.Settings.{largest_usize};
 
 use crate::events::events_of;
 use crate::size::lies_within;
@@ -11,7 +10,7 @@ use crate::value::Value;
 use std::alloc::Allocator;
 use yaml_base::{YAML_LN_BREAK, YAML_UTF8_ENCODING, yaml_error_t};
 use yaml_dump::emit_each;
-use yaml_emitter::{Settings, yaml_emitter_t};
+use yaml_emitter::{Settings, yaml_emitter_t, yaml_emitter_take_output};
 
 /// The canonical YAML of a value: one document in UTF-8, each node with its tag. The canonical reader of the definitions
 /// finds in these bytes this value and no other.
@@ -42,11 +41,10 @@ fn written<A: Allocator + Copy>(alloc: A, value: &Value<A>) -> Result<Vec<u8, A>
     let events = events_of(alloc, value)?;
     let mut emitter = yaml_emitter_t::with_settings(alloc, canonical_settings())?;
     let answer = emit_each(&mut emitter, events);
-    let output = emitter.output();
-    // A law: no output reaches the limit.
-    is_below_limit(output);
+    // Taken after an error, too: a vector is shorter than the limit, so the error isn't that the output was full.
+    let output = yaml_emitter_take_output(&mut emitter);
     match answer {
-        Ok(()) => copied(alloc, output),
+        Ok(()) => Ok(output),
         Err(error) => Err(error),
     }
 }
@@ -65,17 +63,4 @@ pub fn canonical_settings() -> Settings
         line_break: YAML_LN_BREAK,
         ..Settings::default()
     }
-}
-
-/// A law: a slice has fewer bytes than the largest limit.
-fn is_below_limit(bytes: &[u8])
-    ensures { length bytes.now < largest_usize }
-{}
-
-/// Bytes of its own.
-fn copied<A: Allocator>(alloc: A, bytes: &[u8]) -> Result<Vec<u8, A>, yaml_error_t>
-    ensures bytes { IfOk result (λ copy. copy.items ≡ bytes.now) }
-    ensures memory { IfErr result (λ error. error ≡ yaml_error_t.Memory) }
-{
-    Vec::from_slice(alloc, bytes).map_err(|_| yaml_error_t::Memory)
 }

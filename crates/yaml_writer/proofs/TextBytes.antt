@@ -12,7 +12,7 @@ use Rattle.yaml_base.specs.values.SurelyText.{reserved_words, ascii_prefix, prec
 
 -- ---- texts and bytes alike
 
--- the same up to the first character past ASCII
+-- a text and bytes are the same up to the first character past ASCII
 data Alike : Text → List ℕ → Type 0 where
   at_end : Alike [] []
   same : (c : ℕ) (text : Text) (bytes : List ℕ) → Alike text bytes → Alike (c ∷ text) (c ∷ bytes)

@@ -121,8 +121,9 @@ fn lacks_tag(tag: Option<&str>) -> bool
     tag.is_none()
 }
 
-/// Whether an emitter took an event: it did but where there was no memory to copy it, which is no error of its own.
-pub(crate) fn was_taken(answer: &Result<(), yaml_error_t>, error: Option<yaml_error_t>) -> bool
+/// Whether the emitter took the event. It did not if the call failed and the emitter has no error: then the copy could not be
+/// allocated.
+pub(crate) fn took_event(answer: &Result<(), yaml_error_t>, error: Option<yaml_error_t>) -> bool
     ensures { result ≡ (is_ok answer.now || is_some error) }
 {
     answer.is_ok() || error.is_some()

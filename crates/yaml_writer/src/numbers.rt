@@ -4,7 +4,7 @@ ghost use Rattle.std.specs.List.{list_all};
 ghost use Rattle.yaml_base.specs.values.JsonNumbers as json;
 ghost use Rattle.yaml_base.specs.values.Resolved as schema;
 ghost use Rattle.yaml_writer.specs.NumberParts as parts;
-ghost use Rattle.yaml_writer.specs.SeenNumbers.{is_minus, seen_exponent, seen_parts};
+ghost use Rattle.yaml_writer.specs.SeenNumbers.{is_capital, is_minus, seen_exponent, seen_parts};
 
 use std::marker::Model;
 
@@ -15,11 +15,19 @@ pub enum Sign {
     Minus,
 }
 
+/// The letter that begins an exponent.
+#[derive(Clone, Copy)]
+pub enum ExponentLetter {
+    /// `e`.
+    Small,
+    /// `E`.
+    Capital,
+}
+
 /// An exponent, by what stands in it.
 #[derive(Clone, Copy)]
 pub struct Exponent<'a> {
-    /// Whether its letter is `E`, not `e`.
-    pub capital: bool,
+    pub letter: ExponentLetter,
     pub sign: Option<Sign>,
     pub digits: &'a str,
 }
@@ -55,19 +63,13 @@ fn sign_cut(text: &str) -> (Option<Sign>, &str)
     }
 }
 
-/// An exponent's letter is `e`.
-const SMALL_LETTER: bool = false;
-
-/// An exponent's letter is `E`.
-const CAPITAL_LETTER: bool = true;
-
-/// An exponent, by what follows its letter.
-fn exponent_in(capital: bool, text: &str) -> Exponent<'_>
-    ensures { seen_exponent result ≡ parts.exponent_in capital text.now }
+/// An exponent, by its letter and what follows it.
+fn exponent_in(letter: ExponentLetter, text: &str) -> Exponent<'_>
+    ensures { seen_exponent result ≡ parts.exponent_in (is_capital letter) text.now }
 {
     let (sign, digits) = sign_cut(text);
     Exponent {
-        capital,
+        letter,
         sign,
         digits,
     }
@@ -78,9 +80,15 @@ fn exponent_cut(text: &str) -> (&str, Option<Exponent<'_>>)
     ensures { (result.0.now, option_map seen_exponent result.1) ≡ parts.exponent_cut text.now }
 {
     match cut_at('e', text) {
-        Some((mantissa, exponent)) => (mantissa, Some(exponent_in(SMALL_LETTER, exponent))),
+        Some((mantissa, exponent)) => (
+            mantissa,
+            Some(exponent_in(ExponentLetter::Small, exponent)),
+        ),
         None => match cut_at('E', text) {
-            Some((mantissa, exponent)) => (mantissa, Some(exponent_in(CAPITAL_LETTER, exponent))),
+            Some((mantissa, exponent)) => (
+                mantissa,
+                Some(exponent_in(ExponentLetter::Capital, exponent)),
+            ),
             None => (text, None),
         },
     }

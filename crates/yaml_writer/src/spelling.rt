@@ -5,7 +5,7 @@ ghost use Rattle.yaml_writer.specs.NumberParts.{IsNoNumber};
 ghost use Rattle.yaml_writer.specs.SeenNumbers.{is_minus, seen_exponent, seen_parts};
 ghost use Rattle.yaml_writer.specs.Spellings as spellings;
 
-use crate::numbers::{Exponent, Number, Parts, Sign, number_of};
+use crate::numbers::{Exponent, ExponentLetter, Number, Parts, Sign, number_of};
 use std::alloc::{AllocError, Allocator};
 
 /// The spelling of a number.
@@ -61,7 +61,8 @@ fn push_exponent<A: Allocator>(
 fn is_spelled_exponent(exponent: Option<Exponent<'_>>) -> bool
     ensures { result ≡ spellings.is_spelled_exponent (option_map seen_exponent exponent.entry) }
 {
-    exponent.is_none_or(|exponent| !exponent.capital && exponent.sign.is_some())
+    exponent.is_none_or(|exponent| matches!(exponent.letter, ExponentLetter::Small)
+        && exponent.sign.is_some())
 }
 
 impl Parts<'_> {

@@ -10,7 +10,7 @@ ghost use Rattle.yaml_pen.specs.Page.{output_left};
 ghost use Rattle.yaml_writer.specs.Unfinished.{IsUnfinished, IsUnfinishedBy};
 ghost use Rattle.yaml_writer.specs.Writing.{Failed, Finishes, FinishesBy, GaveEvent, StandsTaken, TakesBytes, awaits_node, is_implicit, opening, scalar_event};
 
-use crate::giving::{begin, finished, scalar_content, use_up, was_taken};
+use crate::giving::{begin, finished, scalar_content, took_event, use_up};
 use crate::kinds::{CollectionKind, DocumentEnd};
 use std::alloc::Allocator;
 use std::io;
@@ -80,7 +80,7 @@ impl<A: Allocator + Copy> Writer<A> {
     {
         let content = scalar_content(&self.anchor, &self.tag, own, value, style);
         let answer = yaml_emitter_emit_scalar(&mut self.emitter, &content);
-        if was_taken(&answer, self.emitter.error()) {
+        if took_event(&answer, self.emitter.error()) {
             use_up(&mut self.anchor, &mut self.tag);
         }
         answer

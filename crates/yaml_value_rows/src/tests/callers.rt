@@ -5,10 +5,11 @@ use std::process::Abort;
 use yaml_caller::{
     cycle_written, letter_written, list_written, pair_written, same_bytes, same_graph,
 };
-use yaml_value::{
-    Value, YAML_ANY_SCALAR_STYLE, YAML_BLOCK_SEQUENCE_STYLE, YAML_SEQ_TAG, YAML_STR_TAG,
-    yaml_document_t, yaml_error_t, yaml_node_data_t, yaml_node_t,
+use yaml_dump::{
+    YAML_ANY_SCALAR_STYLE, YAML_BLOCK_SEQUENCE_STYLE, YAML_SEQ_TAG, YAML_STR_TAG, yaml_document_t,
+    yaml_error_t, yaml_node_data_t, yaml_node_t,
 };
+use yaml_value::Value;
 
 // Each caller is called by a function that promises nothing: tests need none of its clauses.
 fn letter(alloc: Global) -> Result<Vec<u8>, yaml_error_t> {

@@ -1,5 +1,6 @@
-use Rattle.yaml_caller.proofs.Common.{◌==◌, length, [], ap, subst, sym, ◌∙◌, StandsAfter, State, graph_of, bare, Graph, IsRefused}
-use Rattle.yaml_caller.proofs.GraphsCompared.{copy_writes, dump_refused, copy_fails}
+use Rattle.yaml_caller.proofs.Common.{◌<◌, ◌==◌, length, [], ap, subst, sym, ◌∙◌, arith, StandsAfter, State, graph_of, bare, Graph}
+use Rattle.yaml_base.specs.Settings.{largest_usize}
+use Rattle.yaml_caller.proofs.GraphsCompared.{dump_writes, dump_refused}
 use Rattle.yaml_caller.proofs.graphs.graph_bytes.Goals as goal
 
 pub dump_graph-answer-requires-clause-stands : goal.dump_graph-answer-requires-clause-stands
@@ -15,16 +16,17 @@ dump_graph-answer-requires-clause-nonempty g c = ap (λ (graph : Graph). length 
 pub returns-in-Ok-clause-written : goal.returns-in-Ok-clause-written
 returns-in-Ok-clause-written g c =
     let emitter = c.dump_graph-answer.new.emitter in
-    let whole = c.output-output.ensures.untaken (c.dump_graph-answer.ensures.taken ∙ ap (λ (state : State). state.page.taken) c.in_ok-emitter.ensures.made) in
-    copy_writes c.copied.result (graph_of c.args.document) (graph_of c.bare.result) c.output-output.result.now emitter.page.output c.dump_graph-answer.result _
-    c.bare.ensures c.in-Ok.is whole c.dump_graph-answer.ensures.written c.copied.ensures.bytes
-
-pub returns-in-Ok-clause-failed : goal.returns-in-Ok-clause-failed
-returns-in-Ok-clause-failed g c = copy_fails (IsRefused (graph_of c.args.document)) c.copied.result c.copied.ensures.memory
+    let whole = c.yaml_emitter_take_output-output.ensures.untaken
+    (c.dump_graph-answer.ensures.taken ∙ ap (λ (state : State). state.page.taken) c.in_ok-emitter.ensures.made) in
+    dump_writes (graph_of c.args.document) (graph_of c.bare.result) c.yaml_emitter_take_output-output.result.items emitter.page.output
+    c.dump_graph-answer.result _ c.bare.ensures c.in-Ok.is whole c.dump_graph-answer.ensures.written
 
 pub returns-clause-failed : goal.returns-clause-failed
 returns-clause-failed g c =
     let emitter = c.dump_graph-answer.new.emitter in
-    let whole = c.output-output.ensures.untaken (c.dump_graph-answer.ensures.taken ∙ ap (λ (state : State). state.page.taken) c.in_ok-emitter.ensures.made) in
-    dump_refused (graph_of c.args.document) (graph_of c.bare.result) _ c.output-output.result.now emitter.page.output c.dump_graph-answer.result
-    c.bare.ensures c.in-Err.is whole c.is_below_limit.ensures c.dump_graph-answer.ensures.failed
+    let whole = c.yaml_emitter_take_output-output.ensures.untaken
+    (c.dump_graph-answer.ensures.taken ∙ ap (λ (state : State). state.page.taken) c.in_ok-emitter.ensures.made) in
+    let bytes = c.yaml_emitter_take_output-output.result in
+    let few : length bytes.items < largest_usize = omega (arith, bytes.ok.0, bytes.ok.1, bytes.small) in
+    dump_refused (graph_of c.args.document) (graph_of c.bare.result) _ bytes.items emitter.page.output c.dump_graph-answer.result
+    c.bare.ensures c.in-Err.is whole few c.dump_graph-answer.ensures.failed

@@ -1,5 +1,4 @@
 use Rattle.yaml_caller.proofs.Common.{ℕ, false, true, List, ◌≡◌, subst, sym, ◌∙◌, seen_text, agrees, stream_trees, pair_events}
-use Rattle.yaml_caller.proofs.PairReads.{copy_agrees}
 use Rattle.yaml_caller.proofs.pairs.pair_written.Goals as goal
 
 pub returns : goal.returns
@@ -7,7 +6,6 @@ returns g c =
     let events = pair_events (seen_text c.args.key) (seen_text c.args.value) in
     record {
       reads =
-          copy_agrees (seen_text c.args.key) (seen_text c.args.value) c.copied.result _ c.copied.ensures.bytes
-          (subst (λ (bytes : List ℕ). agrees false events (stream_trees false bytes) ≡ true)
-          (sym (c.output.ensures.untaken (c.emit_pair.ensures.taken ∙ c.in_ok-emitter.ensures.untaken))) c.in_ok-emit_pair.ensures.reads);
+          subst (λ (bytes : List ℕ). agrees false events (stream_trees false bytes) ≡ true)
+          (sym (c.yaml_emitter_take_output.ensures.untaken (c.emit_pair.ensures.taken ∙ c.in_ok-emitter.ensures.untaken))) c.in_ok-emit_pair.ensures.reads;
     }

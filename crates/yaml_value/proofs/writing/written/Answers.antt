@@ -1,6 +1,7 @@
-use Rattle.yaml_value.proofs.Common.{◌<◌, IfErr, OnOk, length, [], ◌≡◌, ap, subst, ◌∙◌, seen_events, largest_usize, typed_settings, WritesValue, seen_value}
+use Rattle.yaml_value.proofs.Common.{◌<◌, IfErr, OnOk, length, [], ◌≡◌, ap, subst, sym, ◌∙◌, seen_events, largest_usize, typed_settings}
+use Rattle.yaml_value.proofs.Common.{WritesValue, seen_value}
 use Rattle.yaml_base.specs.declared.errors.yaml_error_t.TheVariants.{Memory}
-use Rattle.yaml_value.proofs.WritingLemmas.{events_written, copy_written}
+use Rattle.yaml_value.proofs.WritingLemmas.{events_written, below_limit}
 use Rattle.yaml_emitter.proofs.Common.{StandsAfter, State}
 use Rattle.yaml_value.proofs.writing.written.Goals as goal
 
@@ -8,23 +9,22 @@ pub returns-in-Ok-clause-written : goal.returns-in-Ok-clause-written
 returns-in-Ok-clause-written g c =
     let value = seen_value c.args.value.now in
     let emitter = c.emit_each-answer.new.emitter in
-    let whole = c.output-output.ensures.untaken
+    let whole = c.yaml_emitter_take_output-output.ensures.untaken
     (c.emit_each-answer.ensures.set.taken ∙ ap (λ (state : State). state.page.taken) c.in_ok-emitter.ensures.made) in
-    let few = subst (λ bytes. length bytes < largest_usize) whole c.is_below_limit.ensures in
+    let few = subst (λ bytes. length bytes < largest_usize) whole (below_limit c.yaml_emitter_take_output-output.result) in
     let both = events_written value
     (seen_events c.in_ok-events.events.items) c.emit_each-answer.result emitter c.in_ok-events.ensures.events c.requires c.in_ok-events.ensures.bits few
     (c.emit_each-answer.ensures.emits typed_settings []
     (subst (λ given. StandsAfter given [] c.in_ok-emitter.emitter) c.canonical_settings.ensures c.in_ok-emitter.ensures.stands)) in
-    copy_written c.copied.result value emitter.page.output c.output-output.result.now whole
-    (subst (λ answer. OnOk answer (WritesValue value emitter.page.output)) c.in-Ok.is both.0) c.copied.ensures.bytes
+    subst (WritesValue value) (sym whole) (subst (λ answer. OnOk answer (WritesValue value emitter.page.output)) c.in-Ok.is both.0)
 
 pub returns-clause-memory : goal.returns-clause-memory
 returns-clause-memory g c =
     let value = seen_value c.args.value.now in
     let emitter = c.emit_each-answer.new.emitter in
-    let whole = c.output-output.ensures.untaken
+    let whole = c.yaml_emitter_take_output-output.ensures.untaken
     (c.emit_each-answer.ensures.set.taken ∙ ap (λ (state : State). state.page.taken) c.in_ok-emitter.ensures.made) in
-    let few = subst (λ bytes. length bytes < largest_usize) whole c.is_below_limit.ensures in
+    let few = subst (λ bytes. length bytes < largest_usize) whole (below_limit c.yaml_emitter_take_output-output.result) in
     let both = events_written value
     (seen_events c.in_ok-events.events.items) c.emit_each-answer.result emitter c.in_ok-events.ensures.events c.requires c.in_ok-events.ensures.bits few
     (c.emit_each-answer.ensures.emits typed_settings []
