@@ -52,8 +52,8 @@ pub fn yaml_emitter_emit<A: Allocator + Copy>(
     }
     emitter.queue.push_reserved(event);
     match write_ready(&mut emitter.machine, emitter.queue.as_slice()) {
-        Ok(count) => {
-            drop_written(&mut emitter.queue, count);
+        Ok(written) => {
+            drop_written(&mut emitter.queue, written);
             Ok(())
         }
         Err(error) => {

@@ -22,7 +22,7 @@ pub invariant_of-emitter-in-Ok : goal.invariant_of-emitter-in-Ok
 invariant_of-emitter-in-Ok g c =
     kept_emitting c.emitter.inside _ (has_output_inside c.emitter.inside c.emitter.view_is c.requires) refl
     (subst (λ n. 4 ≤ n) (sym (c.drop_written.ensures.room ∙ c.push_reserved.ensures.capacity)) c.emitter.invariant.room)
-    (ap is_head_ready (c.drop_written.ensures.rest ∙ ap (λ q. drop c.in-Ok.count (seen_events q)) (sym c.as_slice.ensures.value))
+    (ap is_head_ready (c.drop_written.ensures.rest ∙ ap (λ q. drop c.in-Ok.written (seen_events q)) (sym c.as_slice.ensures.value))
     ∙ c.in-Ok.ensures.written.ended)
 
 pub invariant_of-emitter-in-Err : goal.invariant_of-emitter-in-Err
@@ -84,18 +84,18 @@ write_ready-requires g c = sym c.error.ensures ∙ c.in_default.is
 
 pub drop_written-requires : goal.drop_written-requires
 drop_written-requires g c =
-    within_count seen_event c.as_slice.result.now c.in-Ok.count _ c.in-Ok.ensures.written.within c.as_slice.ensures.len
+    within_count seen_event c.as_slice.result.now c.in-Ok.written _ c.in-Ok.ensures.written.within c.as_slice.ensures.len
 
 pub returns-in-Ok-clause-stands : goal.returns-in-Ok-clause-stands
 returns-in-Ok-clause-stands g c given all stands =
     let before : State = state_of c.emitter.inside in
     let h = subst (λ s. StandsAfter given all s) (sym c.emitter.view_is) stands in
     stands_with given all c.args.event _
-    (stands_written given all (seen_event c.args.event) before (seen_events c.as_slice.result.now) (seen_events c.drop_written.new.queue.items) c.in-Ok.count
+    (stands_written given all (seen_event c.args.event) before (seen_events c.as_slice.result.now) (seen_events c.drop_written.new.queue.items) c.in-Ok.written
     c.write_ready.new.machine h.so (sym c.error.ensures ∙ c.in_default.is)
     (seen_more seen_event c.emitter.inside.queue.items _ c.as_slice.result.now c.args.event c.as_slice.ensures.value c.push_reserved.ensures.items)
     c.in-Ok.ensures.written c.write_ready.ensures.error
-    (c.drop_written.ensures.rest ∙ ap (λ q. drop c.in-Ok.count (seen_events q)) (sym c.as_slice.ensures.value)))
+    (c.drop_written.ensures.rest ∙ ap (λ q. drop c.in-Ok.written (seen_events q)) (sym c.as_slice.ensures.value)))
     h.texts
 
 pub returns-in-Ok-clause-promised : goal.returns-in-Ok-clause-promised
