@@ -71,7 +71,7 @@ fn flag<'a>(alloc: Global, name: &'a str, help: &'a str, long_help: &'a str) -> 
 }
 
 /// An option with a value.
-fn setting<'a>(
+fn option_with_value<'a>(
     alloc: Global,
     name: &'a str,
     value: &'a str,
@@ -88,14 +88,18 @@ fn setting<'a>(
 
 /// Adds the options that have a value.
 fn with_settings<'a>(alloc: Global, command: Command<'a>) -> Result<Command<'a>, AllocError> {
-    let output = setting(alloc, "output", "FILE", OUTPUT_HELP, OUTPUT_LONG).short('o');
-    let indent = setting(alloc, "indent", "COLUMNS", INDENT_HELP, INDENT_LONG).value_parser(
-        clap::value_parser!(i32).range(2..=9),
-    );
-    let width = setting(alloc, "width", "COLUMN", WIDTH_HELP, WIDTH_LONG)
+    let output = option_with_value(alloc, "output", "FILE", OUTPUT_HELP, OUTPUT_LONG).short('o');
+    let indent = option_with_value(
+        alloc,
+        "indent",
+        "COLUMNS",
+        INDENT_HELP,
+        INDENT_LONG,
+    ).value_parser(clap::value_parser!(i32).range(2..=9));
+    let width = option_with_value(alloc, "width", "COLUMN", WIDTH_HELP, WIDTH_LONG)
         .allow_negative_numbers(true)
         .value_parser(clap::value_parser!(i32));
-    let depth = setting(alloc, "depth", "LEVELS", DEPTH_HELP, DEPTH_LONG).value_parser(
+    let depth = option_with_value(alloc, "depth", "LEVELS", DEPTH_HELP, DEPTH_LONG).value_parser(
         clap::value_parser!(usize).range(0..=1_000_000),
     );
     command.arg(output)?.arg(indent)?.arg(width)?.arg(depth)

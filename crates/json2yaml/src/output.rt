@@ -4,7 +4,7 @@ use std::io::ErrorKind;
 use std::rt::Runtime;
 use std::{fs, io};
 
-/// So many names are tried for a file beside another.
+/// How many names are tried for the temporary file.
 const MOST_NAMES: u32 = 1_000;
 
 /// Whether the file of this name is written where it lies: it is a device or a pipe, say, which no file can replace.

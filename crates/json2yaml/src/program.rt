@@ -16,7 +16,7 @@ use yaml_json::{JsonError, JsonSettings, StreamError, Writer, send_json_texts, y
 /// The name that means standard input, or standard output for the file that is written.
 const STREAM: &str = "-";
 
-/// So many bytes are written at once.
+/// How many bytes are written at once.
 const BUFFER_SIZE: usize = 65_536;
 
 /// What is reported where no memory is left.

@@ -7,15 +7,15 @@ use Rattle.yaml_json.proofs.Common.{parts_events, WriterState}
 use Rattle.std.{proofs.lemmas.List.drop-drop, specs.Io.KnownBytes.Keeps, specs.Io.KnownBytes.Consumes, specs.Io.KnownBytes.IsAtEnd}
 use Rattle.yaml_json.{proofs.Cutting.whole_text, proofs.YamlOf.sent_reads, specs.declared.cuts.Cut.Cut, specs.declared.error.StreamError.StreamError}
 use Rattle.yaml_json.proofs.TextsInTurn.{ends_with, one_more, joined_more, text_names, more_names}
-use Rattle.yaml_json.specs.Sent.{WroteTaking, SentTexts, ReadsSent, Sending, BeginsNext, RefusesSent, IsByNoText, IsSent, RefusesFirst, SentDocuments}
-use Rattle.yaml_json.specs.Sent.{LeavesLast}
+use Rattle.yaml_json.specs.Sent.{WroteTaking, SentTexts, ReadsSent, SentSoFar, BeginsNext, RefusesSent, IsByNoText, IsSent, RefusesFirst, SentDocuments}
+use Rattle.yaml_json.{proofs.Stopping.if_some, specs.Sent.HasCome, specs.Sent.LeavesLast, specs.declared.stream.Incoming.Incoming}
 use Rattle.yaml_json.specs.declared.error.StreamError.TheVariants as faults
 use Rattle.yaml_json.proofs.GivenAndTaken.{appends_nothing, appends_then, took_nothing, taking_then, took_none, taking_same, separated}
 
 -- ---- the texts in turn
 
 pub sending_begins : (depth : ℕ) (in_flow unique : Bool) (text : List ℕ) (was : WriterState) (held : Option (List ℕ)) → IsBare was
-    → Sending depth in_flow unique text was held text was held
+    → SentSoFar depth in_flow unique text was held text was held
 sending_begins depth in_flow unique text was held bare =
     record {
       parts = [];
@@ -31,14 +31,21 @@ sending_begins depth in_flow unique text was held bare =
 
 -- what is ahead is this
 pub sending_same : (depth : ℕ) (in_flow unique : Bool) (text : List ℕ) (was : WriterState) (start : Option (List ℕ)) (rest same : List ℕ)
-    (now : WriterState) (held : Option (List ℕ)) → rest ≡ same → Sending depth in_flow unique text was start rest now held
-    → Sending depth in_flow unique text was start same now held
+    (now : WriterState) (held : Option (List ℕ)) → rest ≡ same → SentSoFar depth in_flow unique text was start rest now held
+    → SentSoFar depth in_flow unique text was start same now held
 sending_same depth in_flow unique text was start rest same now held is =
-    subst (λ (r : List ℕ). Sending depth in_flow unique text was start r now held) is
+    subst (λ (r : List ℕ). SentSoFar depth in_flow unique text was start r now held) is
+
+-- all texts were given, the last one's document is left to the writer
+pub record GaveAll (depth : ℕ) (in_flow unique : Bool) (text : List ℕ) (was : WriterState) (start : Option (List ℕ)) (now : WriterState)
+    (held : Option (List ℕ)) : Type 0 where
+  pub sent : SentTexts depth in_flow text was start now held
+  pub reads : ReadsSent depth in_flow text was start now held
+  pub names : HaveNamesOnce unique (texts_in text)
 
 -- the texts given so far, and one more
 module _ (depth : ℕ) (in_flow unique : Bool) (text : List ℕ) (was : WriterState) (start : Option (List ℕ)) (rest : List ℕ) (now : WriterState)
-    (held : Option (List ℕ)) (sending : Sending depth in_flow unique text was start rest now held) (first left : List ℕ) (later : List (List ℕ))
+    (held : Option (List ℕ)) (sending : SentSoFar depth in_flow unique text was start rest now held) (first left : List ℕ) (later : List (List ℕ))
     (joined : first ++ left ≡ rest) (cut : texts_in rest ≡ first ∷ later) (given : WriterState)
     (named : unique ≡ true → NamesOnce [] (tokens first)) (one : WroteText depth in_flow first now given) where
   abbrev all_parts : List (List ℕ × Json)
@@ -67,7 +74,7 @@ module _ (depth : ℕ) (in_flow unique : Bool) (text : List ℕ) (was : WriterSt
 
   -- and the next document is begun
   pub sending_goes_on : (after : WriterState) (holds : Option (List ℕ)) → later ≡ texts_in left → BeginsNext given held after holds
-      → Sending depth in_flow unique text was start left after holds
+      → SentSoFar depth in_flow unique text was start left after holds
   sending_goes_on after holds is next =
       let before = events_with_separators was.canonical in_flow sending.parts in
       let events = json_events was.canonical in_flow one.json in
@@ -105,33 +112,30 @@ module _ (depth : ℕ) (in_flow unique : Bool) (text : List ℕ) (was : WriterSt
         (ends_with was.canonical in_flow sending.parts (first, one.json)) (append-nil sending.handed)
         (taking_then was now given before events sending.handed [] sending.wrote events_given)
 
-    pub sent_all : SentTexts depth in_flow text was start given held
-    sent_all =
+    pub all_given : GaveAll depth in_flow unique text was start given held
+    all_given =
         record {
-          parts = all_parts;
-          cut = cut_done;
-          joined = joined_done;
-          each = each_now;
-          handed = sending.handed;
-          sends = sending.sends;
-          wrote = wrote_done;
+          sent = record {
+            parts = all_parts;
+            cut = cut_done;
+            joined = joined_done;
+            each = each_now;
+            handed = sending.handed;
+            sends = sending.sends;
+            wrote = wrote_done;
+          };
+          reads = record {
+            handed = sending.handed;
+            sends = sending.sends;
+            reads = sent_reads depth in_flow text was given sending.handed sending.parts (first, one.json) joined_done each_now wrote_done.adds;
+          };
+          names = subst (HaveNamesOnce unique) cut_done names_now;
         }
-
-    pub sent_read : ReadsSent depth in_flow text was start given held
-    sent_read =
-        record {
-          handed = sending.handed;
-          sends = sending.sends;
-          reads = sent_reads depth in_flow text was given sending.handed sending.parts (first, one.json) joined_done each_now wrote_done.adds;
-        }
-
-    pub sent_names : HaveNamesOnce unique (texts_in text)
-    sent_names = subst (HaveNamesOnce unique) cut_done names_now
 
 -- ---- errors
 
 module _ (depth : ℕ) (in_flow unique : Bool) (text : List ℕ) (was : WriterState) (start : Option (List ℕ)) (rest : List ℕ) (now : WriterState)
-    (held : Option (List ℕ)) (sending : Sending depth in_flow unique text was start rest now held) where
+    (held : Option (List ℕ)) (sending : SentSoFar depth in_flow unique text was start rest now held) where
   -- what was sent is whole
   pub documents_sent : (error : StreamError) → RefusesFirst depth unique (texts_in rest) error
       → SentDocuments depth in_flow unique text was start error held
@@ -150,13 +154,8 @@ module _ (depth : ℕ) (in_flow unique : Bool) (text : List ℕ) (was : WriterSt
         whole = sending.whole;
       }
 
-  pub documents_before : (first : List ℕ) (later : List (List ℕ)) → texts_in rest ≡ first ∷ later → (error : StreamError)
-      → ExplainsPart depth unique first error → SentDocuments depth in_flow unique text was start error held
-  documents_before first later cut error why =
-      documents_sent error (subst (λ (texts : List (List ℕ)). RefusesFirst depth unique texts error) (sym cut) (inr why))
-
   -- the next text is refused
-  pub part_refused : (first : List ℕ) (later : List (List ℕ)) → texts_in rest ≡ first ∷ later → (error : StreamError)
+  part_refused : (first : List ℕ) (later : List (List ℕ)) → texts_in rest ≡ first ∷ later → (error : StreamError)
       → ExplainsPart depth unique first error → RefusesSent depth unique text error
   part_refused first later cut (faults.Refused error) why = λ is. record {
     parts = sending.parts;
@@ -171,6 +170,13 @@ module _ (depth : ℕ) (in_flow unique : Bool) (text : List ℕ) (was : WriterSt
   part_refused first later cut faults.Marked why = tt
   part_refused first later cut (faults.ReadFailed error) why = tt
   part_refused first later cut (faults.WriteFailed error) why = tt
+
+  pub next_refused : (first : List ℕ) (later : List (List ℕ)) → texts_in rest ≡ first ∷ later → (error : StreamError)
+      → ExplainsPart depth unique first error → RefusesSent depth unique text error × SentDocuments depth in_flow unique text was start error held
+  next_refused first later cut error why = (
+    part_refused first later cut error why,
+    documents_sent error (subst (λ (texts : List (List ℕ)). RefusesFirst depth unique texts error) (sym cut) (inr why)),
+  )
 
 -- something else failed
 pub refused_by_none : (depth : ℕ) (unique : Bool) (text : List ℕ) (error : StreamError) → IsByNoText error → RefusesSent depth unique text error
@@ -244,12 +250,10 @@ module _ (depth : ℕ) (in_flow unique : Bool) (ahead : List ℕ) (before : Writ
       pub stops_at_first : (error : StreamError) → ExplainsPart depth unique (take end rest) error
           → StopsWithin depth in_flow unique ahead before held error holds
       stops_at_first error why text was start more sending =
-          let stood = advances text was start more sending in (
-            part_refused depth in_flow unique text was start (rest ++ more) now holds stood (take end rest) (texts_in (drop end rest ++ more))
-                (cuts.cut more) error why,
-            λ sent. documents_before depth in_flow unique text was start (rest ++ more) now holds stood (take end rest)
-                (texts_in (drop end rest ++ more)) (cuts.cut more) error why,
-          )
+          let stood = advances text was start more sending in
+          let both = next_refused depth in_flow unique text was start (rest ++ more) now holds stood (take end rest) (texts_in (drop end rest ++ more))
+          (cuts.cut more) error why in
+          (both.0, λ sent. both.1)
 
       -- or it is given, and the next document begun
       pub advances_on : (given : WriterState) → (unique ≡ true → NamesOnce [] (tokens (take end rest)))
@@ -268,7 +272,7 @@ pub record Comes (depth : ℕ) (in_flow unique : Bool) (text : List ℕ) (was : 
     (ahead : Option (List ℕ)) (now : WriterState) (holds : Option (List ℕ)) : Type 0 where
   pub left : List ℕ
   pub known : ahead ≡ Some left
-  pub sending : Sending depth in_flow unique text was start (held ++ left) now holds
+  pub sending : SentSoFar depth in_flow unique text was start (held ++ left) now holds
 
 pub comes_first : (depth : ℕ) (in_flow unique : Bool) (was : WriterState) (start ahead : Option (List ℕ)) (held : List ℕ) → held ≡ [] → IsBare was
     → IfSome ahead (λ text. Comes depth in_flow unique text was start held ahead was start)
@@ -289,8 +293,8 @@ kept_appends (Some bytes) (Some more) None handed appends keeps = absurd keeps
 kept_appends (Some bytes) (Some more) (Some same) handed appends keeps = keeps ∙ appends
 
 sending_kept : (depth : ℕ) (in_flow unique : Bool) (text : List ℕ) (was : WriterState) (start : Option (List ℕ)) (rest : List ℕ) (now : WriterState)
-    (holds later : Option (List ℕ)) → Keeps holds later → Sending depth in_flow unique text was start rest now holds
-    → Sending depth in_flow unique text was start rest now later
+    (holds later : Option (List ℕ)) → Keeps holds later → SentSoFar depth in_flow unique text was start rest now holds
+    → SentSoFar depth in_flow unique text was start rest now later
 sending_kept depth in_flow unique text was start rest now holds later keeps sending =
     record {
       parts = sending.parts;
@@ -311,64 +315,57 @@ consumed_some bytes left (Some more) consumes = (more, refl, consumes)
 
 module _ (depth : ℕ) (in_flow unique : Bool) (was : WriterState) (start : Option (List ℕ)) where
   -- more came
-  pub more_came : (first : Option (List ℕ)) (held after bytes : List ℕ) (ahead later : Option (List ℕ)) (now : WriterState) (holds : Option (List ℕ))
-      → after ≡ held ++ bytes → Consumes ahead later bytes → IfSome first (λ text. Comes depth in_flow unique text was start held ahead now holds)
-      → IfSome first (λ text. Comes depth in_flow unique text was start after later now holds)
-  more_came None held after bytes ahead later now holds is consumes comes = tt
-  more_came (Some text) held after bytes ahead later now holds is consumes comes =
-      let found = consumed_some bytes comes.left later (subst (λ (known : Option (List ℕ)). Consumes known later bytes) comes.known consumes) in
+  pub more_came : {A : Type 0} (first : Option (List ℕ)) (before after : Incoming A) (ahead later : Option (List ℕ)) (now : WriterState)
+      (holds : Option (List ℕ)) → HasCome before ahead after later
+      → IfSome first (λ text. Comes depth in_flow unique text was start before.held.items ahead now holds)
+      → IfSome first (λ text. Comes depth in_flow unique text was start after.held.items later now holds)
+  more_came first before after ahead later now holds (bytes, is, consumes) =
+      let held = before.held.items in
+      if_some first
+      (λ text come. let found = consumed_some bytes come.left later (subst (λ (known : Option (List ℕ)). Consumes known later bytes) come.known consumes) in
       record {
         left = found.0;
         known = found.1;
-        sending = sending_same depth in_flow unique text was start (held ++ comes.left) (after ++ found.0) now holds
+        sending = sending_same depth in_flow unique text was start (held ++ come.left) (after.held.items ++ found.0) now holds
             (ap (λ (more : List ℕ). held ++ more) found.2 ∙ sym (append_assoc held bytes found.0) ∙ ap (λ (all : List ℕ). all ++ found.0) (sym is))
-            comes.sending;
-      }
+            come.sending;
+      })
 
   -- the texts that are complete were given
   pub complete_given : (first : Option (List ℕ)) (held left : List ℕ) (ahead : Option (List ℕ)) (before now : WriterState)
       (holds later : Option (List ℕ)) → Advances depth in_flow unique held before holds left now later
       → IfSome first (λ text. Comes depth in_flow unique text was start held ahead before holds)
       → IfSome first (λ text. Comes depth in_flow unique text was start left ahead now later)
-  complete_given None held left ahead before now holds later advances comes = tt
-  complete_given (Some text) held left ahead before now holds later advances comes =
-      record { left = comes.left; known = comes.known; sending = advances text was start comes.left comes.sending }
+  complete_given first held left ahead before now holds later advances =
+      if_some first (λ text come. record { left = come.left; known = come.known; sending = advances text was start come.left come.sending })
 
   -- the sink was flushed
   pub comes_kept : (first : Option (List ℕ)) (held : List ℕ) (ahead : Option (List ℕ)) (now : WriterState) (holds later : Option (List ℕ))
       → Keeps holds later → IfSome first (λ text. Comes depth in_flow unique text was start held ahead now holds)
       → IfSome first (λ text. Comes depth in_flow unique text was start held ahead now later)
-  comes_kept None held ahead now holds later keeps comes = tt
-  comes_kept (Some text) held ahead now holds later keeps comes =
-      record {
-        left = comes.left;
-        known = comes.known;
-        sending = sending_kept depth in_flow unique text was start (held ++ comes.left) now holds later keeps comes.sending;
-      }
+  comes_kept first held ahead now holds later keeps =
+      if_some first
+      (λ text come. record {
+        left = come.left;
+        known = come.known;
+        sending = sending_kept depth in_flow unique text was start (held ++ come.left) now holds later keeps come.sending;
+      })
 
   -- or one of them was refused
-  pub complete_refused : (first : Option (List ℕ)) (held : List ℕ) (ahead : Option (List ℕ)) (before : WriterState)
+  pub complete_stopped : (first : Option (List ℕ)) (held : List ℕ) (ahead : Option (List ℕ)) (before : WriterState)
       (holds later : Option (List ℕ)) (error : StreamError) → StopsWithin depth in_flow unique held before holds error later
       → IfSome first (λ text. Comes depth in_flow unique text was start held ahead before holds)
-      → IfSome first (λ text. RefusesSent depth unique text error)
-  complete_refused None held ahead before holds later error stops comes = tt
-  complete_refused (Some text) held ahead before holds later error stops comes = (stops text was start comes.left comes.sending).0
-
-  pub complete_sent : (first : Option (List ℕ)) (held : List ℕ) (ahead : Option (List ℕ)) (before : WriterState)
-      (holds later : Option (List ℕ)) (error : StreamError) → StopsWithin depth in_flow unique held before holds error later
-      → IfSome first (λ text. Comes depth in_flow unique text was start held ahead before holds) → IsSent error
-      → IfSome first (λ text. SentDocuments depth in_flow unique text was start error later)
-  complete_sent None held ahead before holds later error stops comes sent = tt
-  complete_sent (Some text) held ahead before holds later error stops comes sent = (stops text was start comes.left comes.sending).1 sent
+      → IfSome first (λ text. RefusesSent depth unique text error × (IsSent error → SentDocuments depth in_flow unique text was start error later))
+  complete_stopped first held ahead before holds later error stops = if_some first (λ text come. stops text was start come.left come.sending)
 
   -- something else failed
   pub comes_sent : (first : Option (List ℕ)) (held : List ℕ) (ahead : Option (List ℕ)) (now : WriterState) (holds : Option (List ℕ))
       (error : StreamError) → IsByNoText error → IfSome first (λ text. Comes depth in_flow unique text was start held ahead now holds)
       → IfSome first (λ text. SentDocuments depth in_flow unique text was start error holds)
-  comes_sent None held ahead now holds error isn't comes = tt
-  comes_sent (Some text) held ahead now holds error isn't comes =
-      documents_sent depth in_flow unique text was start (held ++ comes.left) now holds comes.sending error
-      (first_by_none depth unique (texts_in (held ++ comes.left)) error isn't)
+  comes_sent first held ahead now holds error isn't =
+      if_some first
+      (λ text come. documents_sent depth in_flow unique text was start (held ++ come.left) now holds come.sending error
+      (first_by_none depth unique (texts_in (held ++ come.left)) error isn't))
 
   pub none_refused : (first : Option (List ℕ)) (error : StreamError) → IsByNoText error → IfSome first (λ text. RefusesSent depth unique text error)
   none_refused None error isn't = tt
@@ -376,49 +373,27 @@ module _ (depth : ℕ) (in_flow unique : Bool) (was : WriterState) (start : Opti
 
 -- ---- the last text
 
-none_left : (left : List ℕ) → IsAtEnd (Some left) → left ≡ []
-none_left left is = is
-
 module _ (depth : ℕ) (in_flow unique : Bool) (was : WriterState) (start : Option (List ℕ)) (held : List ℕ) (ahead : Option (List ℕ))
     (now : WriterState) (holds : Option (List ℕ)) (ended : IsAtEnd ahead) (scan : Cut) (scanned : HasScanned held scan)
     (all : scan.scanned ≡ length held) where
-  last_left : (text : List ℕ) → Comes depth in_flow unique text was start held ahead now holds → Sending depth in_flow unique text was start held now holds
+  last_left : (text : List ℕ) → Comes depth in_flow unique text was start held ahead now holds → SentSoFar depth in_flow unique text was start held now holds
   last_left text comes =
-      let none : comes.left ≡ [] = none_left comes.left (subst IsAtEnd comes.known ended) in
+      let none : comes.left ≡ [] = subst IsAtEnd comes.known ended in
       sending_same depth in_flow unique text was start (held ++ comes.left) held now holds
       (ap (λ (more : List ℕ). held ++ more) none ∙ append-nil held) comes.sending
 
-  one_left : texts_in held ≡ held ∷ []
-  one_left = whole_text held scan scanned all
-
-  module _ (given : WriterState) (named : unique ≡ true → NamesOnce [] (tokens held)) (one : WroteText depth in_flow held now given) where
-    pub last_sent : (first : Option (List ℕ)) → IfSome first (λ text. Comes depth in_flow unique text was start held ahead now holds)
-        → IfSome first (λ text. SentTexts depth in_flow text was start given holds)
-    last_sent None comes = tt
-    last_sent (Some text) comes =
-        sent_all depth in_flow unique text was start held now holds (last_left text comes) held [] [] (append-nil held) one_left given named one refl refl
-
-    pub last_read : (first : Option (List ℕ)) → IfSome first (λ text. Comes depth in_flow unique text was start held ahead now holds)
-        → IfSome first (λ text. ReadsSent depth in_flow text was start given holds)
-    last_read None comes = tt
-    last_read (Some text) comes =
-        sent_read depth in_flow unique text was start held now holds (last_left text comes) held [] [] (append-nil held) one_left given named one refl refl
-
-    pub last_named : (first : Option (List ℕ)) → IfSome first (λ text. Comes depth in_flow unique text was start held ahead now holds)
-        → IfSome first (λ text. HaveNamesOnce unique (texts_in text))
-    last_named None comes = tt
-    last_named (Some text) comes =
-        sent_names depth in_flow unique text was start held now holds (last_left text comes) held [] [] (append-nil held) one_left given named one refl refl
-
-  pub last_refused : (first : Option (List ℕ)) (error : StreamError) → ExplainsPart depth unique held error
-      → IfSome first (λ text. Comes depth in_flow unique text was start held ahead now holds) → IfSome first (λ text. RefusesSent depth unique text error)
-  last_refused None error why comes = tt
-  last_refused (Some text) error why comes =
-      part_refused depth in_flow unique text was start held now holds (last_left text comes) held [] one_left error why
-
-  pub last_documents : (first : Option (List ℕ)) (error : StreamError) → ExplainsPart depth unique held error
+  pub last_given : (given : WriterState) (first : Option (List ℕ)) → (unique ≡ true → NamesOnce [] (tokens held)) → WroteText depth in_flow held now given
       → IfSome first (λ text. Comes depth in_flow unique text was start held ahead now holds)
-      → IfSome first (λ text. SentDocuments depth in_flow unique text was start error holds)
-  last_documents None error why comes = tt
-  last_documents (Some text) error why comes =
-      documents_before depth in_flow unique text was start held now holds (last_left text comes) held [] one_left error why
+      → IfSome first (λ text. GaveAll depth in_flow unique text was start given holds)
+  last_given given first named one =
+      if_some first
+      (λ text come. all_given depth in_flow unique text was start held now holds (last_left text come) held [] [] (append-nil held)
+      (whole_text held scan scanned all) given named one refl refl)
+
+  pub last_stopped : (first : Option (List ℕ)) (error : StreamError) → ExplainsPart depth unique held error
+      → IfSome first (λ text. Comes depth in_flow unique text was start held ahead now holds)
+      → IfSome first (λ text. RefusesSent depth unique text error × SentDocuments depth in_flow unique text was start error holds)
+  last_stopped first error why =
+      if_some first
+      (λ text come. next_refused depth in_flow unique text was start held now holds (last_left text come) held [] (whole_text held scan scanned all)
+      error why)

@@ -5,10 +5,10 @@ use Rattle.yaml_base.specs.declared.errors.{yaml_error_t.yaml_error_t, yaml_erro
 use Rattle.yaml_json.proofs.WroteLemmas.{adds_then, none_more, same_last}
 use Rattle.yaml_writer.specs.{Writing.Failed, declared.kinds.CollectionKind.CollectionKind}
 
--- what is said of an error, where there is one
-pub if_some : {P Q : yaml_error_t → Type 0} (found : Option yaml_error_t) → ((error : yaml_error_t) → P error → Q error) → IfSome found P → IfSome found Q
+-- what follows of a value, where there is one
+pub if_some : {A : Type 0} {P Q : A → Type 0} (found : Option A) → ((value : A) → P value → Q value) → IfSome found P → IfSome found Q
 if_some None follows held = tt
-if_some (Some error) follows held = follows error held
+if_some (Some value) follows held = follows value held
 
 -- ---- events
 

@@ -1,23 +1,30 @@
 -- The stops of the walk, turn by turn.
 use Rattle.yaml_json.proofs.Common.{ℕ, Bool, false, true, List, [], ◌++◌, ◌∷◌, ◌≡◌, append_assoc, ap, subst, sym, ◌∙◌, Token, HoldsNames, AddsName, FitsNames}
-use Rattle.yaml_json.proofs.Common.{RefusesToken, RefusesFirst, WhyStopped, Refuses}
+use Rattle.yaml_json.proofs.Common.{IfSome, failure_of, RefusesToken, RefusesFirst, WhyStopped, Refuses}
 use Rattle.yaml_json.proofs.KeepingNames.{keeps_name, name_again, names_once}
 use Rattle.yaml_json.proofs.Refusing.{first_refused, IsNoKey, no_member_left, key_refused, name_refused}
 use Rattle.yaml_json.proofs.Walking.{awaiting_item, awaiting_no_item, awaiting_named}
-use Rattle.yaml_base.specs.declared.errors.yaml_error_t.{yaml_error_t}
-use Rattle.yaml_json.specs.declared.{names.Names.Names, values.Spot.Spot, values.Stop.Stop}
+use Rattle.yaml_base.specs.declared.errors.yaml_error_t.TheVariants.{Memory}
+use Rattle.yaml_json.specs.{Walk.ReadsNone, declared.names.Names.Names, declared.values.Spot.Spot, declared.values.Stop.Stop}
 use Rattle.yaml_writer.specs.declared.kinds.{CollectionKind.CollectionKind, CollectionKind.TheVariants.Mapping, CollectionKind.TheVariants.Sequence}
 use Rattle.yaml_json.specs.declared.values.Stop.TheVariants as stops
 
+-- no token is read
+pub unread_memory : (ahead : List Token) (stop : Stop) → ReadsNone ahead stop → IfSome (failure_of stop) (λ error. error ≡ Memory)
+unread_memory ahead (stops.NotJson spot) none = tt
+unread_memory ahead stops.TooDeep none = tt
+unread_memory ahead (stops.NameAgain offset) none = tt
+unread_memory ahead (stops.Failed error) memory = memory
+
 -- ---- the first token of a value
 
-pub first_none : (depth : ℕ) (levels : List CollectionKind) (ahead : List Token) (spot : Spot) → ahead ≡ []
-    → RefusesFirst depth levels ahead (stops.NotJson spot)
-first_none depth levels ahead spot none = subst (λ (all : List Token). RefusesFirst depth levels all (stops.NotJson spot)) (sym none) tt
-
-pub first_unread : (depth : ℕ) (levels : List CollectionKind) (ahead : List Token) (error : yaml_error_t) → RefusesFirst depth levels ahead (stops.Failed error)
-first_unread depth levels [] error = tt
-first_unread depth levels (token ∷ after) error = tt
+pub first_unread : (depth : ℕ) (levels : List CollectionKind) (ahead : List Token) (stop : Stop) → ReadsNone ahead stop
+    → RefusesFirst depth levels ahead stop
+first_unread depth levels ahead (stops.NotJson spot) none = subst (λ (all : List Token). RefusesFirst depth levels all (stops.NotJson spot)) (sym none) tt
+first_unread depth levels ahead stops.TooDeep none = absurd none
+first_unread depth levels ahead (stops.NameAgain offset) none = absurd none
+first_unread depth levels [] (stops.Failed error) memory = tt
+first_unread depth levels (token ∷ after) (stops.Failed error) memory = tt
 
 pub first_stopped : (depth : ℕ) (levels : List CollectionKind) (ahead : List Token) (token : Token) (after : List Token) → ahead ≡ token ∷ after
     → (stop : Stop) → RefusesToken depth levels token stop → RefusesFirst depth levels ahead stop
@@ -78,9 +85,11 @@ module _ {A : Type 0} (depth : ℕ) (unique : Bool) (levels outer : List Collect
           (first_refused depth unique (so ++ Token.key name ∷ []) levels inner stop (awaiting_named depth so levels outer name is stands inner)
           once refuses)
 
-  -- no token is left
+  -- no token is read
 
-  pub none_left : (kind : CollectionKind) → levels ≡ outer ++ kind ∷ [] → (spot : Spot) → ahead ≡ []
-      → Refuses depth unique levels held ahead (stops.NotJson spot)
-  none_left Sequence is = item_none is
-  none_left Mapping is = member_none is
+  pub unread : (kind : CollectionKind) → levels ≡ outer ++ kind ∷ [] → (stop : Stop) → ReadsNone ahead stop → Refuses depth unique levels held ahead stop
+  unread Sequence is (stops.NotJson spot) none = item_none is spot none
+  unread Mapping is (stops.NotJson spot) none = member_none is spot none
+  unread kind is stops.TooDeep none = absurd none
+  unread kind is (stops.NameAgain offset) none = absurd none
+  unread kind is (stops.Failed error) memory = λ so stands kept. tt

@@ -3,14 +3,14 @@ use Rattle.yaml_json.proofs.Common.{ℕ, ◌-◌, ◌<◌, Err, length, take, Bo
 use Rattle.yaml_json.proofs.Common.{sym, ◌∙◌, arith, append_cancel_right, left_some, value, skip_value, Token, json_tokens, Event, BeginsValue, FailedWith}
 use Rattle.yaml_json.proofs.Common.{FailedAt, token_events, tokens_events, Stands, IsScalar, opener, closer, KeepsNames, BeganValue, BeginFailed}
 use Rattle.yaml_json.proofs.Common.{BeganFirstValue, FirstFailed, WhyStopped, Refuses, WalkProgress, IsBare, WroteEvent, start_event, StartsCollection, Ends}
-use Rattle.yaml_json.proofs.Common.{WriterState, end_event, StandsTaken, AddsEvents, EndsInnermost}
+use Rattle.yaml_json.proofs.Common.{IfSome, failure_of, WriterState, end_event, StandsTaken, AddsEvents, EndsInnermost}
 use Rattle.std.proofs.Math.Seq.{take-append_seam}
 use Rattle.yaml_base.specs.declared.errors.{yaml_error_t.yaml_error_t, yaml_error_t.TheVariants.Memory}
-use Rattle.yaml_json.{proofs.KeepingNames.NamesSoFar, proofs.Stopping.end_failed, proofs.TokenLemmas.value_spelled, proofs.TokenLemmas.some_then}
-use Rattle.yaml_json.{proofs.TokenLemmas.value_given, proofs.WroteLemmas.adds_then, proofs.WroteLemmas.ended, specs.Failing.FailedInValue}
-use Rattle.yaml_json.{specs.Wrote.WroteValue, specs.declared.names.Names.Names, specs.declared.values.Stop.Stop}
+use Rattle.yaml_json.{proofs.KeepingNames.NamesSoFar, proofs.Stopping.end_failed, proofs.Stopping.if_some, proofs.Stops.unread_memory}
+use Rattle.yaml_json.proofs.{TokenLemmas.value_spelled, TokenLemmas.some_then, TokenLemmas.value_given, WroteLemmas.adds_then, WroteLemmas.ended}
+use Rattle.yaml_json.specs.{Failing.FailedInValue, Wrote.WroteValue, declared.names.Names.Names, declared.values.Stop.Stop}
 use Rattle.yaml_json.proofs.Walking.{longer, closed_stands, closes_value, value_begins, awaiting_whole, awaiting_item, awaiting_named, next_stands}
-use Rattle.yaml_json.specs.Walk.{Stood, Gives, FailsGiving, Stepped, StepFailed}
+use Rattle.yaml_json.specs.Walk.{ReadsNone, Stood, Gives, FailsGiving, Stepped, StepFailed}
 use Rattle.yaml_writer.specs.declared.kinds.{CollectionKind.CollectionKind, CollectionKind.TheVariants.Mapping, CollectionKind.TheVariants.Sequence}
 
 -- ---- the writer
@@ -204,6 +204,15 @@ step_without_memory depth in_flow ahead levels before now =
       fails = inl refl;
       begins = λ so stands. subst (BeginsValue depth) (sym (append-nil so)) (value_begins depth so levels stands);
     }
+
+-- or no token is read
+pub step_unread : (depth : ℕ) (in_flow : Bool) (ahead : List Token) (levels : List CollectionKind) (before now : WriterState) (stop : Stop)
+    → ReadsNone ahead stop → IfSome (failure_of stop) (λ error. StepFailed depth in_flow ahead levels before error now)
+step_unread depth in_flow ahead levels before now stop none =
+    if_some (failure_of stop)
+    (λ error memory. subst (λ (code : yaml_error_t). StepFailed depth in_flow ahead levels before code now) (sym memory)
+    (step_without_memory depth in_flow ahead levels before now))
+    (unread_memory ahead stop none)
 
 -- an item begins
 module _ (depth : ℕ) (in_flow : Bool) (levels outer : List CollectionKind) (is : levels ≡ outer ++ Sequence ∷ []) (token : Token)

@@ -29,9 +29,9 @@ failure_of stops.TooDeep = None
 failure_of (stops.NameAgain offset) = None
 failure_of (stops.Failed error) = Some error
 
-abbrev pub failure : Result (Unit {0}) Stop → Option yaml_error_t
-failure (Ok done) = None
-failure (Err stop) = failure_of stop
+abbrev pub emitter_error_of : Result (Unit {0}) Stop → Option yaml_error_t
+emitter_error_of (Ok done) = None
+emitter_error_of (Err stop) = failure_of stop
 
 abbrev pub writers_error : JsonError → Option yaml_error_t
 writers_error (errors.NotJson line column) = None

@@ -52,7 +52,7 @@ pub record ReadsSent (depth : ℕ) (in_flow : Bool) (text : List ℕ) (was : Wri
 
 -- of these bytes, these are left: the texts before them were given, a document begun after each, and the sink was given what was
 -- written of the documents
-pub record Sending (depth : ℕ) (in_flow unique : Bool) (text : List ℕ) (was : WriterState) (before : Option (List ℕ)) (rest : List ℕ) (now : WriterState)
+pub record SentSoFar (depth : ℕ) (in_flow unique : Bool) (text : List ℕ) (was : WriterState) (before : Option (List ℕ)) (rest : List ℕ) (now : WriterState)
     (after : Option (List ℕ)) : Type 0 where
   pub parts : List (List ℕ × Json)
   pub joined : flat_map (λ part. part.0) parts ++ rest ≡ text
@@ -68,7 +68,7 @@ pub record Sending (depth : ℕ) (in_flow unique : Bool) (text : List ℕ) (was 
 abbrev pub Advances : (depth : ℕ) → (in_flow unique : Bool) → List ℕ → WriterState → Option (List ℕ) → List ℕ → WriterState → Option (List ℕ) → Type 0
 Advances depth in_flow unique ahead before held left now holds =
     (text : List ℕ) (was : WriterState) (start : Option (List ℕ)) (more : List ℕ)
-    → Sending depth in_flow unique text was start (ahead ++ more) before held → Sending depth in_flow unique text was start (left ++ more) now holds
+    → SentSoFar depth in_flow unique text was start (ahead ++ more) before held → SentSoFar depth in_flow unique text was start (left ++ more) now holds
 
 -- the next document was begun, and the sink was given all that was written before
 pub record BeginsNext (before : WriterState) (held : Option (List ℕ)) (after : WriterState) (holds : Option (List ℕ)) : Type 0 where
@@ -127,7 +127,7 @@ pub record SentDocuments (depth : ℕ) (in_flow unique : Bool) (text : List ℕ)
 -- was given whole documents
 abbrev pub StopsWithin : (depth : ℕ) → (in_flow unique : Bool) → List ℕ → WriterState → Option (List ℕ) → StreamError → Option (List ℕ) → Type 0
 StopsWithin depth in_flow unique ahead before held error holds =
-    (text : List ℕ) (was : WriterState) (start : Option (List ℕ)) (more : List ℕ) → Sending depth in_flow unique text was start (ahead ++ more) before held
+    (text : List ℕ) (was : WriterState) (start : Option (List ℕ)) (more : List ℕ) → SentSoFar depth in_flow unique text was start (ahead ++ more) before held
     → RefusesSent depth unique text error × (IsSent error → SentDocuments depth in_flow unique text was start error holds)
 
 -- ---- what came
@@ -139,7 +139,7 @@ IsIncoming incoming = HasScanned incoming.held.items incoming.reading.cut
 abbrev pub IsScanned : {A : Type 0} → Incoming A → Type 0
 IsScanned incoming = IsIncoming incoming × (incoming.reading.cut.scanned ≡ length incoming.held.items)
 
--- so many of some bytes are left, and scanned
+-- the last `count` of these bytes are left, and scanned
 pub record LeavesLast (count : ℕ) (held : List ℕ) (cut : Cut) : Type 0 where
   pub within : count ≤ length held
   pub scanned : HasScanned (drop (length held - count) held) cut

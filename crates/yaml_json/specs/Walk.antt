@@ -23,7 +23,7 @@ use Rattle.yaml_json.specs.declared.values.Stop.TheVariants as stops
 
 -- ---- the grammar
 
--- what is left once a collection is closed, of the tokens after some of its items or members; the values in it nest so deep
+-- what is left once a collection is closed, of the tokens after some of its items or members; its values nest at most `depth` deep
 abbrev pub skip_rest : CollectionKind → ℕ → List Token → Option (List Token)
 skip_rest Sequence depth ahead = skip_items depth ahead
 skip_rest Mapping depth ahead = skip_members depth ahead
@@ -149,6 +149,13 @@ RefusesToken depth levels token (stops.NotJson spot) = BeginsNone token
 RefusesToken depth levels token stops.TooDeep = IsOpener token × (length levels ≡ depth)
 RefusesToken depth levels token (stops.NameAgain offset) = ⊥
 RefusesToken depth levels token (stops.Failed error) = Unit {0}
+
+-- no token is left, or an allocation failed
+abbrev pub ReadsNone : List Token → Stop → Type 0
+ReadsNone ahead (stops.NotJson spot) = ahead ≡ []
+ReadsNone ahead stops.TooDeep = ⊥
+ReadsNone ahead (stops.NameAgain offset) = ⊥
+ReadsNone ahead (stops.Failed error) = error ≡ Memory
 
 -- ---- the first token of a value
 

@@ -183,7 +183,7 @@ fn step(scan: Scan, byte: u8) -> Option<Scan>
 #[derive(Clone, Copy, PartialEq, Eq, Debug)]
 pub(crate) struct Cut {
     pub(crate) scan: Scan,
-    /// So many bytes were.
+    /// How many bytes were scanned.
     pub(crate) scanned: usize,
 }
 

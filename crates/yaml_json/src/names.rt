@@ -7,7 +7,7 @@ ghost use Rattle.yaml_json.specs.Names.{outer_names};
 use std::alloc::{AllocError, Allocator};
 use std::collections::BTreeSet;
 
-/// So many names of an object stand in a list, which is searched from its front. Later ones stand in a set.
+/// How many names of an object are kept in the list, which is searched linearly; later ones go to a set.
 const MOST_LISTED: usize = 16;
 
 /// The names of an array or object that is open. An array has none.

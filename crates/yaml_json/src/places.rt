@@ -78,7 +78,7 @@ pub fn place_of(text: &[u8], offset: usize) -> (usize, usize) {
     (line, column)
 }
 
-/// So many lines end. (A sum needs no branch for each byte.)
+/// Number of line feeds. (A sum needs no branch for each byte.)
 fn line_breaks(bytes: &[u8]) -> usize {
     let mut count: usize = 0;
     for byte in bytes {

@@ -4,7 +4,7 @@ ghost use Rattle.yaml_base.specs.Event.{scalar};
 ghost use Rattle.yaml_base.specs.Seen.{seen_mapping_style, seen_sequence_style};
 ghost use Rattle.yaml_writer.specs.NumberParts.{IsNoNumber, number_in};
 ghost use Rattle.yaml_writer.specs.Writing.{EndsInnermost};
-ghost use Rattle.yaml_json.specs.Failing.{FailedAt, failure};
+ghost use Rattle.yaml_json.specs.Failing.{FailedAt, emitter_error_of};
 ghost use Rattle.yaml_json.specs.JsonEvents.{bool_content, null_content, number_content, style_of, text_content};
 ghost use Rattle.yaml_json.specs.Refused.{RefusesText};
 ghost use Rattle.yaml_json.specs.Wrote.{Ends, IsBare, StartsCollection, WroteEvent, start_event};
@@ -41,7 +41,7 @@ pub(crate) fn write_null<A: Allocator + Copy>(writer: &mut Writer<A>) -> Result<
     requires { IsBare writer.old }
     ensures written { OnOk result (WroteEvent writer.old (scalar (null_content writer.old.canonical)) writer.new) }
     ensures failed { RefusesText result → ⊥ }
-    ensures stopped { IfSome (failure result) (λ error. FailedAt writer.old (scalar (null_content writer.old.canonical)) error writer.new) }
+    ensures stopped { IfSome (emitter_error_of result) (λ error. FailedAt writer.old (scalar (null_content writer.old.canonical)) error writer.new) }
 {
     match writer.null() {
         Ok(()) => Ok(()),
@@ -56,7 +56,7 @@ pub(crate) fn write_bool<A: Allocator + Copy>(
     requires { IsBare writer.old }
     ensures written { OnOk result (WroteEvent writer.old (scalar (bool_content writer.old.canonical flag)) writer.new) }
     ensures failed { RefusesText result → ⊥ }
-    ensures stopped { IfSome (failure result) (λ error. FailedAt writer.old (scalar (bool_content writer.old.canonical flag)) error writer.new) }
+    ensures stopped { IfSome (emitter_error_of result) (λ error. FailedAt writer.old (scalar (bool_content writer.old.canonical flag)) error writer.new) }
 {
     match writer.bool(flag) {
         Ok(()) => Ok(()),
@@ -71,7 +71,7 @@ pub(crate) fn write_text<A: Allocator + Copy>(
     requires { IsBare writer.old }
     ensures written { OnOk result (WroteEvent writer.old (scalar (text_content (chars text.now))) writer.new) }
     ensures failed { RefusesText result → ⊥ }
-    ensures stopped { IfSome (failure result) (λ error. FailedAt writer.old (scalar (text_content (chars text.now))) error writer.new) }
+    ensures stopped { IfSome (emitter_error_of result) (λ error. FailedAt writer.old (scalar (text_content (chars text.now))) error writer.new) }
 {
     match writer.text(text) {
         Ok(()) => Ok(()),
@@ -88,7 +88,7 @@ pub(crate) fn write_number<A: Allocator + Copy>(
     requires { IsBare writer.old }
     ensures written { OnOk result (WroteEvent writer.old (scalar (number_content writer.old.canonical (number_in text.now))) writer.new) }
     ensures refused { RefusesText result → IsNoNumber text.now }
-    ensures stopped { IfSome (failure result) (λ error. FailedAt writer.old (scalar (number_content writer.old.canonical (number_in text.now))) error
+    ensures stopped { IfSome (emitter_error_of result) (λ error. FailedAt writer.old (scalar (number_content writer.old.canonical (number_in text.now))) error
         writer.new) }
 {
     let Some(number) = number_of(text) else {
@@ -109,7 +109,7 @@ pub(crate) fn start<A: Allocator + Copy>(
     requires { IsBare writer.old }
     ensures started { OnOk result (StartsCollection in_flow kind writer.old writer.new) }
     ensures failed { RefusesText result → ⊥ }
-    ensures stopped { IfSome (failure result) (λ error. FailedAt writer.old (start_event in_flow kind) error writer.new) }
+    ensures stopped { IfSome (emitter_error_of result) (λ error. FailedAt writer.old (start_event in_flow kind) error writer.new) }
 {
     match kind {
         CollectionKind::Sequence => match writer.begin_sequence(sequence_style(in_flow)) {
@@ -128,7 +128,7 @@ pub(crate) fn end<A: Allocator + Copy>(writer: &mut Writer<A>) -> Result<(), Sto
     requires { IsBare writer.old }
     ensures ended { OnOk result (Ends writer.old writer.new) }
     ensures failed { RefusesText result → ⊥ }
-    ensures stopped { IfSome (failure result) (λ error. EndsInnermost writer.old (Err error) writer.new) }
+    ensures stopped { IfSome (emitter_error_of result) (λ error. EndsInnermost writer.old (Err error) writer.new) }
 {
     match writer.end() {
         Ok(()) => Ok(()),

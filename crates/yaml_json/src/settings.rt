@@ -8,7 +8,7 @@ pub struct JsonSettings {
     pub writer: Settings,
     /// Arrays and objects stand in flow, as in JSON; else in blocks, where they aren't empty.
     pub flow: bool,
-    /// Arrays and objects may nest so deep.
+    /// Maximum nesting depth of arrays and objects.
     pub depth: usize,
     /// A name may come once in an object. Else it is written as often as it comes, which many readers of YAML refuse.
     pub unique_names: bool,

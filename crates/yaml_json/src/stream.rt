@@ -15,12 +15,13 @@ use crate::error::{JsonError, StreamError};
 use crate::places::{Place, place_of};
 use crate::settings::JsonSettings;
 use crate::texts::{error_of, write_text_by};
+use simdutf8::from_utf8_baseline;
 use std::alloc::Allocator;
+use std::io;
 use std::io::{ErrorKind, Read, Write};
-use std::{io, str};
 use yaml_writer::{Writer, yaml_error_t};
 
-/// So many bytes are read at once.
+/// How many bytes are read at once.
 const PART_SIZE: usize = 65_536;
 
 /// A byte order mark, which no JSON text begins with.
@@ -121,7 +122,7 @@ fn write_bytes<A: Allocator + Copy>(
     ensures written { OnOk result (WroteText settings.now.depth settings.now.flow bytes.now writer.old writer.new) }
     ensures refused { IfErr result (ExplainsPart settings.now.depth settings.now.unique_names bytes.now) }
 {
-    let text = match str::from_utf8(bytes) {
+    let text = match from_utf8_baseline(bytes) {
         Ok(text) => text,
         Err(error) => {
             let (line, column) = place_of(bytes, error.valid_up_to());
@@ -178,7 +179,7 @@ fn begin_next<A: Allocator + Copy, W: Write>(
     }
 }
 
-/// Keeps the last so many bytes of what came.
+/// Keeps the last `count` bytes of what came.
 fn keep_last<A: Allocator + Copy>(
     incoming: &mut Incoming<A>,
     count: usize,

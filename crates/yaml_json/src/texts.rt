@@ -1,7 +1,7 @@
 //! JSON texts as YAML.
 ghost use Rattle.std.specs.Prelude.{◌≡◌, [], true, OnOk, IfOk, IfErr, IfSome};
 ghost use Rattle.yaml_emitter.specs.Given.{seen_settings};
-ghost use Rattle.yaml_json.specs.Failing.{FailedInText, FailsBy, failure, failure_of, writers_error};
+ghost use Rattle.yaml_json.specs.Failing.{FailedInText, FailsBy, emitter_error_of, failure_of, writers_error};
 ghost use Rattle.json.specs.Lex.{tokens};
 ghost use Rattle.yaml_json.specs.Names.{NamesOnce};
 ghost use Rattle.yaml_json.specs.Refused.{DeniesJson, HasNamesOnce, IsNotJson, ExplainsError};
@@ -12,7 +12,7 @@ use crate::error::JsonError;
 use crate::places::{offset_of, place_of};
 use crate::settings::JsonSettings;
 use crate::tokens::Tokens;
-use crate::values::{Stop, write_document};
+use crate::values::{Stop, write_only_value};
 use bumpalo::Bump;
 use std::alloc::Allocator;
 use yaml_writer::{Writer, yaml_error_t};
@@ -48,11 +48,11 @@ pub(crate) fn write_text_by<A: Allocator + Copy>(
     ensures names { OnOk result (settings.now.unique_names ≡ true → NamesOnce [] (tokens text.now)) }
     ensures written { OnOk result (WroteText settings.now.depth settings.now.flow text.now writer.old writer.new) }
     ensures refused { IfErr result (WhyStopped settings.now.depth settings.now.unique_names (tokens text.now)) }
-    ensures stopped { IfSome (failure result) (λ error. FailedInText settings.now.depth settings.now.flow text.now writer.old error writer.new) }
+    ensures stopped { IfSome (emitter_error_of result) (λ error. FailedInText settings.now.depth settings.now.flow text.now writer.old error writer.new) }
 {
     let arena = Bump::new(alloc);
     let mut tokens = Tokens::new(alloc, &arena, text);
-    write_document(alloc, writer, &mut tokens, settings)
+    write_only_value(alloc, writer, &mut tokens, settings)
 }
 
 /// Gives a writer the events of a JSON text, by all of these settings but those of a writer. Arrays and objects may nest

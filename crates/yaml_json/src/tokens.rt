@@ -56,7 +56,7 @@ pub(crate) struct Tokens<'a, A: Allocator> {
     alloc: A,
     /// Where strings with escapes go.
     arena: &'a Bump<A>,
-    /// So many bytes has the whole text.
+    /// Length of the whole text in bytes.
     size: usize,
     rest: &'a str,
     stage: Stage,

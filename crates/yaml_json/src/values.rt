@@ -1,15 +1,15 @@
 //! Values of JSON, token by token from a reader to a writer. The arrays and objects that are open stand in a list.
-ghost use Rattle.std.specs.Prelude.{◌≡◌, ◌≢◌, ◌≤◌, [], ◌∷◌, ◌-◌, length, take, IfErr, IfSome, MatchOption, OnOk, true};
+ghost use Rattle.std.specs.Prelude.{◌≡◌, ◌≢◌, [], ◌∷◌, ◌-◌, length, take, IfErr, IfOk, IfSome, MatchOption, OnOk, true};
 ghost use Rattle.json.specs.Print.{IsPrintable};
 ghost use Rattle.json.specs.Reads.{token_of};
 ghost use Rattle.yaml_writer.specs.Writing.{EndsInnermost};
-ghost use Rattle.yaml_json.specs.Failing.{FailedInValue, failure};
+ghost use Rattle.yaml_json.specs.Failing.{FailedInValue, emitter_error_of};
 ghost use Rattle.yaml_json.specs.Refused.{RefusesText};
 ghost use Rattle.yaml_json.specs.Walk.{BeganFirstValue, BeginFailed, BeganValue, FirstFailed, IsInnermost, Refuses, RefusesFirst, RefusesToken};
 ghost use Rattle.yaml_json.specs.Walk.{StepFailed, Stepped};
 ghost use Rattle.yaml_json.specs.Names.{NamesOnce};
 ghost use Rattle.yaml_json.specs.Nests.{IsNesting};
-ghost use Rattle.yaml_json.specs.Walk.{HasUniqueNames, Keeps, KeepsTo, LeavesNames, WhyStopped, opener};
+ghost use Rattle.yaml_json.specs.Walk.{HasUniqueNames, Keeps, KeepsTo, LeavesNames, ReadsNone, WhyStopped, opener};
 ghost use Rattle.yaml_json.specs.Wrote.{Ends, IsBare, WroteDocument, WroteValue};
 
 use crate::names::Names;
@@ -66,8 +66,8 @@ fn begin<'a, A: Allocator + Copy>(
     ensures fits { OnOk result (IsNesting settings.now.depth settings.now.unique_names nest.new) }
     ensures names { OnOk result (Keeps nest.old.names (opener kind ∷ []) nest.new.names) }
     ensures refused { IfErr result (RefusesToken settings.now.depth nest.old.kinds.items (opener kind)) }
-    ensures stopped { IfSome (failure result) (λ error. BeginFailed settings.now.depth settings.now.flow (opener kind) nest.old.kinds.items writer.old error
-        writer.new) }
+    ensures stopped { IfSome (emitter_error_of result) (λ error. BeginFailed settings.now.depth settings.now.flow (opener kind) nest.old.kinds.items
+        writer.old error writer.new) }
 {
     if nest.kinds.len() == settings.depth {
         return Err(Stop::TooDeep);
@@ -97,7 +97,7 @@ fn write_token<'a, A: Allocator + Copy>(
     ensures fits { OnOk result (IsNesting settings.now.depth settings.now.unique_names nest.new) }
     ensures names { OnOk result (Keeps nest.old.names (token_of token.entry ∷ []) nest.new.names) }
     ensures refused { IfErr result (RefusesToken settings.now.depth nest.old.kinds.items (token_of token.entry)) }
-    ensures stopped { IfSome (failure result) (λ error. BeginFailed settings.now.depth settings.now.flow (token_of token.entry)
+    ensures stopped { IfSome (emitter_error_of result) (λ error. BeginFailed settings.now.depth settings.now.flow (token_of token.entry)
         nest.old.kinds.items writer.old error writer.new) }
 {
     match token {
@@ -109,6 +109,23 @@ fn write_token<'a, A: Allocator + Copy>(
         Token::BeginObject => begin(writer, nest, CollectionKind::Mapping, settings),
         Token::Key(_) => Err(Stop::NotJson(Spot::PastString(offset))),
         Token::EndObject | Token::EndArray | Token::Bad => Err(Stop::NotJson(Spot::At(offset))),
+    }
+}
+
+/// The next token, and where it begins.
+#[inline(always)]
+fn next_token<'a, A: Allocator + Copy>(
+    reader: &mut Tokens<'a, A>,
+) -> Result<(Token<'a>, usize), Stop>
+    ensures first { IfOk result (λ found. reader.old ≡ token_of found.0 ∷ reader.new) }
+    ensures printable { IfOk result (λ found. found.0 ≢ Token.Bad → IsPrintable (token_of found.0)) }
+    ensures refused { IfErr result (ReadsNone reader.old) }
+{
+    let offset = reader.offset();
+    match reader.next() {
+        Ok(Some(token)) => Ok((token, offset)),
+        Ok(None) => Err(Stop::NotJson(Spot::At(offset))),
+        Err(_) => Err(Stop::Failed(yaml_error_t::Memory)),
     }
 }
 
@@ -126,14 +143,12 @@ fn write_first<'a, A: Allocator + Copy>(
     ensures fits { OnOk result (IsNesting settings.now.depth settings.now.unique_names nest.new) }
     ensures names { OnOk result (KeepsTo nest.old.names reader.old reader.new nest.new.names) }
     ensures refused { IfErr result (RefusesFirst settings.now.depth nest.old.kinds.items reader.old) }
-    ensures stopped { IfSome (failure result) (λ error. FirstFailed settings.now.depth settings.now.flow reader.old nest.old.kinds.items writer.old error
-        writer.new) }
+    ensures stopped { IfSome (emitter_error_of result) (λ error. FirstFailed settings.now.depth settings.now.flow reader.old
+        nest.old.kinds.items writer.old error writer.new) }
 {
-    let offset = reader.offset();
-    let token = match reader.next() {
-        Ok(Some(token)) => token,
-        Ok(None) => return Err(Stop::NotJson(Spot::At(offset))),
-        Err(_) => return Err(Stop::Failed(yaml_error_t::Memory)),
+    let (token, offset) = match next_token(reader) {
+        Ok(found) => found,
+        Err(stop) => return Err(stop),
     };
     write_token(writer, nest, token, offset, settings)
 }
@@ -148,7 +163,7 @@ fn leave<'a, A: Allocator + Copy>(
     ensures names { LeavesNames nest.old.names nest.new.names }
     ensures ended { OnOk result (Ends writer.old writer.new) }
     ensures failed { RefusesText result → ⊥ }
-    ensures stopped { IfSome (failure result) (λ error. EndsInnermost writer.old (Err error) writer.new) }
+    ensures stopped { IfSome (emitter_error_of result) (λ error. EndsInnermost writer.old (Err error) writer.new) }
 {
     nest.names.leave();
     let _ = nest.kinds.pop();
@@ -171,14 +186,12 @@ fn write_next<'a, A: Allocator + Copy>(
     ensures fits { OnOk result (IsNesting settings.now.depth settings.now.unique_names nest.new) }
     ensures names { OnOk result (KeepsTo nest.old.names reader.old reader.new nest.new.names) }
     ensures refused { IfErr result (Refuses settings.now.depth settings.now.unique_names nest.old.kinds.items nest.old.names reader.old) }
-    ensures stopped { IfSome (failure result) (λ error. StepFailed settings.now.depth settings.now.flow reader.old nest.old.kinds.items writer.old error
-        writer.new) }
+    ensures stopped { IfSome (emitter_error_of result) (λ error. StepFailed settings.now.depth settings.now.flow reader.old
+        nest.old.kinds.items writer.old error writer.new) }
 {
-    let offset = reader.offset();
-    let token = match reader.next() {
-        Ok(Some(token)) => token,
-        Ok(None) => return Err(Stop::NotJson(Spot::At(offset))),
-        Err(_) => return Err(Stop::Failed(yaml_error_t::Memory)),
+    let (token, offset) = match next_token(reader) {
+        Ok(found) => found,
+        Err(stop) => return Err(stop),
     };
     match kind {
         CollectionKind::Sequence => match token {
@@ -223,7 +236,7 @@ fn write_value<'a, A: Allocator + Copy>(
     ensures written { OnOk result (WroteValue settings.now.depth settings.now.flow reader.old writer.old reader.new writer.new) }
     ensures names { OnOk result (HasUniqueNames settings.now.unique_names reader.old reader.new) }
     ensures refused { IfErr result (WhyStopped settings.now.depth settings.now.unique_names reader.old) }
-    ensures stopped { IfSome (failure result) (λ error. FailedInValue settings.now.depth settings.now.flow reader.old writer.old error writer.new) }
+    ensures stopped { IfSome (emitter_error_of result) (λ error. FailedInValue settings.now.depth settings.now.flow reader.old writer.old error writer.new) }
 {
     let mut nest = Nesting {
         kinds: Vec::new(alloc),
@@ -241,7 +254,7 @@ fn write_value<'a, A: Allocator + Copy>(
 }
 
 /// The one value of the reader.
-pub(crate) fn write_document<'a, A: Allocator + Copy>(
+pub(crate) fn write_only_value<'a, A: Allocator + Copy>(
     alloc: A,
     writer: &mut Writer<A>,
     reader: &mut Tokens<'a, A>,
@@ -251,7 +264,7 @@ pub(crate) fn write_document<'a, A: Allocator + Copy>(
     ensures written { OnOk result (WroteDocument settings.now.depth settings.now.flow reader.old writer.old writer.new) }
     ensures names { OnOk result (settings.now.unique_names ≡ true → NamesOnce [] reader.old) }
     ensures refused { IfErr result (WhyStopped settings.now.depth settings.now.unique_names reader.old) }
-    ensures stopped { IfSome (failure result) (λ error. FailedInValue settings.now.depth settings.now.flow reader.old writer.old error writer.new) }
+    ensures stopped { IfSome (emitter_error_of result) (λ error. FailedInValue settings.now.depth settings.now.flow reader.old writer.old error writer.new) }
 {
     if let Err(stop) = write_value(alloc, writer, reader, settings) {
         return Err(stop);

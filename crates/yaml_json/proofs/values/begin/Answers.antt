@@ -1,4 +1,4 @@
-use Rattle.yaml_json.proofs.Common.{◌<◌, length, arith, failure}
+use Rattle.yaml_json.proofs.Common.{◌<◌, length, arith, emitter_error_of}
 use Rattle.yaml_json.proofs.{KeepingNames.keeps_opener, Stopping.if_some, Taking.opener_began, Taking.opener_failed, Taking.opener_without_memory}
 use Rattle.yaml_json.proofs.{WroteLemmas.on_ok, WroteLemmas.always}
 use Rattle.yaml_json.proofs.values.begin.Goals as goal
@@ -33,6 +33,6 @@ pub returns-in-Ok-clause-stopped : goal.returns-in-Ok-clause-stopped
 returns-in-Ok-clause-stopped g c =
     let a = c.args in
     let fits : length a.nest.now.kinds.items < a.settings.now.depth = grind (arith, c.requires.fits.0) in
-    if_some (failure c.start.result)
+    if_some (emitter_error_of c.start.result)
     (opener_failed a.settings.now.depth a.settings.now.flow a.nest.now.kinds.items a.writer.now c.start.new.writer a.kind fits)
     c.start.ensures.stopped

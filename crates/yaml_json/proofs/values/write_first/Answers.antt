@@ -1,25 +1,28 @@
-use Rattle.yaml_base.specs.declared.errors.yaml_error_t.TheVariants.{Memory}
-use Rattle.yaml_json.proofs.Common.{[], ◌∷◌, inr, token_of, failure}
-use Rattle.yaml_json.{proofs.Stopping.if_some, proofs.Stops.first_none, proofs.Stops.first_unread, proofs.WroteLemmas.on_ok}
-use Rattle.yaml_json.{specs.declared.values.Spot.TheVariants.At}
+use Rattle.yaml_json.proofs.Common.{[], ◌∷◌, inl, inr, token_of, failure_of, emitter_error_of}
+use Rattle.yaml_json.{proofs.Stopping.if_some, proofs.Stops.first_unread, proofs.Stops.unread_memory, proofs.WroteLemmas.on_ok}
 use Rattle.yaml_json.proofs.values.write_first.Goals as goal
 
-pub returns-in-Ok-None-clause-refused : goal.returns-in-Ok-None-clause-refused
-returns-in-Ok-None-clause-refused g c =
-    let none = rw c.in-Ok-None.field-0-is at c.in-Ok-None.ensures.value in
-    first_none c.args.settings.now.depth c.args.nest.now.kinds.items c.args.reader.now (At c.offset-offset.result) none.0
-
 pub returns-in-Err-clause-refused : goal.returns-in-Err-clause-refused
-returns-in-Err-clause-refused g c = first_unread c.args.settings.now.depth c.args.nest.now.kinds.items c.args.reader.now Memory
+returns-in-Err-clause-refused g c =
+    first_unread c.args.settings.now.depth c.args.nest.now.kinds.items c.args.reader.now c.in-Err.stop c.in-Err.ensures.refused
+
+pub returns-in-Err-clause-stopped : goal.returns-in-Err-clause-stopped
+returns-in-Err-clause-stopped g c =
+    if_some (failure_of c.in-Err.stop) (λ error memory. inl memory) (unread_memory c.args.reader.now c.in-Err.stop c.in-Err.ensures.refused)
 
 pub returns-clause-names : goal.returns-clause-names
 returns-clause-names g c =
-    let first = rw c.in-Ok-Some.field-0-is at c.in-Ok-Some.ensures.value in
-    on_ok c.write_token.result (λ keeps. record { taken = token_of c.in-Ok-Some.token ∷ []; parts = first; keeps = keeps }) c.write_token.ensures.names
+    on_ok c.write_token.result
+    (λ keeps. record { taken = token_of c.in-Ok.found.0 ∷ []; parts = c.in-Ok.ensures.first; keeps = keeps })
+    c.write_token.ensures.names
 
 pub returns-clause-stopped : goal.returns-clause-stopped
 returns-clause-stopped g c =
-    let first = rw c.in-Ok-Some.field-0-is at c.in-Ok-Some.ensures.value in
-    if_some (failure c.write_token.result)
-    (λ error failed. inr (record { token = token_of c.in-Ok-Some.token; after = c.next.new.self; first = first; failed = failed }))
+    if_some (emitter_error_of c.write_token.result)
+    (λ error failed. inr (record {
+      token = token_of c.in-Ok.found.0;
+      after = c.next_token.new.reader;
+      first = c.in-Ok.ensures.first;
+      failed = failed;
+    }))
     c.write_token.ensures.stopped

@@ -1,11 +1,11 @@
-use Rattle.yaml_json.proofs.Common.{ℕ, false, true, List, [], ◌++◌, ◌∷◌, refl, ◌≡◌, Bor, ap, ◌∙◌, arith, chars, token_of, scalar, failure_of, failure}
+use Rattle.yaml_json.proofs.Common.{ℕ, false, true, List, [], ◌++◌, ◌∷◌, refl, ◌≡◌, Bor, ap, ◌∙◌, arith, chars, token_of, scalar, failure_of, emitter_error_of}
 use Rattle.yaml_json.proofs.Common.{text_content, closer, Refuses}
 use Rattle.json.specs.declared.token.Token.{Token}
 use Rattle.yaml_json.proofs.{KeepingNames.keeps_closer, KeepingNames.keeps_name, KeepingNames.keeps_then, Refusing.IsNoKey, Refusing.unrefused}
 use Rattle.yaml_json.proofs.{Stopping.if_some, WroteLemmas.on_ok, WroteLemmas.always, WroteLemmas.on_err}
-use Rattle.yaml_json.proofs.Stops.{none_left, item_stopped, member_stopped, again_stopped, named_stopped}
-use Rattle.yaml_json.proofs.Taking.{gives_scalar, fails_scalar, step_closes, step_unclosed, step_without_memory, step_unnamed, step_member, step_no_member}
-use Rattle.yaml_json.proofs.Taking.{step_item, step_no_item}
+use Rattle.yaml_json.proofs.Stops.{unread, item_stopped, member_stopped, again_stopped, named_stopped}
+use Rattle.yaml_json.proofs.Taking.{gives_scalar, fails_scalar, step_closes, step_unclosed, step_without_memory, step_unread, step_unnamed, step_member}
+use Rattle.yaml_json.proofs.Taking.{step_no_member, step_item, step_no_item}
 use Rattle.yaml_json.specs.declared.values.Spot.TheVariants.{At, PastString}
 use Rattle.yaml_writer.specs.declared.kinds.CollectionKind.{CollectionKind}
 use Rattle.yaml_writer.specs.declared.kinds.CollectionKind.TheVariants.{Mapping, Sequence}
@@ -48,18 +48,18 @@ object_first : (kind : CollectionKind) (token : Token) (ahead after : List token
     → ahead ≡ token_of token ∷ after → ahead ≡ closer kind ∷ after
 object_first kind token ahead after object is first = rw object (first ∙ ap (λ (t : Token). token_of t ∷ after) is)
 
-pub returns-in-Ok-None-clause-refused : goal.returns-in-Ok-None-clause-refused
-returns-in-Ok-None-clause-refused g c =
+pub returns-in-Err-clause-refused : goal.returns-in-Err-clause-refused
+returns-in-Err-clause-refused g c =
     let a = c.args in
-    let none = rw c.in-Ok-None.field-0-is at c.in-Ok-None.ensures.value in
     let inner = c.requires.innermost in
-    none_left a.settings.now.depth a.settings.now.unique_names a.nest.now.kinds.items inner.outer a.nest.now.names c.requires.fits.1 a.reader.now
-    a.kind inner.is (At c.offset-offset.result) none.0
+    unread a.settings.now.depth a.settings.now.unique_names a.nest.now.kinds.items inner.outer a.nest.now.names c.requires.fits.1 a.reader.now
+    a.kind inner.is c.in-Err.stop c.in-Err.ensures.refused
 
 pub returns-in-Err-clause-stopped : goal.returns-in-Err-clause-stopped
 returns-in-Err-clause-stopped g c =
     let a = c.args in
-    step_without_memory a.settings.now.depth a.settings.now.flow a.reader.now a.nest.now.kinds.items a.writer.now a.writer.now
+    step_unread a.settings.now.depth a.settings.now.flow a.reader.now a.nest.now.kinds.items a.writer.now a.writer.now c.in-Err.stop
+    c.in-Err.ensures.refused
 
 -- The end of the collection
 
@@ -67,18 +67,16 @@ pub returns-in-EndArray-clause-stepped : goal.returns-in-EndArray-clause-stepped
 returns-in-EndArray-clause-stepped g c =
     let a = c.args in
     let inner = c.requires.innermost in
-    let read = rw c.in-Ok-Some.field-0-is at c.in-Ok-Some.ensures.value in
-    let first = array_first a.kind c.in-Ok-Some.token a.reader.now c.next.new.self c.in-Sequence.is c.in-EndArray.is read in
+    let first = array_first a.kind c.in-Ok.found.0 a.reader.now c.next_token.new.reader c.in-Sequence.is c.in-EndArray.is c.in-Ok.ensures.first in
     on_ok c.leave.result
     (step_closes a.settings.now.depth a.settings.now.flow a.reader.now a.nest.now.kinds.items inner.outer a.kind inner.is a.writer.now
-    c.next.new.self c.leave.new.nest.kinds.items c.leave.new.writer first c.leave.ensures.left)
+    c.next_token.new.reader c.leave.new.nest.kinds.items c.leave.new.writer first c.leave.ensures.left)
     c.leave.ensures.ended
 
 pub returns-in-EndArray-clause-names : goal.returns-in-EndArray-clause-names
 returns-in-EndArray-clause-names g c =
     let a = c.args in
-    let read = rw c.in-Ok-Some.field-0-is at c.in-Ok-Some.ensures.value in
-    let first = array_first a.kind c.in-Ok-Some.token a.reader.now c.next.new.self c.in-Sequence.is c.in-EndArray.is read in
+    let first = array_first a.kind c.in-Ok.found.0 a.reader.now c.next_token.new.reader c.in-Sequence.is c.in-EndArray.is c.in-Ok.ensures.first in
     always c.leave.result
     (record {
       taken = closer a.kind ∷ [];
@@ -96,29 +94,26 @@ pub returns-in-EndArray-clause-stopped : goal.returns-in-EndArray-clause-stopped
 returns-in-EndArray-clause-stopped g c =
     let a = c.args in
     let inner = c.requires.innermost in
-    let read = rw c.in-Ok-Some.field-0-is at c.in-Ok-Some.ensures.value in
-    let first = array_first a.kind c.in-Ok-Some.token a.reader.now c.next.new.self c.in-Sequence.is c.in-EndArray.is read in
-    if_some (failure c.leave.result)
+    let first = array_first a.kind c.in-Ok.found.0 a.reader.now c.next_token.new.reader c.in-Sequence.is c.in-EndArray.is c.in-Ok.ensures.first in
+    if_some (emitter_error_of c.leave.result)
     (λ error. step_unclosed a.settings.now.depth a.settings.now.flow a.reader.now a.nest.now.kinds.items inner.outer a.kind inner.is a.writer.now
-    c.next.new.self error c.leave.new.writer first)
+    c.next_token.new.reader error c.leave.new.writer first)
     c.leave.ensures.stopped
 
 pub returns-in-EndObject-clause-stepped : goal.returns-in-EndObject-clause-stepped
 returns-in-EndObject-clause-stepped g c =
     let a = c.args in
     let inner = c.requires.innermost in
-    let read = rw c.in-Ok-Some.field-0-is at c.in-Ok-Some.ensures.value in
-    let first = object_first a.kind c.in-Ok-Some.token a.reader.now c.next.new.self c.in-Mapping.is c.in-EndObject.is read in
+    let first = object_first a.kind c.in-Ok.found.0 a.reader.now c.next_token.new.reader c.in-Mapping.is c.in-EndObject.is c.in-Ok.ensures.first in
     on_ok c.leave-in-EndObject.result
     (step_closes a.settings.now.depth a.settings.now.flow a.reader.now a.nest.now.kinds.items inner.outer a.kind inner.is a.writer.now
-    c.next.new.self c.leave-in-EndObject.new.nest.kinds.items c.leave-in-EndObject.new.writer first c.leave-in-EndObject.ensures.left)
+    c.next_token.new.reader c.leave-in-EndObject.new.nest.kinds.items c.leave-in-EndObject.new.writer first c.leave-in-EndObject.ensures.left)
     c.leave-in-EndObject.ensures.ended
 
 pub returns-in-EndObject-clause-names : goal.returns-in-EndObject-clause-names
 returns-in-EndObject-clause-names g c =
     let a = c.args in
-    let read = rw c.in-Ok-Some.field-0-is at c.in-Ok-Some.ensures.value in
-    let first = object_first a.kind c.in-Ok-Some.token a.reader.now c.next.new.self c.in-Mapping.is c.in-EndObject.is read in
+    let first = object_first a.kind c.in-Ok.found.0 a.reader.now c.next_token.new.reader c.in-Mapping.is c.in-EndObject.is c.in-Ok.ensures.first in
     always c.leave-in-EndObject.result
     (record {
       taken = closer a.kind ∷ [];
@@ -136,11 +131,10 @@ pub returns-in-EndObject-clause-stopped : goal.returns-in-EndObject-clause-stopp
 returns-in-EndObject-clause-stopped g c =
     let a = c.args in
     let inner = c.requires.innermost in
-    let read = rw c.in-Ok-Some.field-0-is at c.in-Ok-Some.ensures.value in
-    let first = object_first a.kind c.in-Ok-Some.token a.reader.now c.next.new.self c.in-Mapping.is c.in-EndObject.is read in
-    if_some (failure c.leave-in-EndObject.result)
+    let first = object_first a.kind c.in-Ok.found.0 a.reader.now c.next_token.new.reader c.in-Mapping.is c.in-EndObject.is c.in-Ok.ensures.first in
+    if_some (emitter_error_of c.leave-in-EndObject.result)
     (λ error. step_unclosed a.settings.now.depth a.settings.now.flow a.reader.now a.nest.now.kinds.items inner.outer a.kind inner.is a.writer.now
-    c.next.new.self error c.leave-in-EndObject.new.writer first)
+    c.next_token.new.reader error c.leave-in-EndObject.new.writer first)
     c.leave-in-EndObject.ensures.stopped
 
 -- An item
@@ -150,23 +144,23 @@ returns-in_default g c =
     let a = c.args in
     let inner = c.requires.innermost in
     let is : a.nest.now.kinds.items ≡ inner.outer ++ Sequence ∷ [] = inner.is ∙ ap (λ kind. inner.outer ++ kind ∷ []) c.in-Sequence.is in
-    let token = token_of c.in-Ok-Some.token in
-    let isn't = no_end c.in-Ok-Some.token c.in_default.not-EndArray in
-    let first : a.reader.now ≡ token ∷ c.next.new.self = rw c.in-Ok-Some.field-0-is at c.in-Ok-Some.ensures.value in
+    let token = token_of c.in-Ok.found.0 in
+    let isn't = no_end c.in-Ok.found.0 c.in_default.not-EndArray in
+    let first : a.reader.now ≡ token ∷ c.next_token.new.reader = c.in-Ok.ensures.first in
     record {
       stepped = on_ok c.write_token.result
           (step_item a.settings.now.depth a.settings.now.flow a.nest.now.kinds.items inner.outer is token isn't a.writer.now a.reader.now
-          c.next.new.self first c.write_token.new.nest.kinds.items c.write_token.new.writer)
+          c.next_token.new.reader first c.write_token.new.nest.kinds.items c.write_token.new.writer)
           c.write_token.ensures.began;
       fits = c.write_token.ensures.fits;
       names = on_ok c.write_token.result (λ keeps. record { taken = token ∷ []; parts = first; keeps = keeps }) c.write_token.ensures.names;
       refused = on_err c.write_token.result
           (item_stopped a.settings.now.depth a.settings.now.unique_names a.nest.now.kinds.items inner.outer a.nest.now.names c.requires.fits.1
-          a.reader.now is token c.next.new.self first isn't)
+          a.reader.now is token c.next_token.new.reader first isn't)
           c.write_token.ensures.refused;
-      stopped = if_some (failure c.write_token.result)
+      stopped = if_some (emitter_error_of c.write_token.result)
           (λ error. step_no_item a.settings.now.depth a.settings.now.flow a.nest.now.kinds.items inner.outer is token isn't a.writer.now
-          a.reader.now c.next.new.self first error c.write_token.new.writer)
+          a.reader.now c.next_token.new.reader first error c.write_token.new.writer)
           c.write_token.ensures.stopped;
     }
 
@@ -182,12 +176,11 @@ returns-then-not-new-clause-refused g c =
     let a = c.args in
     let inner = c.requires.innermost in
     let is : a.nest.now.kinds.items ≡ inner.outer ++ Mapping ∷ [] = inner.is ∙ ap (λ kind. inner.outer ++ kind ∷ []) c.in-Mapping.is in
-    let read = rw c.in-Ok-Some.field-0-is at c.in-Ok-Some.ensures.value in
-    let first : a.reader.now ≡ tokens.key c.in-Key.key.now ∷ c.next.new.self =
-    read ∙ ap (λ (t : Token). token_of t ∷ c.next.new.self) c.in-Key.is in
-    let old : c.in-Ok.new ≡ false = grind arith in
+    let first : a.reader.now ≡ tokens.key c.in-Key.key.now ∷ c.next_token.new.reader =
+    c.in-Ok.ensures.first ∙ ap (λ (t : Token). token_of t ∷ c.next_token.new.reader) c.in-Key.is in
+    let old : c.in-Ok-add.new ≡ false = grind arith in
     again_stopped a.settings.now.depth a.settings.now.unique_names a.nest.now.kinds.items inner.outer a.nest.now.names c.requires.fits.1 a.reader.now
-    is c.in-Key.key.now c.next.new.self first c.add.new.self c.in-Ok.ensures.kept c.in-Ok.new c.in-Ok.ensures.adds c.offset-offset.result old
+    is c.in-Key.key.now c.next_token.new.reader first c.add.new.self c.in-Ok-add.ensures.kept c.in-Ok-add.new c.in-Ok-add.ensures.adds c.in-Ok.found.1 old
 
 pub returns-in-Err-write_text-clause-stopped : goal.returns-in-Err-write_text-clause-stopped
 returns-in-Err-write_text-clause-stopped g c =
@@ -195,12 +188,11 @@ returns-in-Err-write_text-clause-stopped g c =
     let inner = c.requires.innermost in
     let is : a.nest.now.kinds.items ≡ inner.outer ++ Mapping ∷ [] = inner.is ∙ ap (λ kind. inner.outer ++ kind ∷ []) c.in-Mapping.is in
     let key = c.in-Key.key.now in
-    let read = rw c.in-Ok-Some.field-0-is at c.in-Ok-Some.ensures.value in
-    let first : a.reader.now ≡ tokens.key key ∷ c.next.new.self =
-    read ∙ ap (λ (t : Token). token_of t ∷ c.next.new.self) c.in-Key.is in
+    let first : a.reader.now ≡ tokens.key key ∷ c.next_token.new.reader =
+    c.in-Ok.ensures.first ∙ ap (λ (t : Token). token_of t ∷ c.next_token.new.reader) c.in-Key.is in
     if_some (failure_of c.in-Err-write_text.stop)
     (λ error failed. step_unnamed a.settings.now.depth a.settings.now.flow a.nest.now.kinds.items inner.outer is key a.writer.now a.reader.now
-    c.next.new.self first error c.write_text.new.writer
+    c.next_token.new.reader first error c.write_text.new.writer
     (fails_scalar a.settings.now.flow a.nest.now.kinds.items a.writer.now c.write_text.new.writer (tokens.key key)
     (λ k. scalar (text_content (chars key))) error (λ k. refl) failed))
     c.in-Err-write_text.ensures.stopped
@@ -211,13 +203,12 @@ returns-in_default-write_text-clause-stepped g c =
     let inner = c.requires.innermost in
     let is : a.nest.now.kinds.items ≡ inner.outer ++ Mapping ∷ [] = inner.is ∙ ap (λ kind. inner.outer ++ kind ∷ []) c.in-Mapping.is in
     let key = c.in-Key.key.now in
-    let read = rw c.in-Ok-Some.field-0-is at c.in-Ok-Some.ensures.value in
-    let first : a.reader.now ≡ tokens.key key ∷ c.next.new.self =
-    read ∙ ap (λ (t : Token). token_of t ∷ c.next.new.self) c.in-Key.is in
+    let first : a.reader.now ≡ tokens.key key ∷ c.next_token.new.reader =
+    c.in-Ok.ensures.first ∙ ap (λ (t : Token). token_of t ∷ c.next_token.new.reader) c.in-Key.is in
     let gave = gives_scalar a.settings.now.flow a.nest.now.kinds.items a.writer.now c.write_text.new.writer (tokens.key key)
     (λ k. scalar (text_content (chars key))) (λ k. refl) c.in_default-write_text.ensures.written in
     on_ok c.write_first.result
-    (step_member a.settings.now.depth a.settings.now.flow a.nest.now.kinds.items inner.outer is key a.writer.now a.reader.now c.next.new.self first
+    (step_member a.settings.now.depth a.settings.now.flow a.nest.now.kinds.items inner.outer is key a.writer.now a.reader.now c.next_token.new.reader first
     c.write_text.new.writer gave c.write_first.new.reader c.write_first.new.nest.kinds.items c.write_first.new.writer)
     c.write_first.ensures.began
 
@@ -227,12 +218,11 @@ returns-in_default-write_text-clause-names g c =
     let inner = c.requires.innermost in
     let is : a.nest.now.kinds.items ≡ inner.outer ++ Mapping ∷ [] = inner.is ∙ ap (λ kind. inner.outer ++ kind ∷ []) c.in-Mapping.is in
     let key = c.in-Key.key.now in
-    let read = rw c.in-Ok-Some.field-0-is at c.in-Ok-Some.ensures.value in
-    let first : a.reader.now ≡ tokens.key key ∷ c.next.new.self =
-    read ∙ ap (λ (t : Token). token_of t ∷ c.next.new.self) c.in-Key.is in
-    let fresh : c.in-Ok.new ≡ true = grind arith in
+    let first : a.reader.now ≡ tokens.key key ∷ c.next_token.new.reader =
+    c.in-Ok.ensures.first ∙ ap (λ (t : Token). token_of t ∷ c.next_token.new.reader) c.in-Key.is in
+    let fresh : c.in-Ok-add.new ≡ true = grind arith in
     let named = keeps_name a.nest.now.kinds.items inner.outer Mapping is a.settings.now.unique_names key a.nest.now.names c.add.new.self
-    c.requires.fits.1 c.in-Ok.ensures.kept c.in-Ok.new c.in-Ok.ensures.adds fresh in
+    c.requires.fits.1 c.in-Ok-add.ensures.kept c.in-Ok-add.new c.in-Ok-add.ensures.adds fresh in
     on_ok c.write_first.result
     (λ keeps. record {
       taken = tokens.key key ∷ keeps.taken;
@@ -247,13 +237,12 @@ returns-in_default-write_text-clause-refused g c =
     let inner = c.requires.innermost in
     let is : a.nest.now.kinds.items ≡ inner.outer ++ Mapping ∷ [] = inner.is ∙ ap (λ kind. inner.outer ++ kind ∷ []) c.in-Mapping.is in
     let key = c.in-Key.key.now in
-    let read = rw c.in-Ok-Some.field-0-is at c.in-Ok-Some.ensures.value in
-    let first : a.reader.now ≡ tokens.key key ∷ c.next.new.self =
-    read ∙ ap (λ (t : Token). token_of t ∷ c.next.new.self) c.in-Key.is in
-    let fresh : c.in-Ok.new ≡ true = grind arith in
+    let first : a.reader.now ≡ tokens.key key ∷ c.next_token.new.reader =
+    c.in-Ok.ensures.first ∙ ap (λ (t : Token). token_of t ∷ c.next_token.new.reader) c.in-Key.is in
+    let fresh : c.in-Ok-add.new ≡ true = grind arith in
     on_err c.write_first.result
     (named_stopped a.settings.now.depth a.settings.now.unique_names a.nest.now.kinds.items inner.outer a.nest.now.names c.requires.fits.1 a.reader.now
-    is key c.next.new.self first c.add.new.self c.in-Ok.ensures.kept c.in-Ok.new c.in-Ok.ensures.adds fresh)
+    is key c.next_token.new.reader first c.add.new.self c.in-Ok-add.ensures.kept c.in-Ok-add.new c.in-Ok-add.ensures.adds fresh)
     c.write_first.ensures.refused
 
 pub returns-in_default-write_text-clause-stopped : goal.returns-in_default-write_text-clause-stopped
@@ -262,14 +251,13 @@ returns-in_default-write_text-clause-stopped g c =
     let inner = c.requires.innermost in
     let is : a.nest.now.kinds.items ≡ inner.outer ++ Mapping ∷ [] = inner.is ∙ ap (λ kind. inner.outer ++ kind ∷ []) c.in-Mapping.is in
     let key = c.in-Key.key.now in
-    let read = rw c.in-Ok-Some.field-0-is at c.in-Ok-Some.ensures.value in
-    let first : a.reader.now ≡ tokens.key key ∷ c.next.new.self =
-    read ∙ ap (λ (t : Token). token_of t ∷ c.next.new.self) c.in-Key.is in
+    let first : a.reader.now ≡ tokens.key key ∷ c.next_token.new.reader =
+    c.in-Ok.ensures.first ∙ ap (λ (t : Token). token_of t ∷ c.next_token.new.reader) c.in-Key.is in
     let gave = gives_scalar a.settings.now.flow a.nest.now.kinds.items a.writer.now c.write_text.new.writer (tokens.key key)
     (λ k. scalar (text_content (chars key))) (λ k. refl) c.in_default-write_text.ensures.written in
-    if_some (failure c.write_first.result)
+    if_some (emitter_error_of c.write_first.result)
     (λ error. step_no_member a.settings.now.depth a.settings.now.flow a.nest.now.kinds.items inner.outer is key a.writer.now a.reader.now
-    c.next.new.self first c.write_text.new.writer gave error c.write_first.new.writer)
+    c.next_token.new.reader first c.write_text.new.writer gave error c.write_first.new.writer)
     c.write_first.ensures.stopped
 
 -- Neither
@@ -280,16 +268,14 @@ returns-in-String-clause-refused g c =
     let inner = c.requires.innermost in
     let is : a.nest.now.kinds.items ≡ inner.outer ++ Mapping ∷ [] = inner.is ∙ ap (λ kind. inner.outer ++ kind ∷ []) c.in-Mapping.is in
     let text = c.in-String.field-0.now in
-    let read = rw c.in-Ok-Some.field-0-is at c.in-Ok-Some.ensures.value in
-    let first : a.reader.now ≡ tokens.string text ∷ c.next.new.self =
-    read ∙ ap (λ (t : Token). token_of t ∷ c.next.new.self) c.in-String.is in
+    let first : a.reader.now ≡ tokens.string text ∷ c.next_token.new.reader =
+    c.in-Ok.ensures.first ∙ ap (λ (t : Token). token_of t ∷ c.next_token.new.reader) c.in-String.is in
     member_stopped a.settings.now.depth a.settings.now.unique_names a.nest.now.kinds.items inner.outer a.nest.now.names c.requires.fits.1 a.reader.now
-    is (PastString c.offset-offset.result) (tokens.string text) c.next.new.self first ((λ key is. cc), (λ is. cc))
+    is (PastString c.in-Ok.found.1) (tokens.string text) c.next_token.new.reader first ((λ key is. cc), (λ is. cc))
 
 pub returns-in_default-token : goal.returns-in_default-token
 returns-in_default-token g c =
     let a = c.args in
-    let read = rw c.in-Ok-Some.field-0-is at c.in-Ok-Some.ensures.value in
     let inner = c.requires.innermost in
     let is : a.nest.now.kinds.items ≡ inner.outer ++ Mapping ∷ [] = inner.is ∙ ap (λ kind. inner.outer ++ kind ∷ []) c.in-Mapping.is in
     record {
@@ -297,7 +283,7 @@ returns-in_default-token g c =
       fits = tt;
       names = tt;
       refused = member_stopped a.settings.now.depth a.settings.now.unique_names a.nest.now.kinds.items inner.outer a.nest.now.names
-          c.requires.fits.1 a.reader.now is (At c.offset-offset.result) (token_of c.in-Ok-Some.token) c.next.new.self read
-          (no_key c.in-Ok-Some.token c.in_default-token.not-Key c.in_default-token.not-EndObject);
+          c.requires.fits.1 a.reader.now is (At c.in-Ok.found.1) (token_of c.in-Ok.found.0) c.next_token.new.reader c.in-Ok.ensures.first
+          (no_key c.in-Ok.found.0 c.in_default-token.not-Key c.in_default-token.not-EndObject);
       stopped = tt;
     }

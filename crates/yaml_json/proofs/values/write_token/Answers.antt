@@ -1,5 +1,5 @@
-use Rattle.yaml_json.proofs.Common.{ℕ, IfSome, OnOk, List, [], ◌∷◌, refl, ◌≡◌, Bor, subst, sym, chars, token_of, scalar, failure, null_content, bool_content}
-use Rattle.yaml_json.proofs.Common.{number_content, text_content, RefusesText, Keeps, BeganValue, BeginFailed, RefusesToken, number_in}
+use Rattle.yaml_json.proofs.Common.{ℕ, IfSome, OnOk, List, [], ◌∷◌, refl, ◌≡◌, Bor, subst, sym, chars, token_of, scalar, emitter_error_of, null_content}
+use Rattle.yaml_json.proofs.Common.{bool_content, number_content, text_content, RefusesText, Keeps, BeganValue, BeginFailed, RefusesToken, number_in}
 use Rattle.json.specs.{Print.IsPrintable, declared.token.Token.Token}
 use Rattle.yaml_json.proofs.{KeepingNames.keeps_scalar, NumberBridge.number_is, Refusing.unrefused, Stopping.if_some, Taking.scalar_began}
 use Rattle.yaml_json.proofs.{Taking.scalar_failed, WroteLemmas.on_ok, WroteLemmas.always}
@@ -27,10 +27,10 @@ returns-in-Null-clause-began g c =
 pub returns-in-Null-clause-stopped : goal.returns-in-Null-clause-stopped
 returns-in-Null-clause-stopped g c =
     let a = c.args in
-    subst (λ (t : Token). IfSome (failure c.write_null.result)
+    subst (λ (t : Token). IfSome (emitter_error_of c.write_null.result)
     (λ error. BeginFailed a.settings.now.depth a.settings.now.flow (token_of t) a.nest.now.kinds.items a.writer.now error c.write_null.new.writer))
     (sym c.in-Null.is)
-    (if_some (failure c.write_null.result)
+    (if_some (emitter_error_of c.write_null.result)
     (scalar_failed a.settings.now.depth a.settings.now.flow a.nest.now.kinds.items a.writer.now c.write_null.new.writer tokens.null
     (λ k. scalar (null_content k)) tt (λ k. refl))
     c.write_null.ensures.stopped)
@@ -56,10 +56,10 @@ returns-in-Bool-clause-began g c =
 pub returns-in-Bool-clause-stopped : goal.returns-in-Bool-clause-stopped
 returns-in-Bool-clause-stopped g c =
     let a = c.args in
-    subst (λ (t : Token). IfSome (failure c.write_bool.result)
+    subst (λ (t : Token). IfSome (emitter_error_of c.write_bool.result)
     (λ error. BeginFailed a.settings.now.depth a.settings.now.flow (token_of t) a.nest.now.kinds.items a.writer.now error c.write_bool.new.writer))
     (sym c.in-Bool.is)
-    (if_some (failure c.write_bool.result)
+    (if_some (emitter_error_of c.write_bool.result)
     (scalar_failed a.settings.now.depth a.settings.now.flow a.nest.now.kinds.items a.writer.now c.write_bool.new.writer (tokens.boolean c.in-Bool.flag)
     (λ k. scalar (bool_content k c.in-Bool.flag)) tt (λ k. refl))
     c.write_bool.ensures.stopped)
@@ -87,10 +87,10 @@ pub returns-in-Number-clause-stopped : goal.returns-in-Number-clause-stopped
 returns-in-Number-clause-stopped g c =
     let a = c.args in
     let text = c.in-Number.text.now in
-    subst (λ (t : Token). IfSome (failure c.write_number.result)
+    subst (λ (t : Token). IfSome (emitter_error_of c.write_number.result)
     (λ error. BeginFailed a.settings.now.depth a.settings.now.flow (token_of t) a.nest.now.kinds.items a.writer.now error c.write_number.new.writer))
     (sym c.in-Number.is)
-    (if_some (failure c.write_number.result)
+    (if_some (emitter_error_of c.write_number.result)
     (scalar_failed a.settings.now.depth a.settings.now.flow a.nest.now.kinds.items a.writer.now c.write_number.new.writer (tokens.number text)
     (λ k. scalar (number_content k (number_in text))) tt (λ k. refl))
     c.write_number.ensures.stopped)
@@ -123,10 +123,10 @@ pub returns-in-String-clause-stopped : goal.returns-in-String-clause-stopped
 returns-in-String-clause-stopped g c =
     let a = c.args in
     let text = c.in-String.text.now in
-    subst (λ (t : Token). IfSome (failure c.write_text.result)
+    subst (λ (t : Token). IfSome (emitter_error_of c.write_text.result)
     (λ error. BeginFailed a.settings.now.depth a.settings.now.flow (token_of t) a.nest.now.kinds.items a.writer.now error c.write_text.new.writer))
     (sym c.in-String.is)
-    (if_some (failure c.write_text.result)
+    (if_some (emitter_error_of c.write_text.result)
     (scalar_failed a.settings.now.depth a.settings.now.flow a.nest.now.kinds.items a.writer.now c.write_text.new.writer (tokens.string text)
     (λ k. scalar (text_content (chars text))) tt (λ k. refl))
     c.write_text.ensures.stopped)

@@ -1,6 +1,6 @@
 use Rattle.yaml_json.proofs.Common.{Some, ◌∷◌, ◌≡◌, ap, ◌∙◌, value, token_of}
 use Rattle.yaml_json.proofs.Refusing.{past_refused, value_names}
-use Rattle.yaml_json.proofs.values.write_document.Goals as goal
+use Rattle.yaml_json.proofs.values.write_only_value.Goals as goal
 
 pub returns-in-Ok-Some-clause-refused : goal.returns-in-Ok-Some-clause-refused
 returns-in-Ok-Some-clause-refused g c =
