@@ -1,4 +1,5 @@
-/* Keeps an emitter from call to call: events are given one by one, and what is flushed is written after each document. */
+/* Keeps an emitter from call to call: events are given one by one, and what is flushed is written after each document, and once within
+ * one. */
 #include <stdio.h>
 #include <string.h>
 
@@ -17,13 +18,15 @@ static int give(uint32_t kind, const char *text) {
     return yaml_c_emitter_emit(&emitter, &event, none, 0, (const uint8_t *)text, event.value.length, &result) == YAML_DONE;
 }
 
-/* Writes what is flushed. */
+/* Writes what is flushed, and how many bytes that are. */
 static int write_flushed(void) {
     uint8_t out[64];
     if (yaml_c_emitter_take_output(&emitter, out, sizeof out, &result) != YAML_DONE) return 0;
-    printf("%zu bytes\n", result.length);
-    return fwrite(out, 1, result.length, stdout) == result.length;
+    return fwrite(out, 1, result.length, stdout) == result.length && printf(" # %zu bytes\n", result.length) > 0;
 }
+
+/* Writes what stands of a document that isn't ended. */
+static int write_so_far(void) { return yaml_c_emitter_flush(&emitter, &result) == YAML_DONE && write_flushed(); }
 
 static int give_document(const char *first, const char *second) {
     return give(DOCUMENT_START, "") && give(SEQUENCE_START, "") && give(SCALAR, first) && give(SCALAR, second) && give(SEQUENCE_END, "")
@@ -34,7 +37,9 @@ int main(void) {
     static const struct yaml_c_settings settings; /* zeros: those of a new emitter */
     if (yaml_c_emitter_new(&settings, &emitter) != YAML_DONE) return 1;
     int done = give(STREAM_START, "") && give_document("one", "yes") && write_flushed() && give_document("two", "x: y") && write_flushed();
-    if (done && !give(SCALAR, "three")) printf("refused: %s\n", yaml_error_text(result.error));
+    done = done && give(DOCUMENT_START, "") && give(SEQUENCE_START, "") && give(SCALAR, "three") && give(SCALAR, "four") && write_so_far();
+    done = done && give(SCALAR, "five") && give(SEQUENCE_END, "") && give(DOCUMENT_END, "") && write_flushed();
+    if (done && !give(SCALAR, "six")) printf("refused: %s\n", yaml_error_text(result.error));
     yaml_c_emitter_delete(&emitter);
     return !done;
 }

@@ -123,6 +123,9 @@ static void refused(void) {
     give(DOCUMENT_END, "", YAML_DONE, 0);
     give(SCALAR, "two", YAML_REFUSED, YAML_EXPECTED_DOCUMENT_START);
     give(DOCUMENT_START, "", YAML_REFUSED, YAML_EXPECTED_DOCUMENT_START);
+    give(11, "", YAML_BAD_EVENT, 0);
+    give(SCALAR, "\xff", YAML_BAD_EVENT, 0);
+    give(SCALAR, "two", YAML_REFUSED, YAML_EXPECTED_DOCUMENT_START);
     flush(YAML_REFUSED, YAML_EXPECTED_DOCUMENT_START);
     take("what stands before the refused event", 128, "one\n");
     yaml_c_emitter_delete(emitter);

@@ -1,8 +1,8 @@
-"""Dumps random values by PyYAML over libyaml: a line of JSON for each, with what was dumped and the bytes.
+"""Dumps random values by PyYAML over libyaml: a line of JSON for each, with what was dumped, the bytes, and whether they load back.
 
     dump.py VALUES
 
-The values are the same in each run. `drop_in` says whether the emitter is the drop-in: then each value must load back.
+The values are the same in each run. `drop_in` says whether the emitter is the drop-in.
 """
 import json
 import random
@@ -55,15 +55,28 @@ def preloaded():
         return any("libyaml_emitter" in line for line in maps)
 
 
+def dump(values, given):
+    """A document for each value."""
+    if len(values) == 1:
+        return yaml.dump(values[0], Dumper=yaml.CDumper, **given)
+    return yaml.dump_all(values, Dumper=yaml.CDumper, **given)
+
+
+def loads_as(dumped, values):
+    try:
+        return list(yaml.load_all(dumped, Loader=yaml.CSafeLoader)) == values
+    except yaml.YAMLError:
+        return False
+
+
 def main():
     random_ = random.Random(1)
     drop_in = preloaded()
     for number in range(int(sys.argv[1])):
         values = [value(random_, 3) for _ in range(random_.choice([1, 1, 1, 2, 5]))]
         given = options(random_)
-        dumped = yaml.dump_all(values, Dumper=yaml.CSafeDumper, **given)
-        loads = list(yaml.load_all(dumped, Loader=yaml.CSafeLoader)) == values if drop_in else None
-        print(json.dumps({"drop_in": drop_in, "values": repr(values), "options": given, "yaml": dumped, "loads": loads}))
+        dumped = dump(values, given)
+        print(json.dumps({"drop_in": drop_in, "values": repr(values), "options": given, "yaml": dumped, "loads": loads_as(dumped, values)}))
 
 
 main()

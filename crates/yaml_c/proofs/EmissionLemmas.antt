@@ -7,7 +7,7 @@ use Rattle.std.proofs.lemmas.List.{at_drop_all}
 use Rattle.yaml_base.specs.{declared.errors.yaml_error_t.yaml_error_t, scripts.Script.Numbered}
 use Rattle.yaml_c.specs.{Emission.HasAllRead, Emission.EmitsRecords, Emission.FlushesAfter, EventRecords.before_others, declared.events.Emission.Emission}
 use Rattle.yaml_c.specs.{declared.records.DirectiveRecord.DirectiveRecord, declared.records.EventRecord.EventRecord}
-use Rattle.yaml_c.specs.declared.events.Emission.TheVariants.{BadEvent, Done, NoMemory, Refused}
+use Rattle.yaml_c.specs.declared.events.Emission.TheVariants.{BadEvent, Done, NoMemory, NoRoom, Refused}
 use Rattle.yaml_emitter.{proofs.standing.KeptDocuments.documents_kept, proofs.standing.KeptDocuments.documents_stay, specs.Promises.Promised}
 use Rattle.yaml_pen.specs.Wrote.{Grows}
 use Rattle.yaml_tool.{proofs.RunLemmas.flushed_last, specs.Runs.FlushFails, specs.Runs.EndsAt}
@@ -125,6 +125,7 @@ flushed_all set all records number (Refused report error) before after whole sto
     only_flush set all records report error after whole
     (flushed_last set all number (run.Refused report error) before after stood promised none ends h)
 flushed_all set all records number (BadEvent report) before after whole stood promised none ends h = absurd h
+flushed_all set all records number (NoRoom report) before after whole stood promised none ends h = absurd h
 flushed_all set all records number NoMemory before after whole stood promised none ends h = absurd h
 
 -- the end of the array

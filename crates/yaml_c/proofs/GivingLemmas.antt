@@ -6,9 +6,13 @@ use Rattle.yaml_base.specs.declared.errors.yaml_error_t.{yaml_error_t}
 use Rattle.yaml_emitter.specs.EmitsEvent.{EmitsEvent}
 use Rattle.yaml_c.specs.Giving.{GaveRecord}
 use Rattle.yaml_c.specs.declared.giving.Giving.{Giving}
-use Rattle.yaml_c.specs.declared.giving.Giving.TheVariants.{Emitted}
+use Rattle.yaml_c.specs.declared.giving.Giving.TheVariants.{Emitted, NoMemory}
 
 -- what the emitter took
 pub took : {read : Option Event} {before after : State} (giving : Giving) (answer : Result (Unit {0}) yaml_error_t)
     → GaveRecord read giving before after → giving ≡ Emitted answer → (event : Event) × (read ≡ Some event) × EmitsEvent before event answer after
 took {read} {before} {after} giving answer gave is = subst (λ (g : Giving). GaveRecord read g before after) is gave
+
+-- memory ran out before it took anything
+pub took_nothing : (read : Option Event) {before after : State} (giving : Giving) → GaveRecord read giving before after → giving ≡ NoMemory → after ≡ before
+took_nothing read {before} {after} giving gave is = (subst (λ (g : Giving). GaveRecord read g before after) is gave).0

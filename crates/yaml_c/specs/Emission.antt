@@ -1,5 +1,5 @@
 -- What the function over events returns to its caller.
-use Rattle.std.specs.Prelude.{◌≡◌, ◌⊎◌, ⊤, ◌<◌, ℕ, ℤ, Option, None, Some, List, length}
+use Rattle.std.specs.Prelude.{◌≡◌, ◌⊎◌, ⊤, ◌<◌, ℕ, ℤ, Option, None, Some, List, ◌++◌, length}
 use Rattle.yaml_base.specs.Settings.{Settings}
 use Rattle.yaml_base.specs.scripts.Script.{Numbered}
 use Rattle.yaml_base.specs.declared.errors.yaml_error_t.{yaml_error_t}
@@ -16,7 +16,7 @@ use Rattle.yaml_c.specs.declared.records.EventRecord.{EventRecord}
 use Rattle.yaml_c.specs.declared.results.CallResult.{CallResult}
 use Rattle.yaml_c.specs.declared.settings.EmitterSettings.{EmitterSettings}
 use Rattle.yaml_c.specs.declared.events.Emission.{Emission}
-use Rattle.yaml_c.specs.declared.events.Emission.TheVariants.{Done, Refused, BadEvent, NoMemory}
+use Rattle.yaml_c.specs.declared.events.Emission.TheVariants.{Done, Refused, BadEvent, NoRoom, NoMemory}
 
 -- ---- the emitter that an array's events were given, as far as they have a reading
 
@@ -31,12 +31,23 @@ pub record StopsAtBad (given : Settings) (all : List Numbered) (records : List E
   pub stands : StandsAfter given (events_in all) state
   pub no_error : state.error ≡ None
 
+-- there was no memory to copy the texts of the record of this number; the events before it were given, and no call returned an error
+pub record StopsForRoom (given : Settings) (all : List Numbered) (records : List EventRecord) (number : ℕ) (state : State) : Type 0 where
+  pub earlier : List Numbered
+  pub later : List Numbered
+  pub parts : all ≡ earlier ++ later
+  pub first : number ≡ length earlier
+  pub within : number < length records
+  pub stands : StandsAfter given (events_in earlier) state
+  pub no_error : state.error ≡ None
+
 -- what an answer says of the emitter; of the last flush only where all was given
 abbrev pub EmitsRecords : Settings → List Numbered → List EventRecord → Emission → State → Type 0
 EmitsRecords given all records Done state = HasAllRead all records × EmitsAll given all state
 EmitsRecords given all records (Refused number error) state =
     RefusesAt given all number error state ⊎ (HasAllRead all records × FlushFails given all number error state)
 EmitsRecords given all records (BadEvent number) state = StopsAtBad given all records number state
+EmitsRecords given all records (NoRoom number) state = StopsForRoom given all records number state
 EmitsRecords given all records NoMemory state = ⊤
 
 -- what the last flush does, given the number of its call
@@ -76,12 +87,13 @@ abbrev pub at_event : (event error : ℕ) → CallResult
 at_event event error = record nothing_reported { event = event; error = error }
 
 -- what is returned of an emission: 0 where it is done, 4 where its YAML doesn't fit; 1 where an event was refused, 8 where one has
--- no reading, 3 where memory ran out
+-- no reading, 3 where memory ran out, with the event that it was needed for
 abbrev pub emit_results : Emission → (yaml : List ℕ) → (skip : ℕ) → (out : List ℕ) → CallResults
 emit_results Done yaml skip out = results_done yaml skip out
-emit_results (Refused number errors.Memory) yaml skip out = results_failed 3 nothing_reported out
+emit_results (Refused number errors.Memory) yaml skip out = results_failed 3 (at_event number (error_number errors.Memory)) out
 emit_results (Refused number error) yaml skip out = results_failed 1 (at_event number (error_number error)) out
 emit_results (BadEvent number) yaml skip out = results_failed 8 (at_event number 0) out
+emit_results (NoRoom number) yaml skip out = results_failed 3 (at_event number (error_number errors.Memory)) out
 emit_results NoMemory yaml skip out = results_failed 3 nothing_reported out
 
 -- these results are those of an emitter with these settings that was given the array's events, 9 where there are no such settings

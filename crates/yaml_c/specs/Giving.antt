@@ -1,10 +1,11 @@
 -- How a record is given to an emitter.
-use Rattle.std.specs.Prelude.{◌≡◌, Option, None, Some, Result, Err}
+use Rattle.std.specs.Prelude.{◌≡◌, Bool, true, false, Option, None, Some, Result, Err}
 use Rattle.yaml_base.specs.Event.{Event, scalar}
 use Rattle.yaml_base.specs.Seen.{seen_event}
 use Rattle.yaml_base.specs.declared.errors.yaml_error_t.{yaml_error_t}
 use Rattle.yaml_emitter.specs.BorrowedTexts.{seen_scalar}
 use Rattle.yaml_emitter.specs.EmitsEvent.{EmitsEvent}
+use Rattle.yaml_emitter.specs.Queue.{are_ready_by_one_more}
 use Rattle.yaml_emitter.specs.State.{State}
 use Rattle.yaml_c.specs.declared.giving.Giving.{Giving}
 use Rattle.yaml_c.specs.declared.giving.Giving.TheVariants.{Emitted, Unreadable, NoMemory}
@@ -16,11 +17,21 @@ abbrev pub given_event : {A : Type 0} → GivenEvent A → Event
 given_event (Owned event) = seen_event event
 given_event (Scalar content) = scalar (seen_scalar content)
 
+-- a record is read as a scalar
+abbrev pub is_read_scalar : Option Event → Bool
+is_read_scalar (Some (scalar content)) = true
+is_read_scalar read = false
+
+-- where memory for texts may run out: a scalar's are copied only where it has to wait, since not all before it are ready with it, and the
+-- emitter has no error
+abbrev pub MayCopy : Option Event → State → Type 0
+MayCopy read before = is_read_scalar read ≡ true → (before.error ≡ None) × (are_ready_by_one_more before.held ≡ false)
+
 -- an emitter took the event that a record is read as; or nothing changed, since the record has no reading, or memory ran out
 abbrev pub GaveRecord : Option Event → Giving → (before after : State) → Type 0
 GaveRecord read (Emitted answer) before after = (event : Event) × (read ≡ Some event) × EmitsEvent before event answer after
 GaveRecord read Unreadable before after = (read ≡ None) × (after ≡ before)
-GaveRecord read NoMemory before after = after ≡ before
+GaveRecord read NoMemory before after = (after ≡ before) × MayCopy read before
 
 -- what a call says that was given a borrowed scalar, by the emitter's own error after it
 abbrev pub giving_of : Result (Unit {0}) yaml_error_t → Option yaml_error_t → Giving

@@ -12,6 +12,7 @@ use Rattle.yaml_pen.specs.Page.{output_left}
 use Rattle.yaml_pen.specs.Wrote.{Grows}
 use Rattle.yaml_c.specs.Answers.{CopiesToCaller, nothing_reported, results_done}
 use Rattle.yaml_c.specs.Emission.{error_number}
+use Rattle.yaml_c.specs.Giving.{MayCopy}
 use Rattle.yaml_c.specs.declared.results.CallResult.{CallResult}
 
 -- a call was made over an open emitter, which stays open
@@ -70,9 +71,9 @@ pub data GivesRecord (read : Option Event) (status : ℤ) (report : CallResult) 
   gives : (event : Event) → read ≡ Some event → TakesEvent event before after → TellsError after.error status report
       → GivesRecord read status report before after
   unreadable : read ≡ None → status ≡ pos 8 → report ≡ nothing_reported → after ≡ before → GivesRecord read status report before after
-  no_memory : status ≡ pos 3 → report ≡ nothing_reported → after ≡ before → GivesRecord read status report before after
+  no_memory : status ≡ pos 3 → report ≡ nothing_reported → after ≡ before → MayCopy read before → GivesRecord read status report before after
 
--- an emitter was flushed; where the output can't grow it stays as it was
+-- an emitter was flushed; where the output can't grow it stays as it was, and where all is flushed already nothing changes
 pub record Flushes (status : ℤ) (report : CallResult) (before after : State) : Type 0 where
   pub tells : TellsError after.error status report
   pub stands : (given : Settings) (all : List Event) → StandsAfter given all before → StandsAfter given all after
@@ -80,6 +81,7 @@ pub record Flushes (status : ℤ) (report : CallResult) (before after : State) :
   pub grows : Grows before.page after.page
   pub flushed : after.error ≡ None → (given : Settings) (all : List Event) → StandsAfter given all before → HasAllBytes given all after
   pub unflushed : after.error ≡ Some Memory → after.page.output ≡ before.page.output
+  pub empty : (given : Settings) (all : List Event) → StandsAfter given all before → before.error ≡ None → HasAllBytes given all before → after ≡ before
   pub kept : IsSome before.error → after ≡ before
   pub set : KeepsSet before after
 

@@ -26,7 +26,9 @@ enum Emission {
     Refused(u64, yaml_error_t),
     /// The event of this number has no reading.
     BadEvent(u64),
-    /// An allocation failed.
+    /// There was no memory to copy the texts of the event of this number.
+    NoRoom(u64),
+    /// There was no memory for an emitter.
     NoMemory,
 }
 
@@ -53,7 +55,7 @@ fn emit_records<A: Allocator + Copy>(
             Giving::Emitted(Ok(())) => {}
             Giving::Emitted(Err(error)) => return Emission::Refused(number, error),
             Giving::Unreadable => return Emission::BadEvent(number),
-            Giving::NoMemory => return Emission::NoMemory,
+            Giving::NoMemory => return Emission::NoRoom(number),
         }
         last = Some(number);
         number += 1;
@@ -96,7 +98,11 @@ fn move_emission<A: Allocator>(
     *report = CallResult::nothing();
     match emission {
         Emission::Done => move_to_caller(yaml, skip, out, report),
-        Emission::Refused(_, yaml_error_t::Memory) => NO_MEMORY,
+        Emission::Refused(number, yaml_error_t::Memory) | Emission::NoRoom(number) => {
+            report.event = number;
+            report.error = number_of(yaml_error_t::Memory);
+            NO_MEMORY
+        }
         Emission::Refused(number, error) => {
             report.event = number;
             report.error = number_of(error);

@@ -1,11 +1,11 @@
 //! Events as a C program gives them: numbers, and spans of one arena of texts.
-ghost use Rattle.std.specs.Prelude.{◌≡◌, IfOk, map, option_map, option_and_then};
+ghost use Rattle.std.specs.Prelude.{◌≡◌, IfErr, IfOk, false, map, option_map, option_and_then};
 ghost use Rattle.yaml_base.specs.Event.{mapping_start, scalar, sequence_start};
 ghost use Rattle.yaml_base.specs.Seen.{seen_directive, seen_event, seen_text, seen_version};
 ghost use Rattle.yaml_emitter.specs.BorrowedTexts.{seen_scalar};
 ghost use Rattle.yaml_c.specs.Arena as texts;
 ghost use Rattle.yaml_c.specs.EventRecords as meaning;
-ghost use Rattle.yaml_c.specs.Giving.{given_event};
+ghost use Rattle.yaml_c.specs.Giving.{given_event, is_read_scalar};
 
 use crate::arena::{Span, borrowed_text, optional_borrowed_text, optional_text, owned_text};
 use crate::styles::{encoding, mapping_style, scalar_style, sequence_style};
@@ -246,7 +246,8 @@ pub(crate) fn event_of<'a, A: Allocator + Copy>(
     directives: &[DirectiveRecord],
     event: &EventRecord,
 ) -> Result<Option<GivenEvent<'a, A>>, AllocError>
-    ensures { IfOk result (λ made. option_map given_event made ≡ meaning.event_of arena.now directives.now event.now) }
+    ensures read { IfOk result (λ made. option_map given_event made ≡ meaning.event_of arena.now directives.now event.now) }
+    ensures no_room { IfErr result (λ error. is_read_scalar (meaning.event_of arena.now directives.now event.now) ≡ false) }
 {
     match event.kind {
         1 => Ok(owned(stream_start_of(event))),

@@ -1,6 +1,6 @@
 //! What a call returns beside its status.
 ghost use Rattle.std.specs.Prelude.{◌≡◌};
-ghost use Rattle.yaml_c.specs.Answers.{CopiesToCaller, nothing_reported, results_done};
+ghost use Rattle.yaml_c.specs.Answers.{CopiesToCaller, at_place, nothing_reported, results_done};
 
 use crate::buffers::move_out;
 use crate::statuses::{DONE, TOO_SMALL};
@@ -28,6 +28,15 @@ impl CallResult {
             column: 0,
             error: 0,
         }
+    }
+
+    pub(crate) fn at_place(line: usize, column: usize) -> CallResult
+        ensures { result ≡ at_place line column }
+    {
+        let mut place = CallResult::nothing();
+        place.line = line as u64;
+        place.column = column as u64;
+        place
     }
 }
 

@@ -154,10 +154,6 @@ static int open(yaml_emitter_t *emitter) {
     settings.unicode = emitter->unicode != 0;
     settings.indent = emitter->best_indent;
     settings.width = emitter->best_width;
-    if (emitter->best_indent < 2 || emitter->best_indent > 9) emitter->best_indent = 2;
-    if (emitter->best_width >= 0 && emitter->best_width <= emitter->best_indent * 2) emitter->best_width = 80;
-    if (emitter->best_width < 0) emitter->best_width = INT_MAX;
-    if (!emitter->line_break) emitter->line_break = YAML_LN_BREAK;
     if (!is_done(emitter, yaml_c_emitter_new(&settings, &kept->emitter), 0)) return 0;
     kept->open = 1;
     return 1;
@@ -177,12 +173,24 @@ static int give(yaml_emitter_t *emitter, const yaml_event_t *event) {
     return is_done(emitter, status, result.error);
 }
 
+/* After STREAM-START the fields hold what was chosen, as in libyaml. */
+static void keep_chosen(yaml_emitter_t *emitter, yaml_encoding_t encoding) {
+    if (!emitter->encoding) emitter->encoding = encoding;
+    if (!emitter->encoding) emitter->encoding = YAML_UTF8_ENCODING;
+    if (emitter->best_indent < 2 || emitter->best_indent > 9) emitter->best_indent = 2;
+    if (emitter->best_width >= 0 && emitter->best_width <= emitter->best_indent * 2) emitter->best_width = 80;
+    if (emitter->best_width < 0) emitter->best_width = INT_MAX;
+    if (!emitter->line_break) emitter->line_break = YAML_LN_BREAK;
+}
+
 /* Gives an event, and hands on what is flushed at the ends of documents and of the stream. */
 static int take(yaml_emitter_t *emitter, const yaml_event_t *event) {
     struct kept *kept = kept_by(emitter);
     if (emitter->error) return 0;
-    if (!kept->open && !open(emitter)) return 0;
+    int is_first = !kept->open;
+    if (is_first && !open(emitter)) return 0;
     if (!give(emitter, event)) return 0;
+    if (is_first) keep_chosen(emitter, event->data.stream_start.encoding); /* only a STREAM-START is taken first */
     if (event->type == YAML_STREAM_END_EVENT) return yaml_emitter_flush(emitter);
     return (event->type != YAML_DOCUMENT_END_EVENT && ++kept->held < EVENTS_HELD) || hand_on(emitter);
 }

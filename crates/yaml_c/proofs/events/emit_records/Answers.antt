@@ -1,7 +1,7 @@
-use Rattle.yaml_c.proofs.Common.{◌≤◌, length, refl, rules, inl, ap, sym, ◌∙◌, events_in}
+use Rattle.yaml_c.proofs.Common.{ℕ, ◌<◌, ◌≤◌, None, drop, length, refl, rules, ◌≡◌, inl, ap, subst, sym, ◌∙◌, StandsAfter, State, events_from, events_in}
 use Rattle.std.proofs.Common.{Err, Ok}
 use Rattle.yaml_c.proofs.EmissionLemmas.{given_more, refused_next, ended_flushed}
-use Rattle.yaml_c.proofs.GivingLemmas.{took}
+use Rattle.yaml_c.proofs.GivingLemmas.{took, took_nothing}
 use Rattle.yaml_c.specs.declared.giving.Giving.TheVariants.{Emitted}
 use Rattle.yaml_pen.proofs.Writing.{none_from_result, some_from_result}
 use Rattle.yaml_c.proofs.events.emit_records.Goals as goal
@@ -50,3 +50,19 @@ returns-in-Some-clause-emits g c given stands =
     ended_flushed c.args.arena.now c.args.directives.now c.args.events.now c.args.emitter.now now.emitter c.flush_after.new.emitter now.record-index
     c.in-Some.number now.last given c.flush_after.result has within c.loop-record-test.false c.in-Some.is now.invariant.3 stood
     (c.standing_is_promised.ensures given (events_in has.given) now.emitter stood) c.flush_after.ensures.flushed
+
+pub returns-in-NoMemory-clause-emits : goal.returns-in-NoMemory-clause-emits
+returns-in-NoMemory-clause-emits g c given stands =
+    let now = c.loop-record in
+    let has = now.invariant.5 in
+    let same : now.emitter ≡ c.give_record.new.emitter =
+    sym (took_nothing _ c.give_record.result c.give_record.ensures.gave c.in-NoMemory.is) in
+    record {
+      earlier = has.given;
+      later = events_from now.record-index c.args.arena.now c.args.directives.now (drop now.record-index c.args.events.now);
+      parts = has.parts;
+      first = now.invariant.4 ∙ sym has.count;
+      within = subst (λ (n : ℕ). n < length c.args.events.now) (sym now.invariant.4) c.loop-record-test.true;
+      stands = subst (λ (state : State). StandsAfter given (events_in has.given) state) same (has.stands given stands);
+      no_error = subst (λ (state : State). state.error ≡ None) same now.invariant.3;
+    }

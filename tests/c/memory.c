@@ -1,0 +1,282 @@
+/* Calls in which one allocation is refused, each in turn: what they return, what they leave of the buffer and of an emitter, and that
+ * nothing stays in memory; a line for each that isn't as the header says. Linked with --wrap for malloc, realloc and free. */
+#include <stdio.h>
+#include <stdlib.h>
+#include <string.h>
+
+#include "yaml_c.h"
+
+enum { STREAM_START = 1, STREAM_END, DOCUMENT_START, DOCUMENT_END, ALIAS, SCALAR, SEQUENCE_START, SEQUENCE_END, MAPPING_START, MAPPING_END };
+
+/* The size of a block stands before it. */
+#define HEAD 16
+
+static size_t growths;    /* so many were asked for */
+static size_t refused_at; /* the number of the one that is refused, counted from 1; 0: none */
+static size_t blocks;     /* so many are in use */
+
+static int is_refused(void) { return ++growths == refused_at; }
+
+#ifdef __cplusplus
+extern "C" {
+#endif
+void *__real_malloc(size_t size);
+void *__real_realloc(void *block, size_t size);
+void __real_free(void *block);
+void *__wrap_malloc(size_t size);
+void *__wrap_realloc(void *block, size_t size);
+void __wrap_free(void *block);
+
+static void *sized(char *head, size_t size) {
+    if (head == NULL) return NULL;
+    memcpy(head, &size, sizeof size);
+    return head + HEAD;
+}
+
+void *__wrap_malloc(size_t size) {
+    void *block = is_refused() ? NULL : sized((char *)__real_malloc(size + HEAD), size);
+    blocks += block != NULL;
+    return block;
+}
+
+/* A block that shrinks is no growth. */
+void *__wrap_realloc(void *block, size_t size) {
+    char *head = (char *)block - HEAD;
+    size_t had;
+    if (block == NULL) return __wrap_malloc(size);
+    memcpy(&had, head, sizeof had);
+    if (size > had && is_refused()) return NULL;
+    return sized((char *)__real_realloc(head, size + HEAD), size);
+}
+
+void __wrap_free(void *block) {
+    if (block == NULL) return;
+    blocks--;
+    __real_free((char *)block - HEAD);
+}
+#ifdef __cplusplus
+}
+#endif
+
+static int failures;
+
+static void fail(const char *name, const char *what) {
+    failures++;
+    printf("%s, allocation %lu: %s\n", name, (unsigned long)refused_at, what);
+}
+
+static uint8_t out[4096];
+static struct yaml_c_result result;
+
+/* ---- calls that keep nothing */
+
+#define LETTERS "aaaaaaaaaaaaaaaaaaaaaaaaaaaaaaaaaaaaaaaaaaaaaaaaaaaaaaaaaaaaaaaaaaaaaaaaaaaaaaaaaaaaaaaaaaaaaaaaaaaa"
+
+/* The arena, with spans by their first bytes and lengths. */
+static const char texts[] = "!e!" "tag:e,2000:" "root" "tag:e,2000:list" "first" LETTERS LETTERS LETTERS LETTERS;
+static struct yaml_c_directive directives[1];
+static struct yaml_c_event events[12];
+static size_t count;
+
+static struct yaml_c_event *event(uint32_t kind) {
+    struct yaml_c_event *last = &events[count++];
+    last->kind = kind;
+    last->implicit = last->quoted_implicit = 1;
+    return last;
+}
+
+static struct yaml_c_span span(size_t start, size_t length) {
+    struct yaml_c_span named;
+    named.start = start;
+    named.length = length;
+    return named;
+}
+
+/* A document with a version and a directive; a list with an anchor and a tag; a short text, which the list's start waits for, and
+ * long ones. */
+static void fill(void) {
+    struct yaml_c_event *last;
+    directives[0].handle = span(0, 3);
+    directives[0].prefix = span(3, 11);
+    event(STREAM_START);
+    last = event(DOCUMENT_START);
+    last->has_version = last->major = last->minor = 1;
+    last->directives = span(0, 1);
+    last = event(SEQUENCE_START);
+    last->implicit = 0;
+    last->has_anchor = last->has_tag = 1;
+    last->anchor = span(14, 4);
+    last->tag = span(18, 15);
+    event(SCALAR)->value = span(33, 5);
+    event(SCALAR)->value = span(38, 400);
+    event(ALIAS)->anchor = span(14, 4);
+    event(SCALAR)->value = span(38, 399);
+    event(SEQUENCE_END);
+    event(DOCUMENT_END);
+    event(STREAM_END);
+}
+
+static int32_t emit(size_t capacity) {
+    static struct yaml_c_settings settings;
+    settings.width = -1;
+    return yaml_emit(events, count, directives, 1, (const uint8_t *)texts, sizeof texts - 1, &settings, out, capacity, &result);
+}
+
+static int32_t run(size_t capacity) {
+    static const char script[] =
+        "+STR any\n+DOC 1 -\n+SEQ any 1 - -\n=VAL any 1 1 - - \"first\"\n=VAL any 1 1 - - \"" LETTERS LETTERS "\"\n-SEQ\n-DOC 1\n-STR\n";
+    return yaml_run((const uint8_t *)script, sizeof script - 1, out, capacity, &result);
+}
+
+static int32_t from_json(size_t capacity) {
+    static const struct yaml_c_json_settings settings = {0, 0, 0, 0, 0, 0, 0};
+    static const char text[] = "{\"first\": [1, {\"a\\tb\": \"" LETTERS "\"}], \"second\": \"" LETTERS LETTERS "\"}";
+    return yaml_from_json((const uint8_t *)text, sizeof text - 1, &settings, out, capacity, &result);
+}
+
+/* Whether nothing is reported of a call that memory ran out for, but of yaml_emit the event, none before `event`; and the buffer is as
+ * it was. */
+static int says_nothing_else(uint64_t event) {
+    size_t i;
+    for (i = 0; i < sizeof out && out[i] == 0xa5; i++) {}
+    return i == sizeof out && result.length == 0 && result.line == 0 && result.column == 0
+        && (result.error == 0 ? result.event == 0 && event == 0 : result.error == YAML_EMITTER_NO_MEMORY && result.event >= event && result.event < count);
+}
+
+/* Refuses the first growth of a call, then the second, and so on, until none is left to refuse. Returns the last event that is reported. */
+static uint64_t refuse_each(const char *name, int32_t (*call)(size_t capacity)) {
+    static uint8_t whole[sizeof out];
+    uint64_t event = 0;
+    size_t length;
+    int32_t status;
+    refused_at = 0;
+    if (call(sizeof out) != YAML_DONE) fail(name, "not done");
+    memcpy(whole, out, sizeof out);
+    length = result.length;
+    for (refused_at = 1;; refused_at++) {
+        growths = 0;
+        memset(out, 0xa5, sizeof out);
+        memset(&result, 0xff, sizeof result);
+        status = call(sizeof out);
+        if (blocks != 0) fail(name, "a block is left");
+        if (growths < refused_at) break;
+        if (status != YAML_NO_MEMORY) fail(name, "another status");
+        if (!says_nothing_else(event)) fail(name, "something else is reported or written");
+        if (call != emit && result.error != 0) fail(name, "an error is reported");
+        event = result.event;
+    }
+    if (refused_at < 3) fail(name, "too few allocations");
+    if (status != YAML_DONE || result.length != length || memcmp(out, whole, length) != 0) fail(name, "other YAML where none is refused");
+    return event;
+}
+
+/* ---- kept emitters */
+
+static struct yaml_c_emitter emitter;
+static uint8_t taken[sizeof out];
+static size_t taken_length;
+
+/* The calls that were refused a growth. */
+static int refused_new, refused_texts, refused_events, refused_flushes;
+
+static void take(void) {
+    if (yaml_c_emitter_take_output(&emitter, taken + taken_length, sizeof taken - taken_length, &result) != YAML_DONE)
+        fail("a kept emitter", "its output isn't taken");
+    taken_length += result.length;
+}
+
+/* The status of a call, which reports nothing but an error with YAML_NO_MEMORY. */
+static int32_t reported(int32_t status) {
+    int has_error = result.error == YAML_EMITTER_NO_MEMORY && status == YAML_NO_MEMORY;
+    if (result.length || result.event || result.line || result.column || (result.error && !has_error)) fail("a kept emitter", "something else is reported");
+    return status;
+}
+
+static int32_t give(size_t number) {
+    memset(&result, 0xff, sizeof result);
+    return reported(yaml_c_emitter_emit(&emitter, &events[number], directives, 1, (const uint8_t *)texts, sizeof texts - 1, &result));
+}
+
+static int32_t flush(void) {
+    memset(&result, 0xff, sizeof result);
+    return reported(yaml_c_emitter_flush(&emitter, &result));
+}
+
+/* After an error of the emitter each call returns it, and no byte comes. */
+static void expect_ended(void) {
+    size_t i, length;
+    take();
+    length = taken_length;
+    for (i = 0; i < count; i++)
+        if (give(i) != YAML_NO_MEMORY) fail("a kept emitter", "it goes on after an error");
+    if (flush() != YAML_NO_MEMORY || result.error != YAML_EMITTER_NO_MEMORY) fail("a kept emitter", "it flushes after an error");
+    take();
+    if (taken_length != length) fail("a kept emitter", "it writes after an error");
+}
+
+/* Gives all events, flushing and taking after each or not; one that wasn't taken is given again. Returns whether all were taken. */
+static int give_all(int flushes) {
+    size_t i;
+    for (i = 0; i < count; i++) {
+        int32_t status = give(i);
+        if (status == YAML_NO_MEMORY && result.error == 0) {
+            refused_texts++;
+            status = give(i);
+        }
+        if (status != YAML_DONE) {
+            if (status != YAML_NO_MEMORY) fail("a kept emitter", "another status");
+            refused_events++;
+            return 0;
+        }
+        if (flushes && flush() != YAML_DONE) {
+            size_t length = taken_length;
+            refused_flushes++;
+            take();
+            if (taken_length != length) fail("a flush", "the output isn't as it was");
+            return 0;
+        }
+        if (flushes) take();
+    }
+    return 1;
+}
+
+/* Refuses the first growth of an emitter, then the second, and so on; it writes `whole`, or after an error what that begins with. */
+static void refuse_each_of_kept(int flushes, const uint8_t *whole, size_t length) {
+    static struct yaml_c_settings settings;
+    int32_t made;
+    settings.width = -1;
+    for (refused_at = 1;; refused_at++) {
+        growths = taken_length = 0;
+        made = yaml_c_emitter_new(&settings, &emitter);
+        if (made == YAML_DONE) {
+            int is_whole = give_all(flushes);
+            if (!is_whole) expect_ended();
+            take();
+            if (taken_length > length || memcmp(taken, whole, taken_length) != 0) fail("a kept emitter", "other YAML");
+            if (is_whole && taken_length != length) fail("a kept emitter", "not all YAML");
+            yaml_c_emitter_delete(&emitter);
+        } else {
+            refused_new++;
+            if (made != YAML_NO_MEMORY) fail("a new emitter", "another status");
+        }
+        if (blocks != 0) fail("a kept emitter", "a block is left");
+        if (growths < refused_at) break;
+    }
+}
+
+int main(void) {
+    static uint8_t whole[sizeof out];
+    size_t length;
+    fill();
+    if (refuse_each("yaml_emit", emit) == 0) fail("yaml_emit", "no event is reported");
+    memcpy(whole, out, sizeof out);
+    length = result.length;
+    refuse_each_of_kept(0, whole, length);
+    refuse_each_of_kept(1, whole, length);
+    refuse_each("yaml_run", run);
+    refuse_each("yaml_from_json", from_json);
+    if (!refused_new || !refused_texts || !refused_events || !refused_flushes)
+        printf("refused: %d new, %d texts, %d events, %d flushes\n", refused_new, refused_texts, refused_events, refused_flushes);
+    printf("each allocation refused in turn: %d times not as written\n", failures);
+    return failures != 0;
+}
