@@ -9,18 +9,18 @@ use Rattle.yaml_base.specs.Percent.{percent_escaped, suffix_escaped, prefix_esca
 use Rattle.yaml_base.specs.Settings.{Effective}
 use Rattle.yaml_base.specs.Tags.{Spelling, shorthand}
 use Rattle.yaml_emitter.specs.BorrowedTexts.{seen_spelling}
-use Rattle.yaml_emitter.specs.declared.writing.indicators.Indicator as indicator
-use Rattle.yaml_emitter.specs.declared.writing.indicators.Indicator.TheVariants.{DocumentStart, DocumentEnd, YamlDirective, Version11, Version12, TagDirective}
-use Rattle.yaml_emitter.specs.declared.writing.indicators.Indicator.TheVariants.{FlowSequenceStart, FlowSequenceEnd, FlowMappingStart, FlowMappingEnd}
-use Rattle.yaml_emitter.specs.declared.writing.indicators.Indicator.TheVariants.{FlowEntry, FlowKey, FlowValue, BlockEntry, BlockKey, BlockValue, SimpleValue}
-use Rattle.yaml_emitter.specs.declared.writing.indicators.Indicator.TheVariants.{Anchor, Alias, VerbatimStart, VerbatimEnd}
-use Rattle.yaml_pen.specs.declared.pen.indicators.Indicator.{Indicator as Row}
+use Rattle.yaml_emitter.specs.declared.writing.indicators.IndicatorKind.{IndicatorKind}
+use Rattle.yaml_emitter.specs.declared.writing.indicators.IndicatorKind.TheVariants.{DocumentStart, DocumentEnd, YamlDirective, Version11, Version12}
+use Rattle.yaml_emitter.specs.declared.writing.indicators.IndicatorKind.TheVariants.{TagDirective, FlowSequenceStart, FlowSequenceEnd}
+use Rattle.yaml_emitter.specs.declared.writing.indicators.IndicatorKind.TheVariants.{FlowMappingStart, FlowMappingEnd, FlowEntry, FlowKey, FlowValue}
+use Rattle.yaml_emitter.specs.declared.writing.indicators.IndicatorKind.TheVariants.{BlockEntry, BlockKey, BlockValue, SimpleValue, Anchor, Alias}
+use Rattle.yaml_emitter.specs.declared.writing.indicators.IndicatorKind.TheVariants.{VerbatimStart, VerbatimEnd}
 use Rattle.yaml_emitter.specs.declared.writing.atoms.Atom.{Atom}
 use Rattle.yaml_emitter.specs.declared.writing.atoms.Atom.TheVariants.{Nothing, Fixed, Line, FlowLine, Space, Name, Handle, TagText, Suffix, Prefix}
 use Rattle.yaml_emitter.specs.declared.writing.spelling.SpelledTag.{SpelledTag}
 
 -- an indicator, as the definitions have it
-abbrev pub seen_indicator : indicator.Indicator → indicators.Indicator
+abbrev pub seen_indicator : IndicatorKind → indicators.Indicator
 seen_indicator DocumentStart = indicators.document_start
 seen_indicator DocumentEnd = indicators.document_end
 seen_indicator YamlDirective = indicators.yaml_directive
@@ -42,11 +42,6 @@ seen_indicator Anchor = indicators.anchor
 seen_indicator Alias = indicators.alias
 seen_indicator VerbatimStart = indicators.verbatim_start
 seen_indicator VerbatimEnd = indicators.verbatim_end
-
--- a row of the table
-abbrev pub seen_row : Row → indicators.Indicator
-seen_row row =
-    record { text = row.text.now; needs_space = row.needs_space; leaves_space = row.leaves_space; keeps_indention = row.keeps_indention }
 
 -- what an atom renders, where lines begin at a column
 abbrev pub render_atom : Effective → Place → Atom → Cursor → Rendered

@@ -15,7 +15,7 @@ use yaml_mark::{Directives, analyze_tag_directive, analyze_version};
 const LOCAL: &str = "!";
 /// The default handle of YAML's own types.
 const TYPES: &str = "!!";
-/// Its prefix.
+/// The prefix that `!!` stands for by default.
 const TYPES_PREFIX: &str = "tag:yaml.org,2002:";
 
 /// Copies a document's own directives, each checked in its turn. `Memory` may come at any of them.

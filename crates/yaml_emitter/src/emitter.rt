@@ -39,7 +39,7 @@ impl<A: Allocator> Model for yaml_emitter_t<A> {
 
 /// A new emitter: nothing is set, no output, no event.
 ///
-/// Returns `Memory` if its buffer can't be allocated.
+/// Returns `Memory` if its buffer or its queue can't be allocated.
 pub fn yaml_emitter_initialize<A: Allocator + Copy>(
     alloc: A,
 ) -> Result<yaml_emitter_t<A>, yaml_error_t>
@@ -64,7 +64,7 @@ impl<A: Allocator + Copy> yaml_emitter_t<A> {
     ///
     /// # Errors
     ///
-    /// `Memory` if its buffer can't be allocated.
+    /// `Memory` if its buffer or its queue can't be allocated.
     pub fn with_settings(alloc: A, settings: Settings) -> Result<yaml_emitter_t<A>, yaml_error_t>
         ensures made { IfOk result (λ emitter. emitter ≡ new_state_with (seen_settings settings)) }
         ensures stands { IfOk result (λ emitter. StandsAfter (seen_settings settings) [] emitter) }

@@ -1,7 +1,6 @@
 //! The machine: it writes one event after another, and knows what may come next.
 
-ghost use Rattle.std.specs.Prelude.{◌≡◌, ◌||◌, IfOk, IfErr, None, Some, [], not, is_some};
-ghost use Rattle.yaml_base.specs.Seen.{seen_break, seen_encoding};
+ghost use Rattle.std.specs.Prelude.{◌≡◌, ◌||◌, IfOk, IfErr, None, [], not, is_some};
 ghost use Rattle.yaml_pen.specs.Page.{IsUntouched, all_taken, encoded, output_left};
 ghost use Rattle.yaml_pen.specs.Wrote.{Flushed};
 ghost use Rattle.yaml_emitter.specs.Given.{seen_settings};
@@ -15,7 +14,7 @@ use crate::stage::Stage;
 use crate::writing::OpenEnded;
 use std::alloc::Allocator;
 use std::marker::Model;
-use yaml_base::{YAML_ANY_ENCODING, yaml_break_t, yaml_encoding_t, yaml_error_t};
+use yaml_base::{YAML_ANY_ENCODING, yaml_error_t};
 use yaml_mark::Directives;
 use yaml_pen::Pen;
 
@@ -159,73 +158,5 @@ impl<A: Allocator> Machine<A> {
         self.pen.set_limit(settings.limit);
         self.settings.canonical = settings.canonical;
         self.given = settings;
-    }
-
-    /// Sets canonical mode.
-    pub(crate) fn set_canonical(&mut self, canonical: bool)
-        ensures { self.new
-            ≡ record self.old {
-              given = record self.old.given { canonical = canonical };
-              settings = record self.old.settings { canonical = canonical };
-            } }
-    {
-        self.given.canonical = canonical;
-        self.settings.canonical = canonical;
-    }
-
-    /// Sets the encoding.
-    pub(crate) fn set_encoding(&mut self, encoding: yaml_encoding_t)
-        ensures { self.new ≡ record self.old { given = record self.old.given { encoding = seen_encoding encoding } } }
-    {
-        self.given.encoding = encoding;
-    }
-
-    /// Sets the indent.
-    pub(crate) fn set_indent(&mut self, indent: i32)
-        ensures { self.new ≡ record self.old { given = record self.old.given { indent = Some indent } } }
-    {
-        self.given.indent = Some(indent);
-    }
-
-    /// Sets the width.
-    pub(crate) fn set_width(&mut self, width: i32)
-        ensures { self.new ≡ record self.old { given = record self.old.given { width = Some width } } }
-    {
-        self.given.width = Some(width);
-    }
-
-    /// Sets whether printable characters past ASCII stand as themselves.
-    pub(crate) fn set_unicode(&mut self, unicode: bool)
-        ensures { self.new ≡ record self.old { given = record self.old.given { unicode = unicode } } }
-    {
-        self.given.unicode = unicode;
-    }
-
-    /// Sets the line break.
-    pub(crate) fn set_break(&mut self, line_break: yaml_break_t)
-        ensures { self.new ≡ record self.old { given = record self.old.given { line_break = seen_break line_break } } }
-    {
-        self.given.line_break = line_break;
-    }
-
-    /// Sets whether the line breaks are those of YAML 1.2.
-    pub(crate) fn set_line_breaks_1_2(&mut self, breaks12: bool)
-        ensures { self.new ≡ record self.old { given = record self.old.given { breaks12 = breaks12 } } }
-    {
-        self.given.line_breaks_1_2 = breaks12;
-    }
-
-    /// Sets portable mode.
-    pub(crate) fn set_portable(&mut self, portable: bool)
-        ensures { self.new ≡ record self.old { given = record self.old.given { portable = portable } } }
-    {
-        self.given.portable = portable;
-    }
-
-    /// Sets whether block sequences in a mapping are indented.
-    pub(crate) fn set_indented_sequences(&mut self, indented: bool)
-        ensures { self.new ≡ record self.old { given = record self.old.given { indented_sequences = indented } } }
-    {
-        self.given.indented_sequences = indented;
     }
 }

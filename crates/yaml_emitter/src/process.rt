@@ -33,8 +33,8 @@ use yaml_mark::Directives;
 use yaml_pen::Pen;
 
 impl<A: Allocator + Copy> Machine<A> {
-    /// One event. The most frequent, a simple_ascii scalar in a collection, has a copy of the work, in which no test of its
-    /// names and flags is left; and where it is called, so that no call is left either.
+    /// Processes one event. In a collection, a scalar without anchor and tag that needs no tag in any style takes an
+    /// inlined copy, in which the tests of names and flags fold away.
     #[inline(always)]
     pub(crate) fn process(
         &mut self,

@@ -43,7 +43,7 @@ pub fn yaml_emitter_set_encoding<A: Allocator>(
     ensures set { emitter.new ≡ record emitter.old { given = record emitter.old.given { encoding = seen_encoding encoding } } }
     ensures stands { StandsAfter emitter.old.given [] emitter.old → StandsAfter emitter.new.given [] emitter.new }
 {
-    emitter.machine.set_encoding(encoding);
+    emitter.machine.given.encoding = encoding;
 }
 
 /// Sets whether the output is canonical: in flow, double-quoted, every tag written.
@@ -56,7 +56,8 @@ pub fn yaml_emitter_set_canonical<A: Allocator>(emitter: &mut yaml_emitter_t<A>,
         } }
     ensures stands { StandsAfter emitter.old.given [] emitter.old → StandsAfter emitter.new.given [] emitter.new }
 {
-    emitter.machine.set_canonical(canonical);
+    emitter.machine.given.canonical = canonical;
+    emitter.machine.settings.canonical = canonical;
 }
 
 /// Sets the indent in columns; 2 to 9 is kept, any other becomes 2.
@@ -65,7 +66,7 @@ pub fn yaml_emitter_set_indent<A: Allocator>(emitter: &mut yaml_emitter_t<A>, in
     ensures set { emitter.new ≡ record emitter.old { given = record emitter.old.given { indent = Some indent } } }
     ensures stands { StandsAfter emitter.old.given [] emitter.old → StandsAfter emitter.new.given [] emitter.new }
 {
-    emitter.machine.set_indent(indent);
+    emitter.machine.given.indent = Some(indent);
 }
 
 /// Sets the column, in characters, past which lines are folded; a negative one is no limit.
@@ -74,7 +75,7 @@ pub fn yaml_emitter_set_width<A: Allocator>(emitter: &mut yaml_emitter_t<A>, wid
     ensures set { emitter.new ≡ record emitter.old { given = record emitter.old.given { width = Some width } } }
     ensures stands { StandsAfter emitter.old.given [] emitter.old → StandsAfter emitter.new.given [] emitter.new }
 {
-    emitter.machine.set_width(width);
+    emitter.machine.given.width = Some(width);
 }
 
 /// Sets whether printable characters past ASCII stand as themselves.
@@ -83,7 +84,7 @@ pub fn yaml_emitter_set_unicode<A: Allocator>(emitter: &mut yaml_emitter_t<A>, u
     ensures set { emitter.new ≡ record emitter.old { given = record emitter.old.given { unicode = unicode } } }
     ensures stands { StandsAfter emitter.old.given [] emitter.old → StandsAfter emitter.new.given [] emitter.new }
 {
-    emitter.machine.set_unicode(unicode);
+    emitter.machine.given.unicode = unicode;
 }
 
 /// Sets the line break; ANY is LF.
@@ -95,7 +96,7 @@ pub fn yaml_emitter_set_break<A: Allocator>(
     ensures set { emitter.new ≡ record emitter.old { given = record emitter.old.given { line_break = seen_break line_break } } }
     ensures stands { StandsAfter emitter.old.given [] emitter.old → StandsAfter emitter.new.given [] emitter.new }
 {
-    emitter.machine.set_break(line_break);
+    emitter.machine.given.line_break = line_break;
 }
 
 /// Sets whether the breaks U+2028 and U+2029, which YAML 1.2 takes for ordinary characters, are escaped, so that
@@ -108,7 +109,7 @@ pub fn yaml_emitter_set_line_breaks_1_2<A: Allocator>(
     ensures set { emitter.new ≡ record emitter.old { given = record emitter.old.given { breaks12 = breaks12 } } }
     ensures stands { StandsAfter emitter.old.given [] emitter.old → StandsAfter emitter.new.given [] emitter.new }
 {
-    emitter.machine.set_line_breaks_1_2(breaks12);
+    emitter.machine.given.line_breaks_1_2 = breaks12;
 }
 
 /// Sets whether what readers of YAML read differently, or not at all, is written in the way that all read alike: every
@@ -119,7 +120,7 @@ pub fn yaml_emitter_set_portable<A: Allocator>(emitter: &mut yaml_emitter_t<A>, 
     ensures set { emitter.new ≡ record emitter.old { given = record emitter.old.given { portable = portable } } }
     ensures stands { StandsAfter emitter.old.given [] emitter.old → StandsAfter emitter.new.given [] emitter.new }
 {
-    emitter.machine.set_portable(portable);
+    emitter.machine.given.portable = portable;
 }
 
 /// Sets whether a block sequence that is the key or the value of a pair is indented, as any other block collection is.
@@ -131,7 +132,7 @@ pub fn yaml_emitter_set_indented_sequences<A: Allocator>(
     ensures set { emitter.new ≡ record emitter.old { given = record emitter.old.given { indented_sequences = indented } } }
     ensures stands { StandsAfter emitter.old.given [] emitter.old → StandsAfter emitter.new.given [] emitter.new }
 {
-    emitter.machine.set_indented_sequences(indented);
+    emitter.machine.given.indented_sequences = indented;
 }
 
 impl<A: Allocator> yaml_emitter_t<A> {

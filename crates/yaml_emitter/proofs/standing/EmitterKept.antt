@@ -1,6 +1,6 @@
 -- What an emitter keeps true.
-use Rattle.yaml_emitter.proofs.Common.{ℕ, ◌<◌, ◌≤◌, vec_len, vec_capacity, length, false, true, List, [], map, ◌++◌, ◌∷◌, refl, ◌≡◌, ap, subst, sym}
-use Rattle.yaml_emitter.proofs.Common.{◌∙◌, arith, length-map, map-append, Event, seen_event, seen_events, Settings, Effective, state_of, IsEmitter}
+use Rattle.yaml_emitter.proofs.Common.{ℕ, ◌<◌, ◌≤◌, vec_len, vec_capacity, length, false, true, List, [], map, ◌++◌, ◌∷◌, refl, ◌≡◌, ap, sym}
+use Rattle.yaml_emitter.proofs.Common.{◌∙◌, arith, length-map, map-append, Event, seen_event, seen_events, Settings, state_of, IsEmitter}
 use Rattle.yaml_emitter.proofs.Common.{is_head_ready, State, MachineState}
 use Rattle.yaml_emitter.proofs.standing.StandingPromises.{held_few, most_few}
 use Rattle.yaml_emitter.specs.declared.emitter.yaml_emitter_t.TheInside.{Inside}
@@ -40,21 +40,12 @@ kept_emitting e after output same room waits =
       waits = waits;
     }
 
--- what is given changes neither the page nor what comes next
-pub kept_given : {A : Type 0} (e : Inside A) (after : MachineState) (given : Settings) (settings : Effective)
-    → after ≡ record e.machine { given = given; settings = settings } → IsEmitter e → IsEmitter (record e { machine = after })
-kept_given e after given settings is kept =
-    subst (λ (m : MachineState). IsEmitter (record e { machine = m })) (sym is)
-    (record { untouched = kept.untouched; begun = kept.begun; opened = kept.opened; room = kept.room; waits = kept.waits })
-
 pub kept_limited : {A : Type 0} (e : Inside A) (after : MachineState) → IsEmitter e → IsEmitter (record e { has_output = true; machine = after })
 kept_limited e after kept =
     record { untouched = λ none. cc; begun = λ begun. refl; opened = λ opened. refl; room = kept.room; waits = kept.waits }
 
 -- a setter changes what is given
-pub given_set : {A : Type 0} (e : Inside A) (set : Settings → Settings) {after : MachineState} {seen : State}
-    → after ≡ record e.machine { given = set e.machine.given } → state_of e ≡ seen
-    → state_of (record e { machine = after }) ≡ record seen { given = set seen.given }
-given_set e set {after} {seen} is view_is =
-    ap (λ (m : MachineState). state_of (record e { machine = m })) is
-    ∙ ap (λ (s : State). let made : State = record s { given = set s.given } in made) view_is
+pub given_set : {A : Type 0} {opened e : Inside A} (set : Settings → Settings) {seen : State} → opened ≡ e → state_of e ≡ seen
+    → record (state_of opened) { given = set (state_of opened).given } ≡ record seen { given = set seen.given }
+given_set set opened_is view_is =
+    ap (λ (s : State). let made : State = record s { given = set s.given } in made) (ap state_of opened_is ∙ view_is)

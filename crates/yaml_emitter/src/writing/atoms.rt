@@ -12,7 +12,7 @@ ghost use Rattle.yaml_emitter.specs.WrittenAtoms.{render_atom, render_atoms, ato
 
 use crate::effective::EffectiveSettings;
 use crate::place::Place;
-use crate::writing::indicators::{Indicator, write_indicator};
+use crate::writing::indicators::{IndicatorKind, write_indicator};
 use crate::writing::site::Site;
 use std::alloc::Allocator;
 use yaml_base::yaml_error_t;
@@ -25,7 +25,7 @@ use yaml_pen::Pen;
 #[derive(Clone, Copy)]
 pub(crate) enum Atom<'a> {
     Nothing,
-    Fixed(Indicator),
+    Fixed(IndicatorKind),
     /// A new line at the place's column.
     Line,
     /// A new line at the place's column where the line is past the width, and always in canonical mode.

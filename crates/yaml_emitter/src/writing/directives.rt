@@ -19,7 +19,7 @@ use crate::writing::atoms::{Atom, Atoms};
 use crate::writing::documents::{
     LINE, write_closing_marker, write_document_atoms, write_document_marker, write_version,
 };
-use crate::writing::indicators::Indicator;
+use crate::writing::indicators::IndicatorKind;
 use crate::writing::open_ended::OpenEnded;
 use std::alloc::Allocator;
 use yaml_base::{yaml_error_t, yaml_tag_directive_t, yaml_version_directive_t};
@@ -159,7 +159,7 @@ fn tag_directive_atoms<'a>(handle: &'a str, prefix: &'a str) -> Atoms<'a>
 {
     use Atom::*;
     (
-        Fixed(Indicator::TagDirective),
+        Fixed(IndicatorKind::TagDirective),
         Handle(handle),
         Prefix(prefix),
     )

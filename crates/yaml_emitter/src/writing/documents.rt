@@ -14,7 +14,7 @@ ghost use Rattle.yaml_emitter.specs.WrittenAtoms.{render_atoms, some_atom_breaks
 
 use crate::effective::EffectiveSettings;
 use crate::writing::atoms::{Atom, Atoms, write_atoms};
-use crate::writing::indicators::Indicator;
+use crate::writing::indicators::IndicatorKind;
 use crate::writing::open_ended::OpenEnded;
 use crate::writing::site::Site;
 use std::alloc::Allocator;
@@ -59,7 +59,11 @@ fn document_end_atoms(implicit: bool) -> Atoms<'static>
     if implicit {
         LINE
     } else {
-        (Atom::Line, Atom::Fixed(Indicator::DocumentEnd), Atom::Line)
+        (
+            Atom::Line,
+            Atom::Fixed(IndicatorKind::DocumentEnd),
+            Atom::Line,
+        )
     }
 }
 
@@ -94,7 +98,7 @@ fn closing_atoms(asked: bool) -> Atoms<'static>
     if asked {
         (
             Atom::Nothing,
-            Atom::Fixed(Indicator::DocumentEnd),
+            Atom::Fixed(IndicatorKind::DocumentEnd),
             Atom::Line,
         )
     } else {
@@ -121,12 +125,12 @@ fn start_atoms(asked: bool, canonical: bool) -> Atoms<'static>
     match (asked, canonical) {
         (true, true) => (
             Atom::Line,
-            Atom::Fixed(Indicator::DocumentStart),
+            Atom::Fixed(IndicatorKind::DocumentStart),
             Atom::Line,
         ),
         (true, false) => (
             Atom::Line,
-            Atom::Fixed(Indicator::DocumentStart),
+            Atom::Fixed(IndicatorKind::DocumentStart),
             Atom::Nothing,
         ),
         (false, _) => NOTHING,
@@ -152,7 +156,7 @@ fn version_atoms(version: yaml_version_directive_t) -> Atoms<'static>
     ensures whole { some_atom_breaks result ≡ false }
     ensures rendered { (s : Effective) (cursor : Cursor) → render_atoms s root_place result cursor ≡ render_version (Some (seen_version version)) cursor }
 {
-    use Indicator::*;
+    use IndicatorKind::*;
     use Atom::*;
     if version.minor == 2 {
         (Fixed(YamlDirective), Fixed(Version12), Line)

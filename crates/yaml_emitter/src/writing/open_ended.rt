@@ -29,7 +29,7 @@ impl OpenEnded {
         matches!(self, OpenEnded::KeptBreaks)
     }
 
-    /// After the header of a block scalar, whose own mark is 0 or 2.
+    /// The state after a block scalar, whose writer returned its header's state: 0 or 2.
     pub(crate) fn after_header(open_ended: i32) -> OpenEnded
         ensures { (ending : Ending) → open_ended ≡ pos (ending_open_ended ending) → seen_open_ended result ≡ ending_open_ended ending }
     {

@@ -16,7 +16,7 @@ ghost use Rattle.yaml_emitter.specs.WrittenAtoms.{seen_indicator, render_atoms, 
 use crate::effective::EffectiveSettings;
 use crate::place::{CollectionKind, Place, Role};
 use crate::writing::atoms::{Atom, Atoms, write_flow_line, write_new_line};
-use crate::writing::indicators::{Indicator, write_indicator};
+use crate::writing::indicators::{IndicatorKind, write_indicator};
 use crate::writing::site::Site;
 use std::alloc::Allocator;
 use yaml_base::yaml_error_t;
@@ -47,7 +47,7 @@ fn write_flow_place<A: Allocator>(
     requires { IsReady pen.old }
     ensures { Wrote (render_flow_place (seen_effective settings.now) (seen_role place.now.role) simple place.now.column) pen.old pen.new result }
 {
-    use Indicator::*;
+    use IndicatorKind::*;
     match (place.role, simple) {
         (Role::Root, _) => pen.write_nothing(),
         (Role::Item { first: true }, _) => write_entry(pen, settings, place, FlowSequenceStart),
@@ -77,7 +77,7 @@ fn write_entry<A: Allocator>(
     pen: &mut Pen<A>,
     settings: &EffectiveSettings,
     place: &Place,
-    atom: Indicator,
+    atom: IndicatorKind,
 ) -> Result<(), yaml_error_t>
     requires { IsReady pen.old }
     ensures { Wrote (λ cursor. render_then (render_indicator (seen_indicator atom) cursor) (flow_break (seen_effective settings.now) place.now.column)) pen.old
@@ -92,7 +92,7 @@ fn write_simple_key<A: Allocator>(
     pen: &mut Pen<A>,
     settings: &EffectiveSettings,
     place: &Place,
-    atom: Indicator,
+    atom: IndicatorKind,
 ) -> Result<(), yaml_error_t>
     requires { IsReady pen.old }
     ensures { Wrote (λ cursor. render_then
@@ -107,7 +107,7 @@ fn write_long_key<A: Allocator>(
     pen: &mut Pen<A>,
     settings: &EffectiveSettings,
     place: &Place,
-    atom: Indicator,
+    atom: IndicatorKind,
 ) -> Result<(), yaml_error_t>
     requires { IsReady pen.old }
     ensures { Wrote (λ cursor. render_then
@@ -115,7 +115,7 @@ fn write_long_key<A: Allocator>(
         pen.old pen.new result }
 {
     write_entry(pen, settings, place, atom)?;
-    write_indicator(pen, Indicator::FlowKey)
+    write_indicator(pen, IndicatorKind::FlowKey)
 }
 
 /// The atom of the value of another key in flow, on a new line where one is due.
@@ -129,7 +129,7 @@ fn write_long_value<A: Allocator>(
         result }
 {
     write_flow_line(pen, settings, place)?;
-    write_indicator(pen, Indicator::FlowValue)
+    write_indicator(pen, IndicatorKind::FlowValue)
 }
 
 /// What a place in a block puts before its node (YAML 1.1, sections 10.1.2 and 10.2.2).
@@ -142,7 +142,7 @@ fn write_block_place<A: Allocator>(
     requires { IsReady pen.old }
     ensures { Wrote (render_block_place (seen_role place.now.role) simple place.now.column) pen.old pen.new result }
 {
-    use Indicator::*;
+    use IndicatorKind::*;
     match (place.role, simple) {
         (Role::Root, _) => pen.write_nothing(),
         (Role::Item { .. }, _) => write_line_and_indicator(pen, place.at_line(), BlockEntry),
@@ -161,7 +161,7 @@ fn write_block_place<A: Allocator>(
 fn write_line_and_indicator<A: Allocator>(
     pen: &mut Pen<A>,
     place: Place,
-    atom: Indicator,
+    atom: IndicatorKind,
 ) -> Result<(), yaml_error_t>
     requires { IsReady pen.old }
     ensures { Wrote (λ cursor. render_then (new_line (line_column place.column) cursor) (render_indicator (seen_indicator atom))) pen.old pen.new result }
@@ -186,7 +186,7 @@ pub(crate) fn flow_end_atoms(kind: CollectionKind, empty: bool, canonical: bool)
         → render_atoms s place result cursor ≡ render_end s (brackets_of (is_mapping kind)) true empty place.column cursor }
 {
     use CollectionKind::*;
-    use Indicator::*;
+    use IndicatorKind::*;
     use Atom::*;
     match (kind, empty, canonical) {
         (Sequence, true, _) => (Nothing, Fixed(FlowSequenceStart), Fixed(FlowSequenceEnd)),

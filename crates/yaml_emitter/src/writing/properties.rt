@@ -13,7 +13,7 @@ ghost use Rattle.yaml_emitter.specs.Atoms.{name_breaks};
 ghost use Rattle.yaml_emitter.specs.WrittenAtoms.{seen_tag, render_atoms, some_atom_breaks, render_spelled_tag, spelling_breaks};
 
 use crate::writing::atoms::{Atom, Atoms, write_atoms};
-use crate::writing::indicators::Indicator;
+use crate::writing::indicators::IndicatorKind;
 use crate::writing::site::Site;
 use crate::writing::spelling::SpelledTag;
 use std::alloc::Allocator;
@@ -54,7 +54,7 @@ fn anchor_atoms(anchor: Option<&str>) -> Atoms
 {
     use Atom::*;
     match anchor {
-        Some(name) => (Nothing, Fixed(Indicator::Anchor), Name(name)),
+        Some(name) => (Nothing, Fixed(IndicatorKind::Anchor), Name(name)),
         None => (Nothing, Nothing, Nothing),
     }
 }
@@ -65,7 +65,7 @@ fn tag_atoms(tag: Option<SpelledTag>, bare: bool) -> Atoms
     ensures rendered { (s : Effective) (place : Place) (cursor : Cursor)
         → render_atoms s place result cursor ≡ render_spelled_tag s.portable (seen_tag tag.entry) bare cursor }
 {
-    use Indicator::*;
+    use IndicatorKind::*;
     use Atom::*;
     match tag {
         Some(SpelledTag::Shorthand { handle, suffix }) => (Nothing, Handle(handle), Suffix(suffix)),
@@ -98,8 +98,8 @@ pub(crate) fn alias_atoms(name: &str, simple: bool) -> Atoms
 {
     use Atom::*;
     if simple {
-        (Fixed(Indicator::Alias), Name(name), Space)
+        (Fixed(IndicatorKind::Alias), Name(name), Space)
     } else {
-        (Fixed(Indicator::Alias), Name(name), Nothing)
+        (Fixed(IndicatorKind::Alias), Name(name), Nothing)
     }
 }

@@ -75,3 +75,21 @@ returns-clause-written g c =
 
 pub events-smaller : goal.events-smaller
 events-smaller g c = grind (arith, common_steps) steps 2000000
+
+pub offset_bounds-waiting-count : goal.offset_bounds-waiting-count
+offset_bounds-waiting-count g c = c.events.invariant.within
+
+pub slice_bounds-is_next_ready-count : goal.slice_bounds-is_next_ready-count
+slice_bounds-is_next_ready-count g c = c.events.invariant.within
+
+pub slice_bounds-is_next_ready-start : goal.slice_bounds-is_next_ready-start
+slice_bounds-is_next_ready-start g c = c.events.invariant.within
+
+pub returns-clause-error : goal.returns-clause-error
+returns-clause-error g c = c.events.invariant.error
+
+pub returns-clause-grows : goal.returns-clause-grows
+returns-clause-grows g c = c.events.invariant.grows
+
+pub returns-clause-set : goal.returns-clause-set
+returns-clause-set g c = c.events.invariant.set

@@ -1,4 +1,5 @@
-use Rattle.yaml_emitter.proofs.Common.{◌+◌, drop, length, nat_lt, ◌&&◌, Bool, false, true, ◌≡◌, ap, sym, ◌∙◌, arith, le-ltb, awaited, seen_event, seen_events}
+use Rattle.yaml_emitter.proofs.Common.{◌+◌, ◌≤◌, drop, length, nat_lt, ◌&&◌, Bool, false, true, refl, ◌≡◌, ap, sym, ◌∙◌, arith, le-ltb, awaited}
+use Rattle.yaml_emitter.proofs.Common.{seen_event, seen_events}
 use Rattle.std.proofs.lemmas.{Bool.lt-ltb, List.drop_all, List.length-drop}
 use Rattle.yaml_emitter.proofs.standing.WritingAll.{ready_from}
 use Rattle.yaml_emitter.specs.Queue.{are_ready_by_one_more}
@@ -39,3 +40,12 @@ returns g c =
     sym
     (sym c.loop-event.invariant.what_is_left
     ∙ ap (λ events. are_ready_by_one_more (seen_events events)) (drop_all c.loop-event.event-index c.args.waiting.now c.loop-event-test.false))
+
+pub loop-event-init : goal.loop-event-init
+loop-event-init g c = record { left = refl; what_is_left = refl }
+
+pub overflow_sub-left : goal.overflow_sub-left
+overflow_sub-left g c =
+    let some : 1 ≤ c.loop-event.left =
+    omega (arith, c.loop-event.invariant.left, length-drop c.loop-event.event-index c.args.waiting.now, c.loop-event-test.true) in
+    some

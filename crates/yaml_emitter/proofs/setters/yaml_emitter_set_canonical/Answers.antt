@@ -1,15 +1,12 @@
-use Rattle.yaml_emitter.proofs.Common.{refl, ap, ◌∙◌, state_of, State, MachineState}
-use Rattle.yaml_emitter.proofs.standing.{EmitterKept.kept_given, StandingSet.stands_given}
+use Rattle.yaml_emitter.proofs.Common.{refl, ap, ◌∙◌, state_of, State}
+use Rattle.yaml_emitter.proofs.standing.StandingSet.{stands_given}
 use Rattle.yaml_emitter.proofs.setters.yaml_emitter_set_canonical.Goals as goal
-
-pub invariant_of-emitter : goal.invariant_of-emitter
-invariant_of-emitter g c = kept_given c.emitter.inside c.set_canonical.new.self _ _ c.set_canonical.ensures c.emitter.invariant
 
 pub returns-clause-set : goal.returns-clause-set
 returns-clause-set g c =
-    ap (λ (m : MachineState). state_of (record c.emitter.inside { machine = m })) c.set_canonical.ensures
-    ∙ ap (λ (s : State). let made : State = record s
-    { given = record s.given { canonical = c.args.canonical }; settings = record s.settings { canonical = c.args.canonical } } in made) c.emitter.view_is
+    ap (λ (s : State). let made : State = record s
+    { given = record s.given { canonical = c.args.canonical }; settings = record s.settings { canonical = c.args.canonical } } in made)
+    (ap state_of c.emitter-inside.view_is ∙ c.emitter.view_is)
 
 pub returns-clause-stands : goal.returns-clause-stands
 returns-clause-stands g c stands = stands_given c.args.emitter.now _ _ _ (returns-clause-set g c) refl stands

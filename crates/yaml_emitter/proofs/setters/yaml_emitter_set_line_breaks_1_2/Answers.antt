@@ -1,12 +1,10 @@
 use Rattle.yaml_emitter.proofs.Common.{refl, Settings}
-use Rattle.yaml_emitter.proofs.standing.{EmitterKept.kept_given, EmitterKept.given_set, StandingSet.stands_given}
+use Rattle.yaml_emitter.proofs.standing.{EmitterKept.given_set, StandingSet.stands_given}
 use Rattle.yaml_emitter.proofs.setters.yaml_emitter_set_line_breaks_1_2.Goals as goal
 
-pub invariant_of-emitter : goal.invariant_of-emitter
-invariant_of-emitter g c = kept_given c.emitter.inside c.set_line_breaks_1_2.new.self _ _ c.set_line_breaks_1_2.ensures c.emitter.invariant
-
 pub returns-clause-set : goal.returns-clause-set
-returns-clause-set g c = given_set c.emitter.inside (λ (s : Settings). record s { breaks12 = c.args.breaks12 }) c.set_line_breaks_1_2.ensures c.emitter.view_is
+returns-clause-set g c =
+    given_set (λ (s : Settings). record s { breaks12 = c.args.breaks12 }) c.emitter-inside.view_is c.emitter.view_is
 
 pub returns-clause-stands : goal.returns-clause-stands
 returns-clause-stands g c stands = stands_given c.args.emitter.now _ _ _ (returns-clause-set g c) refl stands

@@ -1,0 +1,42 @@
+use Rattle.yaml_emitter.proofs.Common.{rules, refl, List, ℕ, true, false, ◌≡◌, ap, ◌∙◌, chars, list_any, is_break}
+use Rattle.yaml_base.specs.Indicators.{Indicator, opening, tight, indented, spaced}
+use Rattle.yaml_emitter.specs.Atoms.{is_visible_ascii}
+use Rattle.yaml_emitter.proofs.pieces.Atoms.{symbol-chars, symbol-no_break}
+use Rattle.yaml_emitter.proofs.writing.indicators.IndicatorKind.indicator.Goals as goal
+
+-- bytes that stand for themselves are the text of what is made of them
+made_of : (form : List ℕ → Indicator) {made : Indicator} (bytes : List ℕ) → made ≡ form (chars bytes) → is_visible_ascii bytes ≡ true → made ≡ form bytes
+made_of form bytes is symbol = is ∙ ap form (symbol-chars bytes symbol)
+
+no_break : (form : List ℕ → Indicator) {made : Indicator} (bytes : List ℕ) → ((text : List ℕ) → (form text).text ≡ text) → made ≡ form (chars bytes)
+    → is_visible_ascii bytes ≡ true → list_any is_break made.text ≡ false
+no_break form bytes holds is symbol =
+    ap (λ (s : Indicator). list_any is_break s.text) (made_of form bytes is symbol) ∙ ap (list_any is_break) (holds bytes) ∙ symbol-no_break bytes symbol
+
+pub returns-in-FlowSequenceStart-clause-made : goal.returns-in-FlowSequenceStart-clause-made
+returns-in-FlowSequenceStart-clause-made c =
+    made_of opening c.text-text.result.now c.opening.ensures c.text-text.ensures.symbol ∙ ap opening c.text-text.ensures.value ∙ search rules
+
+pub returns-in-FlowSequenceStart-clause-no_break : goal.returns-in-FlowSequenceStart-clause-no_break
+returns-in-FlowSequenceStart-clause-no_break c = no_break opening c.text-text.result.now (λ text. refl) c.opening.ensures c.text-text.ensures.symbol
+
+pub returns-in-FlowSequenceEnd-clause-made : goal.returns-in-FlowSequenceEnd-clause-made
+returns-in-FlowSequenceEnd-clause-made c =
+    made_of tight c.text-text.result.now c.tight.ensures c.text-text.ensures.symbol ∙ ap tight c.text-text.ensures.value ∙ search rules
+
+pub returns-in-FlowSequenceEnd-clause-no_break : goal.returns-in-FlowSequenceEnd-clause-no_break
+returns-in-FlowSequenceEnd-clause-no_break c = no_break tight c.text-text.result.now (λ text. refl) c.tight.ensures c.text-text.ensures.symbol
+
+pub returns-in-BlockEntry-clause-made : goal.returns-in-BlockEntry-clause-made
+returns-in-BlockEntry-clause-made c =
+    made_of indented c.text-text.result.now c.indented.ensures c.text-text.ensures.symbol ∙ ap indented c.text-text.ensures.value ∙ search rules
+
+pub returns-in-BlockEntry-clause-no_break : goal.returns-in-BlockEntry-clause-no_break
+returns-in-BlockEntry-clause-no_break c = no_break indented c.text-text.result.now (λ text. refl) c.indented.ensures c.text-text.ensures.symbol
+
+pub returns-in-DocumentStart-clause-made : goal.returns-in-DocumentStart-clause-made
+returns-in-DocumentStart-clause-made c =
+    made_of spaced c.text-text.result.now c.spaced.ensures c.text-text.ensures.symbol ∙ ap spaced c.text-text.ensures.value ∙ search rules
+
+pub returns-in-DocumentStart-clause-no_break : goal.returns-in-DocumentStart-clause-no_break
+returns-in-DocumentStart-clause-no_break c = no_break spaced c.text-text.result.now (λ text. refl) c.spaced.ensures c.text-text.ensures.symbol
