@@ -149,7 +149,7 @@ stream_read_back given encoding events accepted portable stands =
         (and_parts (not (loses_document given.canonical (documents_in_order accepted.stream.documents)))
         (not (list_any (document_has_flow_indicator given.canonical) (documents_in_order accepted.stream.documents)))
         (sym (ap (λ found.
-            unwrap_or (option_map (λ (stream : Stream). all_read_alike given.canonical (documents_in_order stream.documents)) found) false) found)
+        unwrap_or (option_map (λ (stream : Stream). all_read_alike given.canonical (documents_in_order stream.documents)) found) false) found)
         ∙ h)).0
       where
         not_true : (x : Bool) → not x ≡ true → x ≡ false

@@ -79,7 +79,7 @@ AfterMarkerless breaks12 own = AllMarkerless (lines_after_first (lines_of breaks
 fed_markerless : (breaks12 : Bool) (own : Rendered) → own.cursor.indention ≡ false → Markerless breaks12 own.text → AfterMarkerless breaks12 own
 fed_markerless breaks12 own ends h =
     ap (λ x. list_all (λ line. is_markerless (marker_of line.text))
-        (lines_after_first (lines_of breaks12 (own.text ++ (if x then [] else line_feed ∷ []))))) ends
+    (lines_after_first (lines_of breaks12 (own.text ++ (if x then [] else line_feed ∷ []))))) ends
     ∙ lines_pass breaks12 (begins_markerless breaks12) (λ t. is_markerless (marker_of t)) (first_markerless breaks12) own.text h
 
 -- a collection in flow at the root, where its entries are deep

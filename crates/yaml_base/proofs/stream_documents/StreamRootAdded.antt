@@ -120,7 +120,7 @@ pub added_with_marker : (on_marker : Bool) (s : Effective) (depth : ℕ) (text :
     → size document.root ≤ depth
     → Stood on_marker (lines_of s.breaks12 (closed (render_root on_marker s document)))
     → WalkProgress s.breaks12 depth (text ++ text_with_marker on_marker s document)
-        (record { documents = with_document s documents document; place = after_root })
+    (record { documents = with_document s documents document; place = after_root })
 added_with_marker true = on_marker_added
 added_with_marker false = below_marker_added
 

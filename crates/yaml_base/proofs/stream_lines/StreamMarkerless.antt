@@ -78,7 +78,7 @@ pair_markerless true rules s directives pairs key value fit =
     ap (λ ls. list_all (λ line. is_markerless (marker_of line.text)) ls)
     (keyed_lines rules k (closed v) (node_tree key s directives (key_place pairs 0)) 0 fit.0 o)
     ∙ and_from (is_markerless (marker_of (k ++ (0x3A ∷ o.head)))) (list_all (λ line. is_markerless (marker_of line.text)) o.rest)
-        (fit.0.markerless o.head o.symbol)
+    (fit.0.markerless o.head o.symbol)
     (all_markerless false o.rest
     (rest_inside rules (size value) v (node_tree value s directives (value_place true 0)) (as_value true)
     (colon_cursor (simple_key pairs key s directives 0).cursor) 0 fit.1 refl false 0 (omega arith)))

@@ -14,8 +14,11 @@ write_folded-requires-clause-most g c =
 
 pub returns-in_err-write_folded-clause-written : goal.returns-in_err-write_folded-clause-written
 returns-in_err-write_folded-clause-written g c =
-    let wrote = rw (to_z-of_z w32 c.args.indent c.ranges.indent, to_z-of_z w32 c.args.best_indent c.ranges.best_indent,
-        to_z-of_z w32 c.args.width c.ranges.width)
+    let wrote = rw (
+      to_z-of_z w32 c.args.indent c.ranges.indent,
+      to_z-of_z w32 c.args.best_indent c.ranges.best_indent,
+      to_z-of_z w32 c.args.width c.ranges.width,
+    )
     at c.in_err-write_folded.ensures in
     block_exit c.from_residual.result c.from_residual.ensures wrote
 
@@ -30,16 +33,22 @@ returns-in_err-write_folded-clause-reads g c charset allowed column enclosing =
 
 pub returns-clause-written : goal.returns-clause-written
 returns-clause-written g c =
-    rw (to_z-of_z w32 c.args.indent c.ranges.indent, to_z-of_z w32 c.args.best_indent c.ranges.best_indent,
-        to_z-of_z w32 c.args.width c.ranges.width)
+    rw (
+      to_z-of_z w32 c.args.indent c.ranges.indent,
+      to_z-of_z w32 c.args.best_indent c.ranges.best_indent,
+      to_z-of_z w32 c.args.width c.ranges.width,
+    )
     at c.in_ok-write_folded.ensures
 
 pub returns-clause-reads : goal.returns-clause-reads
 returns-clause-reads g c charset allowed column enclosing =
     let n = natural c.args.indent in
     let best = natural c.args.best_indent in
-    let wrote = rw (to_z-of_z w32 c.args.indent c.ranges.indent, to_z-of_z w32 c.args.best_indent c.ranges.best_indent,
-        to_z-of_z w32 c.args.width c.ranges.width)
+    let wrote = rw (
+      to_z-of_z w32 c.args.indent c.ranges.indent,
+      to_z-of_z w32 c.args.best_indent c.ranges.best_indent,
+      to_z-of_z w32 c.args.width c.ranges.width,
+    )
     at c.in_ok-write_folded.ensures in
     folded_back charset (chars c.args.value.now) allowed n best
     (indents c.args.indent c.args.best_indent c.requires.least c.requires.most c.requires.within) column enclosing (limit_of c.args.width) wrote
