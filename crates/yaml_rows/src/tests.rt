@@ -16,7 +16,7 @@ use std::alloc::{Allocator, Global};
 use std::fmt::Debug;
 use std::process::Abort;
 use yaml_base::{yaml_error_t, yaml_tag_directive_t};
-use yaml_pen::Pen;
+use yaml_pen::{Indicator, Pen};
 use yaml_scalar::holds_break;
 
 /// The two are equal. (A comparison in a function of its own is proved once.)
@@ -76,17 +76,18 @@ fn same(rt: &impl Abort, got: &[u8], wanted: &[u8]) {
     assert_eq!(rt; got, wanted);
 }
 
-/// Writes an indicator with its flags; an error where it holds a break, so that no caller has to show that it holds none.
-fn write_indicator(
-    pen: &mut Pen<Global>,
-    sign: &str,
-    flags: (bool, bool, bool),
-) -> Result<(), yaml_error_t>
+/// Writes an indicator; an error where it holds a break, so that no caller has to show that it holds none.
+fn write_indicator(pen: &mut Pen<Global>, indicator: &Indicator) -> Result<(), yaml_error_t>
     requires { IsReady pen.old }
     ensures { IsReady pen.new }
 {
-    if holds_break(sign) {
+    if holds_break(indicator.text) {
         return Err(yaml_error_t::WriteError);
     }
-    pen.write_indicator(sign, flags.0, flags.1, flags.2)
+    pen.write_indicator(
+        indicator.text,
+        indicator.needs_space,
+        indicator.leaves_space,
+        indicator.keeps_indention,
+    )
 }

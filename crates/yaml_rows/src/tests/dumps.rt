@@ -33,7 +33,7 @@ fn copied<T: Copy, A: Allocator>(rt: &impl Abort, alloc: A, items: &[T]) -> Vec<
 }
 
 /// The tag that is given, or that of the kind.
-fn tag_of<'a>(given: &Given<'a>) -> &'a str {
+fn node_tag<'a>(given: &Given<'a>) -> &'a str {
     match given {
         Given::Text(_) => "tag:yaml.org,2002:str",
         Given::Tagged(tag, _) => tag,
@@ -68,7 +68,7 @@ fn add<A: Allocator + Copy>(
     given: &Given,
 ) {
     let node = yaml_node_t {
-        tag: owned(rt, alloc, tag_of(given)),
+        tag: owned(rt, alloc, node_tag(given)),
         contents: contents(rt, alloc, given),
     };
     nodes.push(node).expect(rt, "no memory");

@@ -17,7 +17,13 @@ use streams::{Given, event};
 use yaml_base::{
     YAML_ANY_BREAK, YAML_ANY_ENCODING, YAML_STREAM_END_EVENT, yaml_error_t, yaml_event_t,
 };
-use yaml_emitter::{Settings, yaml_emitter_emit, yaml_emitter_flush, yaml_emitter_t};
+use yaml_emitter::{
+    Settings, yaml_emitter_emit, yaml_emitter_flush, yaml_emitter_initialize,
+    yaml_emitter_set_break, yaml_emitter_set_canonical, yaml_emitter_set_encoding,
+    yaml_emitter_set_indent, yaml_emitter_set_indented_sequences, yaml_emitter_set_line_breaks_1_2,
+    yaml_emitter_set_output_string, yaml_emitter_set_portable, yaml_emitter_set_unicode,
+    yaml_emitter_set_width, yaml_emitter_t,
+};
 use yaml_test_allocator::Refusing;
 
 pub(super) type Answer = Result<(), yaml_error_t>;
@@ -36,12 +42,30 @@ pub(super) const UNSET: Settings = Settings {
     limit: usize::MAX,
 };
 
-/// An emitter before its stream.
+/// An emitter before its stream, each setting made by a call of its own.
 pub(super) fn begun<A: Allocator + Copy>(
     alloc: A,
     settings: &Settings,
 ) -> Result<yaml_emitter_t<A>, yaml_error_t> {
-    yaml_emitter_t::with_settings(alloc, *settings)
+    let mut emitter = yaml_emitter_initialize(alloc)?;
+    yaml_emitter_set_output_string(&mut emitter, settings.limit);
+    yaml_emitter_set_encoding(&mut emitter, settings.encoding);
+    yaml_emitter_set_canonical(&mut emitter, settings.canonical);
+    yaml_emitter_set_unicode(&mut emitter, settings.unicode);
+    yaml_emitter_set_break(&mut emitter, settings.line_break);
+    yaml_emitter_set_line_breaks_1_2(&mut emitter, settings.line_breaks_1_2);
+    yaml_emitter_set_portable(&mut emitter, settings.portable);
+    yaml_emitter_set_indented_sequences(&mut emitter, settings.indented_sequences);
+    match (settings.indent, settings.width) {
+        (None, None) => {}
+        (Some(indent), None) => yaml_emitter_set_indent(&mut emitter, indent),
+        (None, Some(width)) => yaml_emitter_set_width(&mut emitter, width),
+        (Some(indent), Some(width)) => {
+            yaml_emitter_set_indent(&mut emitter, indent);
+            yaml_emitter_set_width(&mut emitter, width);
+        }
+    }
+    Ok(emitter)
 }
 
 /// An emitter before its stream, for which there is memory.

@@ -9,6 +9,7 @@ ghost use Rattle.yaml_pen.specs.Page.{IsReady, IsUntouched};
 mod memory;
 mod runs;
 
+use super::scalars::check_column;
 use super::{equal, same, write_indicator};
 use std::alloc::{AllocError, Allocator, Global};
 use std::process::Abort;
@@ -16,7 +17,7 @@ use yaml_base::{
     YAML_CRLN_BREAK, YAML_LN_BREAK, YAML_UTF8_ENCODING, YAML_UTF16BE_ENCODING,
     YAML_UTF16LE_ENCODING, yaml_encoding_t, yaml_error_t,
 };
-use yaml_pen::Pen;
+use yaml_pen::{Indicator, Pen};
 
 // A text begins, its lines ended by LF. Always answers `Ok`.
 fn begin<A: Allocator>(pen: &mut Pen<A>, encoding: yaml_encoding_t) -> Result<(), yaml_error_t>
@@ -102,12 +103,6 @@ fn write_long_run<A: Allocator, B: Allocator>(
     }
 }
 
-/// The column, and whether both flags of the cursor are on, or both off.
-fn check_cursor(rt: &impl Abort, pen: &Pen<Global>, column: i32, flags: bool) {
-    let cursor = (pen.column(), pen.whitespace(), pen.indention());
-    equal(rt, &cursor, &(column, flags, flags));
-}
-
 // Nothing was flushed before the flush, and this is after it.
 fn check_flushed(rt: &impl Abort, pen: &mut Pen<Global>, expected: &[u8])
     requires { IsReady pen.old }
@@ -123,12 +118,13 @@ fn write_line(rt: &impl Abort, pen: &mut Pen<Global>) -> Result<(), yaml_error_t
     requires { IsReady pen.old }
     ensures { IsReady pen.new }
 {
-    write_indicator(pen, "---", (true, false, false))?;
-    check_cursor(rt, pen, 3, false);
+    write_indicator(pen, &Indicator::spaced("---"))?;
+    check_column(rt, pen, 3);
     pen.write_char('é')?;
     equal(rt, &pen.column(), &4);
     pen.write_indent(2)?;
-    check_cursor(rt, pen, 2, true);
+    let cursor = (pen.column(), pen.whitespace(), pen.indention());
+    equal(rt, &cursor, &(2, true, true));
     Ok(())
 }
 
@@ -140,7 +136,7 @@ fn end_line(rt: &impl Abort, pen: &mut Pen<Global>) -> Result<(), yaml_error_t>
     pen.put(b'a')?;
     pen.set_whitespace(false);
     pen.set_indention(false);
-    check_cursor(rt, pen, 3, false);
+    check_column(rt, pen, 3);
     pen.put_break()?;
     pen.write_break('\u{2028}')?;
     equal(rt, &pen.column(), &0);
@@ -198,9 +194,13 @@ fn write_indicators(pen: &mut Pen<Global>) -> Result<(), yaml_error_t>
     requires { IsReady pen.old }
     ensures { IsReady pen.new }
 {
-    write_indicator(pen, "-", (true, true, true))?;
-    write_indicator(pen, "b", (true, false, false))?;
-    write_indicator(pen, "c", (true, false, false))
+    let dash = Indicator {
+        keeps_indention: true,
+        ..Indicator::opening("-")
+    };
+    write_indicator(pen, &dash)?;
+    write_indicator(pen, &Indicator::spaced("b"))?;
+    write_indicator(pen, &Indicator::spaced("c"))
 }
 
 #[test]

@@ -1,4 +1,6 @@
 //! Scalars written from outside: worked texts, limits and failed pens.
+ghost use Rattle.std.specs.Prelude.{IsSome};
+ghost use Rattle.yaml_base.specs.Seen.{seen_break};
 ghost use Rattle.yaml_pen.specs.Page.{IsReady};
 
 mod block;
@@ -11,8 +13,8 @@ mod styles;
 use super::{equal, same, write_indicator};
 use std::alloc::Global;
 use std::process::Abort;
-use yaml_base::{YAML_CR_BREAK, YAML_CRLN_BREAK, YAML_LN_BREAK, YAML_UTF8_ENCODING, yaml_error_t};
-use yaml_pen::Pen;
+use yaml_base::{YAML_LN_BREAK, YAML_UTF8_ENCODING, yaml_break_t, yaml_error_t};
+use yaml_pen::{Indicator, Pen};
 
 /// A pen at the start of a text in UTF-8 whose lines end in LF.
 pub(super) fn begun(rt: &impl Abort, alloc: Global) -> Pen<Global>
@@ -31,16 +33,13 @@ fn begun_within(rt: &impl Abort, alloc: Global, limit: usize) -> Pen<Global>
     pen
 }
 
-/// A pen at the start of a text in UTF-8 whose lines end in CR, or in CR LF.
-fn begun_with_returns(rt: &impl Abort, alloc: Global, line_feed_too: bool) -> Pen<Global>
+/// A pen at the start of a text in UTF-8 whose lines end so.
+fn begun_with_breaks(rt: &impl Abort, alloc: Global, line_break: yaml_break_t) -> Pen<Global>
+    requires { IsSome (seen_break line_break) }
     ensures { IsReady result }
 {
     let mut pen = Pen::new(alloc).expect(rt, "no memory");
-    if line_feed_too {
-        pen.begin(YAML_UTF8_ENCODING, YAML_CRLN_BREAK);
-    } else {
-        pen.begin(YAML_UTF8_ENCODING, YAML_CR_BREAK);
-    }
+    pen.begin(YAML_UTF8_ENCODING, line_break);
     pen
 }
 
@@ -98,11 +97,11 @@ fn write_sign(pen: &mut Pen<Global>) -> Result<(), yaml_error_t>
     requires { IsReady pen.old }
     ensures { IsReady pen.new }
 {
-    write_indicator(pen, "-", (true, false, true))
+    write_indicator(pen, &Indicator::indented("-"))
 }
 
 /// The column; both flags of the cursor are off.
-fn check_column(rt: &impl Abort, pen: &Pen<Global>, column: i32) {
+pub(super) fn check_column(rt: &impl Abort, pen: &Pen<Global>, column: i32) {
     let cursor = (pen.column(), pen.whitespace(), pen.indention());
     equal(rt, &cursor, &(column, false, false));
 }

@@ -104,14 +104,28 @@ const UNCLOSED: &[Step] = &[
     Output(b"\xFE"),
 ];
 
-/// A stream that is closed takes no document: one without nodes changes nothing more, and another one is refused.
+/// A stream that is closed takes no document.
 const AFTER_THE_END: &[Step] = &[
     Dump(SHARED, Ok(())),
     Close(Ok(())),
     Output(b"- &id001 a\n- *id001\n"),
-    Dump(&[], Ok(())),
+    Error(None),
     Dump(SHARED, Err(yaml_error_t::ExpectedNothing)),
     Output(b"- &id001 a\n- *id001\n"),
+    Error(Some(yaml_error_t::ExpectedNothing)),
+];
+
+/// One without nodes changes nothing more, and another one is still refused.
+const NOTHING_AFTER_THE_END: &[Step] = &[
+    Dump(SHARED, Ok(())),
+    Close(Ok(())),
+    Dump(&[], Ok(())),
+    Closed(true),
+    Output(b"- &id001 a\n- *id001\n"),
+    Error(None),
+    Dump(SHARED, Err(yaml_error_t::ExpectedNothing)),
+    Output(b"- &id001 a\n- *id001\n"),
+    Error(Some(yaml_error_t::ExpectedNothing)),
 ];
 
 /// The stream was begun by an event, so the dump's own start is refused.
@@ -135,6 +149,7 @@ const CALLS: &[(&Settings, &[Step])] = &[
     (&UNSET, NOTHING),
     (&ONE_BYTE, UNCLOSED),
     (&UNSET, AFTER_THE_END),
+    (&UNSET, NOTHING_AFTER_THE_END),
     (&UNSET, BEGUN),
     (&UNSET, UNBEGUN),
     (&UNSET, EMPTY),

@@ -23,8 +23,9 @@ const MOST: usize = 1_000_000;
 const TOO_MANY: &[Step] = &[
     Emit(Stream),
     Emit(Document),
-    Repeat(BlockSequence, MOST + 2),
-    Held(2),
+    Emit(BlockSequence),
+    Held(1),
+    Repeat(BlockSequence, MOST + 1, 2),
     Refused(BlockSequence, yaml_error_t::TooDeep),
     Failed(yaml_error_t::TooDeep),
 ];
@@ -48,8 +49,10 @@ fn a_million_brackets_are_closed(rt: HostRuntime) {
     let steps = [
         Emit(Stream),
         Emit(Document),
-        Repeat(FlowSequence, MOST),
-        Repeat(SequenceEnd, MOST),
+        Emit(FlowSequence),
+        Held(1),
+        Repeat(FlowSequence, MOST - 1, 2),
+        Repeat(SequenceEnd, MOST, 0),
         Emit(DocumentEnd),
         Output(text.as_str().as_bytes()),
         Emit(StreamEnd),

@@ -29,8 +29,8 @@ pub(crate) trait Taken {
 pub(super) enum Step<'a> {
     /// This event is emitted, and not refused.
     Emit(Given<'a>),
-    /// This event is emitted so often.
-    Repeat(Given<'a>, usize),
+    /// This event is emitted so often, and so many events wait after each call.
+    Repeat(Given<'a>, usize, usize),
     /// This event is refused so.
     Refused(Given<'a>, yaml_error_t),
     /// A flush, where the encoding is known.
@@ -61,20 +61,32 @@ fn check_taken<A: Allocator + Copy>(
     }
 }
 
-// An event is emitted so often, up to the call in which a growth is refused.
-fn emit_often<A: Allocator + Copy>(
+// An event is emitted, and answered so.
+fn emit_one<A: Allocator + Copy>(
     rt: &impl Abort,
     heap: &Refusing<Global>,
     alloc: A,
     emitter: &mut yaml_emitter_t<A>,
-    (given, times, wanted): (&Given, usize, Answer),
+    (given, wanted): (&Given, Answer),
+) {
+    let answer = give(rt, emitter, granted(rt, heap, alloc, given));
+    check_answer(rt, heap, answer, wanted);
+}
+
+// An event is emitted so often, up to the call in which a growth is refused; so many events wait after each other call.
+fn emit_until_refused<A: Allocator + Copy>(
+    rt: &impl Abort,
+    heap: &Refusing<Global>,
+    alloc: A,
+    emitter: &mut yaml_emitter_t<A>,
+    (given, times, held): (&Given, usize, usize),
 ) {
     for _ in 0..times {
-        let answer = give(rt, emitter, granted(rt, heap, alloc, given));
-        check_answer(rt, heap, answer, wanted);
+        emit_one(rt, heap, alloc, emitter, (given, Ok(())));
         if heap.left() == 0 {
             return;
         }
+        equal(rt, &emitter.held(), &held);
     }
 }
 
@@ -86,11 +98,11 @@ fn take_step<A: Allocator + Copy>(
     step: &Step,
 ) {
     match step {
-        Step::Emit(given) => emit_often(rt, heap, alloc, emitter, (given, 1, Ok(()))),
-        Step::Repeat(given, times) => emit_often(rt, heap, alloc, emitter, (given, *times, Ok(()))),
-        Step::Refused(given, error) => {
-            emit_often(rt, heap, alloc, emitter, (given, 1, Err(*error)))
+        Step::Emit(given) => emit_one(rt, heap, alloc, emitter, (given, Ok(()))),
+        Step::Repeat(given, times, held) => {
+            emit_until_refused(rt, heap, alloc, emitter, (given, *times, *held))
         }
+        Step::Refused(given, error) => { emit_one(rt, heap, alloc, emitter, (given, Err(*error))) }
         Step::Flush(answer) => check_answer(rt, heap, flush_if_known(rt, emitter), *answer),
         Step::Take(bytes) => check_taken(rt, emitter, bytes),
         Step::Output(bytes) => same(rt, emitter.output(), bytes),

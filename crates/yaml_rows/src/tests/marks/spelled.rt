@@ -11,7 +11,7 @@ use yaml_mark::{
     Directives, analyze_tag, write_anchor, write_tag_content, write_tag_handle, write_tag_prefix,
     write_tag_suffix,
 };
-use yaml_pen::Pen;
+use yaml_pen::{Indicator, Pen};
 use yaml_scalar::holds_break;
 
 fn write_handle(pen: &mut Pen<Global>, handle: &str) -> Result<(), yaml_error_t>
@@ -41,9 +41,9 @@ fn write_whole(pen: &mut Pen<Global>, tag: &str) -> Result<(), yaml_error_t>
     requires { IsReady pen.old }
     ensures { IsReady pen.new }
 {
-    write_indicator(pen, "!<", (true, false, false))?;
+    write_indicator(pen, &Indicator::spaced("!<"))?;
     write_tag_content(pen, tag, false)?;
-    write_indicator(pen, ">", (false, false, false))
+    write_indicator(pen, &Indicator::tight(">"))
 }
 
 fn write_tag(
@@ -70,7 +70,7 @@ fn write_property(pen: &mut Pen<Global>) -> Result<(), yaml_error_t>
     requires { IsReady pen.old }
     ensures { IsReady pen.new }
 {
-    write_indicator(pen, "&", (true, false, false))?;
+    write_indicator(pen, &Indicator::spaced("&"))?;
     write_anchor(pen, "a")
 }
 
@@ -196,7 +196,7 @@ fn write_directive(pen: &mut Pen<Global>) -> Result<(), yaml_error_t>
     requires { IsReady pen.old }
     ensures { IsReady pen.new }
 {
-    write_indicator(pen, "%TAG", (true, false, false))?;
+    write_indicator(pen, &Indicator::spaced("%TAG"))?;
     write_handle(pen, "!e!")?;
     write_tag_content(pen, "!x", true)
 }

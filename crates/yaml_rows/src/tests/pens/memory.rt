@@ -24,7 +24,7 @@ fn heap(rt: &impl Abort, alloc: Global, size: usize) -> LocalHeap {
 }
 
 // Letters find no room, and then nothing does; so many of them were flushed.
-fn check_full<A: Allocator>(rt: &impl Abort, pen: &mut Pen<A>, handed_out: usize)
+fn check_full<A: Allocator>(rt: &impl Abort, pen: &mut Pen<A>, flushed: usize)
     requires { IsReady pen.old }
 {
     let refused = Err(yaml_error_t::Memory);
@@ -33,19 +33,16 @@ fn check_full<A: Allocator>(rt: &impl Abort, pen: &mut Pen<A>, handed_out: usize
     let answers = (pen.put(b'a'), pen.flush(), pen.error());
     let error = Some(yaml_error_t::Memory);
     equal(rt, &answers, &(refused, refused, error));
-    check_letters(rt, pen.output(), handed_out);
+    check_letters(rt, pen.output(), flushed);
 }
 
-fn check_heap(rt: &impl Abort, heap: &LocalHeap, made: bool, handed_out: usize) {
+// So many letters are flushed; `None` where the heap has no room for a pen.
+fn check_heap(rt: &impl Abort, heap: &LocalHeap, flushed: Option<usize>) {
     match Pen::new(heap) {
-        Err(error) => {
-            equal(rt, &error, &yaml_error_t::Memory);
-            equal(rt, &made, &false);
-        }
+        Err(error) => equal(rt, &(error, flushed), &(yaml_error_t::Memory, None)),
         Ok(mut pen) => {
-            equal(rt, &made, &true);
             pen.begin(YAML_UTF8_ENCODING, YAML_LN_BREAK);
-            check_full(rt, &mut pen, handed_out);
+            check_full(rt, &mut pen, flushed.expect(rt, "a pen was made"));
         }
     }
 }
@@ -54,28 +51,23 @@ fn check_heap(rt: &impl Abort, heap: &LocalHeap, made: bool, handed_out: usize) 
 // for more than that again.
 #[test]
 fn refused_growths_leave_the_output(rt: HostRuntime) {
-    check_heap(&rt, &heap(&rt, rt.alloc(), 1_000), false, 0);
-    check_heap(&rt, &heap(&rt, rt.alloc(), 20_000), true, 0);
-    check_heap(&rt, &heap(&rt, rt.alloc(), 50_000), true, 16_384);
+    check_heap(&rt, &heap(&rt, rt.alloc(), 1_000), None);
+    check_heap(&rt, &heap(&rt, rt.alloc(), 20_000), Some(0));
+    check_heap(&rt, &heap(&rt, rt.alloc(), 50_000), Some(16_384));
 }
 
-fn check_run_stops<A: Allocator>(
-    rt: &impl Abort,
-    alloc: Global,
-    pen: &mut Pen<A>,
-    handed_out: usize,
-)
+fn check_run_stops<A: Allocator>(rt: &impl Abort, alloc: Global, pen: &mut Pen<A>, flushed: usize)
     requires { IsReady pen.old }
 {
     let error = yaml_error_t::Memory;
     equal(rt, &write_long_run(pen, alloc, 10_000), &Err(error));
     check_run_refused(rt, pen, alloc, error);
-    check_bytes(rt, pen.output(), handed_out, IN_UTF8);
+    check_bytes(rt, pen.output(), flushed, IN_UTF8);
 }
 
-fn check_run_full(rt: &impl Abort, alloc: Global, heap: &LocalHeap, handed_out: usize) {
+fn check_run_full(rt: &impl Abort, alloc: Global, heap: &LocalHeap, flushed: usize) {
     let mut pen = made(rt, heap, usize::MAX, YAML_UTF8_ENCODING);
-    check_run_stops(rt, alloc, &mut pen, handed_out);
+    check_run_stops(rt, alloc, &mut pen, flushed);
 }
 
 // A run is refused where its own flush finds no room; the first piece of this one has 16,383 bytes, as a

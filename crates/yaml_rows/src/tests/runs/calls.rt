@@ -2,45 +2,14 @@
 //! flushed; and all again with each growth refused in turn.
 use super::Row;
 use super::held::{Kind, held, kind_of};
-use crate::tests::emitters::{Answer, check_failed, flush_if_known, give};
+use crate::tests::emitters::{Answer, begun, check_failed, flush_if_known, give};
 use crate::tests::{equal, same};
 use std::alloc::{Allocator, Global};
 use std::process::Abort;
 use yaml_base::yaml_error_t;
-use yaml_emitter::{
-    yaml_emitter_initialize, yaml_emitter_set_break, yaml_emitter_set_canonical,
-    yaml_emitter_set_encoding, yaml_emitter_set_indent, yaml_emitter_set_indented_sequences,
-    yaml_emitter_set_line_breaks_1_2, yaml_emitter_set_output_string, yaml_emitter_set_portable,
-    yaml_emitter_set_unicode, yaml_emitter_set_width, yaml_emitter_t,
-};
+use yaml_emitter::yaml_emitter_t;
 use yaml_test_allocator::Refusing;
-use yaml_tool::{NumberedEvent, Settings, read_script, run_answer_t};
-
-/// An emitter with these settings.
-fn emitter_with<A: Allocator + Copy>(
-    alloc: A,
-    settings: &Settings,
-) -> Result<yaml_emitter_t<A>, yaml_error_t> {
-    let mut emitter = yaml_emitter_initialize(alloc)?;
-    yaml_emitter_set_output_string(&mut emitter, settings.limit);
-    yaml_emitter_set_encoding(&mut emitter, settings.encoding);
-    yaml_emitter_set_canonical(&mut emitter, settings.canonical);
-    yaml_emitter_set_unicode(&mut emitter, settings.unicode);
-    yaml_emitter_set_break(&mut emitter, settings.line_break);
-    yaml_emitter_set_line_breaks_1_2(&mut emitter, settings.line_breaks_1_2);
-    yaml_emitter_set_portable(&mut emitter, settings.portable);
-    yaml_emitter_set_indented_sequences(&mut emitter, settings.indented_sequences);
-    match (settings.indent, settings.width) {
-        (None, None) => {}
-        (Some(indent), None) => yaml_emitter_set_indent(&mut emitter, indent),
-        (None, Some(width)) => yaml_emitter_set_width(&mut emitter, width),
-        (Some(indent), Some(width)) => {
-            yaml_emitter_set_indent(&mut emitter, indent);
-            yaml_emitter_set_width(&mut emitter, width);
-        }
-    }
-    Ok(emitter)
-}
+use yaml_tool::{NumberedEvent, read_script, run_answer_t};
 
 /// An output below this size is flushed at ends and by the caller alone.
 const BUFFER_SIZE: usize = 16_384;
@@ -219,7 +188,7 @@ pub(super) fn check_calls(rt: &impl Abort, alloc: Global, row: &Row) {
             flushes: 0,
         };
         heap.refuse(number);
-        match emitter_with(&heap, &script.settings) {
+        match begun(&heap, &script.settings) {
             Ok(mut emitter) => check_events(rt, &mut walk, &mut emitter, script.events),
             Err(error) => equal(rt, &(heap.left(), error), &(0, yaml_error_t::Memory)),
         }

@@ -89,7 +89,7 @@ fn check_encoded(rt: &impl Abort, alloc: Global, stream: Stream, expected: &[u8]
 }
 
 #[test]
-fn a_stream_without_documents_has_only_its_mark(rt: HostRuntime) {
+fn a_stream_without_documents_has_only_its_byte_order_mark(rt: HostRuntime) {
     check_encoded(&rt, rt.alloc(), ("", "utf8", ""), b"");
     check_encoded(&rt, rt.alloc(), ("", "utf16be", ""), b"\xFE\xFF");
     check_encoded(&rt, rt.alloc(), ("", "utf16le", ""), b"\xFF\xFE");

@@ -136,6 +136,19 @@ const NAMES_BEFORE_TAGS: Refusals = &[
         1,
         yaml_error_t::AnchorAlphabet,
     ),
+    (
+        r#"=VAL any 0 0 "a b" - "x""#,
+        1,
+        yaml_error_t::AnchorAlphabet,
+    ),
+    (
+        r#"
++STR any
++DOC 1 -
+=VAL any 0 0 "a b" - "x""#,
+        4,
+        yaml_error_t::AnchorAlphabet,
+    ),
     (r#"=ALI """#, 1, yaml_error_t::AliasEmpty),
     (r#"=ALI "a\u{E9}""#, 1, yaml_error_t::AliasAlphabet),
     (r#"=VAL any 0 0 - "" "x""#, 1, yaml_error_t::TagEmpty),

@@ -5,12 +5,12 @@ ghost use Rattle.yaml_base.specs.scalars.Analysis.{is_empty};
 ghost use Rattle.yaml_pen.specs.Page.{IsReady};
 
 use super::{
-    Row, begun, begun_with_returns, begun_within, check_cut, check_marked, check_rows,
+    Row, begun, begun_with_breaks, begun_within, check_cut, check_marked, check_rows,
     check_written, equal, same, write_sign,
 };
 use std::alloc::Global;
 use std::process::Abort;
-use yaml_base::yaml_error_t;
+use yaml_base::{YAML_CR_BREAK, YAML_CRLN_BREAK, yaml_error_t};
 use yaml_pen::Pen;
 use yaml_scalar::{
     analyze_scalar, write_block_scalar_hints, write_folded_scalar, write_literal_scalar,
@@ -119,7 +119,7 @@ fn write_item(pen: &mut Pen<Global>) -> Result<i32, yaml_error_t>
 }
 
 #[test]
-fn an_item_follows_its_sign(rt: HostRuntime) {
+fn an_item_follows_its_indicator(rt: HostRuntime) {
     let mut pen = begun(&rt, rt.alloc());
     let answer = write_item(&mut pen);
     check_marked(&rt, &mut pen, answer, ("- |2-\n   a", 0));
@@ -161,16 +161,19 @@ fn hints_stand_alone(rt: HostRuntime) {
     check_rows(&rt, rt.alloc(), HEADERS);
 }
 
-fn check_breaks(rt: &impl Abort, alloc: Global, line_feed_too: bool, text: &str) {
-    let mut pen = begun_with_returns(rt, alloc, line_feed_too);
-    let answer = write_literal(&mut pen, "a\n", 2, 2);
-    check_marked(rt, &mut pen, answer, (text, 0));
+fn check_breaks(rt: &impl Abort, pen: &mut Pen<Global>, text: &str)
+    requires { IsReady pen.old }
+{
+    let answer = write_literal(pen, "a\n", 2, 2);
+    check_marked(rt, pen, answer, (text, 0));
 }
 
 #[test]
 fn line_breaks_are_those_of_the_setting(rt: HostRuntime) {
-    check_breaks(&rt, rt.alloc(), true, "|\r\n  a\r\n");
-    check_breaks(&rt, rt.alloc(), false, "|\r  a\r");
+    let mut pen = begun_with_breaks(&rt, rt.alloc(), YAML_CRLN_BREAK);
+    check_breaks(&rt, &mut pen, "|\r\n  a\r\n");
+    let mut pen = begun_with_breaks(&rt, rt.alloc(), YAML_CR_BREAK);
+    check_breaks(&rt, &mut pen, "|\r  a\r");
 }
 
 // The flush was refused, and each writer is.

@@ -1,10 +1,10 @@
 //! Texts between double quotes that are known from outside.
 ghost use Rattle.yaml_pen.specs.Page.{IsReady};
 
-use super::{Row, begun, begun_with_returns, check_rows, check_written, equal};
+use super::{Row, begun, begun_with_breaks, check_rows, check_written, equal};
 use std::alloc::Global;
 use std::process::Abort;
-use yaml_base::yaml_error_t;
+use yaml_base::{YAML_CRLN_BREAK, yaml_error_t};
 use yaml_pen::Pen;
 use yaml_scalar::write_double_quoted_scalar;
 
@@ -105,7 +105,7 @@ fn write_item(pen: &mut Pen<Global>) -> Result<(), yaml_error_t>
 
 #[test]
 fn a_space_goes_before_the_quote(rt: HostRuntime) {
-    let mut pen = begun_with_returns(&rt, rt.alloc(), true);
+    let mut pen = begun_with_breaks(&rt, rt.alloc(), YAML_CRLN_BREAK);
     let answer = write_item(&mut pen);
     equal(&rt, &pen.column(), &6);
     check_written(&rt, &mut pen, answer, "- \"aaaa\r\n    b\"");

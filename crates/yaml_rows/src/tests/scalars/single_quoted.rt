@@ -2,12 +2,12 @@
 ghost use Rattle.yaml_pen.specs.Page.{IsReady};
 
 use super::{
-    Row, begun, begun_with_returns, begun_within, check_column, check_cut, check_rows,
+    Row, begun, begun_with_breaks, begun_within, check_column, check_cut, check_rows,
     check_written, equal, same, write_sign,
 };
 use std::alloc::Global;
 use std::process::Abort;
-use yaml_base::yaml_error_t;
+use yaml_base::{YAML_CR_BREAK, YAML_CRLN_BREAK, yaml_error_t};
 use yaml_pen::Pen;
 use yaml_scalar::{analyze_scalar, write_single_quoted_scalar};
 
@@ -67,16 +67,19 @@ fn a_space_stands_before_the_quote(rt: HostRuntime) {
     check_written(&rt, &mut pen, answer, "- 'b\n\n    c'");
 }
 
-fn check_breaks(rt: &impl Abort, alloc: Global, line_feed_too: bool, written: &str) {
-    let mut pen = begun_with_returns(rt, alloc, line_feed_too);
-    let answer = write_single_quoted_scalar(&mut pen, "a\nb  c", true, 2, 80);
-    check_written(rt, &mut pen, answer, written);
+fn check_breaks(rt: &impl Abort, pen: &mut Pen<Global>, written: &str)
+    requires { IsReady pen.old }
+{
+    let answer = write_single_quoted_scalar(pen, "a\nb  c", true, 2, 80);
+    check_written(rt, pen, answer, written);
 }
 
 #[test]
 fn breaks_are_written_as_set(rt: HostRuntime) {
-    check_breaks(&rt, rt.alloc(), true, "'a\r\n\r\n  b  c'");
-    check_breaks(&rt, rt.alloc(), false, "'a\r\r  b  c'");
+    let mut pen = begun_with_breaks(&rt, rt.alloc(), YAML_CRLN_BREAK);
+    check_breaks(&rt, &mut pen, "'a\r\n\r\n  b  c'");
+    let mut pen = begun_with_breaks(&rt, rt.alloc(), YAML_CR_BREAK);
+    check_breaks(&rt, &mut pen, "'a\r\r  b  c'");
 }
 
 fn check_limit(rt: &impl Abort, pen: &mut Pen<Global>)

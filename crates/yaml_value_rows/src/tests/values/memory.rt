@@ -7,8 +7,7 @@ use yaml_base::yaml_error_t;
 use yaml_test_allocator::Refusing;
 use yaml_value::Value;
 
-// Writes a value with this growth refused, and answers whether there is one. It is returned, and then the value is
-// written as ever.
+// Writes a value with this growth refused, and answers whether there is one: it is returned, and else the value gives this text.
 fn is_reported<'a>(
     rt: &impl Abort,
     heap: Heap<'a>,
@@ -26,29 +25,29 @@ fn is_reported<'a>(
         Ok(expected)
     };
     answers(rt, answer, &wanted);
-    answers(rt, canonical(heap, value), &Ok(expected));
     is_met
 }
 
-// A value gives this text, and each growth that it takes is refused in turn.
+// Each growth that a value takes is refused in turn, and after each refusal it gives this text as ever.
 fn writes<'a>(rt: &impl Abort, heap: Heap<'a>, value: &Value<Heap<'a>>, expected: &[u8]) {
     for number in 1..usize::MAX {
         if !is_reported(rt, heap, value, expected, number) {
             return;
         }
+        answers(rt, canonical(heap, value), &Ok(expected));
     }
 }
 
-// A value gives this text, and these growths are refused, until there is none of that number.
-fn writes_at<'a>(
+// Each growth that a value takes is refused in turn, and after them all it gives this text: a long one takes too much time to be
+// written after each.
+fn writes_in_the_end<'a>(
     rt: &impl Abort,
     heap: Heap<'a>,
     value: &Value<Heap<'a>>,
     expected: &[u8],
-    numbers: &[usize],
 ) {
-    for number in numbers {
-        if !is_reported(rt, heap, value, expected, *number) {
+    for number in 1..usize::MAX {
+        if !is_reported(rt, heap, value, expected, number) {
             return;
         }
     }
@@ -102,12 +101,9 @@ fn thirty_lists_are_written(rt: HostRuntime) {
     check_nested(&rt, rt.alloc(), 30);
 }
 
-/// The growths that are refused where there are many; the last stands for none.
-const REFUSED: &[usize] = &[1, 32, 1_024, usize::MAX];
-
 fn check_deep(rt: &impl Abort, heap: Heap<'_>, expected: &[u8]) {
     let value = made(rt, heap, &Example::Nested(1_000));
-    writes_at(rt, heap, &value, expected, REFUSED);
+    writes_in_the_end(rt, heap, &value, expected);
     drop(value);
 }
 
