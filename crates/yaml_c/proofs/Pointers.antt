@@ -31,7 +31,8 @@ shape_of name types = record { name = name; args = []; types = types; fields = R
 
 module _ {M : Type 1} {𝓤 : Ura M} {𝓛 : Logic 𝓤} {K : Type 0} {Γ : List (Item 𝓤)} {G : Goal 𝓤 𝓛.H} where
   -- the field itself owns nothing
-  pub pointer_in : K → (name : Sym) (types : List RattleType) (at : Ptr) → Step K 𝓛 (‵ ((Struct (shape_of name types)).own_val (at, tt) (pointer_val at ∷ [])) ∷ Γ) G Γ G
+  pub pointer_in : K → (name : Sym) (types : List RattleType) (at : Ptr)
+      → Step K 𝓛 (‵ ((Struct (shape_of name types)).own_val (at, tt) (pointer_val at ∷ [])) ∷ Γ) G Γ G
   pointer_in t name types at =
       let S = shape_of name types in
       owned t (Struct S) (Is (Struct S)) (Struct-Makes 𝓛 S ((λ p vs. tt), tt)) (at, tt) (pointer_val at ∷ []) ((ptr_val at ∷ [], tt), (refl, (refl, tt)))

@@ -34,7 +34,8 @@ into_raw_box_spec 𝓤 𝓛 𝓜 𝓡 wired =
     (λ κs. (handle_laws.lowers.val_is, tt)) (λ κs qs bounds a _ are.
     let at = a.0.address in
     let y : W.Ghost = ((κs, qs, bounds, a, (pointer_val at ∷ [], tt)), tt) in
-    qed 𝓛 ((raw (alive 𝓛 f.signature κs qs) ⊛ ‵ (owns (types_at f.signature.params κs) a (pointer_val at ∷ [], tt))) ∷ raw (fact 𝓤 (is_some a.0.state ≡ true)) ∷ []) ∵
+    qed 𝓛 ((raw (alive 𝓛 f.signature κs qs) ⊛ ‵ (owns (types_at f.signature.params κs) a (pointer_val at ∷ [], tt)))
+    ∷ raw (fact 𝓤 (is_some a.0.state ≡ true)) ∷ []) ∵
     move ! (1 ∷ []) $ heard ! _ (λ some. let has = value_of a.0.state some in split ! $ move ! (1 ∷ []) $ fsplit ! $ fsplit ! $ drop ! $
     rewrite ! 0 (λ (value : Option (emitter_row).Denot). ‵ (handle_owns at value)) has.1 refl $
     -- [the box; nothing; the tokens]
@@ -44,4 +45,5 @@ into_raw_box_spec 𝓤 𝓛 𝓜 𝓡 wired =
     sets ! (agg ! (and_then ! (get ! refl) (no_more !))) refl (struct_fits 𝓛 at (raw_box.struct emitter_row).name) $
     returns ! (look_at ! 0 refl) $ free_all ! refl $
     suffices ! _ (ends_at 𝓛 f.ended stayed c y (pointer_val at) (record { address = at; value = has.0 }) (tt, tt) (tt, tt)) $ says ! (sym has.1) $
-    pointer_in ! (raw_box.struct emitter_row).name (raw_box.struct emitter_row).types at $ fjoin ! $ move ! (1 ∷ []) $ drop ! $ nothing ! $ nothing ! $ join ! $ move ! (2 ∷ 0 ∷ 1 ∷ []) $ done !)))
+    pointer_in ! (raw_box.struct emitter_row).name (raw_box.struct emitter_row).types at $ fjoin ! $ move ! (1 ∷ []) $ drop ! $ nothing ! $ nothing ! $
+    join ! $ move ! (2 ∷ 0 ∷ 1 ∷ []) $ done !)))

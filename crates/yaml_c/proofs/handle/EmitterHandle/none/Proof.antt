@@ -23,7 +23,8 @@ none_spec 𝓤 𝓛 𝓜 𝓡 wired =
     let W = walk_of 𝓛 f.ended tt c in
     proved 𝓛 f.ended tt c 𝓜 𝓡 tt f.Key.name code.function (code.unfolded 𝓤 𝓛.H 𝓜 𝓡 wired) (λ κs. tt) (λ κs. tt) (λ κs qs bounds a _ are.
     let y : W.Ghost = ((κs, qs, bounds, a, tt), tt) in
-    qed 𝓛 ((raw (alive 𝓛 f.signature κs qs) ⊛ ‵ (owns [] a tt)) ∷ ‵ ftrue ∷ []) ∵ move ! (1 ∷ []) $ drop ! $ split ! $ enter ! _ _ _ _ _ $ alloc_all ! (λ l. pass_all ! refl tt $
+    qed 𝓛 ((raw (alive 𝓛 f.signature κs qs) ⊛ ‵ (owns [] a tt)) ∷ ‵ ftrue ∷ []) ∵ move ! (1 ∷ []) $ drop ! $ split ! $ enter ! _ _ _ _ _ $
+    alloc_all ! (λ l. pass_all ! refl tt $
     sets ! (agg ! (and_then ! (lit ! tt) (no_more !))) refl (tt, (record { fits = lit< tt }, tt)) $
     returns ! (look_at ! 0 refl) $ free_all ! refl $
     suffices ! _ (ends_at 𝓛 f.ended tt c y (pointer_val null_ptr) (record { address = null_ptr; state = None }) tt tt) $ says ! refl $

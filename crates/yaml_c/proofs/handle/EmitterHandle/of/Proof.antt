@@ -43,4 +43,5 @@ of_spec 𝓤 𝓛 𝓜 𝓡 wired =
     sets ! (agg ! (and_then ! (get ! refl) (no_more !))) refl (struct_fits 𝓛 at handle.struct.name) $
     returns ! (look_at ! 0 refl) $ free_all ! refl $
     suffices ! _ (ends_at 𝓛 f.ended stayed c y (pointer_val at) (record { address = at; state = Some a.0.value }) (tt, tt) (tt, tt)) $ says ! refl $
-    pointer_in ! handle.struct.name handle.struct.types at $ fjoin ! $ move ! (1 ∷ []) $ drop ! $ nothing ! $ nothing ! $ join ! $ move ! (2 ∷ 0 ∷ 1 ∷ []) $ done !))
+    pointer_in ! handle.struct.name handle.struct.types at $ fjoin ! $ move ! (1 ∷ []) $ drop ! $ nothing ! $ nothing ! $ join ! $
+    move ! (2 ∷ 0 ∷ 1 ∷ []) $ done !))

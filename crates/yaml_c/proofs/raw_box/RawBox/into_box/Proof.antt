@@ -70,7 +70,10 @@ into_box_spec {M = M} 𝓤 𝓛 𝓜 𝓡 wired T L d glue =
     (heap_met.passed 𝓡.env (code.calls-std_heap::GlobalAllocator::allocate 𝓡.env wired) (code.calls-std_heap::GlobalAllocator::deallocate 𝓡.env wired)
     (code.calls-std_heap::GlobalAllocator::grow 𝓡.env wired) (code.calls-std_heap::GlobalAllocator::shrink 𝓡.env wired) M 𝓤 𝓛 𝓜 𝓡)
     (glues "yaml_c::Destruct++none::drop" 𝓡.env (code.calls-yaml_c::Destruct++none::drop 𝓡.env wired) A LA M 𝓤 𝓛 𝓜 𝓡) in
-    proved 𝓛 En stayed c 𝓜 𝓡 (Goes-blank 𝓛 1 (plain (λ _. raw_box.the_row R)) no (λ κs x w. tt), (Goes-dropped 𝓛 1 (plain (λ _. global.the_row)) yes (λ κs x w. refl), tt))
+    proved 𝓛 En stayed c 𝓜 𝓡 (
+      Goes-blank 𝓛 1 (plain (λ _. raw_box.the_row R)) no (λ κs x w. tt),
+      (Goes-dropped 𝓛 1 (plain (λ _. global.the_row)) yes (λ κs x w. refl), tt),
+    )
     (f.Key.name args) fn (code.unfolded 𝓤 𝓛.H 𝓜 𝓡 wired (T, tt) d)
     (λ κs. ((λ v. pointer_val v.address ∷ []), ((λ v. global_laws.lowered v ∷ []), tt)))
     (λ κs. ((raw_box_laws.lowers R LR).val_is, (global_laws.lowers.val_is, tt))) (λ κs qs bounds a _ are.

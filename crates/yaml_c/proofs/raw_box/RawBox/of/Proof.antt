@@ -93,5 +93,6 @@ of_spec {M = M} 𝓤 𝓛 𝓜 𝓡 wired T L d glue =
     lands_as ! (ap only is) refl (pointer_fits 𝓛 r) $ sets ! (agg ! (and_then ! (get ! refl) (no_more !))) refl (struct_fits 𝓛 r (raw_box.struct R).name) $
     returns ! (look_at ! 0 refl) $ free_all ! refl $
     suffices ! _ (ends_at 𝓛 En stayed c y (pointer_val r) (record { address = r; value = v.value }) (tt, tt) (tt, tt)) $ says ! refl $
-    pointer_in ! (raw_box.struct R).name (raw_box.struct R).types r $ fjoin ! $ move ! (1 ∷ []) $ split ! $ move ! (1 ∷ []) $ drop ! $ nothing ! $ move ! (1 ∷ 0 ∷ []) $ join ! $
+    pointer_in ! (raw_box.struct R).name (raw_box.struct R).types r $ fjoin ! $ move ! (1 ∷ []) $ split ! $ move ! (1 ∷ []) $ drop ! $ nothing ! $
+    move ! (1 ∷ 0 ∷ []) $ join ! $
     nothing ! $ nothing ! $ join ! $ move ! (1 ∷ 0 ∷ 2 ∷ []) $ done !)))))))
