@@ -78,11 +78,23 @@ pub fn place_of(text: &[u8], offset: usize) -> (usize, usize) {
     (line, column)
 }
 
-/// Number of line feeds. (A sum needs no branch for each byte.)
+/// The most bytes that can be counted in a byte.
+const BLOCK_SIZE: usize = 255;
+
+/// Number of line feeds in a block. (A sum needs no branch for each byte, and sums in single bytes are made 16 at once.)
+fn line_breaks_in_block(bytes: &[u8]) -> u8 {
+    let mut count: u8 = 0;
+    for byte in bytes {
+        count = count.wrapping_add((*byte == b'\n') as u8);
+    }
+    count
+}
+
+/// Number of line feeds.
 fn line_breaks(bytes: &[u8]) -> usize {
     let mut count: usize = 0;
-    for byte in bytes {
-        count = count.wrapping_add((*byte == b'\n') as usize);
+    for block in bytes.chunks(BLOCK_SIZE) {
+        count = count.wrapping_add(line_breaks_in_block(block) as usize);
     }
     count
 }

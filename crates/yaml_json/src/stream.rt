@@ -3,6 +3,7 @@ ghost use Rattle.std.specs.Prelude.{◌≡◌, ◌<◌, ◌≤◌, ◌-◌, ℕ,
 ghost use Rattle.std.specs.Io.KnownBytes.{IsAtEnd};
 ghost use Rattle.json.specs.Lex.{tokens};
 ghost use Rattle.yaml_json.specs.Names.{NamesOnce};
+ghost use Rattle.yaml_json.specs.Nests.{AwaitsText};
 ghost use Rattle.yaml_json.specs.Refused.{HaveNamesOnce};
 ghost use Rattle.yaml_json.specs.Cuts.{HasScanned};
 ghost use Rattle.yaml_json.specs.Sent.{Advances, BeginsNext, ExplainsPart, HasCome, IsByNoText, IsIncoming, IsScanned, IsSent, LeavesLast, ReadsSent};
@@ -14,7 +15,8 @@ use crate::cuts::{Cut, find_end, new_cut};
 use crate::error::{JsonError, StreamError};
 use crate::places::{Place, place_of};
 use crate::settings::JsonSettings;
-use crate::texts::{error_of, write_text_by};
+use crate::texts::{Room, error_of, write_text_in};
+use bumpalo::Bump;
 use simdutf8::from_utf8_baseline;
 use std::alloc::Allocator;
 use std::io;
@@ -111,13 +113,15 @@ fn read_more<A: Allocator + Copy, R: Read>(
 }
 
 /// Gives a writer the events of a JSON text.
-fn write_bytes<A: Allocator + Copy>(
-    alloc: A,
+fn write_bytes<'a, A: Allocator + Copy>(
+    room: &mut Room<'a, A>,
     writer: &mut Writer<A>,
-    bytes: &[u8],
+    bytes: &'a [u8],
     settings: &JsonSettings,
 ) -> Result<(), StreamError>
-    requires { IsBare writer.old }
+    requires bare { IsBare writer.old }
+    requires ready { AwaitsText settings.now.unique_names room.old }
+    ensures ready { OnOk result (AwaitsText settings.now.unique_names room.new) }
     ensures names { OnOk result (settings.now.unique_names ≡ true → NamesOnce [] (tokens bytes.now)) }
     ensures written { OnOk result (WroteText settings.now.depth settings.now.flow bytes.now writer.old writer.new) }
     ensures refused { IfErr result (ExplainsPart settings.now.depth settings.now.unique_names bytes.now) }
@@ -129,7 +133,7 @@ fn write_bytes<A: Allocator + Copy>(
             return Err(StreamError::NotText { line, column });
         }
     };
-    match write_text_by(alloc, writer, text, settings) {
+    match write_text_in(room, writer, text, settings) {
         Ok(()) => Ok(()),
         Err(stop) => Err(StreamError::Refused(error_of(text, 0, stop))),
     }
@@ -222,10 +226,12 @@ fn write_texts<A: Allocator + Copy, W: Write>(
     ensures stops { IfErr result (λ error. StopsWithin settings.now.depth settings.now.flow settings.now.unique_names held.now writer.old
         (W.contents sink.old) error (W.contents sink.new)) }
 {
+    let arena = Bump::new(reading.alloc);
+    let mut room = Room::new(reading.alloc, &arena, settings.unique_names);
     let mut rest = held;
     'texts: while let Some(end) = find_end(rest, &mut reading.cut) {
         let (first, more) = rest.split_at(end);
-        if let Err(error) = write_bytes(reading.alloc, writer, first, settings) {
+        if let Err(error) = write_bytes(&mut room, writer, first, settings) {
             let done = &held[..held.len() - rest.len()];
             return Err(placed(error, reading.place.after(done), first));
         }
@@ -278,10 +284,12 @@ fn write_last<A: Allocator + Copy>(
 {
     let text = incoming.held.as_slice();
     let reading = &mut incoming.reading;
-    match write_bytes(reading.alloc, writer, text, settings) {
-        Ok(()) => Ok(()),
-        Err(error) => Err(placed(error, reading.place, text)),
+    let arena = Bump::new(reading.alloc);
+    let mut room = Room::new(reading.alloc, &arena, settings.unique_names);
+    if let Err(error) = write_bytes(&mut room, writer, text, settings) {
+        return Err(placed(error, reading.place, text));
     }
+    Ok(())
 }
 
 /// Reads JSON texts that follow one another to the reader's end, and gives their events to a writer, as `write_json_texts` does:

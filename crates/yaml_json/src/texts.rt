@@ -4,6 +4,7 @@ ghost use Rattle.yaml_emitter.specs.Given.{seen_settings};
 ghost use Rattle.yaml_json.specs.Failing.{FailedInText, FailsBy, emitter_error_of, failure_of, writers_error};
 ghost use Rattle.json.specs.Lex.{tokens};
 ghost use Rattle.yaml_json.specs.Names.{NamesOnce};
+ghost use Rattle.yaml_json.specs.Nests.{AwaitsText};
 ghost use Rattle.yaml_json.specs.Refused.{DeniesJson, HasNamesOnce, IsNotJson, ExplainsError};
 ghost use Rattle.yaml_json.specs.Walk.{MatchesStop, WhyStopped};
 ghost use Rattle.yaml_json.specs.Wrote.{IsBare, IsYamlOf, WroteText};
@@ -12,7 +13,7 @@ use crate::error::JsonError;
 use crate::places::{offset_of, place_of};
 use crate::settings::JsonSettings;
 use crate::tokens::Tokens;
-use crate::values::{Stop, write_only_value};
+use crate::values::{Nesting, Stop, write_only_value};
 use bumpalo::Bump;
 use std::alloc::Allocator;
 use yaml_writer::{Writer, yaml_error_t};
@@ -37,6 +38,47 @@ pub(crate) fn error_of(text: &str, offset: usize, stop: Stop) -> JsonError
     }
 }
 
+/// The memory that texts are written with, one after another.
+#[derive(Drop)]
+pub(crate) struct Room<'a, A: Allocator> {
+    alloc: A,
+    /// Where strings with escapes go. They stay until all texts are written.
+    arena: &'a Bump<A>,
+    pub(crate) nest: Nesting<'a, A>,
+}
+
+impl<'a, A: Allocator + Copy> Room<'a, A> {
+    /// None is taken until it is needed.
+    pub(crate) fn new(alloc: A, arena: &'a Bump<A>, unique_names: bool) -> Self
+        ensures { AwaitsText unique_names result }
+    {
+        Room {
+            alloc,
+            arena,
+            nest: Nesting::new(alloc, unique_names),
+        }
+    }
+}
+
+/// Gives a writer the events of a JSON text, with this memory.
+pub(crate) fn write_text_in<'a, A: Allocator + Copy>(
+    room: &mut Room<'a, A>,
+    writer: &mut Writer<A>,
+    text: &'a str,
+    settings: &JsonSettings,
+) -> Result<(), Stop>
+    requires bare { IsBare writer.old }
+    requires ready { AwaitsText settings.now.unique_names room.old }
+    ensures ready { OnOk result (AwaitsText settings.now.unique_names room.new) }
+    ensures names { OnOk result (settings.now.unique_names ≡ true → NamesOnce [] (tokens text.now)) }
+    ensures written { OnOk result (WroteText settings.now.depth settings.now.flow text.now writer.old writer.new) }
+    ensures refused { IfErr result (WhyStopped settings.now.depth settings.now.unique_names (tokens text.now)) }
+    ensures stopped { IfSome (emitter_error_of result) (λ error. FailedInText settings.now.depth settings.now.flow text.now writer.old error writer.new) }
+{
+    let mut tokens = Tokens::new(room.alloc, room.arena, text);
+    write_only_value(&mut room.nest, writer, &mut tokens, settings)
+}
+
 /// Gives a writer the events of a JSON text.
 pub(crate) fn write_text_by<A: Allocator + Copy>(
     alloc: A,
@@ -51,8 +93,8 @@ pub(crate) fn write_text_by<A: Allocator + Copy>(
     ensures stopped { IfSome (emitter_error_of result) (λ error. FailedInText settings.now.depth settings.now.flow text.now writer.old error writer.new) }
 {
     let arena = Bump::new(alloc);
-    let mut tokens = Tokens::new(alloc, &arena, text);
-    write_only_value(alloc, writer, &mut tokens, settings)
+    let mut room = Room::new(alloc, &arena, settings.unique_names);
+    write_text_in(&mut room, writer, text, settings)
 }
 
 /// Gives a writer the events of a JSON text, by all of these settings but those of a writer. Arrays and objects may nest

@@ -8,7 +8,7 @@ ghost use Rattle.yaml_json.specs.Refused.{RefusesText};
 ghost use Rattle.yaml_json.specs.Walk.{BeganFirstValue, BeginFailed, BeganValue, FirstFailed, IsInnermost, Refuses, RefusesFirst, RefusesToken};
 ghost use Rattle.yaml_json.specs.Walk.{StepFailed, Stepped};
 ghost use Rattle.yaml_json.specs.Names.{NamesOnce};
-ghost use Rattle.yaml_json.specs.Nests.{IsNesting};
+ghost use Rattle.yaml_json.specs.Nests.{HasNoneOpen, IsNesting};
 ghost use Rattle.yaml_json.specs.Walk.{HasUniqueNames, Keeps, KeepsTo, LeavesNames, ReadsNone, WhyStopped, opener};
 ghost use Rattle.yaml_json.specs.Wrote.{Ends, IsBare, WroteDocument, WroteValue};
 
@@ -44,12 +44,24 @@ pub(crate) enum Stop {
     Failed(yaml_error_t),
 }
 
-/// What is open.
+/// What is open. A value that is whole leaves the memory of these lists to the next.
 #[derive(Drop)]
-struct Nesting<'a, A: Allocator> {
+pub(crate) struct Nesting<'a, A: Allocator> {
     /// The innermost last.
     kinds: Vec<CollectionKind, A>,
     names: Names<'a, A>,
+}
+
+impl<'a, A: Allocator + Copy> Nesting<'a, A> {
+    /// Nothing is open.
+    pub(crate) fn new(alloc: A, unique_names: bool) -> Self
+        ensures { HasNoneOpen unique_names result }
+    {
+        Nesting {
+            kinds: Vec::new(alloc),
+            names: Names::new(alloc, unique_names),
+        }
+    }
 }
 
 /// Begins a collection, unless it is too deep.
@@ -227,26 +239,24 @@ fn innermost<A: Allocator>(levels: &Vec<CollectionKind, A>) -> Option<Collection
 
 /// The next value of the reader.
 fn write_value<'a, A: Allocator + Copy>(
-    alloc: A,
+    nest: &mut Nesting<'a, A>,
     writer: &mut Writer<A>,
     reader: &mut Tokens<'a, A>,
     settings: &JsonSettings,
 ) -> Result<(), Stop>
-    requires { IsBare writer.old }
+    requires bare { IsBare writer.old }
+    requires none { HasNoneOpen settings.now.unique_names nest.old }
+    ensures none { OnOk result (HasNoneOpen settings.now.unique_names nest.new) }
     ensures written { OnOk result (WroteValue settings.now.depth settings.now.flow reader.old writer.old reader.new writer.new) }
     ensures names { OnOk result (HasUniqueNames settings.now.unique_names reader.old reader.new) }
     ensures refused { IfErr result (WhyStopped settings.now.depth settings.now.unique_names reader.old) }
     ensures stopped { IfSome (emitter_error_of result) (λ error. FailedInValue settings.now.depth settings.now.flow reader.old writer.old error writer.new) }
 {
-    let mut nest = Nesting {
-        kinds: Vec::new(alloc),
-        names: Names::new(alloc, settings.unique_names),
-    };
-    if let Err(stop) = write_first(writer, reader, &mut nest, settings) {
+    if let Err(stop) = write_first(writer, reader, nest, settings) {
         return Err(stop);
     }
     'each_token: while let Some(kind) = innermost(&nest.kinds) {
-        if let Err(stop) = write_next(writer, reader, &mut nest, kind, settings) {
+        if let Err(stop) = write_next(writer, reader, nest, kind, settings) {
             return Err(stop);
         }
     }
@@ -255,18 +265,20 @@ fn write_value<'a, A: Allocator + Copy>(
 
 /// The one value of the reader.
 pub(crate) fn write_only_value<'a, A: Allocator + Copy>(
-    alloc: A,
+    nest: &mut Nesting<'a, A>,
     writer: &mut Writer<A>,
     reader: &mut Tokens<'a, A>,
     settings: &JsonSettings,
 ) -> Result<(), Stop>
-    requires { IsBare writer.old }
+    requires bare { IsBare writer.old }
+    requires none { HasNoneOpen settings.now.unique_names nest.old }
+    ensures none { OnOk result (HasNoneOpen settings.now.unique_names nest.new) }
     ensures written { OnOk result (WroteDocument settings.now.depth settings.now.flow reader.old writer.old writer.new) }
     ensures names { OnOk result (settings.now.unique_names ≡ true → NamesOnce [] reader.old) }
     ensures refused { IfErr result (WhyStopped settings.now.depth settings.now.unique_names reader.old) }
     ensures stopped { IfSome (emitter_error_of result) (λ error. FailedInValue settings.now.depth settings.now.flow reader.old writer.old error writer.new) }
 {
-    if let Err(stop) = write_value(alloc, writer, reader, settings) {
+    if let Err(stop) = write_value(nest, writer, reader, settings) {
         return Err(stop);
     }
     let offset = reader.offset();

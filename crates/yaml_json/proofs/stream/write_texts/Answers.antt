@@ -13,6 +13,7 @@ texts-init g c =
       suffix.1,
       advances_none a.settings.now.depth a.settings.now.flow a.settings.now.unique_names a.held.now a.writer.now (g.W.Write.contents a.sink.now)
           a.held.now refl,
+      c.new-room.ensures,
     )
 
 pub texts-smaller : goal.texts-smaller
@@ -47,6 +48,7 @@ texts-preserved g c =
           l.rest.now l.writer (g.W.Write.contents l.sink) l.invariant.4 c.in-Some.end cuts c.write_bytes.new.writer named wrote c.begin_next.new.writer
           (g.W.Write.contents c.begin_next.new.sink) next)
           c.split_at.result.1.now (sym c.split_at.ensures.back),
+      c.in_default-write_bytes.ensures.ready,
     )
 
 pub returns-in-Err-clause-stops : goal.returns-in-Err-clause-stops
@@ -65,3 +67,10 @@ returns-in-Err-begin_next-clause-stops g c =
     stops_by_none a.settings.now.depth a.settings.now.flow a.settings.now.unique_names a.held.now a.writer.now (g.W.Write.contents a.sink.now)
     l.rest.now l.writer (g.W.Write.contents l.sink) l.invariant.4 c.in-Err-begin_next.error (g.W.Write.contents c.begin_next.new.sink)
     c.in-Err-begin_next.ensures.failed c.in-Err-begin_next.ensures.unsent
+
+pub returns-clause-gives : goal.returns-clause-gives
+returns-clause-gives g c =
+    let a = c.args in
+    let l = c.texts in
+    advances_same a.settings.now.depth a.settings.now.flow a.settings.now.unique_names a.held.now a.writer.now (g.W.Write.contents a.sink.now) l.rest.now
+    l.writer (g.W.Write.contents l.sink) l.invariant.4 (drop (length a.held.now - length l.rest.now) a.held.now) (sym l.invariant.3)

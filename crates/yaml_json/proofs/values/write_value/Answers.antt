@@ -9,28 +9,28 @@ returns-in-Err-clause-refused g c =
     let a = c.args in
     first_refused a.settings.now.depth a.settings.now.unique_names [] [] a.reader.now c.in-Err.stop (awaiting_whole a.settings.now.depth a.reader.now)
     (λ wanted. tt)
-    (subst (λ (levels : List CollectionKind). RefusesFirst a.settings.now.depth levels a.reader.now c.in-Err.stop) c.new.ensures.items
+    (subst (λ (levels : List CollectionKind). RefusesFirst a.settings.now.depth levels a.reader.now c.in-Err.stop) c.requires.none.0
     c.in-Err.ensures.refused)
 
 pub returns-in-Err-clause-stopped : goal.returns-in-Err-clause-stopped
 returns-in-Err-clause-stopped g c =
     let a = c.args in
     if_some (failure_of c.in-Err.stop)
-    (λ error. first_failed a.settings.now.depth a.settings.now.flow a.reader.now a.writer.now error c.write_first.new.writer c.requires)
+    (λ error. first_failed a.settings.now.depth a.settings.now.flow a.reader.now a.writer.now error c.write_first.new.writer c.requires.bare)
     (subst (λ (levels : List CollectionKind). IfSome (failure_of c.in-Err.stop)
     (λ error. FirstFailed a.settings.now.depth a.settings.now.flow a.reader.now levels a.writer.now error c.write_first.new.writer))
-    c.new.ensures.items c.in-Err.ensures.stopped)
+    c.requires.none.0 c.in-Err.ensures.stopped)
 
 pub each_token-init : goal.each_token-init
 each_token-init g c =
     let a = c.args in (
       first_so_far a.settings.now.depth a.settings.now.flow a.reader.now a.writer.now c.write_first.new.reader c.write_first.new.nest.kinds.items
-          c.write_first.new.writer c.requires
+          c.write_first.new.writer c.requires.bare
           (subst (λ (levels : List CollectionKind). BeganFirstValue a.settings.now.depth a.settings.now.flow a.reader.now levels a.writer.now
-          c.write_first.new.reader c.write_first.new.nest.kinds.items c.write_first.new.writer) c.new.ensures.items c.in_default.ensures.began),
+          c.write_first.new.reader c.write_first.new.nest.kinds.items c.write_first.new.writer) c.requires.none.0 c.in_default.ensures.began),
       c.in_default.ensures.fits,
-      names_on a.reader.now a.reader.now c.write_first.new.reader c.new-2.result c.write_first.new.nest.names
-          (names_begin a.reader.now c.new-2.result c.new-2.ensures.holds) c.in_default.ensures.names,
+      names_on a.reader.now a.reader.now c.write_first.new.reader a.nest.now.names c.write_first.new.nest.names
+          (names_begin a.reader.now a.nest.now.names c.requires.none.2) c.in_default.ensures.names,
     )
 
 pub each_token-preserved : goal.each_token-preserved
