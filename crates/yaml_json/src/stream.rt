@@ -17,10 +17,9 @@ use crate::places::{Place, place_of};
 use crate::settings::JsonSettings;
 use crate::texts::{Room, error_of, write_text_in};
 use bumpalo::Bump;
-use simdutf8::from_utf8_baseline;
 use std::alloc::Allocator;
-use std::io;
 use std::io::{ErrorKind, Read, Write};
+use std::{io, str};
 use yaml_writer::{Writer, yaml_error_t};
 
 /// How many bytes are read at once.
@@ -126,7 +125,7 @@ fn write_bytes<'a, A: Allocator + Copy>(
     ensures written { OnOk result (WroteText settings.now.depth settings.now.flow bytes.now writer.old writer.new) }
     ensures refused { IfErr result (ExplainsPart settings.now.depth settings.now.unique_names bytes.now) }
 {
-    let text = match from_utf8_baseline(bytes) {
+    let text = match str::from_utf8(bytes) {
         Ok(text) => text,
         Err(error) => {
             let (line, column) = place_of(bytes, error.valid_up_to());
