@@ -92,8 +92,8 @@ fn check_rows<R: Row>(rt: &impl Abort, alloc: Global, rows: &[R]) {
     }
 }
 
-/// A sign `-`, which a space must follow.
-fn write_sign(pen: &mut Pen<Global>) -> Result<(), yaml_error_t>
+/// An indicator `-`, which a space must follow.
+fn write_dash(pen: &mut Pen<Global>) -> Result<(), yaml_error_t>
     requires { IsReady pen.old }
     ensures { IsReady pen.new }
 {

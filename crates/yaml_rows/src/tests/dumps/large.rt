@@ -36,7 +36,7 @@ fn add_texts<'a>(rt: &impl Abort, given: &mut Vec<Given<'a>>, text: &'a str, cou
 fn add_item(
     rt: &impl Abort,
     text: &mut String,
-    (depth, sign): (usize, char),
+    (depth, indicator): (usize, char),
     number: usize,
     rest: &str,
 ) {
@@ -44,7 +44,7 @@ fn add_item(
         text.push_str("  ").expect(rt, "no memory");
     }
     let alloc = *text.allocator();
-    let item = format!(in alloc; "- {sign}id{number:03}{rest}\n").expect(rt, "no memory");
+    let item = format!(in alloc; "- {indicator}id{number:03}{rest}\n").expect(rt, "no memory");
     text.push_str(item.as_str()).expect(rt, "no memory");
 }
 
@@ -146,8 +146,8 @@ fn forty_nodes_in_each_other_are_written(rt: HostRuntime) {
     let numbers = numbers(&rt, alloc, 40);
     let mut given = sequences(&rt, alloc, numbers.as_slice(), 1);
     add_texts(&rt, &mut given, "a", 1);
-    let signs = "- ".repeat(alloc, 39).expect(&rt, "no memory");
-    let text = joined(&rt, alloc, &[signs.as_str(), "a\n"]);
+    let indicators = "- ".repeat(alloc, 39).expect(&rt, "no memory");
+    let text = joined(&rt, alloc, &[indicators.as_str(), "a\n"]);
     check_text(&rt, alloc, given.as_slice(), text.as_str());
 }
 

@@ -12,7 +12,7 @@ struct Shape<'a> {
     undented_by_four: &'a str,
 }
 
-/// A value after a simple key, a list in a list, and a key, whose items begin on the line of its sign in any case.
+/// A value after a simple key, a list in a list, and a key, whose items begin on the line of its indicator in any case.
 const VALUES: &[Shape] = &[
     Shape {
         root: r#"

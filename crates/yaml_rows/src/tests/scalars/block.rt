@@ -6,7 +6,7 @@ ghost use Rattle.yaml_pen.specs.Page.{IsReady};
 
 use super::{
     Row, begun, begun_with_breaks, begun_within, check_cut, check_marked, check_rows,
-    check_written, equal, same, write_sign,
+    check_written, equal, same, write_dash,
 };
 use std::alloc::Global;
 use std::process::Abort;
@@ -95,7 +95,7 @@ fn write_items(pen: &mut Pen<Global>) -> Result<(i32, i32), yaml_error_t>
     requires { IsReady pen.old }
     ensures { IsReady pen.new }
 {
-    write_sign(pen)?;
+    write_dash(pen)?;
     let first = write_literal(pen, " a\n b", 6, 3)?;
     let second = write_folded(pen, " a\n b", 6, 3, 80)?;
     Ok((first, second))

@@ -3,7 +3,7 @@ ghost use Rattle.yaml_pen.specs.Page.{IsReady};
 
 use super::{
     Row, begun, begun_within, check_column, check_cut, check_rows, check_written, equal, same,
-    write_sign,
+    write_dash,
 };
 use std::alloc::Global;
 use std::process::Abort;
@@ -62,7 +62,7 @@ fn write_item(pen: &mut Pen<Global>) -> Result<(), yaml_error_t>
     requires { IsReady pen.old }
     ensures { IsReady pen.new }
 {
-    write_sign(pen)?;
+    write_dash(pen)?;
     write_plain_scalar(pen, "b", true, false, 4, 80)
 }
 

@@ -3,7 +3,7 @@ ghost use Rattle.yaml_pen.specs.Page.{IsReady};
 
 use super::{
     Row, begun, begun_with_breaks, begun_within, check_column, check_cut, check_rows,
-    check_written, equal, same, write_sign,
+    check_written, equal, same, write_dash,
 };
 use std::alloc::Global;
 use std::process::Abort;
@@ -55,7 +55,7 @@ fn write_item(pen: &mut Pen<Global>) -> Result<(), yaml_error_t>
     requires { IsReady pen.old }
     ensures { IsReady pen.new }
 {
-    write_sign(pen)?;
+    write_dash(pen)?;
     write_single_quoted_scalar(pen, "b\nc", true, 4, 80)
 }
 
