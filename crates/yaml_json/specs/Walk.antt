@@ -237,7 +237,7 @@ pub record WalkProgress (depth : ℕ) (in_flow : Bool) (start : List Token) (was
   pub stood : Stood in_flow was taken levels now
   pub stands : Stands depth taken levels
 
--- ---- what a caller is returned
+-- ---- what is returned to a caller
 
 -- the error says what the stop does
 abbrev pub MatchesStop : Stop → JsonError → Type 0

@@ -1,4 +1,4 @@
--- SimpleAscii texts: short, one line, and free in every style.
+-- Simple ASCII texts: short, one line, and free in every style.
 use Rattle.std.specs.List.{list_all}
 use Rattle.std.specs.Prelude.{◌≡◌, ℕ, Bool, true, false, List, ◌==◌, ◌||◌, ◌&&◌, not, codes, length, nat_le}
 use Rattle.std.specs.Str.{chars}

@@ -1,4 +1,4 @@
-//! SimpleAscii scalars: short texts of one line that every style may hold, of which no character needs a look at what
+//! Simple ASCII scalars: short texts of one line that every style may hold, of which no character needs a look at what
 //! follows it.
 ghost use Rattle.std.specs.Prelude.{◌≡◌, pos, ◌≤ℤ◌, Bool, true, false};
 ghost use Rattle.std.specs.Str.{chars};

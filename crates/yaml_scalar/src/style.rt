@@ -64,8 +64,8 @@ fn lacks_tag_and_flags(tag_written: bool, plain_implicit: bool, quoted_implicit:
     !tag_written && !plain_implicit && !quoted_implicit
 }
 
-/// Plain fits where the value allows it in its context, isn't empty in flow or as a simple key, and is
-/// returned apart from a quoted scalar by a tag or by its flag.
+/// Plain fits where the value allows it in its context and isn't empty in flow or as a simple key, and where a
+/// tag or the flag distinguishes the scalar from a quoted one.
 fn fits_plain(
     allowed: &scalar_data_t,
     empty: bool,

@@ -37,8 +37,8 @@ fitting_style allowed plain_fits block_fits literal = if block_fits then literal
 fitting_style allowed plain_fits block_fits folded = if block_fits then folded else double_quoted
 fitting_style allowed plain_fits block_fits _ = double_quoted
 
--- plain fits where the value allows it in its context, isn't empty in flow or as a simple key, and is
--- stated apart from a quoted scalar by a tag or by its flag
+-- plain fits where the value allows it in its context and isn't empty in flow or as a simple key, and where a
+-- tag or the flag distinguishes the scalar from a quoted one
 abbrev pub fits_plain : Allowances → (empty tag_written plain_implicit flow simple_key : Bool) → Bool
 fits_plain allowed empty tag_written plain_implicit flow simple_key =
     (if flow then allowed.flow_plain else allowed.block_plain)

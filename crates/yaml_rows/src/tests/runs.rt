@@ -74,7 +74,7 @@ impl<'a> Row<'a> {
     }
 }
 
-/// What a run wrote and returned.
+/// What a run wrote, and its status.
 #[derive(Drop)]
 struct Returned {
     status: u8,
@@ -100,7 +100,7 @@ fn ran(rt: &impl Abort, alloc: Global, script: &[u8]) -> Returned {
     }
 }
 
-// This is written and returned.
+// A run wrote this output and this line.
 fn check_reported(rt: &impl Abort, reported: &Returned, output: &[u8], line: &str) {
     same(rt, reported.output.as_slice(), output);
     same(rt, reported.line.as_slice(), line.as_bytes());

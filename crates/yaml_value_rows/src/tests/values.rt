@@ -8,7 +8,7 @@ use std::process::Abort;
 use yaml_test_allocator::Refusing;
 use yaml_value::{Value, write_canonical, yaml_error_t};
 
-/// A heap that refuses a growth when it is returned to.
+/// A heap that refuses the growth that it is set to refuse.
 type Heap<'a> = &'a Refusing<Global>;
 
 /// A value on a heap.

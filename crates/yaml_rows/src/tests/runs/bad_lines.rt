@@ -1,10 +1,10 @@
-//! Scripts that aren't understood: the first bad line is returned, and nothing is written.
+//! Scripts that aren't understood: the first bad line is reported, and nothing is written.
 use super::{check_reported, ran};
 use crate::tests::equal;
 use std::alloc::Global;
 use std::process::Abort;
 
-/// A line that is returned, and scripts after which it is.
+/// A line on standard error, and scripts whose runs write it.
 type Bad<'a> = (&'a str, &'a [&'a str]);
 
 fn check_bad(rt: &impl Abort, alloc: Global, script: &str, line: &str) {

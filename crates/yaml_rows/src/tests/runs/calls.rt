@@ -14,7 +14,7 @@ use yaml_tool::{NumberedEvent, read_script, run_answer_t};
 /// An output below this size is flushed at ends and by the caller alone.
 const BUFFER_SIZE: usize = 16_384;
 
-/// How an event's call is answered. The limit of a short output is returned by a flush, which only the ends of documents and of
+/// How an event's call is answered. The limit of a short output is reported by a flush, which only the ends of documents and of
 /// the stream make.
 fn emit_answer(row: &Row, line: u64, kind: Kind) -> Answer {
     let flushes = matches!(kind, Kind::FlushingEnd) || row.output.len() >= BUFFER_SIZE;

@@ -15,7 +15,7 @@ const LINES: &[(&str, &str)] = &[
     ("-STR", "---\n\"a\"\n"),
 ];
 
-/// What is returned of a bad line of this number.
+/// The report of a bad line of this number.
 fn reported_of(rt: &impl Abort, alloc: Global, bad_line: Option<u8>) -> String {
     match bad_line {
         Some(number) => format!(in alloc; "yamlemit: line {number}: cannot be read\n").expect(
@@ -26,7 +26,7 @@ fn reported_of(rt: &impl Abort, alloc: Global, bad_line: Option<u8>) -> String {
     }
 }
 
-// The script up to a place within its line of this number: what is returned, and what was written.
+// The script up to a place within its line of this number: what is reported, and what was written.
 fn check_cut(rt: &impl Abort, alloc: Global, prefix: &[u8], bad_line: Option<u8>, output: &str) {
     let ran = ran(rt, alloc, prefix);
     let reported = reported_of(rt, alloc, bad_line);
@@ -44,7 +44,7 @@ struct Cut<'a> {
     before: &'a str,
 }
 
-// A cut inside a line is returned as that line; at its start and at its end nothing is.
+// A cut inside a line is reported as that line; at its start and at its end nothing is.
 fn check_within(rt: &impl Abort, alloc: Global, cut: &Cut, within: usize) {
     let end = within.saturating_add(cut.start);
     let prefix = FIRST.as_bytes().get(..end).unwrap_or(b"");

@@ -1,4 +1,4 @@
-//! Readers and writers that fail at a call: only they are returned so, and each is.
+//! Readers and writers that fail at a call: each failure is reported, and nothing else is.
 use super::FIRST;
 use crate::tests::{equal, same};
 use std::alloc::Global;

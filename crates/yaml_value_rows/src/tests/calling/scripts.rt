@@ -35,7 +35,7 @@ fn reported(answer: &run_answer_t, line: &mut Vec<u8>) -> io::Result<u8> {
     Ok(status(answer))
 }
 
-// A run that ended so is returned by this line.
+// A run that ended so is reported by this line.
 fn check_line(rt: &impl Abort, alloc: Global, answer: &run_answer_t, wanted: &str) {
     let mut line: Vec<u8> = Vec::new(alloc);
     let is_written = reported(answer, &mut line).is_ok();

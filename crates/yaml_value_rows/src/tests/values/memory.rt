@@ -7,7 +7,7 @@ use yaml_base::yaml_error_t;
 use yaml_test_allocator::Refusing;
 use yaml_value::Value;
 
-// Writes a value with this growth refused, and answers whether there is one: it is returned, and else the value gives this text.
+// Writes a value with this growth refused, and answers whether there is one: then `Memory` is returned, and else this text.
 fn is_reported<'a>(
     rt: &impl Abort,
     heap: Heap<'a>,
