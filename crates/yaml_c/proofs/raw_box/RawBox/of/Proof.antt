@@ -55,7 +55,7 @@ of_spec {M = M} 𝓤 𝓛 𝓜 𝓡 wired T L d glue =
     let R = param 0 T in
     let LR = param_laws 0 T L in
     let B = box.the_row R global.the_row heap.ghosts in
-    let lowered = box_laws.lowered R global.the_row heap.ghosts LR global_laws.the_row_laws global_laws.the_returned in
+    let lowered = box_laws.lowered R global.the_row heap.ghosts LR global_laws.the_row_laws global_laws.the_told in
     let LB = (box_laws.the_row_laws R global.the_row heap.ghosts LR global_laws.the_row_laws).lawful 𝓛 in
     let stayed : Stays En.signature.params En.kept = (stay_dropped (plain (λ _. B)) no, tt) in
     let W = walk_of 𝓛 En stayed c in
@@ -71,7 +71,7 @@ of_spec {M = M} 𝓤 𝓛 𝓜 𝓡 wired T L d glue =
     (glues "yaml_c::Destruct++none::drop" 𝓡.env (code.calls-yaml_c::Destruct++none::drop 𝓡.env wired) A LA M 𝓤 𝓛 𝓜 𝓡) glue in
     proved 𝓛 En stayed c 𝓜 𝓡 (Goes-blank 𝓛 1 (plain (λ _. B)) no (λ κs x w. tt), tt) (f.Key.name args) fn
     (code.unfolded 𝓤 𝓛.H 𝓜 𝓡 wired (T, tt) d) (λ κs. ((λ v. lowered v ∷ []), tt))
-    (λ κs. ((box_laws.lowers R global.the_row heap.ghosts LR global_laws.the_row_laws global_laws.the_returned).val_is, tt)) (λ κs qs bounds a _ are.
+    (λ κs. ((box_laws.lowers R global.the_row heap.ghosts LR global_laws.the_row_laws global_laws.the_told).val_is, tt)) (λ κs qs bounds a _ are.
     let v = a.0 in
     let w = lowered v in
     let fits = (LB.typed v (w ∷ []) are.0).0 in
