@@ -10,6 +10,5 @@ abbrev pub status_of : StreamError → ℕ
 status_of (faults.Refused (errors.Emitter Memory)) = 3
 status_of (faults.Refused error) = 1
 status_of (faults.NotText line column) = 1
-status_of faults.Marked = 1
 status_of (faults.ReadFailed error) = 3
 status_of (faults.WriteFailed error) = 3

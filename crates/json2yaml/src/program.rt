@@ -28,7 +28,7 @@ fn status_of(error: &StreamError) -> u8
 {
     match error {
         StreamError::Refused(JsonError::Emitter(yaml_error_t::Memory)) => 3,
-        StreamError::Refused(_) | StreamError::NotText { .. } | StreamError::Marked => 1,
+        StreamError::Refused(_) | StreamError::NotText { .. } => 1,
         StreamError::ReadFailed(_) | StreamError::WriteFailed(_) => 3,
     }
 }

@@ -1,5 +1,5 @@
 -- What a call gave to a writer and took from it.
-use Rattle.yaml_json.proofs.Common.{ℕ, ◌+◌, ◌-◌, OnOk, Option, None, Some, Result, Err, Ok, length, Bool, List, []}
+use Rattle.yaml_json.proofs.Common.{ℕ, OnOk, Option, None, Some, Result, Err, Ok, length, Bool, List, []}
 use Rattle.yaml_json.proofs.Common.{◌++◌, ◌∷◌, refl, ◌≡◌, append-nil, append_assoc, ap, subst, sym, ◌∙◌}
 use Rattle.yaml_json.proofs.Common.{flat_map-append, Appends, Json, Event, between, events_with_separators}
 use Rattle.yaml_json.proofs.Common.{json_events, IsBare, Wrote}

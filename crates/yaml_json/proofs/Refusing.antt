@@ -258,26 +258,31 @@ deep_is_none depth unique all deep json read =
 
 pub why_no_json : (depth : ℕ) (unique : Bool) (text : List ℕ) (error : JsonError) → ExplainsError depth unique text error → DeniesJson error
     → IsNotJson depth text
-why_no_json depth unique text (errors.NotJson line column) why is = broken_is_none depth unique (tokens text) why
+why_no_json depth unique text (errors.NotJson line column) why is = broken_is_none depth unique (tokens text) why.0
+why_no_json depth unique text (errors.Marked line column) why is = broken_is_none depth unique (tokens text) why.0
 why_no_json depth unique text errors.TooDeep why is = deep_is_none depth unique (tokens text) why
 why_no_json depth unique text (errors.DuplicateName line column) why is = absurd is
 why_no_json depth unique text (errors.Emitter error) why is = absurd is
 
-pub why_returned : (depth : ℕ) (unique : Bool) (text : List ℕ) (stop : Stop) (error : JsonError) → MatchesStop stop error
+pub why_returned : (depth : ℕ) (unique : Bool) (text : List ℕ) (stop : Stop) (error : JsonError) → MatchesStop text stop error
     → WhyStopped depth unique (tokens text) stop → ExplainsError depth unique text error
-why_returned depth unique text (stops.NotJson spot) (errors.NotJson line column) same why = why
+why_returned depth unique text (stops.NotJson spot) (errors.NotJson line column) same why = (why, same)
+why_returned depth unique text (stops.NotJson spot) (errors.Marked line column) same why = (why, same)
 why_returned depth unique text (stops.NotJson spot) errors.TooDeep same why = absurd same
 why_returned depth unique text (stops.NotJson spot) (errors.DuplicateName line column) same why = absurd same
 why_returned depth unique text (stops.NotJson spot) (errors.Emitter returned) same why = absurd same
 why_returned depth unique text stops.TooDeep (errors.NotJson line column) same why = absurd same
+why_returned depth unique text stops.TooDeep (errors.Marked line column) same why = absurd same
 why_returned depth unique text stops.TooDeep errors.TooDeep same why = why
 why_returned depth unique text stops.TooDeep (errors.DuplicateName line column) same why = absurd same
 why_returned depth unique text stops.TooDeep (errors.Emitter returned) same why = absurd same
 why_returned depth unique text (stops.NameAgain offset) (errors.NotJson line column) same why = absurd same
+why_returned depth unique text (stops.NameAgain offset) (errors.Marked line column) same why = absurd same
 why_returned depth unique text (stops.NameAgain offset) errors.TooDeep same why = absurd same
 why_returned depth unique text (stops.NameAgain offset) (errors.DuplicateName line column) same why = why
 why_returned depth unique text (stops.NameAgain offset) (errors.Emitter returned) same why = absurd same
 why_returned depth unique text (stops.Failed error) (errors.NotJson line column) same why = absurd same
+why_returned depth unique text (stops.Failed error) (errors.Marked line column) same why = absurd same
 why_returned depth unique text (stops.Failed error) errors.TooDeep same why = absurd same
 why_returned depth unique text (stops.Failed error) (errors.DuplicateName line column) same why = absurd same
 why_returned depth unique text (stops.Failed error) (errors.Emitter returned) same why = tt

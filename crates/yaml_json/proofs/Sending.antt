@@ -167,7 +167,6 @@ module _ (depth : ℕ) (in_flow unique : Bool) (text : List ℕ) (was : WriterSt
     why = why;
   }
   part_refused first later cut (faults.NotText line column) why = tt
-  part_refused first later cut faults.Marked why = tt
   part_refused first later cut (faults.ReadFailed error) why = tt
   part_refused first later cut (faults.WriteFailed error) why = tt
 
@@ -182,7 +181,6 @@ module _ (depth : ℕ) (in_flow unique : Bool) (text : List ℕ) (was : WriterSt
 pub refused_by_none : (depth : ℕ) (unique : Bool) (text : List ℕ) (error : StreamError) → IsByNoText error → RefusesSent depth unique text error
 refused_by_none depth unique text (faults.Refused error) isn't = λ is. absurd (isn't is)
 refused_by_none depth unique text (faults.NotText line column) isn't = tt
-refused_by_none depth unique text faults.Marked isn't = tt
 refused_by_none depth unique text (faults.ReadFailed error) isn't = tt
 refused_by_none depth unique text (faults.WriteFailed error) isn't = tt
 

@@ -35,6 +35,7 @@ emitter_error_of (Err stop) = failure_of stop
 
 abbrev pub writers_error : JsonError → Option yaml_error_t
 writers_error (errors.NotJson line column) = None
+writers_error (errors.Marked line column) = None
 writers_error errors.TooDeep = None
 writers_error (errors.DuplicateName line column) = None
 writers_error (errors.Emitter error) = Some error

@@ -1,5 +1,6 @@
 -- What an error says of the text.
-use Rattle.std.specs.Prelude.{◌≡◌, ℕ, ◌<◌, Bool, true, Some, Result, Ok, Err, List, [], ◌∷◌, ◌++◌, map}
+use Rattle.std.specs.Prelude.{◌≡◌, ℕ, ◌<◌, Bool, true, false, Some, Result, Ok, Err, List, [], ◌∷◌, ◌++◌, map, nat_eq}
+use Rattle.std.specs.List.{starts_with}
 use Rattle.json.specs.Strict.{HasUniqueKeys}
 use Rattle.json.specs.Token.{Token, key}
 use Rattle.json.specs.Lex.{tokens}
@@ -29,6 +30,7 @@ RefusesText (Err stop) = IsByText stop
 -- an error that isn't the writer's
 abbrev pub IsOfText : JsonError → Type 0
 IsOfText (errors.NotJson line column) = Unit {0}
+IsOfText (errors.Marked line column) = Unit {0}
 IsOfText errors.TooDeep = Unit {0}
 IsOfText (errors.DuplicateName line column) = Unit {0}
 IsOfText (errors.Emitter error) = ⊥
@@ -36,6 +38,7 @@ IsOfText (errors.Emitter error) = ⊥
 -- an error by which the text isn't JSON nested at most `depth` deep
 abbrev pub DeniesJson : JsonError → Type 0
 DeniesJson (errors.NotJson line column) = Unit {0}
+DeniesJson (errors.Marked line column) = Unit {0}
 DeniesJson errors.TooDeep = Unit {0}
 DeniesJson (errors.DuplicateName line column) = ⊥
 DeniesJson (errors.Emitter error) = ⊥
@@ -90,9 +93,15 @@ IsNoValue depth before = (json : Json) → value depth before ≡ Some (json, []
 abbrev pub IsNotJson : (depth : ℕ) → (text : List ℕ) → Type 0
 IsNotJson depth text = IsNoValue depth (tokens text)
 
--- what an error says of the text: that it breaks off, that it opens too many arrays and objects, that a name comes twice
+-- the text begins with a byte order mark
+abbrev pub is_marked : List ℕ → Bool
+is_marked text = starts_with nat_eq text (239 ∷ 187 ∷ 191 ∷ [])
+
+-- what an error says of the text: that it breaks off, without a byte order mark at its start or with one; that it opens too many
+-- arrays and objects; that a name comes twice
 abbrev pub ExplainsError : (depth : ℕ) → (unique : Bool) → (text : List ℕ) → JsonError → Type 0
-ExplainsError depth unique text (errors.NotJson line column) = BreaksOff depth unique (tokens text)
+ExplainsError depth unique text (errors.NotJson line column) = BreaksOff depth unique (tokens text) × (is_marked text ≡ false)
+ExplainsError depth unique text (errors.Marked line column) = BreaksOff depth unique (tokens text) × (is_marked text ≡ true)
 ExplainsError depth unique text errors.TooDeep = OpensTooDeep depth unique (tokens text)
 ExplainsError depth unique text (errors.DuplicateName line column) = NamesTwice depth unique (tokens text)
 ExplainsError depth unique text (errors.Emitter error) = Unit {0}

@@ -84,11 +84,10 @@ abbrev pub RefusesSent : (depth : ℕ) → (unique : Bool) → (text : List ℕ)
 RefusesSent depth unique text (faults.Refused error) = IsOfText error → RefusedAmong depth unique text error
 RefusesSent depth unique text _ = Unit {0}
 
--- the error isn't that of a text that is no JSON, nests too deep, has a name twice, isn't UTF-8 or begins with a byte order mark
+-- the error isn't that of a text that is no JSON, nests too deep, has a name twice or isn't UTF-8
 abbrev pub IsByNoText : StreamError → Type 0
 IsByNoText (faults.Refused error) = IsOfText error → ⊥
 IsByNoText (faults.NotText line column) = ⊥
-IsByNoText faults.Marked = ⊥
 IsByNoText _ = Unit {0}
 
 -- the sink took all that it was given

@@ -1,5 +1,5 @@
 -- The walk over the tokens of a value: which arrays and objects are open after some of them, and what was given until there.
-use Rattle.std.specs.Prelude.{◌≡◌, ◌⊎◌, ℕ, ◌-◌, ◌<◌, ◌≤◌, Bool, true, Option, Some, option_and_then, List, [], ◌∷◌, ◌++◌, length}
+use Rattle.std.specs.Prelude.{◌≡◌, ◌⊎◌, ℕ, ◌-◌, ◌<◌, ◌≤◌, Bool, true, false, Option, Some, option_and_then, List, [], ◌∷◌, ◌++◌, length}
 use Rattle.json.specs.Token.{Token}
 use Rattle.json.specs.Json.{skip_value}
 use Rattle.json.specs.Reads.{skip_items, skip_members}
@@ -10,7 +10,7 @@ use Rattle.yaml_writer.specs.declared.kinds.CollectionKind.{CollectionKind}
 use Rattle.yaml_writer.specs.declared.kinds.CollectionKind.TheVariants.{Mapping, Sequence}
 use Rattle.yaml_json.specs.Begins.{BeginsValue}
 use Rattle.yaml_json.specs.Failing.{FailedWith}
-use Rattle.yaml_json.specs.Refused.{BreaksOff, NamesTwice, OpensTooDeep}
+use Rattle.yaml_json.specs.Refused.{BreaksOff, NamesTwice, OpensTooDeep, is_marked}
 use Rattle.yaml_json.specs.HeldNames.{HaveNames, HoldsNames}
 use Rattle.yaml_json.specs.Names.{NamesOnce, all_names_after, outer_names}
 use Rattle.yaml_json.specs.declared.names.Names.{Names}
@@ -239,10 +239,11 @@ pub record WalkProgress (depth : ℕ) (in_flow : Bool) (start : List Token) (was
 
 -- ---- what is returned to a caller
 
--- the error says what the stop does
-abbrev pub MatchesStop : Stop → JsonError → Type 0
-MatchesStop (stops.NotJson spot) (errors.NotJson line column) = Unit {0}
-MatchesStop stops.TooDeep errors.TooDeep = Unit {0}
-MatchesStop (stops.NameAgain offset) (errors.DuplicateName line column) = Unit {0}
-MatchesStop (stops.Failed error) (errors.Emitter returned) = Unit {0}
-MatchesStop _ _ = ⊥
+-- the error says what the stop does of the text
+abbrev pub MatchesStop : (text : List ℕ) → Stop → JsonError → Type 0
+MatchesStop text (stops.NotJson spot) (errors.NotJson line column) = is_marked text ≡ false
+MatchesStop text (stops.NotJson spot) (errors.Marked line column) = is_marked text ≡ true
+MatchesStop text stops.TooDeep errors.TooDeep = Unit {0}
+MatchesStop text (stops.NameAgain offset) (errors.DuplicateName line column) = Unit {0}
+MatchesStop text (stops.Failed error) (errors.Emitter returned) = Unit {0}
+MatchesStop _ _ _ = ⊥

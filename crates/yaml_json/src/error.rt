@@ -10,6 +10,9 @@ pub enum JsonError {
     /// is its end. Lines end with LF, and both numbers count from 1, columns in characters.
     #[error("line {line}, column {column}: not JSON")]
     NotJson { line: usize, column: usize },
+    /// The text is no JSON, since a byte order mark begins it, here.
+    #[error("line {line}, column {column}: a byte order mark")]
+    Marked { line: usize, column: usize },
     /// Arrays and objects nest deeper than was allowed.
     #[error("arrays and objects nest too deep")]
     TooDeep,
@@ -31,9 +34,6 @@ pub enum StreamError {
     /// The first bytes that are no UTF-8 begin here.
     #[error("line {line}, column {column}: not UTF-8")]
     NotText { line: usize, column: usize },
-    /// The bytes begin with a byte order mark.
-    #[error("line 1, column 1: a byte order mark")]
-    Marked,
     /// Reading failed.
     #[error("cannot read: {0}")]
     ReadFailed(io::Error),

@@ -24,7 +24,7 @@ use yaml_writer::Writer;
 ///
 /// # Errors
 ///
-/// `NotJson`, `TooDeep` and `DuplicateName` as by `write_json`, where one of the texts is refused; those before it are JSON.
+/// `NotJson`, `Marked`, `TooDeep` and `DuplicateName` as by `write_json`, where one of the texts is refused; those before it are JSON.
 /// `Emitter` with the error of the writer's emitter, which has it now, or with `Memory` where an allocation fails. After an
 /// error some of the events may have been given.
 pub fn write_json_texts<A: Allocator + Copy>(
@@ -45,7 +45,8 @@ pub fn write_json_texts<A: Allocator + Copy>(
     'texts: loop {
         let (first, more) = first_cut(rest);
         if let Err(stop) = write_text_by(alloc, writer, first, &settings) {
-            return Err(error_of(text, text.len().saturating_sub(rest.len()), stop));
+            let before = text.len().saturating_sub(rest.len());
+            return Err(error_of(text, before, first, stop));
         }
         if more.is_empty() {
             return Ok(());

@@ -25,9 +25,6 @@ use yaml_writer::{Writer, yaml_error_t};
 /// How many bytes are read at once.
 const PART_SIZE: usize = 65_536;
 
-/// A byte order mark, which no JSON text begins with.
-const MARK: &[u8] = b"\xef\xbb\xbf";
-
 const NO_MEMORY: StreamError = StreamError::Refused(JsonError::Emitter(yaml_error_t::Memory));
 
 /// How far the texts are read.
@@ -134,21 +131,22 @@ fn write_bytes<'a, A: Allocator + Copy>(
     };
     match write_text_in(room, writer, text, settings) {
         Ok(()) => Ok(()),
-        Err(stop) => Err(StreamError::Refused(error_of(text, 0, stop))),
+        Err(stop) => Err(StreamError::Refused(error_of(text, 0, text, stop))),
     }
 }
 
 /// The error of a text as one of all that came, where the text begins at this place.
-fn placed(error: StreamError, start: Place, text: &[u8]) -> StreamError
+fn placed(error: StreamError, start: Place) -> StreamError
     ensures refused { (depth : ℕ) (unique : Bool) (all : List ℕ) → ExplainsPart depth unique all error → ExplainsPart depth unique all result }
 {
-    if start == Place::first() && text.starts_with(MARK) {
-        return StreamError::Marked;
-    }
     match error {
         StreamError::Refused(JsonError::NotJson { line, column }) => {
             let (line, column) = start.and(line, column);
             StreamError::Refused(JsonError::NotJson { line, column })
+        }
+        StreamError::Refused(JsonError::Marked { line, column }) => {
+            let (line, column) = start.and(line, column);
+            StreamError::Refused(JsonError::Marked { line, column })
         }
         StreamError::Refused(JsonError::DuplicateName { line, column }) => {
             let (line, column) = start.and(line, column);
@@ -232,7 +230,7 @@ fn write_texts<A: Allocator + Copy, W: Write>(
         let (first, more) = rest.split_at(end);
         if let Err(error) = write_bytes(&mut room, writer, first, settings) {
             let done = &held[..held.len() - rest.len()];
-            return Err(placed(error, reading.place.after(done), first));
+            return Err(placed(error, reading.place.after(done)));
         }
         if let Err(error) = begin_next(writer, sink) {
             return Err(error);
@@ -286,7 +284,7 @@ fn write_last<A: Allocator + Copy>(
     let arena = Bump::new(reading.alloc);
     let mut room = Room::new(reading.alloc, &arena, settings.unique_names);
     if let Err(error) = write_bytes(&mut room, writer, text, settings) {
-        return Err(placed(error, reading.place, text));
+        return Err(placed(error, reading.place));
     }
     Ok(())
 }
@@ -303,8 +301,7 @@ fn write_last<A: Allocator + Copy>(
 ///
 /// # Errors
 ///
-/// `Refused` as by `write_json_texts`; `NotText` and `Marked` where a text isn't UTF-8, or begins with a byte order mark;
-/// `ReadFailed` and `WriteFailed`. Until then the sink was given whole documents, those of the texts before the one that is refused.
+/// `Refused` as by `write_json_texts`; `NotText` where a text isn't UTF-8; `ReadFailed` and `WriteFailed`. Until then the sink was given whole documents, those of the texts before the one that is refused.
 pub fn send_json_texts<A: Allocator + Copy, R: Read, W: Write>(
     alloc: A,
     writer: &mut Writer<A>,

@@ -5,7 +5,7 @@ ghost use Rattle.yaml_json.specs.Failing.{FailedInText, FailsBy, emitter_error_o
 ghost use Rattle.json.specs.Lex.{tokens};
 ghost use Rattle.yaml_json.specs.Names.{NamesOnce};
 ghost use Rattle.yaml_json.specs.Nests.{AwaitsText};
-ghost use Rattle.yaml_json.specs.Refused.{DeniesJson, HasNamesOnce, IsNotJson, ExplainsError};
+ghost use Rattle.yaml_json.specs.Refused.{DeniesJson, HasNamesOnce, IsNotJson, ExplainsError, is_marked};
 ghost use Rattle.yaml_json.specs.Walk.{MatchesStop, WhyStopped};
 ghost use Rattle.yaml_json.specs.Wrote.{IsBare, IsYamlOf, WroteText};
 
@@ -18,16 +18,30 @@ use bumpalo::Bump;
 use std::alloc::Allocator;
 use yaml_writer::{Writer, yaml_error_t};
 
-/// What a stop is for a caller: `offset` bytes of the text stand before the part in which it came.
-pub(crate) fn error_of(text: &str, offset: usize, stop: Stop) -> JsonError
-    ensures says { MatchesStop stop result }
+/// The byte order mark in UTF-8. No JSON text begins with it.
+const MARK: &[u8] = b"\xef\xbb\xbf";
+
+/// Whether a text begins with a byte order mark.
+fn is_marked(text: &str) -> bool
+    ensures { result ≡ is_marked text.now }
+{
+    text.as_bytes().starts_with(MARK)
+}
+
+/// What a stop is for a caller, which came in this part of the text. `offset` bytes of the text stand before the part.
+pub(crate) fn error_of(text: &str, offset: usize, part: &str, stop: Stop) -> JsonError
+    ensures says { MatchesStop part.now stop result }
     ensures by_writer { writers_error result ≡ failure_of stop }
 {
     match stop {
         Stop::NotJson(spot) => {
             let at = offset_of(text, offset, spot);
             let (line, column) = place_of(text.as_bytes(), at);
-            JsonError::NotJson { line, column }
+            if is_marked(part) {
+                JsonError::Marked { line, column }
+            } else {
+                JsonError::NotJson { line, column }
+            }
         }
         Stop::TooDeep => JsonError::TooDeep,
         Stop::NameAgain(at) => {
@@ -105,7 +119,8 @@ pub(crate) fn write_text_by<A: Allocator + Copy>(
 ///
 /// # Errors
 ///
-/// `NotJson` where the text isn't JSON up to the place that it names: a token that can't stand there, or the text's end.
+/// `NotJson` where the text isn't JSON up to the place that it names: a token that can't stand there, or the text's end. `Marked`
+/// in its place where the text begins with a byte order mark.
 /// `TooDeep` where the text is JSON up to an array or an object that opens too deep, `DuplicateName` where it is JSON up to a key
 /// that its object has already and may have once. `Emitter` with the error of the writer's
 /// emitter, which has it now, or with `Memory` where an allocation fails. After an error some of the events may have been given.
@@ -125,7 +140,7 @@ pub fn write_json<A: Allocator + Copy>(
 {
     match write_text_by(alloc, writer, text, &settings) {
         Ok(()) => Ok(()),
-        Err(stop) => Err(error_of(text, 0, stop)),
+        Err(stop) => Err(error_of(text, 0, text, stop)),
     }
 }
 
@@ -133,7 +148,7 @@ pub fn write_json<A: Allocator + Copy>(
 ///
 /// # Errors
 ///
-/// `NotJson`, `TooDeep` and `DuplicateName` as by `write_json`. `Emitter` with
+/// `NotJson`, `Marked`, `TooDeep` and `DuplicateName` as by `write_json`. `Emitter` with
 /// `WriteError` where the bytes pass the limit, with `Memory` where an allocation fails, and with `TooDeep` where arrays and
 /// objects nest more than 1,000,000 deep and `settings.depth` allows it. No other error of the writer comes.
 pub fn yaml_from_json<A: Allocator + Copy>(

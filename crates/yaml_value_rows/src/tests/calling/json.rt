@@ -37,6 +37,13 @@ fn texts_are_sent_one_by_one(rt: HostRuntime) {
 }
 
 #[test]
+fn a_byte_order_mark_is_named(rt: HostRuntime) {
+    let marked = JsonError::Marked { line: 1, column: 1 };
+    let error = yaml_of_json(rt.alloc(), "\u{feff}{}").err();
+    equal(&rt, &error, &Some(marked));
+}
+
+#[test]
 fn json_is_written(rt: HostRuntime) {
     let text = "{\"country\": \"no\", \"sizes\": {\"1\": 1e5}}";
     let expected = "---\ncountry: 'no'\nsizes:\n    '1': 1.0e+5\n";
