@@ -32,3 +32,4 @@ mod RowsWrittenTexts
 mod RowsSchema
 mod RowsSurelyText
 mod RowsJsonNumbers
+mod RowsLinesAndColumns

@@ -4,3 +4,4 @@ pub mod SchemaCore
 pub mod SchemaOf11
 pub mod SurelyText
 pub mod JsonNumbers
+pub mod LinesAndColumns

@@ -1,4 +1,8 @@
 //! Where in a text an offset is.
+ghost use Rattle.std.specs.Prelude.{◌≡◌, ◌≤◌, count_by, length, not};
+ghost use Rattle.std.specs.List.{after_last, suffix_len};
+ghost use Rattle.yaml_base.specs.values.LinesAndColumns.{begins_character, column_of, is_line_feed, line_of};
+
 use crate::values::Spot;
 use crate::words::is_blank;
 
@@ -59,44 +63,66 @@ pub(crate) fn offset_of(text: &str, start: usize, spot: Spot) -> usize {
 }
 
 /// Whether a character begins with this byte.
-fn begins_character(byte: u8) -> bool {
+fn begins_character(byte: u8) -> bool
+    ensures { result ≡ begins_character byte }
+{
     byte < 128 || byte >= 192
-}
-
-/// The line and the column of an offset in bytes of a text, both from 1. A column counts characters, and a line ends with LF.
-pub fn place_of(text: &[u8], offset: usize) -> (usize, usize) {
-    let mut line: usize = 1;
-    let mut column: usize = 1;
-    for byte in text.iter().take(offset) {
-        if *byte == b'\n' {
-            line = line.saturating_add(1);
-            column = 1;
-        } else if begins_character(*byte) {
-            column = column.saturating_add(1);
-        }
-    }
-    (line, column)
 }
 
 /// The most bytes that can be counted in a byte.
 const BLOCK_SIZE: usize = 255;
 
 /// Number of line feeds in a block. (A sum needs no branch for each byte, and sums in single bytes are made 16 at once.)
-fn line_breaks_in_block(bytes: &[u8]) -> u8 {
+fn line_breaks_in_block(bytes: &[u8]) -> u8
+    requires { length bytes.now ≤ 255 }
+    ensures { result ≡ count_by is_line_feed bytes.now }
+{
     let mut count: u8 = 0;
     for byte in bytes {
-        count = count.wrapping_add((*byte == b'\n') as u8);
+        count += (*byte == b'\n') as u8;
     }
     count
 }
 
 /// Number of line feeds.
-fn line_breaks(bytes: &[u8]) -> usize {
+fn line_breaks(bytes: &[u8]) -> usize
+    ensures { result ≡ count_by is_line_feed bytes.now }
+{
     let mut count: usize = 0;
     for block in bytes.chunks(BLOCK_SIZE) {
-        count = count.wrapping_add(line_breaks_in_block(block) as usize);
+        count += line_breaks_in_block(block) as usize;
     }
     count
+}
+
+/// Number of bytes after the last line feed.
+fn last_line_length(bytes: &[u8]) -> usize
+    ensures value { result ≡ suffix_len (λ byte. not (is_line_feed byte)) bytes.now }
+    ensures within { result ≤ length bytes.now }
+{
+    bytes
+        .iter()
+        .rev()
+        .take_while(|byte| **byte != b'\n')
+        .count()
+}
+
+/// Number of characters after the last line feed.
+fn last_line_characters(bytes: &[u8]) -> usize
+    ensures { result ≡ count_by begins_character (after_last is_line_feed bytes.now) }
+{
+    let last = bytes.split_at(bytes.len() - last_line_length(bytes)).1;
+    last.iter().filter(|byte| begins_character(**byte)).count()
+}
+
+/// The line and the column of an offset in bytes of a text, both from 1. A line ends with LF. A column counts characters by the
+/// bytes with which they begin, in a text that isn't UTF-8, too. An offset past the end has the place of the end.
+pub fn place_of(text: &[u8], offset: usize) -> (usize, usize)
+    ensures line { result.0 ≡ line_of text.now offset }
+    ensures column { result.1 ≡ column_of text.now offset }
+{
+    let before = &text[..offset.min(text.len())];
+    (line_breaks(before) + 1, last_line_characters(before) + 1)
 }
 
 /// A line and a column, both from 1.
@@ -125,10 +151,8 @@ impl Place {
 
     /// The place that follows these bytes, the first of which is at this one.
     pub(crate) fn after(self, bytes: &[u8]) -> Place {
-        let lines = line_breaks(bytes);
-        let last = bytes.iter().rev().take_while(|byte| **byte != b'\n');
-        let characters = last.filter(|byte| begins_character(**byte)).count();
-        let (line, column) = self.and(lines.saturating_add(1), characters.saturating_add(1));
+        let (line, column) = place_of(bytes, bytes.len());
+        let (line, column) = self.and(line, column);
         Place { line, column }
     }
 }
