@@ -5,6 +5,8 @@ use Rattle.std.specs.Str.{chars}
 use Rattle.yaml_base.specs.scalars.Analysis.{Allowances, Charset, allowances, begins_with}
 use Rattle.yaml_base.specs.Characters.{is_among, is_between, is_space}
 use Rattle.yaml_scalar.specs.Barred.{is_ordinary}
+use Rattle.yaml_scalar.specs.declared.lines.Known.{Known}
+use Rattle.yaml_scalar.specs.declared.lines.Known.TheVariants.{Nothing, SimpleAscii}
 use Rattle.yaml_scalar.specs.ShortRuns.{IsShortRun, most_short}
 use Rattle.yaml_scalar.specs.WholeRuns.{last_from, stays_in_line}
 
@@ -16,6 +18,16 @@ all_allowed = record { multiline = false; flow_plain = true; block_plain = true;
 pub record IsSimpleAscii (text : List ℕ) : Type 0 where
   pub allows : (charset : Charset) → allowances charset (chars text) ≡ all_allowed
   pub line : IsShortRun (stays_in_line false false) text
+
+-- a simple ASCII text that isn't put between quotes
+pub record IsUnquoted (quoted : Bool) (text : List ℕ) : Type 0 where
+  pub simple_ascii : IsSimpleAscii text
+  pub plain : quoted ≡ false
+
+-- a value is what is known of it; one that is simple ASCII isn't put between quotes
+abbrev pub IsKnown : Known → (quoted : Bool) → List ℕ → Type 0
+IsKnown Nothing quoted text = Unit
+IsKnown SimpleAscii quoted text = IsUnquoted quoted text
 
 -- it begins with a letter or a digit, and doesn't end with a space
 abbrev pub has_simple_ascii_ends : List ℕ → Bool

@@ -10,6 +10,7 @@ ghost use Rattle.yaml_pen.specs.Page.{IsReady};
 ghost use Rattle.yaml_pen.specs.Wrote.{Wrote};
 ghost use Rattle.yaml_scalar.specs.LineSteps as steps;
 ghost use Rattle.yaml_scalar.specs.ShortRuns.{IsShortLine};
+ghost use Rattle.yaml_scalar.specs.SimpleAsciiTexts.{IsKnown};
 ghost use Rattle.yaml_scalar.specs.WholeRuns.{HasRoom, IsLineRun};
 ghost use Rattle.yaml_scalar.specs.Width.{limit_where};
 
@@ -29,11 +30,19 @@ pub(crate) enum CharacterKind {
     Other,
 }
 
+/// What is known of a value before it is written: nothing, or that it is simple ASCII.
+#[derive(Clone, Copy)]
+pub(crate) enum Known {
+    Nothing,
+    SimpleAscii,
+}
+
 /// How lines are rendered: between quotes each `'` is written twice; a fold may stand where breaks are allowed
 /// and the column is past the width; later lines are indented.
 #[derive(Clone, Copy)]
 pub(crate) struct Lines {
     pub(crate) quoted: bool,
+    pub(crate) known: Known,
     pub(crate) allow_breaks: bool,
     pub(crate) indent: u32,
     pub(crate) width: i32,
@@ -222,7 +231,7 @@ fn write_step<A: Allocator>(
 }
 
 // How many columns of the line are left, if any.
-pub(crate) fn line_room<A: Allocator>(pen: &Pen<A>, lines: Lines) -> usize
+fn line_room<A: Allocator>(pen: &Pen<A>, lines: Lines) -> usize
     ensures { 0 < result → HasRoom (limit_where lines.allow_breaks lines.width) pen.now.cursor.column result }
 {
     room_in_line(pen, lines.allow_breaks, lines.width)
@@ -236,16 +245,19 @@ fn run_after<A: Allocator>(pen: &Pen<A>, character: char, rest: &str, lines: Lin
     line_run_within(character, rest, lines.quoted, room)
 }
 
-/// Whether a value is short and one line, which stands as it is.
+/// Whether a value is short and one line, which stands as it is. An empty value isn't, since no column may be left.
 #[inline(always)]
 fn is_short_line<A: Allocator>(pen: &Pen<A>, value: &str, lines: Lines) -> bool
+    requires { IsKnown lines.known lines.quoted value.now }
     ensures { result ≡ true → IsShortLine (limit_where lines.allow_breaks lines.width) lines.quoted pen.now.cursor value.now }
 {
-    let room = line_room(pen, lines);
-    if room == 0 || value.len() > room {
-        return false;
-    }
-    is_short_run(value, short_classes(lines.quoted))
+    value.len() <= line_room(pen, lines)
+        && match lines.known {
+            Known::SimpleAscii => true,
+            Known::Nothing => {
+                !value.is_empty() && is_short_run(value, short_classes(lines.quoted))
+            }
+        }
 }
 
 /// Writes the lines of a value, the flags of the cursor left as they are.
@@ -255,7 +267,8 @@ pub(crate) fn write_lines<A: Allocator>(
     value: &str,
     lines: Lines,
 ) -> Result<(), yaml_error_t>
-    requires { IsReady pen.old }
+    requires ready { IsReady pen.old }
+    requires known { IsKnown lines.known lines.quoted value.now }
     ensures { Wrote (layout.render_runs (steps.written_as lines.quoted) (limit_where lines.allow_breaks lines.width) lines.indent true
         (layout.runs (chars value.now))) pen.old pen.new result }
 {
@@ -267,11 +280,7 @@ pub(crate) fn write_lines<A: Allocator>(
 }
 
 /// Writes the lines of a value run by run, the flags of the cursor left as they are.
-pub(crate) fn write_runs<A: Allocator>(
-    pen: &mut Pen<A>,
-    value: &str,
-    lines: Lines,
-) -> Result<(), yaml_error_t>
+fn write_runs<A: Allocator>(pen: &mut Pen<A>, value: &str, lines: Lines) -> Result<(), yaml_error_t>
     requires { IsReady pen.old }
     ensures { Wrote (layout.render_runs (steps.written_as lines.quoted) (limit_where lines.allow_breaks lines.width) lines.indent true
         (layout.runs (chars value.now))) pen.old pen.new result }

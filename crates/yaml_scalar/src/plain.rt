@@ -7,10 +7,11 @@ ghost use Rattle.yaml_base.specs.reading.ReadPlain.{read_plain};
 ghost use Rattle.yaml_pen.specs.Page.{IsReady, natural};
 ghost use Rattle.yaml_pen.specs.Wrote.{Wrote};
 ghost use Rattle.yaml_scalar.specs.ReadsBack.{ReadsBack};
+ghost use Rattle.yaml_scalar.specs.SimpleAsciiTexts.{IsKnown};
 ghost use Rattle.yaml_scalar.specs.Width.{limit_where};
 
 use crate::analysis::is_at_end;
-use crate::lines::{Lines, write_lines};
+use crate::lines::{Known, Lines, write_lines};
 use std::alloc::Allocator;
 use yaml_base::yaml_error_t;
 use yaml_pen::Pen;
@@ -42,6 +43,7 @@ pub fn write_plain_scalar<A: Allocator>(
         flow,
         Lines {
             quoted: false,
+            known: Known::Nothing,
             allow_breaks,
             indent: indent as u32,
             width,
@@ -57,6 +59,7 @@ fn write_after_space<A: Allocator>(
 ) -> Result<(), yaml_error_t>
     requires ready { IsReady pen.old }
     requires plain { lines.quoted ≡ false }
+    requires known { IsKnown lines.known lines.quoted value.now }
     ensures { Wrote (render_plain flow (limit_where lines.allow_breaks lines.width) lines.indent (chars value.now)) pen.old pen.new result }
 {
     pen.separate_if(needs_space(flow, value))?;
@@ -70,9 +73,16 @@ fn needs_space(flow: bool, value: &str) -> bool
     flow || !is_at_end(value)
 }
 
-fn write_body<A: Allocator>(pen: &mut Pen<A>, value: &str, lines: Lines) -> Result<(), yaml_error_t>
+/// Writes what follows the space, if any.
+#[inline(always)]
+pub(crate) fn write_body<A: Allocator>(
+    pen: &mut Pen<A>,
+    value: &str,
+    lines: Lines,
+) -> Result<(), yaml_error_t>
     requires ready { IsReady pen.old }
     requires plain { lines.quoted ≡ false }
+    requires known { IsKnown lines.known lines.quoted value.now }
     ensures { Wrote (plain_body (limit_where lines.allow_breaks lines.width) lines.indent (chars value.now)) pen.old pen.new result }
 {
     write_lines(pen, value, lines)?;

@@ -2,7 +2,7 @@
 //! follows it.
 ghost use Rattle.std.specs.Prelude.{◌≡◌, pos, ◌≤ℤ◌, Bool, true, false};
 ghost use Rattle.std.specs.Str.{chars};
-ghost use Rattle.yaml_base.specs.scalars.Plain.{plain_body, render_plain, runs, render_runs};
+ghost use Rattle.yaml_base.specs.scalars.Plain.{render_plain};
 ghost use Rattle.yaml_pen.specs.Page.{IsReady, natural};
 ghost use Rattle.yaml_pen.specs.Wrote.{Wrote};
 ghost use Rattle.yaml_scalar.specs.Barred.{is_ordinary};
@@ -10,8 +10,9 @@ ghost use Rattle.yaml_scalar.specs.SimpleAsciiTexts.{IsSimpleAscii, has_simple_a
 ghost use Rattle.yaml_scalar.specs.Width.{limit_where};
 
 use crate::classes::{BREAK, INDICATOR, UNPRINTABLE, WIDE};
-use crate::lines::{Lines, line_room, write_runs};
-use crate::short_runs::{is_short_run, write_short_run};
+use crate::lines::{Known, Lines};
+use crate::plain::write_body;
+use crate::short_runs::is_short_run;
 use std::alloc::Allocator;
 use yaml_base::yaml_error_t;
 use yaml_pen::Pen;
@@ -64,59 +65,16 @@ pub fn write_simple_ascii_scalar<A: Allocator>(
     requires indented { pos 2 ≤ℤ indent }
     ensures { (flow : Bool) → Wrote (render_plain flow (limit_where allow_breaks width) (natural indent) (chars value.now)) pen.old pen.new result }
 {
-    write_after_space(
+    pen.separate()?;
+    write_body(
         pen,
         value,
         Lines {
             quoted: false,
+            known: Known::SimpleAscii,
             allow_breaks,
             indent: indent as u32,
             width,
         },
     )
-}
-
-fn write_after_space<A: Allocator>(
-    pen: &mut Pen<A>,
-    value: &str,
-    lines: Lines,
-) -> Result<(), yaml_error_t>
-    requires ready { IsReady pen.old }
-    requires simple_ascii { IsSimpleAscii value.now }
-    requires plain { lines.quoted ≡ false }
-    ensures { (flow : Bool) → Wrote (render_plain flow (limit_where lines.allow_breaks lines.width) lines.indent (chars value.now)) pen.old pen.new result }
-{
-    pen.separate()?;
-    write_body(pen, value, lines)
-}
-
-fn write_body<A: Allocator>(pen: &mut Pen<A>, value: &str, lines: Lines) -> Result<(), yaml_error_t>
-    requires ready { IsReady pen.old }
-    requires simple_ascii { IsSimpleAscii value.now }
-    requires plain { lines.quoted ≡ false }
-    ensures { Wrote (plain_body (limit_where lines.allow_breaks lines.width) lines.indent (chars value.now)) pen.old pen.new result }
-{
-    write_simple_ascii_line(pen, value, lines)?;
-    pen.set_whitespace(false);
-    pen.set_indention(false);
-    Ok(())
-}
-
-/// At once where the width isn't passed.
-fn write_simple_ascii_line<A: Allocator>(
-    pen: &mut Pen<A>,
-    value: &str,
-    lines: Lines,
-) -> Result<(), yaml_error_t>
-    requires ready { IsReady pen.old }
-    requires simple_ascii { IsSimpleAscii value.now }
-    requires plain { lines.quoted ≡ false }
-    ensures { Wrote (render_runs (λ text. text) (limit_where lines.allow_breaks lines.width) lines.indent true (runs (chars value.now)))
-        pen.old pen.new result }
-{
-    if value.len() <= line_room(pen, lines) {
-        write_short_run(pen, value)
-    } else {
-        write_runs(pen, value, lines)
-    }
 }

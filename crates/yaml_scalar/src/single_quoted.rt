@@ -7,9 +7,10 @@ ghost use Rattle.yaml_base.specs.reading.ReadSingle.{read_single};
 ghost use Rattle.yaml_pen.specs.Page.{IsReady, natural};
 ghost use Rattle.yaml_pen.specs.Wrote.{Wrote};
 ghost use Rattle.yaml_scalar.specs.ReadsBack.{ReadsBack};
+ghost use Rattle.yaml_scalar.specs.SimpleAsciiTexts.{IsKnown};
 ghost use Rattle.yaml_scalar.specs.Width.{limit_where};
 
-use crate::lines::{Lines, write_lines};
+use crate::lines::{Known, Lines, write_lines};
 use std::alloc::Allocator;
 use yaml_base::yaml_error_t;
 use yaml_pen::{Indicator, Pen};
@@ -40,6 +41,7 @@ pub fn write_single_quoted_scalar<A: Allocator>(
         value,
         Lines {
             quoted: true,
+            known: Known::Nothing,
             allow_breaks,
             indent: indent as u32,
             width,
@@ -54,6 +56,7 @@ fn write_between_quotes<A: Allocator>(
 ) -> Result<(), yaml_error_t>
     requires ready { IsReady pen.old }
     requires quoted { lines.quoted ≡ true }
+    requires known { IsKnown lines.known lines.quoted value.now }
     ensures { Wrote (render_single_quoted (limit_where lines.allow_breaks lines.width) lines.indent (chars value.now)) pen.old pen.new result }
 {
     pen.put_indicator(&Indicator::spaced("'"))?;

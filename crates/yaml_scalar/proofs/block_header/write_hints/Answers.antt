@@ -1,4 +1,4 @@
-use Rattle.yaml_scalar.proofs.Common.{w32, to_z-of_z, ending, indentation_hint, ending_hint, render_hint, wrote_then, wrote_failed, wrote_exit}
+use Rattle.yaml_scalar.proofs.Common.{w32, to_z-of_z, ending, ending_hint, render_hint, wrote_then, wrote_failed, wrote_exit}
 use Rattle.yaml_base.proofs.Common.{chars}
 use Rattle.yaml_scalar.proofs.block_header.write_hints.Goals as goal
 

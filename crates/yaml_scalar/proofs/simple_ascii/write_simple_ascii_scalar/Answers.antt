@@ -1,9 +1,20 @@
-use Rattle.yaml_scalar.proofs.Common.{chars, rules, render_plain, natural, Wrote, limit_where}
+use Rattle.yaml_scalar.proofs.Common.{chars, Err, Ok, Bool, rules, subst, sym, render_text, space_if, plain_body, natural, wrote_then, wrote_failed}
+use Rattle.yaml_scalar.proofs.Common.{wrote_exit, Wrote, limit_where}
+use Rattle.yaml_scalar.proofs.SimpleAsciiTexts.{simple_ascii_spaced}
 use Rattle.yaml_scalar.proofs.simple_ascii.write_simple_ascii_scalar.Goals as goal
+
+pub returns-in_err-separate : goal.returns-in_err-separate
+returns-in_err-separate g c = λ flow.
+    let limit = limit_where c.args.allow_breaks c.args.width in
+    let lead = subst (λ (need : Bool).
+    Wrote (λ cursor. render_text (space_if need cursor) cursor) c.args.pen.now c.separate.new.self (Err c.in_err-separate.field-0.0))
+    (sym (simple_ascii_spaced flow c.requires.simple_ascii)) c.in_err-separate.ensures.written in
+    wrote_exit c.from_residual.ensures (wrote_failed (plain_body limit (natural c.args.indent) (chars c.args.value.now)) lead)
 
 pub returns : goal.returns
 returns g c = λ flow.
-    let rendered = c.write_after_space.ensures flow in
-    let wrote : Wrote (render_plain flow (limit_where c.args.allow_breaks c.args.width) (natural c.args.indent) (chars c.args.value.now)) c.args.pen.now
-    c.write_after_space.new.pen c.write_after_space.result = search rules in
-    wrote
+    let lead = subst (λ (need : Bool). Wrote (λ cursor. render_text (space_if need cursor) cursor) c.args.pen.now c.separate.new.self (Ok tt))
+    (sym (simple_ascii_spaced flow c.requires.simple_ascii)) c.in_ok-separate.ensures.written in
+    let body : Wrote (plain_body (limit_where c.args.allow_breaks c.args.width) (natural c.args.indent) (chars c.args.value.now)) c.separate.new.self
+    c.write_body.new.pen c.write_body.result = search rules in
+    wrote_then lead body
