@@ -11,9 +11,9 @@ is_at_node (at_node directives frames) = true
 is_at_node _ = false
 
 -- a scalar without anchor and tag, which needs no tag in any style
-abbrev pub is_simple_ascii_scalar : Event → Bool
-is_simple_ascii_scalar (scalar content) = not (is_some content.anchor || is_some content.tag) && content.plain_implicit && content.quoted_implicit
-is_simple_ascii_scalar _ = false
+abbrev pub needs_no_properties : Event → Bool
+needs_no_properties (scalar content) = not (is_some content.anchor || is_some content.tag) && content.plain_implicit && content.quoted_implicit
+needs_no_properties _ = false
 
 -- the start of a mapping, or of a sequence
 abbrev pub start_event : (mapping : Bool) → Collection → Event

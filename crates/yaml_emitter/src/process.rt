@@ -44,7 +44,7 @@ impl<A: Allocator + Copy> Machine<A> {
         ensures { Processed (seen_event event.now) empty self.old self.new result }
     {
         let within = matches!(self.stage, Stage::Node) && self.frames.is_open();
-        if within && is_simple_ascii_scalar(event) {
+        if within && needs_no_properties(event) {
             self.process_at_stage(event, empty)
         } else {
             self.process_other(event, empty)
@@ -209,8 +209,8 @@ impl<A: Allocator + Copy> Machine<A> {
 }
 
 /// Whether an event is a scalar without anchor and tag that needs no tag in any style.
-fn is_simple_ascii_scalar<A: Allocator>(event: &yaml_event_t<A>) -> bool
-    ensures { result ≡ node_events.is_simple_ascii_scalar (seen_event event.now) }
+fn needs_no_properties<A: Allocator>(event: &yaml_event_t<A>) -> bool
+    ensures { result ≡ node_events.needs_no_properties (seen_event event.now) }
 {
     matches!(
         event,
