@@ -186,9 +186,10 @@ new_stands given state is_handle_given page stage open_ended held none =
     } in
     subst (λ e. MachineStands given [] e state.held (machine_of state)) (sym none) well
 
-pub new_emitter_stands : {m : MachineState} {held : List Event} → m ≡ new_machine → held ≡ []
-    → StateStands nothing_given []
-    (record {
+-- an emitter around a machine, before any event
+abbrev around : MachineState → List Event → State
+around m held =
+    record {
       given = m.given;
       settings = m.settings;
       started = false;
@@ -200,22 +201,11 @@ pub new_emitter_stands : {m : MachineState} {held : List Event} → m ≡ new_ma
       open_ended = m.open_ended;
       page = m.page;
       error = m.error;
-    })
+    }
+
+pub new_emitter_stands : {m : MachineState} {held : List Event} → m ≡ new_machine → held ≡ [] → StateStands nothing_given [] (around m held)
 new_emitter_stands {m} {held} made none =
-    new_stands nothing_given
-    (record {
-      given = m.given;
-      settings = m.settings;
-      started = false;
-      has_output = false;
-      opened = false;
-      closed = false;
-      held = held;
-      stage = m.stage;
-      open_ended = m.open_ended;
-      page = m.page;
-      error = m.error;
-    }) (ap (λ (m : MachineState). m.given) made) (ap (λ (m : MachineState). m.page) made)
+    new_stands nothing_given (around m held) (ap (λ (m : MachineState). m.given) made) (ap (λ (m : MachineState). m.page) made)
     (ap (λ (m : MachineState). m.stage) made) (ap (λ (m : MachineState). m.open_ended) made) none (ap (λ (m : MachineState). m.error) made)
 
 -- A flush sends on what is written.
