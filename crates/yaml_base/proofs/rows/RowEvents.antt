@@ -2,23 +2,11 @@
 use Rattle.yaml_base.proofs.Common.{Option, None, Some, ℤ, false, true, List, [], ◌++◌, ◌∷◌, Text, ScalarStyle, any_style, Collection, Event, stream_start}
 use Rattle.yaml_base.proofs.Common.{stream_end, document_start, document_end, scalar, sequence_start, sequence_end, mapping_start, mapping_end, text_of}
 use Rattle.yaml_base.proofs.Common.{list_layout, Settings, effective}
-use Rattle.yaml_base.specs.Event.{CollectionStyle}
+use Rattle.yaml_base.specs.{Event.CollectionStyle, scripts.Script.unset}
 
 -- nothing set but an ample limit
 abbrev pub plain_settings : Settings
-plain_settings =
-    record {
-      encoding = None;
-      canonical = false;
-      unicode = false;
-      indent = None;
-      width = None;
-      line_break = None;
-      breaks12 = false;
-      portable = false;
-      indented_sequences = false;
-      limit = 1000000000;
-    }
+plain_settings = unset
 
 abbrev pub canonical_settings : Settings
 canonical_settings = record plain_settings { canonical = true }

@@ -1,6 +1,6 @@
 -- Plain and single-quoted scalars, computed: what is rendered, and that it reads back.
 use Rattle.yaml_base.proofs.Common.{ℕ, Option, None, Some, codes, replicate, false, [], ◌++◌, ◌∷◌, refl, ◌≡◌, Text, Cursor, first_cursor, read_plain}
-use Rattle.yaml_base.proofs.Common.{read_single}
+use Rattle.yaml_base.proofs.Common.{map, read_single}
 use Rattle.yaml_base.{proofs.rows.Cases.Gives, proofs.rows.Cases.GivesOfTwo, specs.scalars.Plain.render_plain, specs.scalars.SingleQuoted.render_single_quoted}
 
 -- a root in a block, indented by 2
@@ -14,31 +14,26 @@ single_root limit value = (render_single_quoted limit 2 value first_cursor).text
 abbrev later : Cursor
 later = record { column = 2; whitespace = false; indention = false }
 
-pub word : plain_root (Some 80) (codes "foo") ≡ codes "foo"
-word = refl
+-- the texts there
+abbrev plain_later : Text → Text
+plain_later value = (render_plain false (Some 80) 2 value later).text
 
-pub nothing_in_a_block : (render_plain false (Some 80) 2 [] later).text ≡ []
-nothing_in_a_block = refl
+abbrev single_later : Text → Text
+single_later value = (render_single_quoted (Some 80) 2 value later).text
 
-pub space_before_a_word : (render_plain false (Some 80) 2 (codes "b") later).text ≡ codes " b"
-space_before_a_word = refl
-
-pub space_before_a_quote : (render_single_quoted (Some 80) 2 (codes "b") later).text ≡ codes " 'b'"
-space_before_a_quote = refl
+-- a space stands before a word and before a quote, and nothing before nothing in a block
+rendered_later : map plain_later ([] ∷ codes "b" ∷ []) ++ single_later (codes "b") ∷ [] ≡ [] ∷ codes " b" ∷ codes " 'b'" ∷ []
+rendered_later = refl
 
 -- the cursor stands after the text, with no white space
-pub cursor_after_plain :
-    (render_plain false (Some 5) 2 (codes "aaaaaa b") first_cursor).cursor ≡
-    record { column = 3; whitespace = false; indention = false }
-cursor_after_plain = refl
-
-pub cursor_after_single :
-    (render_single_quoted (Some 80) 2 (codes "a\nbcd") later).cursor ≡
-    record { column = 6; whitespace = false; indention = false }
-cursor_after_single = refl
+cursors_after :
+    (render_plain false (Some 5) 2 (codes "aaaaaa b") first_cursor).cursor ∷ (render_single_quoted (Some 80) 2 (codes "a\nbcd") later).cursor ∷ []
+    ≡ record { column = 3; whitespace = false; indention = false } ∷ record { column = 6; whitespace = false; indention = false } ∷ []
+cursors_after = refl
 
 plain_roots : GivesOfTwo plain_root (
-    (Some 5, codes "aaaaaa b", codes "aaaaaa\n  b")  -- fold
+    (Some 80, codes "foo", codes "foo")  -- word
+    ∷ (Some 5, codes "aaaaaa b", codes "aaaaaa\n  b")  -- fold
     -- a space at the width is not past it
     ∷ (Some 5, codes "aaaaa b", codes "aaaaa b")  -- no fold at the width
     ∷ (None, codes "aaaaaa b", codes "aaaaaa b")  -- no width
@@ -47,6 +42,15 @@ plain_roots : GivesOfTwo plain_root (
     ∷ (Some 5, replicate 4 0xE9 ++ codes " b c", replicate 4 0xE9 ++ codes " b\n  c")  -- fold counts characters
     ∷ [])
 plain_roots = refl
+
+abbrev separated : Text
+separated = 97 ∷ 0x2028 ∷ 98 ∷ []
+
+abbrev separated_after_break : Text
+separated_after_break = 97 ∷ 10 ∷ 0x2028 ∷ 98 ∷ []
+
+abbrev separated_before_break : Text
+separated_before_break = 97 ∷ 0x2028 ∷ 10 ∷ 98 ∷ []
 
 single_quoted_roots : GivesOfTwo single_root (
     (Some 80, codes "a\nb", codes "'a\n\n  b'")  -- one break
@@ -60,31 +64,16 @@ single_quoted_roots : GivesOfTwo single_root (
     ∷ (Some 80, codes "a:", codes "'a:'")  -- key indicator
     ∷ (Some 80, codes "- x", codes "'- x'")  -- entry indicator
     ∷ (Some 80, [], codes "''")  -- nothing quoted
+    -- U+2028 is written once
+    ∷ (Some 80, separated, codes "'a" ++ 0x2028 ∷ codes "  b'")  -- separator
+    ∷ (Some 80, separated_after_break, codes "'a\n\n" ++ 0x2028 ∷ codes "  b'")  -- separator after break
+    ∷ (Some 80, separated_before_break, codes "'a" ++ 0x2028 ∷ codes "\n  b'")  -- separator before break
     ∷ [])
 single_quoted_roots = refl
 
-abbrev separated : Text
-separated = 97 ∷ 0x2028 ∷ 98 ∷ []
-
--- U+2028 is written once
-pub separator : single_root (Some 80) separated ≡ codes "'a" ++ 0x2028 ∷ codes "  b'"
-separator = refl
-
-abbrev separated_after_break : Text
-separated_after_break = 97 ∷ 10 ∷ 0x2028 ∷ 98 ∷ []
-
-pub separator_after_break : single_root (Some 80) separated_after_break ≡ codes "'a\n\n" ++ 0x2028 ∷ codes "  b'"
-separator_after_break = refl
-
-abbrev separated_before_break : Text
-separated_before_break = 97 ∷ 0x2028 ∷ 10 ∷ 98 ∷ []
-
-pub separator_before_break : single_root (Some 80) separated_before_break ≡ codes "'a" ++ 0x2028 ∷ codes "\n  b'"
-separator_before_break = refl
-
 -- and each of these reads back
 
-pub fold_reads : read_plain false false (codes "aaaaaa\n  b") ≡ Some (codes "aaaaaa b")
+fold_reads : read_plain false false (codes "aaaaaa\n  b") ≡ Some (codes "aaaaaa b")
 fold_reads = refl
 
 single_quoted_roots_read : Gives (read_single false) (

@@ -1,29 +1,14 @@
 -- What each reader makes of texts that no right writer writes: no value, or another one than was to be written.
-use Rattle.yaml_base.proofs.Common.{is_none, Option, None, Some, codes, Bool, false, true, List, [], map, ◌++◌, ◌∷◌, refl, ◌≡◌, list_all, Text, line_separator}
+use Rattle.yaml_base.proofs.Common.{is_none, Option, None, Some, codes, Bool, false, true, List, [], ◌++◌, ◌∷◌, refl, ◌≡◌, list_all, Text, line_separator}
 use Rattle.yaml_base.proofs.Common.{TagDirective, canonical_content, tagged, untagged, Content, scalar_content, sequence_content, mapping_content, no_contents}
 use Rattle.yaml_base.proofs.Common.{contents_and, no_content_pairs, content_pairs_and, DocumentContent, read_block, read_double, read_plain, read_single}
+use Rattle.yaml_base.proofs.rows.Cases.{Gives}
 use Rattle.std.specs.{Char.encode_utf8, Str.chars, Str.is_utf8}
 use Rattle.yaml_base.specs.reading.Content.{ScalarTag}
 
 -- a reader reads none of these texts
 abbrev reads_none : (Text → Option Text) → List Text → Bool
 reads_none read texts = list_all (λ text. is_none (read text)) texts
-
--- a text, and what it reads as
-record Row : Type 0 where
-  text : Text
-  value : Text
-
-abbrev row : Text → Text → Row
-row text value = record { text = text; value = value }
-
--- what a reader makes of the texts of some rows
-abbrev readings : (Text → Option Text) → List Row → List (Option Text)
-readings read rows = map (λ r. read r.text) rows
-
--- the values of some rows
-abbrev values : List Row → List (Option Text)
-values rows = map (λ r. Some r.value) rows
 
 -- ---- plain
 
@@ -38,15 +23,13 @@ plain_without_reading_in_flow : reads_none (read_plain false true)
 plain_without_reading_in_flow = refl
 
 -- breaks written once each, a space kept before a fold, U+2028 before a break, an escape
-abbrev plain_rows : List Row
-plain_rows =
-    row (codes "a\n  b") (codes "a b")
-    ∷ row (codes "a\n\n  b") (codes "a\nb")
-    ∷ row (codes "a \n  b") (codes "a b")
-    ∷ row (codes "a" ++ line_separator ∷ codes "\n  b") (codes "a" ++ line_separator ∷ codes "\nb")
-    ∷ row (codes "a\\nb") (codes "a\\nb") ∷ []
-
-plain_otherwise : readings (read_plain false false) plain_rows ≡ values plain_rows
+plain_otherwise : Gives (read_plain false false) (
+    (codes "a\n  b", Some (codes "a b"))
+    ∷ (codes "a\n\n  b", Some (codes "a\nb"))
+    ∷ (codes "a \n  b", Some (codes "a b"))
+    ∷ (codes "a" ++ line_separator ∷ codes "\n  b", Some (codes "a" ++ line_separator ∷ codes "\nb"))
+    ∷ (codes "a\\nb", Some (codes "a\\nb"))
+    ∷ [])
 plain_otherwise = refl
 
 -- ---- single quotes
@@ -57,16 +40,14 @@ single_without_reading : reads_none (read_single false)
 single_without_reading = refl
 
 -- a lone break written once, a space kept before a fold, U+2028 written twice, an escape, a break too many
-abbrev single_rows : List Row
-single_rows =
-    row (codes "'a\n  b'") (codes "a b")
-    ∷ row (codes "'\n  '") (codes " ")
-    ∷ row (codes "'a \n  b'") (codes "a b")
-    ∷ row (codes "'a" ++ line_separator ∷ line_separator ∷ codes "  b'") (codes "a" ++ line_separator ∷ line_separator ∷ codes "b")
-    ∷ row (codes "'a\\nb'") (codes "a\\nb")
-    ∷ row (codes "'a\n\n\n  b'") (codes "a\n\nb") ∷ []
-
-single_otherwise : readings (read_single false) single_rows ≡ values single_rows
+single_otherwise : Gives (read_single false) (
+    (codes "'a\n  b'", Some (codes "a b"))
+    ∷ (codes "'\n  '", Some (codes " "))
+    ∷ (codes "'a \n  b'", Some (codes "a b"))
+    ∷ (codes "'a" ++ line_separator ∷ line_separator ∷ codes "  b'", Some (codes "a" ++ line_separator ∷ line_separator ∷ codes "b"))
+    ∷ (codes "'a\\nb'", Some (codes "a\\nb"))
+    ∷ (codes "'a\n\n\n  b'", Some (codes "a\n\nb"))
+    ∷ [])
 single_otherwise = refl
 
 -- ---- double quotes
@@ -78,16 +59,14 @@ double_without_reading = refl
 
 -- a fold of two spaces without its backslash, or after the first of them, a break left raw, a space escaped before a
 -- fold, a backslash where no second space was, a fold at the first character
-abbrev double_rows : List Row
-double_rows =
-    row (codes "\"aaaaaa\n   b\"") (codes "aaaaaa b")
-    ∷ row (codes "\"aaaaaa \n  b\"") (codes "aaaaaa b")
-    ∷ row (codes "\"a\n  b\"") (codes "a b")
-    ∷ row (codes "\"a\\ \n  b\"") (codes "a  b")
-    ∷ row (codes "\"a\n  \\ b\"") (codes "a  b")
-    ∷ row (codes "\"\n  a\"") (codes " a") ∷ []
-
-double_otherwise : readings (read_double false) double_rows ≡ values double_rows
+double_otherwise : Gives (read_double false) (
+    (codes "\"aaaaaa\n   b\"", Some (codes "aaaaaa b"))
+    ∷ (codes "\"aaaaaa \n  b\"", Some (codes "aaaaaa b"))
+    ∷ (codes "\"a\n  b\"", Some (codes "a b"))
+    ∷ (codes "\"a\\ \n  b\"", Some (codes "a  b"))
+    ∷ (codes "\"a\n  \\ b\"", Some (codes "a  b"))
+    ∷ (codes "\"\n  a\"", Some (codes " a"))
+    ∷ [])
 double_otherwise = refl
 
 -- ---- literal and folded
@@ -98,24 +77,22 @@ block_without_reading : reads_none (read_block false None)
 block_without_reading = refl
 
 -- the digit counts from the column of the entries around it
-digit_of_entries : (read_block false (Some 2) (codes "|2\n   a\n") ≡ None) × (read_block false (Some 2) (codes "|2\n    a\n") ≡ Some (codes "a\n"))
-digit_of_entries = (refl, refl)
+digit_of_entries : Gives (read_block false (Some 2)) ((codes "|2\n   a\n", None) ∷ (codes "|2\n    a\n", Some (codes "a\n")) ∷ [])
+digit_of_entries = refl
 
 -- the wrong sign at the end, each in turn; a line that begins with a space folded, a break before such a line doubled,
 -- a break between others written once; a digit left out; one break alone without its sign
-abbrev block_rows : List Row
-block_rows =
-    row (codes "|-\n  a\n") (codes "a")
-    ∷ row (codes "|\n  a\n") (codes "a\n")
-    ∷ row (codes "|\n  a\n\n") (codes "a\n")
-    ∷ row (codes "|+\n  a\n\n") (codes "a\n\n")
-    ∷ row (codes ">2-\n   aaaaaa\n  b") (codes " aaaaaa\nb")
-    ∷ row (codes ">-\n  a\n\n   b") (codes "a\n\n b")
-    ∷ row (codes ">-\n  a\n  b") (codes "a b")
-    ∷ row (codes "|-\n   a") (codes "a")
-    ∷ row (codes "|\n\n") [] ∷ []
-
-block_otherwise : readings (read_block false None) block_rows ≡ values block_rows
+block_otherwise : Gives (read_block false None) (
+    (codes "|-\n  a\n", Some (codes "a"))
+    ∷ (codes "|\n  a\n", Some (codes "a\n"))
+    ∷ (codes "|\n  a\n\n", Some (codes "a\n"))
+    ∷ (codes "|+\n  a\n\n", Some (codes "a\n\n"))
+    ∷ (codes ">2-\n   aaaaaa\n  b", Some (codes " aaaaaa\nb"))
+    ∷ (codes ">-\n  a\n\n   b", Some (codes "a\n\n b"))
+    ∷ (codes ">-\n  a\n  b", Some (codes "a b"))
+    ∷ (codes "|-\n   a", Some (codes "a"))
+    ∷ (codes "|\n\n", Some [])
+    ∷ [])
 block_otherwise = refl
 
 -- ---- canonical streams
@@ -135,21 +112,25 @@ unfolding chars is_utf8 encode_utf8
 canonical_without_reading = refl
 
 -- a tag left out; the tag `!` left raw, which reads as the bare tag; a `%` left raw; a fold without its backslash
-canonical_scalars_otherwise :
-    (canonical_content false (codes "---\n\"5\"\n") ≡ alone [] (a_scalar (untagged true) (codes "5")))
-    × (canonical_content false (codes "---\n! \"5\"\n") ≡ alone [] (a_scalar (untagged false) (codes "5")))
-    × (canonical_content false (codes "---\n!%41 \"5\"\n") ≡ alone [] (a_scalar (tagged (codes "!A")) (codes "5")))
-    × (canonical_content false (codes "---\n\"aaaaaa\n   b\"\n") ≡ alone [] (a_scalar (untagged true) (codes "aaaaaa b")))
+canonical_scalars_otherwise : Gives (canonical_content false) (
+    (codes "---\n\"5\"\n", alone [] (a_scalar (untagged true) (codes "5")))
+    ∷ (codes "---\n! \"5\"\n", alone [] (a_scalar (untagged false) (codes "5")))
+    ∷ (codes "---\n!%41 \"5\"\n", alone [] (a_scalar (tagged (codes "!A")) (codes "5")))
+    ∷ (codes "---\n\"aaaaaa\n   b\"\n", alone [] (a_scalar (untagged true) (codes "aaaaaa b")))
+    ∷ [])
 unfolding chars is_utf8 encode_utf8
-canonical_scalars_otherwise = (refl, refl, refl, refl)
+canonical_scalars_otherwise = refl
 
 -- a mapping's key and value exchanged, an item too many, a directive for a handle that stands for something else
-canonical_trees_otherwise :
-    (canonical_content false (codes "---\n{\n  ? \"v\"\n  : \"k\",\n}\n")
-    ≡ alone [] (mapping_content None None (content_pairs_and no_content_pairs (a_scalar (untagged true) (codes "v")) (a_scalar (untagged true) (codes "k")))))
-    × (canonical_content false (codes "---\n[\n  [],\n]\n")
-    ≡ alone [] (sequence_content None None (contents_and no_contents (sequence_content None None no_contents))))
-    × (canonical_content false (codes "%TAG !! x:\n---\n!!str \"a\"\n")
-    ≡ alone (record { handle = codes "!!"; prefix = codes "x:" } ∷ []) (a_scalar (tagged (codes "x:str")) (codes "a")))
+canonical_trees_otherwise : Gives (canonical_content false) ((
+  codes "---\n{\n  ? \"v\"\n  : \"k\",\n}\n",
+  alone [] (mapping_content None None (content_pairs_and no_content_pairs (a_scalar (untagged true) (codes "v")) (a_scalar (untagged true) (codes "k")))),
+)
+    ∷ (codes "---\n[\n  [],\n]\n", alone [] (sequence_content None None (contents_and no_contents (sequence_content None None no_contents))))
+    ∷ (
+      codes "%TAG !! x:\n---\n!!str \"a\"\n",
+      alone (record { handle = codes "!!"; prefix = codes "x:" } ∷ []) (a_scalar (tagged (codes "x:str")) (codes "a")),
+    )
+    ∷ [])
 unfolding chars is_utf8 encode_utf8
-canonical_trees_otherwise = (refl, refl, refl)
+canonical_trees_otherwise = refl
