@@ -24,6 +24,11 @@ use Rattle.yaml_base.proofs.stream_nodes.StreamTexts.{collection_own, node_own, 
 not_empty : (s : Effective) (start : Collection) (empty : Bool) → is_written_in_flow s root_place start empty ≡ false → empty ≡ false
 not_empty s start empty h = (or_parts (false || s.canonical || asks_flow start.style) empty h).1
 
+-- what is asked of a node in a block where it isn't written in flow
+asked_in_block : (A B : Type 0) (x : Bool) → x ≡ false → EitherType x A B → B
+asked_in_block A B true h asked = absurd (true≢false h)
+asked_in_block A B false h asked = asked
+
 -- a sequence in a block
 sequence_stood : (start : Collection) (items : Nodes) (given : List TagDirective) (s : Effective) (directives : List TagDirective) (on_marker : Bool)
     → 2 ≤ s.indent
@@ -32,26 +37,20 @@ sequence_stood : (start : Collection) (items : Nodes) (given : List TagDirective
     → PropertiesStand on_marker s directives (sequence_node start items)
     → Stood on_marker (lines_of s.breaks12 (closed (node_own (sequence_node start items) s directives root_place (root_cursor on_marker))))
 sequence_stood start items given s directives on_marker deep block leaves properties =
-    by (is_written_in_flow s root_place start (has_no_nodes items)) block leaves
-  where
-    rules : Rules
-    rules = record { breaks12 = s.breaks12; directives = given }
-
-    begun : Rendered
-    begun = render_begun s directives start (root_cursor on_marker)
-
-    by : (x : Bool) → x ≡ false
-        → EitherType x (LeafFits rules s directives (sequence_node start items) root_place (root_cursor on_marker))
-        (BegunReads rules s directives start (root_cursor on_marker) × ItemLeaves items rules s directives 0)
-        → Stood on_marker (lines_of s.breaks12 (closed (collection_own s square x false (has_no_nodes items) None begun (items_own items s directives x))))
-    by true h each = absurd (true≢false h)
-    by false h each =
-        let fit = items_fit items rules s directives 0 deep each.1 in
-        let some = not_empty s start (has_no_nodes items) block in
-        let reads = items_block rules s directives items 0 fit some in
-        block_stands rules on_marker start.anchor (collection_tag s.canonical start) begun (items_own items s directives false 0 begun.cursor)
-        (items_text items s directives 0) reads.kind
-        each.0 (items_lay rules s directives items 0 begun.cursor fit some) reads.opened (items_markerless rules s directives items fit) properties
+    let rules : Rules = record { breaks12 = s.breaks12; directives = given } in
+    let begun : Rendered = render_begun s directives start (root_cursor on_marker) in
+    let asked =
+    asked_in_block (LeafFits rules s directives (sequence_node start items) root_place (root_cursor on_marker))
+    (BegunReads rules s directives start (root_cursor on_marker) × ItemLeaves items rules s directives 0)
+    (is_written_in_flow s root_place start (has_no_nodes items)) block leaves in
+    let fit = items_fit items rules s directives 0 deep asked.1 in
+    let some = not_empty s start (has_no_nodes items) block in
+    let reads = items_block rules s directives items 0 fit some in
+    let own : Bool → Rendered = λ x. collection_own s square x false (has_no_nodes items) None begun (items_own items s directives x) in
+    subst (λ x. Stood on_marker (lines_of s.breaks12 (closed (own x)))) (sym block)
+    (block_stands rules on_marker start.anchor (collection_tag s.canonical start) begun (items_own items s directives false 0 begun.cursor)
+    (items_text items s directives 0) reads.kind asked.0 (items_lay rules s directives items 0 begun.cursor fit some) reads.opened
+    (items_markerless rules s directives items fit) properties)
 
 -- a mapping in a block
 mapping_stood : (start : Collection) (pairs : Pairs) (given : List TagDirective) (s : Effective) (directives : List TagDirective) (on_marker : Bool)
@@ -61,26 +60,20 @@ mapping_stood : (start : Collection) (pairs : Pairs) (given : List TagDirective)
     → PropertiesStand on_marker s directives (mapping_node start pairs)
     → Stood on_marker (lines_of s.breaks12 (closed (node_own (mapping_node start pairs) s directives root_place (root_cursor on_marker))))
 mapping_stood start pairs given s directives on_marker deep block leaves properties =
-    by (is_written_in_flow s root_place start (has_no_pairs pairs)) block leaves
-  where
-    rules : Rules
-    rules = record { breaks12 = s.breaks12; directives = given }
-
-    begun : Rendered
-    begun = render_begun s directives start (root_cursor on_marker)
-
-    by : (x : Bool) → x ≡ false
-        → EitherType x (LeafFits rules s directives (mapping_node start pairs) root_place (root_cursor on_marker))
-        (BegunReads rules s directives start (root_cursor on_marker) × PairLeaves pairs rules s directives 0)
-        → Stood on_marker (lines_of s.breaks12 (closed (collection_own s curly x false (has_no_pairs pairs) None begun (pairs_own pairs s directives x))))
-    by true h each = absurd (true≢false h)
-    by false h each =
-        let fit = pairs_fit pairs rules s directives 0 deep each.1 in
-        let some = not_empty s start (has_no_pairs pairs) block in
-        let reads = pairs_block rules s directives pairs 0 fit some in
-        block_stands rules on_marker start.anchor (collection_tag s.canonical start) begun (pairs_own pairs s directives false 0 begun.cursor)
-        (pairs_text pairs s directives 0) reads.kind
-        each.0 (pairs_lay rules s directives pairs 0 begun.cursor fit some) reads.opened (pairs_markerless rules s directives pairs fit) properties
+    let rules : Rules = record { breaks12 = s.breaks12; directives = given } in
+    let begun : Rendered = render_begun s directives start (root_cursor on_marker) in
+    let asked =
+    asked_in_block (LeafFits rules s directives (mapping_node start pairs) root_place (root_cursor on_marker))
+    (BegunReads rules s directives start (root_cursor on_marker) × PairLeaves pairs rules s directives 0)
+    (is_written_in_flow s root_place start (has_no_pairs pairs)) block leaves in
+    let fit = pairs_fit pairs rules s directives 0 deep asked.1 in
+    let some = not_empty s start (has_no_pairs pairs) block in
+    let reads = pairs_block rules s directives pairs 0 fit some in
+    let own : Bool → Rendered = λ x. collection_own s curly x false (has_no_pairs pairs) None begun (pairs_own pairs s directives x) in
+    subst (λ x. Stood on_marker (lines_of s.breaks12 (closed (own x)))) (sym block)
+    (block_stands rules on_marker start.anchor (collection_tag s.canonical start) begun (pairs_own pairs s directives false 0 begun.cursor)
+    (pairs_text pairs s directives 0) reads.kind asked.0 (pairs_lay rules s directives pairs 0 begun.cursor fit some) reads.opened
+    (pairs_markerless rules s directives pairs fit) properties)
 
 -- any of them
 block_stood : (n : Node) (given : List TagDirective) (s : Effective) (directives : List TagDirective) (on_marker : Bool) → 2 ≤ s.indent → is_leaf s n ≡ false

@@ -3,12 +3,12 @@ use Rattle.yaml_base.proofs.Common.{suc, zero, ℕ, ◌+◌, ◌-◌, ◌<◌, �
 use Rattle.yaml_base.proofs.Common.{List, ◌∷◌, refl, ◌≡◌, eqb-true, le-ltb, true≢false, ap, subst, sym, ◌∙◌, arith, or_parts, false≢true, Text}
 use Rattle.yaml_base.proofs.Common.{line_feed, Cursor, Rendered, TagDirective, Collection, collection_tag, Node, alias_node, scalar_node, Nodes}
 use Rattle.yaml_base.proofs.Common.{sequence_node, Pairs, mapping_node, no_nodes, nodes_and, no_pairs, pairs_and, render_properties, asks_flow}
-use Rattle.yaml_base.proofs.Common.{is_written_in_flow, square, curly, Role, Place, is_undented, entries_column, has_no_nodes, has_no_pairs}
+use Rattle.yaml_base.proofs.Common.{is_written_in_flow, Brackets, square, curly, Role, Place, is_undented, entries_column, has_no_nodes, has_no_pairs}
 use Rattle.yaml_base.proofs.Common.{is_simple, Effective, Tree, sequence_tree, mapping_tree, spaces, Rules}
 use Rattle.yaml_base.proofs.stream_lines.StreamClosed.{Settled, new_line_closes, indicator_cursor, rank}
 use Rattle.yaml_base.proofs.stream_nodes.{StreamAgrees.node_tree, StreamAgrees.nodes_tree, StreamAgrees.pairs_tree, StreamCentral.items_block}
 use Rattle.yaml_base.proofs.stream_nodes.{StreamCentral.pairs_block, StreamPairReads.colon_ends, StreamPairReads.pairs_settled, StreamPairReads.pairs_lay}
-use Rattle.yaml_base.proofs.stream_nodes.StreamBlocks.{Compact, BegunKind, unsaid, is_parsed, block_fits}
+use Rattle.yaml_base.proofs.stream_nodes.StreamBlocks.{Block, Compact, Entries, BegunKind, unsaid, is_parsed, block_fits}
 use Rattle.yaml_base.proofs.stream_nodes.StreamFits.{size, items_size, pairs_size, WithinColumn, Fits}
 use Rattle.yaml_base.proofs.stream_nodes.StreamItems.{item_place, items_text, ItemsFit, items_settled, items_end, items_inside, items_lay}
 use Rattle.yaml_base.proofs.stream_nodes.StreamPairs.{KeyFits, key_place, value_place, colon_cursor, simple_key, pairs_text, PairFits, PairsFit, pairs_end}
@@ -138,48 +138,54 @@ fits_deeper rules m n own tree place cursor le fit = grind (arith)
 not_empty : (s : Effective) (place : Place) (start : Collection) (empty : Bool) → is_written_in_flow s place start empty ≡ false → empty ≡ false
 not_empty s place start empty h = (or_parts (place.in_flow || s.canonical || asks_flow start.style) empty h).1
 
--- a sequence fits where its items do, or by itself
+-- a collection fits where its entries in a block do, or by itself
+collection_fits : {Read : Type 0} (rules : Rules) (s : Effective) (place : Place) (cursor : Cursor) (brackets : Brackets) (undented empty : Bool)
+    (begun : Rendered) (size : ℕ) (text : Text) (own : Bool → ℕ → Cursor → Rendered) (make : Bool → Option Text → Option Text → Tree)
+    (anchor tag : Option Text) (in_flow x : Bool)
+    → in_flow ≡ x
+    → EitherType x
+    (Fits rules 1 (collection_own s brackets in_flow undented empty place.column begun (own in_flow)) (make in_flow anchor tag) place cursor)
+    (BegunKind rules anchor tag cursor begun × Read)
+    → (in_flow ≡ false → BegunKind rules anchor tag cursor begun × Read
+    → Block rules size (entries_column false undented s.indent place.column begun.cursor) text (make false)
+    × Entries rules (entries_column false undented s.indent place.column begun.cursor) place begun
+    (own false (entries_column false undented s.indent place.column begun.cursor) begun.cursor) text)
+    → Fits rules (suc size) (collection_own s brackets x undented empty place.column begun (own x)) (make x anchor tag) place cursor
+collection_fits rules s place cursor brackets undented empty begun size text own make anchor tag in_flow true h leaf each =
+    fits_deeper rules 1 (suc size) (collection_own s brackets true undented empty place.column begun (own true)) (make true anchor tag) place cursor
+    (omega arith)
+    (subst (λ x. Fits rules 1 (collection_own s brackets x undented empty place.column begun (own x)) (make x anchor tag) place cursor) h leaf)
+collection_fits rules s place cursor brackets undented empty begun size text own make anchor tag in_flow false h read each =
+    let e : ℕ = entries_column false undented s.indent place.column begun.cursor in
+    let parts = each h read in
+    block_fits rules size e place cursor begun (own false e begun.cursor) text (make false) anchor tag read.0 parts.0 parts.1
+
+-- a sequence does
 sequence_fits : (start : Collection) (items : Nodes) (rules : Rules) (s : Effective) (directives : List TagDirective) (place : Place) (cursor : Cursor)
     → 2 ≤ s.indent → Stands place.column cursor
     → Leaves (sequence_node start items) rules s directives place cursor
     → ((e : ℕ) → ItemLeaves items rules s directives e → ItemsFit rules s directives items e)
     → Fits rules (size (sequence_node start items)) (node_own (sequence_node start items) s directives place cursor)
     (node_tree (sequence_node start items) s directives place) place cursor
-sequence_fits start items rules s directives place cursor deep stands leaves each = by (is_written_in_flow s place start (has_no_nodes items)) refl leaves
-  where
-    begun : Rendered
-    begun = render_begun s directives start cursor
-
-    e : ℕ
-    e = entries_column false (is_undented s place.role) s.indent place.column begun.cursor
-
-    own : Bool → Rendered
-    own x = collection_own s square x (is_undented s place.role) (has_no_nodes items) place.column begun (items_own items s directives x)
-
-    tree : Bool → Tree
-    tree x = sequence_tree start.anchor (collection_tag s.canonical start) (nodes_tree items s directives x)
-
-    by : (x : Bool) → is_written_in_flow s place start (has_no_nodes items) ≡ x
-        → EitherType x (LeafFits rules s directives (sequence_node start items) place cursor)
-        (BegunReads rules s directives start cursor × ItemLeaves items rules s directives e)
-        → Fits rules (suc (items_size items)) (own x) (tree x) place cursor
-    by true h leaf =
-        fits_deeper rules 1 (suc (items_size items)) (own true) (tree true) place cursor (omega arith)
-        (subst (λ x. Fits rules 1 (own x) (tree x) place cursor) h leaf)
-    by false h leaves =
-        let fit = each e leaves.1 in
-        let some = not_empty s place start (has_no_nodes items) h in
-        block_fits rules (items_size items) e place cursor begun (items_own items s directives false e begun.cursor) (items_text items s directives e)
-        (λ anchor tag. sequence_tree anchor tag (nodes_tree items s directives false)) start.anchor (collection_tag s.canonical start) leaves.0
-        (items_block rules s directives items e fit some)
-        (record {
-          settled = items_settled rules s directives items e begun.cursor fit some;
-          ends = items_end rules s directives items e fit;
-          lays = items_lay rules s directives items e begun.cursor fit some;
-          inside = λ q d within. items_inside rules s directives items e fit q d (items_within s q d place.role place.column begun.cursor deep within);
-          compact = compact_begun rules start.anchor (collection_tag s.canonical start) place.column
-              (is_undented s place.role) s.indent cursor begun deep stands leaves.0;
-        })
+sequence_fits start items rules s directives place cursor deep stands leaves each =
+    let begun : Rendered = render_begun s directives start cursor in
+    let e : ℕ = entries_column false (is_undented s place.role) s.indent place.column begun.cursor in
+    collection_fits rules s place cursor square (is_undented s place.role) (has_no_nodes items) begun (items_size items) (items_text items s directives e)
+    (items_own items s directives) (λ x anchor tag. sequence_tree anchor tag (nodes_tree items s directives x)) start.anchor (collection_tag s.canonical start)
+    (is_written_in_flow s place start (has_no_nodes items)) (is_written_in_flow s place start (has_no_nodes items)) refl leaves
+    (λ h read.
+    let fit = each e read.1 in
+    let some = not_empty s place start (has_no_nodes items) h in (
+      items_block rules s directives items e fit some,
+      record {
+        settled = items_settled rules s directives items e begun.cursor fit some;
+        ends = items_end rules s directives items e fit;
+        lays = items_lay rules s directives items e begun.cursor fit some;
+        inside = λ q d within. items_inside rules s directives items e fit q d (items_within s q d place.role place.column begun.cursor deep within);
+        compact = compact_begun rules start.anchor (collection_tag s.canonical start) place.column
+            (is_undented s place.role) s.indent cursor begun deep stands read.0;
+      },
+    ))
 
 -- so does a mapping
 mapping_fits : (start : Collection) (pairs : Pairs) (rules : Rules) (s : Effective) (directives : List TagDirective) (place : Place) (cursor : Cursor)
@@ -188,40 +194,24 @@ mapping_fits : (start : Collection) (pairs : Pairs) (rules : Rules) (s : Effecti
     → ((e : ℕ) → PairLeaves pairs rules s directives e → PairsFit rules s directives pairs e)
     → Fits rules (size (mapping_node start pairs)) (node_own (mapping_node start pairs) s directives place cursor)
     (node_tree (mapping_node start pairs) s directives place) place cursor
-mapping_fits start pairs rules s directives place cursor deep stands leaves each = by (is_written_in_flow s place start (has_no_pairs pairs)) refl leaves
-  where
-    begun : Rendered
-    begun = render_begun s directives start cursor
-
-    e : ℕ
-    e = entries_column false false s.indent place.column begun.cursor
-
-    own : Bool → Rendered
-    own x = collection_own s curly x false (has_no_pairs pairs) place.column begun (pairs_own pairs s directives x)
-
-    tree : Bool → Tree
-    tree x = mapping_tree start.anchor (collection_tag s.canonical start) (pairs_tree pairs s directives x)
-
-    by : (x : Bool) → is_written_in_flow s place start (has_no_pairs pairs) ≡ x
-        → EitherType x (LeafFits rules s directives (mapping_node start pairs) place cursor)
-        (BegunReads rules s directives start cursor × PairLeaves pairs rules s directives e)
-        → Fits rules (suc (pairs_size pairs)) (own x) (tree x) place cursor
-    by true h leaf =
-        fits_deeper rules 1 (suc (pairs_size pairs)) (own true) (tree true) place cursor (omega arith)
-        (subst (λ x. Fits rules 1 (own x) (tree x) place cursor) h leaf)
-    by false h leaves =
-        let fit = each e leaves.1 in
-        let some = not_empty s place start (has_no_pairs pairs) h in
-        block_fits rules (pairs_size pairs) e place cursor begun (pairs_own pairs s directives false e begun.cursor) (pairs_text pairs s directives e)
-        (λ anchor tag. mapping_tree anchor tag (pairs_tree pairs s directives false)) start.anchor (collection_tag s.canonical start) leaves.0
-        (pairs_block rules s directives pairs e fit some)
-        (record {
-          settled = pairs_settled rules s directives pairs e begun.cursor fit some;
-          ends = pairs_end rules s directives pairs e fit;
-          lays = pairs_lay rules s directives pairs e begun.cursor fit some;
-          inside = λ q d within. pairs_inside rules s directives pairs e fit q d (pairs_within q d place.role place.column s.indent begun.cursor deep within);
-          compact = compact_begun rules start.anchor (collection_tag s.canonical start) place.column false s.indent cursor begun deep stands leaves.0;
-        })
+mapping_fits start pairs rules s directives place cursor deep stands leaves each =
+    let begun : Rendered = render_begun s directives start cursor in
+    let e : ℕ = entries_column false false s.indent place.column begun.cursor in
+    collection_fits rules s place cursor curly false (has_no_pairs pairs) begun (pairs_size pairs) (pairs_text pairs s directives e)
+    (pairs_own pairs s directives) (λ x anchor tag. mapping_tree anchor tag (pairs_tree pairs s directives x)) start.anchor (collection_tag s.canonical start)
+    (is_written_in_flow s place start (has_no_pairs pairs)) (is_written_in_flow s place start (has_no_pairs pairs)) refl leaves
+    (λ h read.
+    let fit = each e read.1 in
+    let some = not_empty s place start (has_no_pairs pairs) h in (
+      pairs_block rules s directives pairs e fit some,
+      record {
+        settled = pairs_settled rules s directives pairs e begun.cursor fit some;
+        ends = pairs_end rules s directives pairs e fit;
+        lays = pairs_lay rules s directives pairs e begun.cursor fit some;
+        inside = λ q d within. pairs_inside rules s directives pairs e fit q d (pairs_within q d place.role place.column s.indent begun.cursor deep within);
+        compact = compact_begun rules start.anchor (collection_tag s.canonical start) place.column false s.indent cursor begun deep stands read.0;
+      },
+    ))
 
 -- a pair fits where its key and its value do
 pair_fits : (x : Bool) (pairs : Pairs) (key value : Node) (rules : Rules) (s : Effective) (directives : List TagDirective) (e : ℕ)
