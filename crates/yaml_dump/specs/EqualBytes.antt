@@ -22,20 +22,20 @@ OneReadingBack =
     → AllAreEquivalent firsts seconds
 
 -- under equal settings equal canonical outputs, uncut, come only from documents that say the same
-abbrev pub EqualBytes : Type 0
-EqualBytes =
+abbrev pub EqualBytesTellGraphs : Type 0
+EqualBytesTellGraphs =
     (given : Settings) (firsts seconds : List Graph) (first second : List Event) → AreDumped firsts first → AreDumped seconds second
     → IsWhole given first → IsWhole given second → output_of given first ≡ output_of given second → AllAreEquivalent firsts seconds
 
 -- so do equal outputs in every mode, of streams that read back
-abbrev pub EqualReadableBytes : Type 0
-EqualReadableBytes =
+abbrev pub EqualReadableBytesTellGraphs : Type 0
+EqualReadableBytesTellGraphs =
     (given : Settings) (firsts seconds : List Graph) (first second : List Event) → AreDumped firsts first → AreDumped seconds second
     → IsReadable given first → IsReadable given second → output_of given first ≡ output_of given second → AllAreEquivalent firsts seconds
 
 -- and in canonical mode documents that say the same, and end alike, have equal outputs, whatever their styles
-abbrev pub EqualDocuments : Type 0
-EqualDocuments =
+abbrev pub EqualGraphsGiveBytes : Type 0
+EqualGraphsGiveBytes =
     (given : Settings) (firsts seconds : List Graph) (first second : List Event) → given.canonical ≡ true → AreDumped firsts first
     → AreDumped seconds second → encoding_asked first ≡ encoding_asked second → AreWrittenAlike firsts seconds
     → output_of given first ≡ output_of given second

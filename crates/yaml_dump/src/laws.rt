@@ -16,8 +16,8 @@ pub fn dumped_trees_unfold()
 /// in order (`Isomorphic`). So it is in canonical mode, and in every mode of streams that read back (see
 /// `streams_read_back` of `yaml_emitter`); and whoever holds bytes alone, and knows that a dump wrote them, knows the graphs.
 pub fn equal_bytes_tell_graphs()
-    ensures canonical { equal.EqualBytes }
-    ensures readable { equal.EqualReadableBytes }
+    ensures canonical { equal.EqualBytesTellGraphs }
+    ensures readable { equal.EqualReadableBytesTellGraphs }
     ensures read { equal.OneReading }
     ensures read_back { equal.OneReadingBack }
 {}
@@ -25,5 +25,5 @@ pub fn equal_bytes_tell_graphs()
 /// Isomorphic graphs give equal bytes in canonical mode, whatever their nodes' numbers and styles are, where the documents
 /// have the same versions, directives and explicit ends, and the streams ask for the same encoding.
 pub fn equal_graphs_give_bytes()
-    ensures { equal.EqualDocuments }
+    ensures { equal.EqualGraphsGiveBytes }
 {}
