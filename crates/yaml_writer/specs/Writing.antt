@@ -9,6 +9,7 @@ use Rattle.yaml_base.specs.Event.{document_start, document_end, scalar, sequence
 use Rattle.yaml_base.specs.values.JsonNumbers.{JsonNumber, is_json_integer, yaml_number}
 use Rattle.yaml_base.specs.Prefix.{IsPrefix}
 use Rattle.yaml_base.specs.Refusal.{IsAccepted}
+use Rattle.yaml_base.specs.Seen.{seen_mapping_style, seen_sequence_style}
 use Rattle.yaml_base.specs.Settings.{Settings}
 use Rattle.yaml_base.specs.values.SurelyText.{is_surely_text}
 use Rattle.yaml_base.specs.values.TypedValues.{null_tag, bool_tag, int_tag, bool_text}
@@ -22,6 +23,8 @@ use Rattle.yaml_emitter.specs.Promises.{IsWritten}
 use Rattle.yaml_writer.specs.Times.{Moment, timestamp_text}
 use Rattle.yaml_writer.specs.declared.kinds.CollectionKind.{CollectionKind}
 use Rattle.yaml_writer.specs.declared.kinds.CollectionKind.TheVariants.{Mapping, Sequence}
+use Rattle.yaml_writer.specs.declared.collections.CollectionStart.{CollectionStart}
+use Rattle.yaml_writer.specs.declared.collections.CollectionStart.TheVariants as start
 use Rattle.yaml_writer.specs.declared.kinds.DocumentEnd.{DocumentEnd}
 use Rattle.yaml_writer.specs.declared.kinds.DocumentEnd.TheVariants.{Implicit, Explicit}
 
@@ -134,6 +137,15 @@ mapping_event writer style = mapping_start (collection_of writer style)
 -- a sequence begins
 abbrev pub sequence_event : WriterState → CollectionStyle → Event
 sequence_event writer style = sequence_start (collection_of writer style)
+
+-- the start of a collection of this kind and this style
+abbrev pub start_of : CollectionStart → (CollectionStyle → Collection) → Event
+start_of (start.Mapping style) make = mapping_start (make (seen_mapping_style style))
+start_of (start.Sequence style) make = sequence_start (make (seen_sequence_style style))
+
+-- a collection begins
+abbrev pub start_event : WriterState → CollectionStart → Event
+start_event writer start = start_of start (collection_of writer)
 
 -- a collection ends
 abbrev pub end_event : CollectionKind → Event

@@ -1,14 +1,22 @@
 //! Collections and documents of a writer.
 ghost use Rattle.std.specs.Prelude.{◌≡◌, ◌⊎◌, IfErr, OnOk, None, Some, true, false, length};
 ghost use Rattle.yaml_base.specs.Seen.{seen_mapping_style, seen_sequence_style};
-ghost use Rattle.yaml_writer.specs.Writing.{EndsInnermost, Failed, GaveEvent, NodeExpected, awaits_node, with_collection, mapping_event, sequence_event};
+ghost use Rattle.yaml_writer.specs.Writing.{EndsInnermost, Failed, GaveEvent, NodeExpected, awaits_node, mapping_event, sequence_event};
+ghost use Rattle.yaml_writer.specs.Writing.{start_event, with_collection};
 ghost use Rattle.yaml_writer.specs.declared.kinds.CollectionKind.TheVariants.{Mapping, Sequence};
 
-use crate::giving::{give, give_end, start_of_mapping, start_of_sequence};
+use crate::giving::{give, give_end, start_of};
 use crate::kinds::CollectionKind;
 use crate::writer::Writer;
 use std::alloc::Allocator;
 use yaml_base::{yaml_error_t, yaml_mapping_style_t, yaml_sequence_style_t};
+
+/// The kind and the style of a collection that starts.
+#[derive(Clone, Copy)]
+pub(crate) enum CollectionStart {
+    Mapping(yaml_mapping_style_t),
+    Sequence(yaml_sequence_style_t),
+}
 
 impl<A: Allocator + Copy> Writer<A> {
     /// Begins a mapping: keys and values follow in turn, and then `end`.
@@ -22,7 +30,7 @@ impl<A: Allocator + Copy> Writer<A> {
             ⊎ ((error ≡ yaml_error_t.Memory) × (self.new ≡ self.old))) }
     {
         self.enter(CollectionKind::Mapping)?;
-        self.mapping(style)
+        self.start(CollectionStart::Mapping(style))
     }
 
     /// Begins a sequence: items follow, and then `end`.
@@ -36,7 +44,7 @@ impl<A: Allocator + Copy> Writer<A> {
             ⊎ ((error ≡ yaml_error_t.Memory) × (self.new ≡ self.old))) }
     {
         self.enter(CollectionKind::Sequence)?;
-        self.sequence(style)
+        self.start(CollectionStart::Sequence(style))
     }
 
     /// How many collections are open.
@@ -72,23 +80,13 @@ impl<A: Allocator + Copy> Writer<A> {
         self.levels.push(kind).map_err(|_| yaml_error_t::Memory)
     }
 
-    /// Gives the start of a mapping to the emitter, with the properties of the next node.
-    fn mapping(&mut self, style: yaml_mapping_style_t) -> Result<(), yaml_error_t>
-        ensures given { OnOk result (GaveEvent self.old (mapping_event self.old (seen_mapping_style style)) None self.new) }
-        ensures failed { IfErr result (λ error. GaveEvent self.old (mapping_event self.old (seen_mapping_style style)) (Some error) self.new) }
+    /// Gives the start of a collection to the emitter, with the properties of the next node.
+    fn start(&mut self, start: CollectionStart) -> Result<(), yaml_error_t>
+        ensures given { OnOk result (GaveEvent self.old (start_event self.old start) None self.new) }
+        ensures failed { IfErr result (λ error. GaveEvent self.old (start_event self.old start) (Some error) self.new) }
     {
         let anchor = self.anchor.take();
         let tag = self.tag.take();
-        give(&mut self.emitter, start_of_mapping(anchor, tag, style))
-    }
-
-    /// Gives the start of a sequence to the emitter, with the properties of the next node.
-    fn sequence(&mut self, style: yaml_sequence_style_t) -> Result<(), yaml_error_t>
-        ensures given { OnOk result (GaveEvent self.old (sequence_event self.old (seen_sequence_style style)) None self.new) }
-        ensures failed { IfErr result (λ error. GaveEvent self.old (sequence_event self.old (seen_sequence_style style)) (Some error) self.new) }
-    {
-        let anchor = self.anchor.take();
-        let tag = self.tag.take();
-        give(&mut self.emitter, start_of_sequence(anchor, tag, style))
+        give(&mut self.emitter, start_of(anchor, tag, start))
     }
 }

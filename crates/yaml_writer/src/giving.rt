@@ -1,8 +1,8 @@
 //! Events given to an emitter.
 ghost use Rattle.std.specs.Prelude.{◌≡◌, ◌||◌, IfOk, IfErr, OnOk, [], ◌∷◌, true, None, chars, is_none, is_ok, is_some, option_map};
 ghost use Rattle.std.specs.Option.{option_or};
-ghost use Rattle.yaml_base.specs.Event.{alias, document_end, mapping_start, sequence_start};
-ghost use Rattle.yaml_base.specs.Seen.{seen_event, seen_mapping_style, seen_scalar_style, seen_sequence_style, seen_text};
+ghost use Rattle.yaml_base.specs.Event.{alias, document_end};
+ghost use Rattle.yaml_base.specs.Seen.{seen_event, seen_scalar_style, seen_text};
 ghost use Rattle.yaml_base.specs.Settings.{Settings};
 ghost use Rattle.yaml_emitter.specs.BorrowedTexts.{seen_name, seen_scalar};
 ghost use Rattle.yaml_pen.specs.Page.{output_left, result_of_error};
@@ -11,13 +11,14 @@ ghost use Rattle.yaml_writer.specs.Unfinished.{IsUnfinishedBy};
 ghost use Rattle.yaml_writer.specs.Writing.{AddsEvent, AddsEvents, FinishesBy, StandsTaken, end_event, opening, plain_start as document_begins};
 ghost use Rattle.yaml_writer.specs.Writing as writing;
 
+use crate::collections::CollectionStart;
 use crate::kinds::{CollectionKind, DocumentEnd, is_implicit};
 use std::alloc::Allocator;
 use yaml_base::{
     YAML_ALIAS_EVENT, YAML_ANY_ENCODING, YAML_DOCUMENT_END_EVENT, YAML_DOCUMENT_START_EVENT,
     YAML_MAPPING_END_EVENT, YAML_MAPPING_START_EVENT, YAML_SEQUENCE_END_EVENT,
     YAML_SEQUENCE_START_EVENT, YAML_STREAM_END_EVENT, YAML_STREAM_START_EVENT, yaml_error_t,
-    yaml_event_t, yaml_mapping_style_t, yaml_scalar_style_t, yaml_sequence_style_t,
+    yaml_event_t, yaml_scalar_style_t,
 };
 use yaml_emitter::{ScalarContent, yaml_emitter_emit, yaml_emitter_t, yaml_emitter_take_output};
 
@@ -138,41 +139,30 @@ pub(crate) fn use_up<A: Allocator>(anchor: &mut Option<String<A>>, tag: &mut Opt
     let _tag = tag.take();
 }
 
-/// The start of a mapping; where it has no tag, none need be written.
-pub(crate) fn start_of_mapping<A: Allocator>(
+/// The start of a collection; where it has no tag, none need be written.
+pub(crate) fn start_of<A: Allocator>(
     anchor: Option<String<A>>,
     tag: Option<String<A>>,
-    style: yaml_mapping_style_t,
+    start: CollectionStart,
 ) -> yaml_event_t<A>
     ensures { seen_event result
-        ≡ mapping_start
-        (record { anchor = option_map seen_text anchor; tag = option_map seen_text tag; implicit = is_none tag; style = seen_mapping_style style }) }
+        ≡ writing.start_of start (λ style.
+        record { anchor = option_map seen_text anchor; tag = option_map seen_text tag; implicit = is_none tag; style = style }) }
 {
     let implicit = tag.is_none();
-    YAML_MAPPING_START_EVENT {
-        anchor,
-        tag,
-        implicit,
-        style,
-    }
-}
-
-/// The start of a sequence; where it has no tag, none need be written.
-pub(crate) fn start_of_sequence<A: Allocator>(
-    anchor: Option<String<A>>,
-    tag: Option<String<A>>,
-    style: yaml_sequence_style_t,
-) -> yaml_event_t<A>
-    ensures { seen_event result
-        ≡ sequence_start
-        (record { anchor = option_map seen_text anchor; tag = option_map seen_text tag; implicit = is_none tag; style = seen_sequence_style style }) }
-{
-    let implicit = tag.is_none();
-    YAML_SEQUENCE_START_EVENT {
-        anchor,
-        tag,
-        implicit,
-        style,
+    match start {
+        CollectionStart::Mapping(style) => YAML_MAPPING_START_EVENT {
+            anchor,
+            tag,
+            implicit,
+            style,
+        },
+        CollectionStart::Sequence(style) => YAML_SEQUENCE_START_EVENT {
+            anchor,
+            tag,
+            implicit,
+            style,
+        },
     }
 }
 
