@@ -1,5 +1,5 @@
 -- What the caller sets, and what it comes to at the stream's start (libyaml's own rules).
-use Rattle.std.specs.Prelude.{ℕ, ℤ, pos, Bool, Option, None, Some, ◌==◌, ◌||◌, ◌&&◌, ◌*◌, nat_le, if◌then◌else◌, unwrap_or}
+use Rattle.std.specs.Prelude.{ℕ, ℤ, pos, Bool, false, Option, None, Some, ◌==◌, ◌||◌, ◌&&◌, ◌*◌, nat_le, if◌then◌else◌, unwrap_or}
 
 -- the largest `i32`, which as a width is no limit
 abbrev pub largest_i32 : ℕ
@@ -33,6 +33,22 @@ pub record Settings : Type 0 where
   pub portable : Bool
   pub indented_sequences : Bool
   pub limit : ℕ
+
+-- the settings before any setter is called
+abbrev pub nothing_given : Settings
+nothing_given =
+    record {
+      encoding = None;
+      canonical = false;
+      unicode = false;
+      indent = None;
+      width = None;
+      line_break = None;
+      breaks12 = false;
+      portable = false;
+      indented_sequences = false;
+      limit = largest_usize;
+    }
 
 -- what the layout goes by; a width of none is no limit
 pub record Effective : Type 0 where

@@ -1,8 +1,7 @@
 -- What the stream of one letter is written by, and its events.
 use Rattle.std.specs.Prelude.{true, None, Some, List, [], ◌∷◌, negsuc, codes}
-use Rattle.yaml_base.specs.Settings.{Settings}
+use Rattle.yaml_base.specs.Settings.{Settings, nothing_given}
 use Rattle.yaml_base.specs.Event.{Event, any_style, stream_start, stream_end, document_start, document_end, scalar}
-use Rattle.yaml_emitter.specs.Given.{nothing_given}
 
 -- canonical, no width, 100 bytes
 abbrev pub letter_settings : Settings

@@ -1,10 +1,9 @@
 -- A mapping of one text to another: what it is written by, and its events.
 use Rattle.std.specs.Prelude.{true, None, List, [], ◌∷◌}
 use Rattle.yaml_base.specs.Characters.{Text}
-use Rattle.yaml_base.specs.Settings.{Settings}
+use Rattle.yaml_base.specs.Settings.{Settings, nothing_given}
 use Rattle.yaml_base.specs.Event.{TagDirective, Event, any_style, block, stream_start, stream_end, document_start, document_end, scalar, mapping_start}
 use Rattle.yaml_base.specs.Event.{mapping_end}
-use Rattle.yaml_emitter.specs.Given.{nothing_given}
 
 -- portable, 1,000,000 bytes
 abbrev pub portable_settings : Settings

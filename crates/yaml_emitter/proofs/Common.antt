@@ -42,6 +42,7 @@ pub use Rattle.yaml_base.{proofs.Trees.stream_pushed, proofs.Trees.tree_of-strea
 pub use Rattle.yaml_base.{specs.Encoding.text_bytes, specs.Indicators.render_indicator, specs.Indicators.spaced, specs.Indicators.yaml_directive}
 pub use Rattle.yaml_base.{specs.Meaning.BodyMeans, specs.Meaning.option_scalars, specs.Output.flushes, specs.Output.last_flushes, specs.Pieces.pieces}
 pub use Rattle.yaml_base.{specs.Pieces.last_begins_collection, specs.Prefix.IsPrefix, specs.Ready.held_back, specs.Refusal.properties_fault}
+pub use Rattle.yaml_base.specs.Settings.{nothing_given}
 pub use Rattle.yaml_base.{specs.Refusal.BeginsAccepted, specs.Tags.last_from, specs.Tags.without_last, specs.Tags.default_directives}
 pub use Rattle.yaml_base.{specs.WrittenTexts.HoldsRaw, specs.reading.Content.documents_content, specs.scalars.Analysis.begins_with}
 pub use Rattle.yaml_base.{specs.scalars.Analysis.allows_plain, specs.scalars.DoubleQuoted.quote, specs.scalars.DoubleQuoted.backslash}
@@ -57,7 +58,7 @@ pub use Rattle.yaml_base.specs.reading.CanonicalTokens.{Token, version_line, tag
 pub use Rattle.yaml_base.specs.reading.CanonicalTokens.{scalar_token, opens_sequence, closes_sequence, opens_mapping, closes_mapping, key_token, value_token}
 pub use Rattle.yaml_base.specs.reading.CanonicalTokens.{comma, free, goes_to, step_between_tokens, tokens_from}
 pub use Rattle.yaml_emitter.specs.{Atoms.name_breaks, Atoms.some_handle_breaks, BorrowedTexts.seen_name, BorrowedTexts.seen_scalar}
-pub use Rattle.yaml_emitter.specs.{BorrowedTexts.seen_collection, Given.seen_effective, Given.nothing_given, Inside.state_of, Inside.IsEmitter}
+pub use Rattle.yaml_emitter.specs.{BorrowedTexts.seen_collection, Given.seen_effective, Inside.state_of, Inside.IsEmitter}
 pub use Rattle.yaml_emitter.specs.{MachineInside.machine_state, MachineInside.IsMachine, NodeEvents.start_event, NodeEvents.end_event, NodeEvents.brackets_of}
 pub use Rattle.yaml_emitter.specs.{Queue.is_head_ready, ScalarTexts.render_scalar_text, ScalarTexts.style_fits, Stages.seen_stage, StaysFlushed.StaysFlushed}
 pub use Rattle.yaml_emitter.specs.{StaysFlushed.whole_documents, StaysFlushed.KeepsDocuments, Uncut.IsUncut, SimpleAsciiScalars.StandsPlain}

@@ -1,7 +1,7 @@
 -- The settings of an emitter, as the definitions see them.
-use Rattle.std.specs.Prelude.{ℕ, ℤ, pos, negsuc, false, Option, None, Some, ◌==◌, if◌then◌else◌, unwrap_or}
+use Rattle.std.specs.Prelude.{ℕ, ℤ, pos, negsuc, Option, None, Some, ◌==◌, if◌then◌else◌, unwrap_or}
 use Rattle.yaml_base.specs.Settings as base
-use Rattle.yaml_base.specs.Settings.{largest_i32, largest_usize, Effective, utf8, line_feed_break}
+use Rattle.yaml_base.specs.Settings.{largest_i32, Effective, utf8, line_feed_break}
 use Rattle.yaml_base.specs.Seen.{seen_encoding, seen_break}
 use Rattle.yaml_emitter.specs.declared.settings.Settings.{Settings}
 use Rattle.yaml_emitter.specs.declared.effective.EffectiveSettings.{EffectiveSettings}
@@ -41,20 +41,4 @@ seen_effective settings =
       portable = settings.portable;
       indented_sequences = settings.indented_sequences;
       limit = settings.limit;
-    }
-
--- before any setter
-abbrev pub nothing_given : base.Settings
-nothing_given =
-    record {
-      encoding = None;
-      canonical = false;
-      unicode = false;
-      indent = None;
-      width = None;
-      line_break = None;
-      breaks12 = false;
-      portable = false;
-      indented_sequences = false;
-      limit = largest_usize;
     }

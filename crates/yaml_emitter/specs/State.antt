@@ -1,12 +1,11 @@
 -- What contracts see of an emitter.
 use Rattle.std.specs.Prelude.{◌≡◌, ℕ, Bool, true, false, not, ◌||◌, is_some, Option, None, List, []}
-use Rattle.yaml_base.specs.Settings.{largest_usize, Settings, Effective, effective}
+use Rattle.yaml_base.specs.Settings.{largest_usize, Settings, Effective, effective, nothing_given}
 use Rattle.yaml_base.specs.Event.{Event}
 use Rattle.yaml_base.specs.Layout.{Standing}
 use Rattle.yaml_base.specs.Steps.{Stage, at_stream}
 use Rattle.yaml_base.specs.declared.errors.yaml_error_t.{yaml_error_t}
 use Rattle.yaml_pen.specs.Page.{Page, new_page, all_taken, IsUntouched, IsReady}
-use Rattle.yaml_emitter.specs.Given.{nothing_given}
 
 -- what was set, and what it came to at the stream's start; whether an event was given, an output set, the stream
 -- opened and closed; the events that wait; what may come next; the open-ended state; the text so far, its cursor, the bytes

@@ -1,7 +1,8 @@
 //! The emitter: a queue of the events that wait, beside the machine that writes them.
 
 ghost use Rattle.std.specs.Prelude.{◌≡◌, ◌≤◌, IfOk, IfErr, [], false, true, vec_len, vec_capacity};
-ghost use Rattle.yaml_emitter.specs.Given.{nothing_given, seen_settings};
+ghost use Rattle.yaml_base.specs.Settings.{nothing_given};
+ghost use Rattle.yaml_emitter.specs.Given.{seen_settings};
 ghost use Rattle.yaml_emitter.specs.StandsAfter.{StandsAfter};
 ghost use Rattle.yaml_emitter.specs.State.{State, new_state, new_state_with};
 

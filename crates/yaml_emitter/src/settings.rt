@@ -1,9 +1,9 @@
 //! What the caller sets, and what it comes to at the stream's start.
 
 ghost use Rattle.std.specs.Prelude.{◌≡◌, ◌≤◌, pos, ◌≤ℤ◌, IsSome, Some, unwrap_or};
-ghost use Rattle.yaml_base.specs.Settings.{effective, effective_encoding, effective_indent, effective_width, line_feed_break};
+ghost use Rattle.yaml_base.specs.Settings.{effective, effective_encoding, effective_indent, effective_width, line_feed_break, nothing_given};
 ghost use Rattle.yaml_base.specs.Seen.{seen_encoding, seen_break};
-ghost use Rattle.yaml_emitter.specs.Given.{nothing_given, seen_width, seen_settings, seen_effective};
+ghost use Rattle.yaml_emitter.specs.Given.{seen_width, seen_settings, seen_effective};
 
 use crate::effective::EffectiveSettings;
 use yaml_base::{

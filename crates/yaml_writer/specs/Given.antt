@@ -1,7 +1,6 @@
 -- What values are written by, where nothing else is asked for.
 use Rattle.std.specs.Prelude.{true}
-use Rattle.yaml_base.specs.Settings.{Settings}
-use Rattle.yaml_emitter.specs.Given.{nothing_given}
+use Rattle.yaml_base.specs.Settings.{Settings, nothing_given}
 
 -- portable, with sequences in mappings indented, and characters past ASCII as themselves
 abbrev pub given_for_values : Settings

@@ -1,13 +1,13 @@
 -- Scripts of events: what the bytes of a script say, line by line (this project's own notation).
 --     line_read text       what a line says, or nothing where it is bad by itself
 --     script_of bytes      the settings and the numbered events of a script, or the number of its first bad line
-use Rattle.std.specs.Prelude.{ℕ, suc, ℤ, pos, Bool, false, Option, None, Some, List, [], ◌∷◌, ◌++◌, ◌==◌, ◌&&◌, not, length, codes, chars, option_map}
+use Rattle.std.specs.Prelude.{ℕ, suc, ℤ, pos, Bool, Option, None, Some, List, [], ◌∷◌, ◌++◌, ◌==◌, ◌&&◌, not, length, codes, chars, option_map}
 use Rattle.std.specs.Prelude.{option_and_then, if◌then◌else◌}
 use Rattle.std.specs.Option.{option_or}
 use Rattle.std.specs.List.{list_any, slice_split}
 use Rattle.std.specs.Str.{is_utf8}
 use Rattle.yaml_base.specs.Characters.{Text, line_feed, carriage_return}
-use Rattle.yaml_base.specs.Settings.{largest_i32, Settings, Encoding, LineBreak}
+use Rattle.yaml_base.specs.Settings.{largest_i32, Settings, Encoding, LineBreak, nothing_given}
 use Rattle.yaml_base.specs.Event.{Event, stream_start, stream_end, document_start, document_end, alias, scalar, sequence_start, sequence_end, mapping_start}
 use Rattle.yaml_base.specs.Event.{mapping_end, ScalarStyle, CollectionStyle, Version, TagDirective, Collection}
 use Rattle.yaml_base.specs.Words.{is_word, named}
@@ -82,18 +82,7 @@ setting_name (sequences_set _) = codes "sequences"
 
 -- the settings where no line sets anything
 abbrev pub unset : Settings
-unset = record {
-  encoding = None;
-  canonical = false;
-  unicode = false;
-  indent = None;
-  width = None;
-  line_break = None;
-  breaks12 = false;
-  portable = false;
-  indented_sequences = false;
-  limit = 1000000000;
-}
+unset = record nothing_given { limit = 1000000000 }
 
 -- settings after one more line
 abbrev pub with_setting : Settings → Setting → Settings

@@ -1,8 +1,8 @@
 -- Worked rows: a writer keeps all bytes of the documents that it ended, whatever its later calls answer.
 use Rattle.yaml_writer.proofs.Common.{ℕ, Option, None, Result, codes, false, true, List, [], ◌++◌, ◌∷◌, refl, ◌≡◌, prefix_then, Event, document_end, Grows}
 use Rattle.yaml_writer.proofs.Common.{WriterState, plain_start, StandsTaken, PassedEvents, GaveEvent}
-use Rattle.yaml_base.specs.{Prefix.IsPrefix, declared.errors.yaml_error_t.yaml_error_t}
-use Rattle.yaml_emitter.{proofs.standing.KeptDocuments.documents_kept, proofs.standing.Promising.promised, specs.Given.nothing_given, specs.State.new_state}
+use Rattle.yaml_base.specs.{Prefix.IsPrefix, Settings.nothing_given, declared.errors.yaml_error_t.yaml_error_t}
+use Rattle.yaml_emitter.{proofs.standing.KeptDocuments.documents_kept, proofs.standing.Promising.promised, specs.State.new_state}
 use Rattle.yaml_emitter.proofs.rows.RowsKeptDocuments.{two, begun, both, kept, not_empty}
 use Rattle.yaml_writer.specs.Writing.{opening, text_event, EndedCollection}
 
