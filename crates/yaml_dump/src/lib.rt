@@ -22,6 +22,7 @@ pub use streams::yaml_emitter_open;
 pub use tags::YAML_MAP_TAG;
 pub use tags::YAML_SEQ_TAG;
 pub use tags::YAML_STR_TAG;
+pub use yaml_emitter::CollectionKind;
 pub use yaml_emitter::Directives;
 pub use yaml_emitter::Indicator;
 pub use yaml_emitter::Name;

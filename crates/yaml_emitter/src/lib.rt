@@ -36,6 +36,7 @@ pub use laws::standing_is_promised;
 pub use laws::streams_agree;
 pub use laws::streams_read_back;
 pub use laws::texts_hold_raw;
+pub use place::CollectionKind;
 pub use setters::yaml_emitter_delete;
 pub use setters::yaml_emitter_set_break;
 pub use setters::yaml_emitter_set_canonical;

@@ -12,10 +12,12 @@ pub(crate) enum Role {
     Value { simple: bool },
 }
 
-/// The kinds of collections.
-#[derive(Clone, Copy)]
-pub(crate) enum CollectionKind {
+/// What kind a collection is of.
+#[derive(Clone, Copy, PartialEq, Eq, Debug)]
+pub enum CollectionKind {
+    /// Items.
     Sequence,
+    /// Pairs of a key and a value.
     Mapping,
 }
 

@@ -17,6 +17,7 @@ use yaml_base::{
     yaml_event_t, yaml_mapping_style_t, yaml_scalar_style_t, yaml_sequence_style_t,
     yaml_tag_directive_t, yaml_version_directive_t,
 };
+use yaml_emitter::CollectionKind;
 
 /// An event without any field.
 #[inline(always)]
@@ -158,15 +159,6 @@ fn scalar_of<A: Allocator + Copy>(
         tag,
         value,
     }))
-}
-
-/// The two kinds of collections.
-#[derive(Clone, Copy)]
-pub enum CollectionKind {
-    /// A sequence.
-    Sequence,
-    /// A mapping.
-    Mapping,
 }
 
 /// The fields of a collection's start; its style and its flag are `None` if they were not understood.
