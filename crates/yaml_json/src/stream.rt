@@ -301,7 +301,8 @@ fn write_last<A: Allocator + Copy>(
 ///
 /// # Errors
 ///
-/// `Refused` as by `write_json_texts`; `NotText` where a text isn't UTF-8; `ReadFailed` and `WriteFailed`. Until then the sink was given whole documents, those of the texts before the one that is refused.
+/// `Refused` as by `write_json_texts`; `NotText` where a text isn't UTF-8; `ReadFailed` and `WriteFailed`. Until then the sink was
+/// given whole documents, those of the texts before the one that is refused.
 pub fn send_json_texts<A: Allocator + Copy, R: Read, W: Write>(
     alloc: A,
     writer: &mut Writer<A>,
