@@ -4,6 +4,8 @@ pub mod Adding
 pub mod Starting
 pub mod Writing
 pub mod Composing
+mod Refused
+mod Appending
 pub mod StillToWrite
 pub mod Cuts
 pub mod NewLines

@@ -1,7 +1,8 @@
-use Rattle.yaml_pen.proofs.Common.{[], ◌∷◌, ap, sym, ◌∙◌, or_parts, list_any, chars, chars_rest, is_break, render_text}
+use Rattle.yaml_pen.proofs.Common.{[], ◌∷◌, refl, ap, sym, ◌∙◌, or_parts, list_any, chars, chars_rest, is_break, render_text}
 use Rattle.std.proofs.lemmas.Str.{IsUtf8-past_char, chars_past_char}
 use Rattle.yaml_pen.{proofs.Composing.wrote_exit, proofs.Writing.line_feed-break}
 use Rattle.yaml_pen.proofs.StillToWrite.{still_rest, still_failed, still_part, end_still, unfailed_after}
+use Rattle.yaml_pen.proofs.Composing.{wrote_cut}
 use Rattle.yaml_pen.proofs.pen.Pen.write_characters.Goals as goal
 
 pub write_character-requires-clause-not_line_feed : goal.write_character-requires-clause-not_line_feed
@@ -29,3 +30,8 @@ returns-in_err-write_character-clause-written g c =
 pub returns-clause-written : goal.returns-clause-written
 returns-clause-written g c =
     (end_still render_text _ c.in_default.ensures.steps.0.0 c.loop-character.invariant.still).writes _ _ c.loop-character.invariant.unfailed
+
+pub returns-in_err-write_nothing-clause-written : goal.returns-in_err-write_nothing-clause-written
+returns-in_err-write_nothing-clause-written g c =
+    let text = chars c.args.text.now in
+    wrote_exit c.from_residual.ensures (wrote_cut (render_text text) text refl c.in_err-write_nothing.ensures)
