@@ -2,7 +2,7 @@
 use Rattle.yaml_emitter.proofs.Common.{IsErrAnd, IsErr, Option, None, Some, Result, Err, Ok, Bool, true, ◌⊎◌, refl, ◌≡◌, inl, inr, ap, subst, sym, ◌∙◌}
 use Rattle.yaml_emitter.proofs.Common.{err_from_is_err_and, Event, stream_start, flushes, Stage, step, stage_refusal, event_stepped, render_event}
 use Rattle.yaml_emitter.proofs.Common.{refusal_now, Keeps, WritesPage, unwritten, partly_written, CutShort, Processed, IsRefusal, MachineState, standing_of}
-use Rattle.yaml_emitter.proofs.Common.{piece_at, encoded, result_of_error, some_from_result, Wrote}
+use Rattle.yaml_emitter.proofs.Common.{piece_at, encoded, some_from_result, Wrote}
 use Rattle.yaml_base.specs.declared.errors.{yaml_error_t.yaml_error_t, yaml_error_t.TheVariants.Memory, yaml_error_t.TheVariants.WriteError}
 
 -- a refused event changes nothing

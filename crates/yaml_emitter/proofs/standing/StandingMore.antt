@@ -6,7 +6,7 @@ use Rattle.yaml_emitter.proofs.Common.{mapping_end, before_stream, first_standin
 use Rattle.yaml_emitter.proofs.Common.{BeginsAccepted, Settings, Effective, at_stream, steps, progress, nothing_given, closes_at_once, HoldsPiecesWith}
 use Rattle.yaml_emitter.proofs.Common.{HoldsPieces, StandsWithoutError, FailedAt, closes_last, StandsRefused, HoldsCut, StandsCut, StandsUnflushed}
 use Rattle.yaml_emitter.proofs.Common.{StandsStopped, at_event, between_events, StandsFailed, MachineStands, StateStands, State, MachineState, machine_of}
-use Rattle.yaml_emitter.proofs.Common.{new_machine, StaysFlushed, none_from_result, some_from_result, Page, result_of_error, new_page, Flushed}
+use Rattle.yaml_emitter.proofs.Common.{new_machine, StaysFlushed, none_from_result, some_from_result, Page, new_page, Flushed}
 use Rattle.yaml_base.{proofs.Accepted.begins_from_stands, proofs.ReadyLaws.written_grows, specs.declared.errors.yaml_error_t.yaml_error_t}
 use Rattle.yaml_base.{specs.declared.errors.yaml_error_t.TheVariants.Memory, specs.declared.errors.yaml_error_t.TheVariants.WriteError}
 use Rattle.yaml_emitter.proofs.standing.Flushing.{flushed_none, flushed_output, flushed_grown}

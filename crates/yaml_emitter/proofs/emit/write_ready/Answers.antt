@@ -93,3 +93,6 @@ returns-clause-grows g c = c.events.invariant.grows
 
 pub returns-clause-set : goal.returns-clause-set
 returns-clause-set g c = c.events.invariant.set
+
+pub overflow_add-count : goal.overflow_add-count
+overflow_add-count g c = grind (arith, common_steps) steps 2000000

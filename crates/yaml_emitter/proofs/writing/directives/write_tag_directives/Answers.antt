@@ -1,4 +1,5 @@
-use Rattle.yaml_emitter.proofs.Common.{arith, elements, seen_directive, wrote_exit}
+use Rattle.yaml_emitter.proofs.Common.{Ok, refl, map, subst, take_all, arith, render_tag_directives, seen_directive, wrote_exit, Wrote}
+use Rattle.yaml_pen.proofs.Composing.{wrote_cut}
 use Rattle.yaml_emitter.proofs.pieces.WritingDirectives.{wrote_next_directive, failed_next_directive, next_handle}
 use Rattle.yaml_emitter.proofs.writing.directives.write_tag_directives.Goals as goal
 
@@ -21,7 +22,13 @@ loop-directive-preserved g c =
     c.loop-directive.invariant c.in_ok-write_tag_directive.ensures
 
 pub returns-in_err-write_nothing : goal.returns-in_err-write_nothing
-returns-in_err-write_nothing g c = grind (arith, elements) steps 2000000
+returns-in_err-write_nothing g c =
+    let all = render_tag_directives c.args.settings.now.portable (map seen_directive c.args.directives.now) in
+    wrote_exit c.from_residual.ensures (wrote_cut all (all c.args.pen.now.cursor).text refl c.in_err-write_nothing.ensures)
 
 pub returns : goal.returns
-returns g c = grind (arith, elements) steps 2000000
+returns g c =
+    let directives = c.args.directives.now in
+    let whole = take_all c.loop-directive.directive-index directives (omega (arith, c.loop-directive-test.false)) in
+    subst (λ some. Wrote (render_tag_directives c.args.settings.now.portable (map seen_directive some)) c.args.pen.now c.loop-directive.pen (Ok tt))
+    whole c.loop-directive.invariant
