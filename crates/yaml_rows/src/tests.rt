@@ -71,6 +71,11 @@ fn joined(rt: &impl Abort, alloc: Global, parts: &[&str]) -> String {
     parts.concat(alloc).expect(rt, "no memory")
 }
 
+/// This text, so many times, for which there is memory.
+fn repeated(rt: &impl Abort, alloc: Global, text: &str, count: usize) -> String {
+    text.repeat(alloc, count).expect(rt, "no memory")
+}
+
 /// This was written.
 fn same(rt: &impl Abort, got: &[u8], wanted: &[u8]) {
     assert_eq!(rt; got, wanted);

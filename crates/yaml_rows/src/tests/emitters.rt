@@ -1,11 +1,8 @@
-//! Emitters from outside, step by step: values in each style, outputs that are taken, deep collections, growths that are refused.
+//! Emitters from outside, step by step: outputs that are taken, deep collections, growths that are refused.
 mod borrowed;
-mod depth;
-mod each_style;
+pub(super) mod depth;
 mod early;
 mod memory;
-mod short_block;
-mod short_quoted;
 pub(super) mod steps;
 pub(super) mod streams;
 mod taking;

@@ -1,23 +1,12 @@
 //! Names, versions, directives, and where a tag is cut.
 mod spelled;
 
-use super::{Tag, directive, equal};
-use linked_list_allocator::LocalHeap;
-use std::alloc::{AllocError, Allocator, Global};
+use super::{Tag, directive, directives, equal};
+use std::alloc::{Allocator, Global};
 use std::process::Abort;
 use yaml_base::{yaml_error_t, yaml_tag_directive_t, yaml_version_directive_t};
 use yaml_mark::*;
-
-/// A directive on a heap; an error where it finds no room.
-fn tried<A: Allocator + Copy>(
-    alloc: A,
-    handle: &str,
-    prefix: &str,
-) -> Result<yaml_tag_directive_t<A>, AllocError> {
-    let handle = String::from_str(alloc, handle)?;
-    let prefix = String::from_str(alloc, prefix)?;
-    Ok(yaml_tag_directive_t { handle, prefix })
-}
+use yaml_test_allocator::Refusing;
 
 const DEFAULTS: &[Tag] = &[("!", "!"), ("!!", "tag:yaml.org,2002:")];
 
@@ -241,68 +230,65 @@ fn tags_are_cut_at_the_first_prefix_of_a_documents_own_and_of_the_defaults(rt: H
     check_cuts(&rt, &in_force(&rt, rt.alloc(), OWN), OWN_CUTS);
 }
 
-// A directive is added, which is returned; or the answer is `Memory`, and the list is as before.
-fn is_added<'a>(
+type Heap = Refusing<Global>;
+
+// A directive is added. Where a growth is refused, the answer is `Memory` and the list is as before; then it comes again.
+fn check_added<'a>(
     rt: &impl Abort,
-    directives: &mut Directives<&'a LocalHeap>,
-    given: &yaml_tag_directive_t<&'a LocalHeap>,
-) -> bool {
-    let before = directives.len();
+    heap: &'a Heap,
+    directives: &mut Directives<&'a Heap>,
+    given: &yaml_tag_directive_t<&'a Heap>,
+) {
+    let (before, left) = (directives.len(), heap.left());
     let answer = directives.append(given, false);
-    if answer.is_ok() {
-        equal(rt, &holds(directives, before, given), &true);
-        return true;
+    if left != 0 && heap.left() == 0 {
+        let memory = Err(yaml_error_t::Memory);
+        equal(rt, &(answer, directives.len()), &(memory, before));
+        equal(rt, &directives.append(given, false), &Ok(()));
+    } else {
+        equal(rt, &answer, &Ok(()));
     }
-    equal(rt, &answer, &Err(yaml_error_t::Memory));
-    equal(rt, &directives.len(), &before);
-    false
+    equal(rt, &directives.len(), &before.saturating_add(1));
 }
 
-// Whether the second of two directives is added.
-fn is_second_appended<'a>(
+// These are in force, in their order.
+fn check_all<A: Allocator>(
     rt: &impl Abort,
-    heap: &'a LocalHeap,
-    first: &yaml_tag_directive_t<&'a LocalHeap>,
-    second: &yaml_tag_directive_t<&'a LocalHeap>,
-) -> bool {
-    let mut directives = Directives::new(heap);
-    let is_first = is_added(rt, &mut directives, first);
-    let is_second = is_added(rt, &mut directives, second);
-    equal(rt, &holds(&directives, 0, first), &is_first);
-    is_second
-}
-
-// Two directives on a heap: whether the second is added; nothing where they themselves find no room.
-fn is_second_added(rt: &impl Abort, heap: &LocalHeap) -> Result<bool, AllocError> {
-    let first = tried(heap, "!first!", "p")?;
-    let second = tried(heap, "!second-of-them!", "tag:a-long-prefix.example,2000:")?;
-    Ok(is_second_appended(rt, heap, &first, &second))
-}
-
-/// How many heaps refused the second directive, and how many took it.
-type Counts = (u8, u8);
-
-fn count(rt: &impl Abort, heap: &LocalHeap, counts: &mut Counts) {
-    match is_second_added(rt, heap) {
-        Ok(true) => counts.1 = counts.1.saturating_add(1),
-        Ok(false) => counts.0 = counts.0.saturating_add(1),
-        Err(_) => {}
+    directives: &Directives<A>,
+    wanted: &[yaml_tag_directive_t<A>],
+) {
+    equal(rt, &directives.len(), &wanted.len());
+    for (number, directive) in wanted.iter().enumerate() {
+        equal(rt, &holds(directives, number, directive), &true);
     }
 }
 
-// A heap of each size.
-fn counted(rt: &impl Abort, alloc: Global) -> Counts {
-    let mut counts = (0, 0);
-    for blocks in 0..64 {
-        let heap = LocalHeap::new(alloc, blocks * 16).expect(rt, "no memory");
-        count(rt, &heap, &mut counts);
+const ADDED: &[Tag] = &[
+    ("!first!", "p"),
+    ("!second-of-them!", "tag:a-long-prefix.example,2000:"),
+    ("!third!", "q"),
+];
+
+// Directives are added with this growth refused. Answers whether there is that growth.
+fn is_refused(rt: &impl Abort, alloc: Global, number: usize) -> bool {
+    let heap = Refusing::new(alloc);
+    let given = directives(rt, &heap, ADDED);
+    let mut added = Directives::new(&heap);
+    heap.refuse(number);
+    for directive in &given {
+        check_added(rt, &heap, &mut added, directive);
     }
-    counts
+    check_all(rt, &added, given.as_slice());
+    heap.left() == 0
 }
 
+// The first growth is refused, the second, and so on, until none is. Each directive takes one for its handle and one for its prefix.
 #[test]
 fn refused_growths_change_nothing(rt: HostRuntime) {
-    let counts = counted(&rt, rt.alloc());
-    assert!(rt; counts.0 >= 3);
-    assert!(rt; counts.1 >= 1);
+    for number in 1..usize::MAX {
+        if !is_refused(&rt, rt.alloc(), number) {
+            equal(&rt, &(number > 6), &true);
+            return;
+        }
+    }
 }

@@ -5,7 +5,7 @@ use super::steps::Step::{Close, Dump, Output};
 use super::{Given, document, nodes};
 use crate::tests::emitters::UNSET;
 use crate::tests::emitters::steps::{check_steps, check_steps_at};
-use crate::tests::{equal, joined};
+use crate::tests::{equal, joined, repeated};
 use std::alloc::Global;
 use std::process::Abort;
 use yaml_base::yaml_error_t;
@@ -146,7 +146,7 @@ fn forty_nodes_in_each_other_are_written(rt: HostRuntime) {
     let numbers = numbers(&rt, alloc, 40);
     let mut given = sequences(&rt, alloc, numbers.as_slice(), 1);
     add_texts(&rt, &mut given, "a", 1);
-    let indicators = "- ".repeat(alloc, 39).expect(&rt, "no memory");
+    let indicators = repeated(&rt, alloc, "- ", 39);
     let text = joined(&rt, alloc, &[indicators.as_str(), "a\n"]);
     check_text(&rt, alloc, given.as_slice(), text.as_str());
 }

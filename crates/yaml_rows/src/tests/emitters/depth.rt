@@ -1,11 +1,11 @@
-//! Collections within one another, as deep as they may be.
+//! Collections within one another, as deep as they may be, with each growth refused.
 use super::UNSET;
 use super::steps::Step::{Emit, Failed, Held, Output, Refused, Repeat};
-use super::steps::{Step, check_steps, check_steps_at};
+use super::steps::check_steps;
 use super::streams::Given::{
     BlockSequence, Document, DocumentEnd, FlowSequence, SequenceEnd, Stream, StreamEnd,
 };
-use crate::tests::joined;
+use crate::tests::{joined, repeated};
 use std::alloc::Global;
 use std::process::Abort;
 use yaml_base::yaml_error_t;
@@ -17,35 +17,41 @@ const ENDLESS: &Settings = &Settings {
 };
 
 /// The maximum nesting depth.
-const MOST: usize = 1_000_000;
+pub(crate) const MOST: usize = 1_000_000;
 
-// Two more may wait; the next makes the collection ready that is one too many.
-const TOO_MANY: &[Step] = &[
-    Emit(Stream),
-    Emit(Document),
-    Emit(BlockSequence),
-    Held(1),
-    Repeat(BlockSequence, MOST + 1, 2),
-    Refused(BlockSequence, yaml_error_t::TooDeep),
-    Failed(yaml_error_t::TooDeep),
-];
-
-#[test]
-fn a_million_collections_may_be_open(rt: HostRuntime) {
-    // No growth is refused.
-    check_steps_at(&rt, rt.alloc(), ENDLESS, TOO_MANY, &[usize::MAX]);
+/// What is flushed of the text of so many block sequences: 122 buffers. The text has 1,999,997 bytes, a `-` for each sequence but
+/// the root, and a space between two.
+pub(crate) fn dashes(rt: &impl Abort, alloc: Global) -> String {
+    repeated(rt, alloc, "- ", 122 * 8_192)
 }
 
-/// So many brackets that open, as many that close, and the line's end.
-fn brackets(rt: &impl Abort, alloc: Global, count: usize) -> String {
-    let opened = "[".repeat(alloc, count).expect(rt, "no memory");
-    let closed = "]".repeat(alloc, count).expect(rt, "no memory");
+// Two more may wait; the next makes the collection ready that is one too many.
+#[test]
+fn a_million_collections_may_be_open(rt: HostRuntime) {
+    let flushed = dashes(&rt, rt.alloc());
+    let steps = [
+        Emit(Stream),
+        Emit(Document),
+        Emit(BlockSequence),
+        Held(1),
+        Repeat(BlockSequence, MOST + 1, 2),
+        Refused(BlockSequence, yaml_error_t::TooDeep),
+        Output(flushed.as_str().as_bytes()),
+        Failed(yaml_error_t::TooDeep),
+    ];
+    check_steps(&rt, rt.alloc(), ENDLESS, &steps);
+}
+
+/// The brackets that open, those that close, and the line's end.
+pub(crate) fn brackets(rt: &impl Abort, alloc: Global) -> String {
+    let opened = repeated(rt, alloc, "[", MOST);
+    let closed = repeated(rt, alloc, "]", MOST);
     joined(rt, alloc, &[opened.as_str(), closed.as_str(), "\n"])
 }
 
 #[test]
 fn a_million_brackets_are_closed(rt: HostRuntime) {
-    let text = brackets(&rt, rt.alloc(), MOST);
+    let text = brackets(&rt, rt.alloc());
     let steps = [
         Emit(Stream),
         Emit(Document),

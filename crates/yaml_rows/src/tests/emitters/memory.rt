@@ -7,7 +7,7 @@ use super::streams::{Given, event};
 use super::{
     UNSET, begun, check_answer, check_out_of_memory, emit_all, flush_if_known, give, made,
 };
-use crate::tests::{equal, same};
+use crate::tests::{equal, repeated, same};
 use linked_list_allocator::LocalHeap;
 use std::alloc::{Allocator, Global};
 use std::process::Abort;
@@ -166,7 +166,7 @@ fn check_encodings(rt: &impl Abort, alloc: Global, long: &str, text: &str) {
 #[test]
 fn each_refused_growth_is_reported(rt: HostRuntime) {
     let alloc = rt.alloc();
-    let long = "y".repeat(alloc, 17_000).expect(&rt, "no memory");
+    let long = repeated(&rt, alloc, "y", 17_000);
     let text = text_of(&rt, alloc, long.as_str());
     check_encodings(&rt, alloc, long.as_str(), text.as_str());
 }

@@ -7,8 +7,7 @@ use yaml_base::{
     YAML_DOCUMENT_END_EVENT, YAML_DOCUMENT_START_EVENT, YAML_FLOW_SEQUENCE_STYLE,
     YAML_MAPPING_END_EVENT, YAML_MAPPING_START_EVENT, YAML_SCALAR_EVENT, YAML_SEQUENCE_END_EVENT,
     YAML_SEQUENCE_START_EVENT, YAML_STREAM_END_EVENT, YAML_STREAM_START_EVENT, yaml_encoding_t,
-    yaml_event_t, yaml_mapping_style_t, yaml_scalar_style_t, yaml_sequence_style_t,
-    yaml_tag_directive_t,
+    yaml_event_t, yaml_mapping_style_t, yaml_sequence_style_t, yaml_tag_directive_t,
 };
 
 /// An event. Where nothing else is said nodes have no anchor and no tag, their flags are on, and documents begin and
@@ -24,7 +23,6 @@ pub(crate) enum Given<'a> {
     DocumentEnd,
     /// A scalar of any style.
     Text(&'a str),
-    Styled(&'a str, yaml_scalar_style_t),
     /// A tag and a value, both flags off.
     Tagged(&'a str, &'a str),
     BlockSequence,
@@ -42,13 +40,12 @@ fn document<A: Allocator>(tag_directives: Vec<yaml_tag_directive_t<A>, A>) -> ya
     }
 }
 
-// The flags are on where there is no tag.
+// A scalar of any style. The flags are on where there is no tag.
 fn scalar<A: Allocator + Copy>(
     rt: &impl Abort,
     alloc: A,
     tag: Option<&str>,
     value: &str,
-    style: yaml_scalar_style_t,
 ) -> yaml_event_t<A> {
     YAML_SCALAR_EVENT {
         anchor: None,
@@ -56,7 +53,7 @@ fn scalar<A: Allocator + Copy>(
         value: owned(rt, alloc, value),
         plain_implicit: tag.is_none(),
         quoted_implicit: tag.is_none(),
-        style,
+        style: YAML_ANY_SCALAR_STYLE,
     }
 }
 
@@ -84,7 +81,6 @@ pub(crate) fn event<A: Allocator + Copy>(
     alloc: A,
     given: &Given,
 ) -> yaml_event_t<A> {
-    let any = YAML_ANY_SCALAR_STYLE;
     match given {
         Given::Stream => YAML_STREAM_START_EVENT {
             encoding: YAML_ANY_ENCODING,
@@ -96,9 +92,8 @@ pub(crate) fn event<A: Allocator + Copy>(
         Given::Document => document(Vec::new(alloc)),
         Given::Directed(tags) => document(directives(rt, alloc, tags)),
         Given::DocumentEnd => YAML_DOCUMENT_END_EVENT { implicit: true },
-        Given::Text(value) => scalar(rt, alloc, None, value, any),
-        Given::Styled(value, style) => scalar(rt, alloc, None, value, *style),
-        Given::Tagged(tag, value) => scalar(rt, alloc, Some(tag), value, any),
+        Given::Text(value) => scalar(rt, alloc, None, value),
+        Given::Tagged(tag, value) => scalar(rt, alloc, Some(tag), value),
         Given::BlockSequence => sequence(YAML_BLOCK_SEQUENCE_STYLE),
         Given::FlowSequence => sequence(YAML_FLOW_SEQUENCE_STYLE),
         Given::SequenceEnd => YAML_SEQUENCE_END_EVENT,

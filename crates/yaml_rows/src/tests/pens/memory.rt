@@ -1,80 +1,92 @@
-//! Growths that are refused.
+//! Growths that are refused: the first, the second, and so on, until none is.
 ghost use Rattle.yaml_pen.specs.Page.{IsReady};
 
 use super::runs::check_run_refused;
 use super::{IN_UTF8, check_bytes, made, put_letters, write_long_run};
 use crate::tests::equal;
-use linked_list_allocator::LocalHeap;
 use std::alloc::{Allocator, Global};
 use std::process::Abort;
-use yaml_base::{YAML_LN_BREAK, YAML_UTF8_ENCODING, yaml_error_t};
+use yaml_base::{YAML_UTF8_ENCODING, yaml_error_t};
 use yaml_pen::Pen;
+use yaml_test_allocator::Refusing;
 
-// So many letters, and nothing else.
-fn check_letters(rt: &impl Abort, output: &[u8], count: usize) {
-    equal(rt, &output.len(), &count);
-    for byte in output {
-        equal(rt, byte, &b'x');
-    }
+/// A text of 100,000 bytes.
+#[derive(Clone, Copy)]
+enum Text {
+    /// Letters, one by one.
+    Letters,
+    /// A run, which is flushed in whole characters.
+    Run,
 }
 
-// A heap of so many bytes.
-fn heap(rt: &impl Abort, alloc: Global, size: usize) -> LocalHeap {
-    LocalHeap::new(alloc, size).expect(rt, "no memory")
-}
-
-// Letters find no room, and then nothing does; so many of them were flushed.
-fn check_full<A: Allocator>(rt: &impl Abort, pen: &mut Pen<A>, flushed: usize)
+fn write<A: Allocator>(pen: &mut Pen<A>, alloc: Global, text: Text) -> Result<(), yaml_error_t>
     requires { IsReady pen.old }
+    ensures { IsReady pen.new }
 {
-    let refused = Err(yaml_error_t::Memory);
-    let answers = (pen.flush(), put_letters(pen, 100_000));
-    equal(rt, &answers, &(Ok(()), refused));
-    let answers = (pen.put(b'a'), pen.flush(), pen.error());
-    let error = Some(yaml_error_t::Memory);
-    equal(rt, &answers, &(refused, refused, error));
-    check_letters(rt, pen.output(), flushed);
-}
-
-// So many letters are flushed; `None` where the heap has no room for a pen.
-fn check_heap(rt: &impl Abort, heap: &LocalHeap, flushed: Option<usize>) {
-    match Pen::new(heap) {
-        Err(error) => equal(rt, &(error, flushed), &(yaml_error_t::Memory, None)),
-        Ok(mut pen) => {
-            pen.begin(YAML_UTF8_ENCODING, YAML_LN_BREAK);
-            check_full(rt, &mut pen, flushed.expect(rt, "a pen was made"));
-        }
+    match text {
+        Text::Letters => put_letters(pen, 100_000),
+        Text::Run => write_long_run(pen, alloc, 10_000),
     }
 }
 
-// The buffer takes 16,384 bytes and a little; the output's first flush asks for as many, its second
-// for more than that again.
-#[test]
-fn refused_growths_leave_the_output(rt: HostRuntime) {
-    check_heap(&rt, &heap(&rt, rt.alloc(), 1_000), None);
-    check_heap(&rt, &heap(&rt, rt.alloc(), 20_000), Some(0));
-    check_heap(&rt, &heap(&rt, rt.alloc(), 50_000), Some(16_384));
-}
+/// A text, its first ten bytes, which come again and again, and how many bytes were flushed before each growth of the output.
+type Row<'a> = (Text, &'a [u8; 10], &'a [usize]);
 
-fn check_run_stops<A: Allocator>(rt: &impl Abort, alloc: Global, pen: &mut Pen<A>, flushed: usize)
+/// The output grows by the first flush, and then to twice its room. Each flush of the letters adds 16,384 bytes. The run's buffers
+/// end at 16,383, 32,766, 49,150 and 65,533 bytes, as the others would end in a character.
+const ROWS: &[Row] = &[
+    (Text::Letters, b"xxxxxxxxxx", &[0, 16_384, 32_768, 65_536]),
+    (Text::Run, IN_UTF8, &[0, 16_383, 32_766, 49_150]),
+];
+
+// The text finds no room, and then nothing does; so many of its bytes were flushed.
+fn check_refused<A: Allocator>(
+    rt: &impl Abort,
+    alloc: Global,
+    pen: &mut Pen<A>,
+    row: &Row,
+    flushed: usize,
+)
     requires { IsReady pen.old }
 {
     let error = yaml_error_t::Memory;
-    equal(rt, &write_long_run(pen, alloc, 10_000), &Err(error));
+    let answers = (pen.flush(), write(pen, alloc, row.0));
+    equal(rt, &answers, &(Ok(()), Err(error)));
     check_run_refused(rt, pen, alloc, error);
-    check_bytes(rt, pen.output(), flushed, IN_UTF8);
+    let answers = (pen.put(b'a'), pen.flush());
+    equal(rt, &answers, &(Err(error), Err(error)));
+    check_bytes(rt, pen.output(), flushed, row.1);
 }
 
-fn check_run_full(rt: &impl Abort, alloc: Global, heap: &LocalHeap, flushed: usize) {
-    let mut pen = made(rt, heap, usize::MAX, YAML_UTF8_ENCODING);
-    check_run_stops(rt, alloc, &mut pen, flushed);
+// The whole text is flushed.
+fn check_whole<A: Allocator>(rt: &impl Abort, alloc: Global, pen: &mut Pen<A>, row: &Row)
+    requires { IsReady pen.old }
+{
+    let answers = (write(pen, alloc, row.0), pen.flush());
+    equal(rt, &answers, &(Ok(()), Ok(())));
+    check_bytes(rt, pen.output(), 100_000, row.1);
 }
 
-// A run is refused where its own flush finds no room; the first piece of this one has 16,383 bytes, as a
-// character stands across the buffer's end.
+// The first growth is the pen's own, and those after it are the output's.
+fn check_growths(rt: &impl Abort, alloc: Global, row: &Row) {
+    let heap = Refusing::new(alloc);
+    heap.refuse(1);
+    equal(rt, &Pen::new(&heap).err(), &Some(yaml_error_t::Memory));
+    for (growth, flushed) in row.2.iter().enumerate() {
+        heap.refuse(growth.saturating_add(2));
+        let mut pen = made(rt, &heap, usize::MAX, YAML_UTF8_ENCODING);
+        check_refused(rt, alloc, &mut pen, row, *flushed);
+        equal(rt, &heap.left(), &0);
+    }
+    heap.refuse(row.2.len().saturating_add(2));
+    let mut pen = made(rt, &heap, usize::MAX, YAML_UTF8_ENCODING);
+    check_whole(rt, alloc, &mut pen, row);
+    equal(rt, &heap.left(), &1);
+}
+
 #[test]
-fn refused_growths_end_a_run(rt: HostRuntime) {
-    let alloc = rt.alloc();
-    check_run_full(&rt, alloc, &heap(&rt, alloc, 20_000), 0);
-    check_run_full(&rt, alloc, &heap(&rt, alloc, 50_000), 16_383);
+fn refused_growths_leave_the_output(rt: HostRuntime) {
+    for row in ROWS {
+        check_growths(&rt, rt.alloc(), row);
+    }
 }

@@ -14,6 +14,9 @@ use yaml_tool::{NumberedEvent, read_script, run_answer_t};
 /// An output below this size is flushed at ends and by the caller alone.
 const BUFFER_SIZE: usize = 16_384;
 
+/// The bytes of a long script that comparisons show.
+const NAME_LENGTH: usize = 200;
+
 /// How an event's call is answered. The limit of a short output is reported by a flush, which only the ends of documents and of
 /// the stream make.
 fn emit_answer(row: &Row, line: u64, kind: Kind) -> Answer {
@@ -47,6 +50,8 @@ fn flushed<'a>(row: &Row<'a>, flushes: usize) -> &'a [u8] {
 #[derive(Drop)]
 struct Walk<'a> {
     row: Row<'a>,
+    /// The script, or the beginning of a long one; comparisons show it.
+    name: &'a str,
     /// Refuses one growth, or none.
     heap: &'a Refusing<Global>,
     /// The events given so far.
@@ -62,7 +67,7 @@ fn check_answer(rt: &impl Abort, walk: &Walk, got: Answer, row: Answer) {
     } else {
         row
     };
-    equal(rt, &(walk.row.script, got), &(walk.row.script, wanted));
+    equal(rt, &(walk.name, got), &(walk.name, wanted));
 }
 
 // Where a growth was refused, what is flushed begins the row's output.
@@ -71,7 +76,7 @@ fn check_output(rt: &impl Abort, walk: &Walk, output: &[u8]) {
         equal(rt, &walk.row.output.starts_with(output), &true);
     } else {
         let wanted = flushed(&walk.row, walk.flushes);
-        equal(rt, &(walk.row.script, output), &(walk.row.script, wanted));
+        equal(rt, &(walk.name, output), &(walk.name, wanted));
     }
 }
 
@@ -81,7 +86,7 @@ fn check_held(rt: &impl Abort, walk: &Walk, got: usize, answer: Answer) {
         Ok(()) => held(walk.given.as_slice()),
         Err(_) => 0,
     };
-    equal(rt, &(walk.row.script, got), &(walk.row.script, wanted));
+    equal(rt, &(walk.name, got), &(walk.name, wanted));
 }
 
 // A flush that is refused a growth leaves the output.
@@ -121,11 +126,7 @@ fn check_emit<A: Allocator + Copy>(
     let left = walk.heap.left();
     let answer = give(rt, emitter, numbered.event);
     if is_kept && wanted.is_ok() {
-        equal(
-            rt,
-            &(walk.row.script, walk.heap.left()),
-            &(walk.row.script, left),
-        );
+        equal(rt, &(walk.name, walk.heap.left()), &(walk.name, left));
     }
     check_answer(rt, walk, answer, wanted);
     check_held(rt, walk, emitter.held(), answer);
@@ -175,24 +176,29 @@ fn check_events<A: Allocator + Copy>(
     }
 }
 
+/// The calls of a row, with this growth refused. Answers whether there is that growth.
+pub(super) fn is_refused(rt: &impl Abort, alloc: Global, row: &Row, number: usize) -> bool {
+    let heap = Refusing::new(alloc);
+    let script = read_script(&heap, row.script.as_bytes()).expect(rt, "a script");
+    let mut walk = Walk {
+        row: *row,
+        name: row.script.get(..NAME_LENGTH).unwrap_or(row.script),
+        heap: &heap,
+        given: Vec::new(alloc),
+        flushes: 0,
+    };
+    heap.refuse(number);
+    match begun(&heap, &script.settings) {
+        Ok(mut emitter) => check_events(rt, &mut walk, &mut emitter, script.events),
+        Err(error) => equal(rt, &(heap.left(), error), &(0, yaml_error_t::Memory)),
+    }
+    heap.left() == 0
+}
+
 /// The calls of a row, with the first growth refused, the second, and so on, until none is.
 pub(super) fn check_calls(rt: &impl Abort, alloc: Global, row: &Row) {
-    let heap = Refusing::new(alloc);
     for number in 1..usize::MAX {
-        heap.refuse(0);
-        let script = read_script(&heap, row.script.as_bytes()).expect(rt, "a script");
-        let mut walk = Walk {
-            row: *row,
-            heap: &heap,
-            given: Vec::new(alloc),
-            flushes: 0,
-        };
-        heap.refuse(number);
-        match begun(&heap, &script.settings) {
-            Ok(mut emitter) => check_events(rt, &mut walk, &mut emitter, script.events),
-            Err(error) => equal(rt, &(heap.left(), error), &(0, yaml_error_t::Memory)),
-        }
-        if heap.left() != 0 {
+        if !is_refused(rt, alloc, row, number) {
             return;
         }
     }

@@ -1,6 +1,6 @@
 //! Collections in blocks and in flow.
 use super::{Rows, check_root, check_roots};
-use crate::tests::joined;
+use crate::tests::{joined, repeated};
 use std::alloc::Global;
 use std::process::Abort;
 
@@ -248,7 +248,7 @@ fn check_key(rt: &impl Abort, alloc: Global, row: &Key, key: &str) {
 #[test]
 fn long_keys_are_not_simple(rt: HostRuntime) {
     for row in KEYS {
-        let key = row.2.repeat(rt.alloc(), row.3).expect(&rt, "no memory");
+        let key = repeated(&rt, rt.alloc(), row.2, row.3);
         check_key(&rt, rt.alloc(), row, key.as_str());
     }
 }

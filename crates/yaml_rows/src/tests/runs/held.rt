@@ -33,9 +33,10 @@ pub(super) fn kind_of<A: Allocator>(event: &yaml_event_t<A>) -> Kind {
     }
 }
 
-/// How many of the events given so far wait: those from the first one on that waits for what follows it.
+/// How many of the events given so far wait: those from the first one on that waits for what follows it. The head of more events
+/// than three is ready, so only the last three are looked at.
 pub(super) fn held(given: &[Kind]) -> usize {
-    for ready in 0..given.len() {
+    for ready in given.len().saturating_sub(3)..given.len() {
         let queue = given.get(ready..).unwrap_or(&[]);
         // With more events in the queue than so many its head is ready.
         let most = match queue.first() {

@@ -1,7 +1,7 @@
 //! Outputs with a limit, and outputs longer than the buffer.
 use super::growths::answered;
 use super::{Flushes, Row, check_row, check_text};
-use crate::tests::{equal, joined};
+use crate::tests::{equal, joined, repeated};
 use std::alloc::Global;
 use std::process::Abort;
 use yaml_base::yaml_error_t;
@@ -153,11 +153,6 @@ fn a_limit_cuts_anywhere(rt: HostRuntime) {
     check_limits(&rt, rt.alloc(), LIMITED);
 }
 
-/// A letter, so many times.
-fn letters(rt: &impl Abort, alloc: Global, letter: &str, count: usize) -> String {
-    letter.repeat(alloc, count).expect(rt, "no memory")
-}
-
 /// A document of one value, after these settings and in this encoding.
 fn of_value(rt: &impl Abort, alloc: Global, start: &str, value: &str) -> String {
     let parts = [
@@ -171,7 +166,7 @@ fn of_value(rt: &impl Abort, alloc: Global, start: &str, value: &str) -> String 
 
 #[test]
 fn a_text_longer_than_the_buffer_is_whole(rt: HostRuntime) {
-    let value = letters(&rt, rt.alloc(), "x", 40_000);
+    let value = repeated(&rt, rt.alloc(), "x", 40_000);
     let script = of_value(&rt, rt.alloc(), "+STR any", value.as_str());
     let text = joined(&rt, rt.alloc(), &[value.as_str(), "\n"]);
     equal(&rt, &text.len(), &40_001);
@@ -216,7 +211,7 @@ fn check_units(rt: &impl Abort, alloc: Global, value: &str, text: &[u8]) {
 
 #[test]
 fn a_long_text_in_units_of_two_bytes_is_cut(rt: HostRuntime) {
-    let value = letters(&rt, rt.alloc(), "\u{E9}", 20_000);
+    let value = repeated(&rt, rt.alloc(), "\u{E9}", 20_000);
     let text = units(&rt, rt.alloc(), 20_000);
     check_units(&rt, rt.alloc(), value.as_str(), text.as_slice());
 }

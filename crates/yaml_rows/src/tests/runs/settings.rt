@@ -1,6 +1,6 @@
 //! What a setting comes to: indents and widths that are kept, and those that are replaced.
 use super::check_root;
-use crate::tests::joined;
+use crate::tests::{joined, repeated};
 use std::alloc::Global;
 use std::process::Abort;
 
@@ -11,14 +11,10 @@ const LITERAL: &str = "=VAL literal 1 1 - - \" a\"";
 const NESTED: &str =
     "+MAP block 1 - -\n=VAL any 1 1 - - \"a\"\n+MAP block 1 - -\n=VAL any 1 1 - - \"b\"\n=VAL any 1 1 - - \"c\"\n-MAP\n-MAP";
 
-fn spaces(rt: &impl Abort, alloc: Global, count: usize) -> String {
-    " ".repeat(alloc, count).expect(rt, "no memory")
-}
-
 // The mapping, and a text whose header has the indent as its digit.
 fn check_indent(rt: &impl Abort, alloc: Global, given: &str, columns: usize) {
     let settings = joined(rt, alloc, &["indent ", given, "\n"]);
-    let spaces = spaces(rt, alloc, columns);
+    let spaces = repeated(rt, alloc, " ", columns);
     let nested = joined(rt, alloc, &["a:\n", spaces.as_str(), "b: c\n"]);
     check_root(rt, alloc, settings.as_str(), NESTED, nested.as_str());
     let literal = format!(in alloc; "|{columns}-\n{spaces} a\n").expect(rt, "no memory");
@@ -64,7 +60,7 @@ fn push_line(rt: &impl Abort, text: &mut String, words: usize) {
 
 /// The lines of the text; those after the first are indented.
 fn folded(rt: &impl Abort, alloc: Global, columns: usize, lines: &[usize]) -> String {
-    let spaces = spaces(rt, alloc, columns);
+    let spaces = repeated(rt, alloc, " ", columns);
     let mut text = String::new(alloc);
     for words in lines {
         let indent = if text.is_empty() { "" } else { spaces.as_str() };
@@ -75,7 +71,7 @@ fn folded(rt: &impl Abort, alloc: Global, columns: usize, lines: &[usize]) -> St
 }
 
 fn check_width(rt: &impl Abort, alloc: Global, row: &Widths) {
-    let words = "aa ".repeat(alloc, WORDS - 1).expect(rt, "no memory");
+    let words = repeated(rt, alloc, "aa ", WORDS - 1);
     let root = joined(rt, alloc, &["=VAL any 1 1 - - \"", words.as_str(), "aa\""]);
     let text = folded(rt, alloc, row.1, row.2);
     check_root(rt, alloc, row.0, root.as_str(), text.as_str());

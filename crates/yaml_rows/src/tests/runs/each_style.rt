@@ -1,7 +1,5 @@
 //! Short values as roots in each style, which is another one where the value doesn't allow the one that is asked for.
-use super::steps::{Step, check_steps};
-use super::streams::Given::{Document, DocumentEnd, Stream, StreamEnd, Styled};
-use super::{UNSET, short_block, short_quoted};
+use super::{check_stream, short_block, short_quoted};
 use crate::tests::{equal, joined};
 use std::alloc::Global;
 use std::process::Abort;
@@ -10,7 +8,6 @@ use yaml_base::{
     YAML_LITERAL_SCALAR_STYLE, YAML_PLAIN_SCALAR_STYLE, YAML_SINGLE_QUOTED_SCALAR_STYLE,
     yaml_scalar_style_t,
 };
-use yaml_emitter::Settings;
 
 /// A row of a table: a value, and what is written in two styles.
 fn row_of<'a>(rt: &impl Abort, row: &'a str) -> (&'a str, &'a str, &'a str) {
@@ -68,7 +65,7 @@ impl<'a> Texts<'a> {
 }
 
 /// The document's end adds a line break where the text has none.
-fn last_break(text: &str) -> &'static str {
+fn last_break(text: &str) -> &str {
     if text.ends_with('\n') || text.ends_with('\u{2028}') {
         ""
     } else {
@@ -77,68 +74,54 @@ fn last_break(text: &str) -> &'static str {
 }
 
 /// The stream's end adds dots after a header that keeps all last breaks.
-fn dots_after(text: &str) -> &'static str {
+fn dots_after(text: &str) -> &str {
     if text.contains('+') { "...\n" } else { "" }
 }
 
-fn both(rt: &impl Abort, alloc: Global, first: &str, second: &str) -> String {
-    joined(rt, alloc, &[first, second])
-}
+/// A script's word for a style, and the style.
+type Style<'a> = (&'a str, yaml_scalar_style_t);
 
-/// A value, and the style that is asked for.
-type Root<'a> = (&'a str, yaml_scalar_style_t);
-
-const NARROW: &Settings = &Settings {
-    unicode: true,
-    width: Some(5),
-    ..UNSET
-};
-
-const ENDLESS: &Settings = &Settings {
-    unicode: true,
-    width: Some(-1),
-    ..UNSET
-};
-
-// What stands after the document's end, and after the stream's.
-fn check_outputs<'a>(
-    rt: &impl Abort,
-    alloc: Global,
-    settings: &Settings,
-    root: Root<'a>,
-    outputs: (&'a str, &'a str),
-) {
-    let steps = [
-        Step::Emit(Stream),
-        Step::Emit(Document),
-        Step::Emit(Styled(root.0, root.1)),
-        Step::Held(0),
-        Step::Emit(DocumentEnd),
-        Step::Output(outputs.0.as_bytes()),
-        Step::Emit(StreamEnd),
-        Step::Output(outputs.1.as_bytes()),
-        Step::Held(0),
-    ];
-    check_steps(rt, alloc, settings, &steps);
-}
-
-// At each width.
-fn check_style(rt: &impl Abort, alloc: Global, root: Root, text: &str) {
-    let document = both(rt, alloc, text, last_break(text));
-    let stream = both(rt, alloc, document.as_str(), dots_after(text));
-    let outputs = (document.as_str(), stream.as_str());
-    check_outputs(rt, alloc, NARROW, root, outputs);
-    check_outputs(rt, alloc, ENDLESS, root, outputs);
-}
-
-const STYLES: &[yaml_scalar_style_t] = &[
-    YAML_ANY_SCALAR_STYLE,
-    YAML_PLAIN_SCALAR_STYLE,
-    YAML_SINGLE_QUOTED_SCALAR_STYLE,
-    YAML_DOUBLE_QUOTED_SCALAR_STYLE,
-    YAML_LITERAL_SCALAR_STYLE,
-    YAML_FOLDED_SCALAR_STYLE,
+const STYLES: &[Style] = &[
+    ("any", YAML_ANY_SCALAR_STYLE),
+    ("plain", YAML_PLAIN_SCALAR_STYLE),
+    ("single", YAML_SINGLE_QUOTED_SCALAR_STYLE),
+    ("double", YAML_DOUBLE_QUOTED_SCALAR_STYLE),
+    ("literal", YAML_LITERAL_SCALAR_STYLE),
+    ("folded", YAML_FOLDED_SCALAR_STYLE),
 ];
+
+/// A stream of one value, in a style. A line feed is escaped; all else stands for itself.
+fn stream_of(rt: &impl Abort, alloc: Global, style: &str, value: &str) -> String {
+    let value = value.replace(alloc, '\n', "\\n").expect(rt, "no memory");
+    let parts = [
+        "+STR any\n+DOC 1 -\n=VAL ",
+        style,
+        " 1 1 - - \"",
+        value.as_str(),
+        "\"\n-DOC 1\n-STR",
+    ];
+    joined(rt, alloc, &parts)
+}
+
+const NARROW: &str = "unicode on\nwidth 5\n";
+
+const ENDLESS: &str = "unicode on\nwidth -1\n";
+
+// The text, in lines of this width.
+fn check_style(rt: &impl Abort, alloc: Global, settings: &str, stream: &str, text: &str) {
+    let document = joined(rt, alloc, &[text, last_break(text)]);
+    let parts = [document.as_str(), dots_after(document.as_str())];
+    check_stream(rt, alloc, settings, stream, &parts);
+}
+
+fn check_styles(rt: &impl Abort, alloc: Global, texts: &Texts) {
+    for (word, style) in STYLES {
+        let stream = stream_of(rt, alloc, word, texts.value);
+        let text = texts.chosen(*style);
+        check_style(rt, alloc, NARROW, stream.as_str(), text);
+        check_style(rt, alloc, ENDLESS, stream.as_str(), text);
+    }
+}
 
 /// How many rows there are, and the rows of both tables, in one order.
 type Table<'a> = (usize, &'a [&'a str], &'a [&'a str]);
@@ -147,10 +130,7 @@ fn check_tables(rt: &impl Abort, alloc: Global, tables: &[Table]) {
     for (count, quoted, block) in tables {
         equal(rt, &(quoted.len(), block.len()), &(*count, *count));
         for (quoted, block) in quoted.iter().zip(*block) {
-            let texts = texts_of(rt, quoted, block);
-            for style in STYLES {
-                check_style(rt, alloc, (texts.value, *style), texts.chosen(*style));
-            }
+            check_styles(rt, alloc, &texts_of(rt, quoted, block));
         }
     }
 }
