@@ -7,7 +7,7 @@ use Rattle.yaml_base.specs.values.TypedValues.{null_tag}
 use Rattle.yaml_writer.specs.Given.{given_for_values}
 use Rattle.yaml_writer.specs.Writing.{WriterState, opening, closing, tag_or_default, null_event, text_style, text_event, sequence_event, end_event}
 use Rattle.yaml_writer.specs.Writing.{with_collection, StandsTaken, AddsEvents, GaveEvent, EndsInnermost, Finishes}
-use Rattle.yaml_writer.specs.declared.kinds.{CollectionKind.CollectionKind, CollectionKind.TheVariants.Mapping, CollectionKind.TheVariants.Sequence}
+use Rattle.yaml_emitter.specs.declared.place.{CollectionKind.CollectionKind, CollectionKind.TheVariants.Mapping, CollectionKind.TheVariants.Sequence}
 
 -- a scalar without properties
 abbrev bare_scalar : Text → ScalarStyle → Event

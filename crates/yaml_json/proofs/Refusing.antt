@@ -11,7 +11,7 @@ use Rattle.yaml_json.{specs.declared.error.JsonError.JsonError, specs.declared.v
 use Rattle.yaml_json.proofs.NameLemmas.{once_first, once_second, once_is_unique, unique_is_once}
 use Rattle.yaml_json.proofs.Walking.{unwind_none, unwind_inner, Awaits, opener_too_deep, next_stands_at, closes_value, closes_allowed, value_begins_at}
 use Rattle.yaml_json.proofs.Walking.{value_closes, Awaiting, awaiting_named}
-use Rattle.yaml_writer.specs.declared.kinds.{CollectionKind.CollectionKind, CollectionKind.TheVariants.Mapping, CollectionKind.TheVariants.Sequence}
+use Rattle.yaml_emitter.specs.declared.place.{CollectionKind.CollectionKind, CollectionKind.TheVariants.Mapping, CollectionKind.TheVariants.Sequence}
 use Rattle.yaml_json.specs.declared.error.JsonError.TheVariants as errors
 use Rattle.yaml_json.specs.declared.values.Stop.TheVariants as stops
 

@@ -3,7 +3,8 @@ use Rattle.yaml_json.proofs.Common.{IfSome, Option, None, Some, Err, List, [], �
 use Rattle.yaml_json.proofs.Common.{FailedWith, FailedAt, WriterState, end_event, with_collection, StandsTaken, AddsEvents, GaveEvent, EndsInnermost}
 use Rattle.yaml_base.specs.declared.errors.{yaml_error_t.yaml_error_t, yaml_error_t.TheVariants.Memory}
 use Rattle.yaml_json.proofs.WroteLemmas.{adds_then, none_more, same_last}
-use Rattle.yaml_writer.specs.{Writing.Failed, declared.kinds.CollectionKind.CollectionKind}
+use Rattle.yaml_emitter.specs.declared.place.CollectionKind.{CollectionKind}
+use Rattle.yaml_writer.specs.Writing.{Failed}
 
 -- what follows of a value, where there is one
 pub if_some : {A : Type 0} {P Q : A → Type 0} (found : Option A) → ((value : A) → P value → Q value) → IfSome found P → IfSome found Q

@@ -6,7 +6,7 @@ use Rattle.yaml_json.proofs.Refusing.{first_refused, IsNoKey, no_member_left, ke
 use Rattle.yaml_json.proofs.Walking.{awaiting_item, awaiting_no_item, awaiting_named}
 use Rattle.yaml_base.specs.declared.errors.yaml_error_t.TheVariants.{Memory}
 use Rattle.yaml_json.specs.{Walk.ReadsNone, declared.names.Names.Names, declared.values.Spot.Spot, declared.values.Stop.Stop}
-use Rattle.yaml_writer.specs.declared.kinds.{CollectionKind.CollectionKind, CollectionKind.TheVariants.Mapping, CollectionKind.TheVariants.Sequence}
+use Rattle.yaml_emitter.specs.declared.place.{CollectionKind.CollectionKind, CollectionKind.TheVariants.Mapping, CollectionKind.TheVariants.Sequence}
 use Rattle.yaml_json.specs.declared.values.Stop.TheVariants as stops
 
 -- no token is read

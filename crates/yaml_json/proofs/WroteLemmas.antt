@@ -7,7 +7,8 @@ use Rattle.yaml_json.proofs.Common.{text_event, mapping_event, sequence_event, e
 use Rattle.yaml_base.specs.Event.{CollectionStyle}
 use Rattle.yaml_json.specs.JsonEvents.{style_of}
 use Rattle.yaml_writer.proofs.Finishing.{nothing_awaited}
-use Rattle.yaml_writer.specs.{Writing.tag_or_default, Writing.word_event, Writing.awaits_node, declared.kinds.CollectionKind.CollectionKind}
+use Rattle.yaml_writer.specs.{Writing.tag_or_default, Writing.word_event, Writing.awaits_node}
+use Rattle.yaml_emitter.specs.declared.place.CollectionKind.{CollectionKind}
 
 -- no node is awaited
 pub bare_awaits_none : (writer : WriterState) → IsBare writer → awaits_node writer ≡ false

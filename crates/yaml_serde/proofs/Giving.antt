@@ -11,7 +11,8 @@ use Rattle.yaml_base.specs.declared.errors.{yaml_error_t.yaml_error_t, yaml_erro
 use Rattle.yaml_pen.proofs.Composing.{grows_then}
 use Rattle.yaml_serde.{proofs.Handing.appends_then, proofs.Handing.kept_none, specs.Documents.end_call, specs.Documents.GaveEvents, specs.Outlets.HasGiven}
 use Rattle.yaml_serde.{specs.Outlets.Stands, specs.declared.outlet.Outlet.Outlet, specs.declared.outlet.Outlet.TheVariants.Sink}
-use Rattle.yaml_writer.specs.{Writing.NodeExpected, Writing.Failed, Writing.EndsInnermost, declared.kinds.CollectionKind.CollectionKind}
+use Rattle.yaml_writer.specs.{Writing.NodeExpected, Writing.Failed, Writing.EndsInnermost}
+use Rattle.yaml_emitter.specs.declared.place.CollectionKind.{CollectionKind}
 
 -- ---- the emitter
 

@@ -12,7 +12,7 @@ use Rattle.yaml_writer.specs.Floats.{special_event}
 use Rattle.yaml_writer.specs.Writing.{WriterState, IsStream, StandsTaken, bool_event, closing, end_event, int_event, mapping_event, null_event, number_event}
 use Rattle.yaml_writer.specs.Writing.{opening, sequence_event, text_event}
 use Rattle.yaml_writer.specs.declared.floats.SpecialFloat.{SpecialFloat}
-use Rattle.yaml_writer.specs.declared.kinds.CollectionKind.{CollectionKind}
+use Rattle.yaml_emitter.specs.declared.place.CollectionKind.{CollectionKind}
 
 -- an event that a call of a writer gives, with the writer's properties of the next node: so a number is spelled for both
 -- schemas, and a text stands plain only where both read it as a text

@@ -21,12 +21,12 @@ use Rattle.yaml_emitter.specs.State.{State}
 use Rattle.yaml_emitter.specs.StandsAfter.{StandsAfter}
 use Rattle.yaml_emitter.specs.Promises.{IsWritten}
 use Rattle.yaml_writer.specs.Times.{Moment, timestamp_text}
-use Rattle.yaml_writer.specs.declared.kinds.CollectionKind.{CollectionKind}
-use Rattle.yaml_writer.specs.declared.kinds.CollectionKind.TheVariants.{Mapping, Sequence}
+use Rattle.yaml_emitter.specs.declared.place.CollectionKind.{CollectionKind}
+use Rattle.yaml_emitter.specs.declared.place.CollectionKind.TheVariants.{Mapping, Sequence}
 use Rattle.yaml_writer.specs.declared.collections.CollectionStart.{CollectionStart}
 use Rattle.yaml_writer.specs.declared.collections.CollectionStart.TheVariants as start
-use Rattle.yaml_writer.specs.declared.kinds.DocumentEnd.{DocumentEnd}
-use Rattle.yaml_writer.specs.declared.kinds.DocumentEnd.TheVariants.{Implicit, Explicit}
+use Rattle.yaml_writer.specs.declared.ends.DocumentEnd.{DocumentEnd}
+use Rattle.yaml_writer.specs.declared.ends.DocumentEnd.TheVariants.{Implicit, Explicit}
 
 -- the emitter; whether it writes canonical form; the collections that are open, the innermost last; the anchor and the tag
 -- of the next node

@@ -3,13 +3,13 @@ ghost use Rattle.std.specs.Prelude.{◌≡◌, ◌⊎◌, IfErr, OnOk, None, Som
 ghost use Rattle.yaml_base.specs.Seen.{seen_mapping_style, seen_sequence_style};
 ghost use Rattle.yaml_writer.specs.Writing.{EndsInnermost, Failed, GaveEvent, NodeExpected, awaits_node, mapping_event, sequence_event};
 ghost use Rattle.yaml_writer.specs.Writing.{start_event, with_collection};
-ghost use Rattle.yaml_writer.specs.declared.kinds.CollectionKind.TheVariants.{Mapping, Sequence};
+ghost use Rattle.yaml_emitter.specs.declared.place.CollectionKind.TheVariants.{Mapping, Sequence};
 
 use crate::giving::{give, give_end, start_of};
-use crate::kinds::CollectionKind;
 use crate::writer::Writer;
 use std::alloc::Allocator;
 use yaml_base::{yaml_error_t, yaml_mapping_style_t, yaml_sequence_style_t};
+use yaml_emitter::CollectionKind;
 
 /// The kind and the style of a collection that starts.
 #[derive(Clone, Copy)]

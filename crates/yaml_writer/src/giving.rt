@@ -12,7 +12,7 @@ ghost use Rattle.yaml_writer.specs.Writing.{AddsEvent, AddsEvents, FinishesBy, S
 ghost use Rattle.yaml_writer.specs.Writing as writing;
 
 use crate::collections::CollectionStart;
-use crate::kinds::{CollectionKind, DocumentEnd, is_implicit};
+use crate::ends::{DocumentEnd, is_implicit};
 use std::alloc::Allocator;
 use yaml_base::{
     YAML_ALIAS_EVENT, YAML_ANY_ENCODING, YAML_DOCUMENT_END_EVENT, YAML_DOCUMENT_START_EVENT,
@@ -20,7 +20,9 @@ use yaml_base::{
     YAML_SEQUENCE_START_EVENT, YAML_STREAM_END_EVENT, YAML_STREAM_START_EVENT, yaml_error_t,
     yaml_event_t, yaml_scalar_style_t,
 };
-use yaml_emitter::{ScalarContent, yaml_emitter_emit, yaml_emitter_t, yaml_emitter_take_output};
+use yaml_emitter::{
+    CollectionKind, ScalarContent, yaml_emitter_emit, yaml_emitter_t, yaml_emitter_take_output,
+};
 
 /// The start of a document without directives.
 pub(crate) fn plain_start<A: Allocator>(alloc: A) -> yaml_event_t<A>

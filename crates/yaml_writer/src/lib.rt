@@ -4,9 +4,9 @@
 mod collections;
 mod dates;
 mod digits;
+mod ends;
 mod floats;
 mod giving;
-mod kinds;
 mod laws;
 mod numbers;
 mod properties;
@@ -21,8 +21,8 @@ mod words;
 mod writer;
 
 pub use dates::Date;
+pub use ends::DocumentEnd;
 pub use floats::SpecialFloat;
-pub use kinds::{CollectionKind, DocumentEnd};
 pub use laws::{
     dates_are_read, numbers_are_read, plain_texts_are_texts, special_floats_are_read,
     surely_text_is_text, timestamps_are_read, written_dates_are_plain, written_numbers_are_read,
@@ -44,4 +44,4 @@ pub use yaml_base::{
     YAML_UTF16BE_ENCODING, YAML_UTF16LE_ENCODING, yaml_break_t, yaml_encoding_t, yaml_error_t,
     yaml_mapping_style_t, yaml_scalar_style_t, yaml_sequence_style_t,
 };
-pub use yaml_emitter::Settings;
+pub use yaml_emitter::{CollectionKind, Settings};

@@ -3,8 +3,8 @@ ghost use Rattle.std.specs.Prelude.{◌≡◌, ◌⊎◌, IfErr, OnOk, Err, Some
 ghost use Rattle.yaml_base.specs.Event as event;
 ghost use Rattle.yaml_writer.specs.Writing.{NodeExpected, PassedEvents, awaits_node, is_implicit, plain_start};
 
+use crate::ends::DocumentEnd;
 use crate::giving::{give_alias, give_next};
-use crate::kinds::DocumentEnd;
 use crate::scalars::text_of;
 use crate::writer::Writer;
 use std::alloc::Allocator;

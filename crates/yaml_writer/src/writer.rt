@@ -10,13 +10,15 @@ ghost use Rattle.yaml_pen.specs.Page.{output_left};
 ghost use Rattle.yaml_writer.specs.Unfinished.{IsUnfinished, IsUnfinishedBy};
 ghost use Rattle.yaml_writer.specs.Writing.{Failed, Finishes, FinishesBy, GaveEvent, StandsTaken, TakesBytes, awaits_node, is_implicit, opening, scalar_event};
 
+use crate::ends::DocumentEnd;
 use crate::giving::{begin, finished, scalar_content, took_event, use_up};
-use crate::kinds::{CollectionKind, DocumentEnd};
 use std::alloc::Allocator;
 use std::io;
 use std::marker::Model;
 use yaml_base::{yaml_error_t, yaml_scalar_style_t};
-use yaml_emitter::{Settings, yaml_emitter_emit_scalar, yaml_emitter_t, yaml_emitter_take_output};
+use yaml_emitter::{
+    CollectionKind, Settings, yaml_emitter_emit_scalar, yaml_emitter_t, yaml_emitter_take_output,
+};
 
 /// Writes values, one call each, into a vector of bytes.
 #[derive(Drop)]

@@ -1,7 +1,7 @@
 use Rattle.yaml_json.proofs.Common.{subst, sym, FailedAt, start_event, mapping_event, sequence_event}
 use Rattle.yaml_base.specs.Seen.{seen_sequence_style, seen_mapping_style}
 use Rattle.yaml_json.proofs.{Stopping.start_failed, WroteLemmas.sequence_is, WroteLemmas.mapping_is}
-use Rattle.yaml_writer.specs.declared.kinds.{CollectionKind.CollectionKind, CollectionKind.TheVariants.Mapping, CollectionKind.TheVariants.Sequence}
+use Rattle.yaml_emitter.specs.declared.place.{CollectionKind.CollectionKind, CollectionKind.TheVariants.Mapping, CollectionKind.TheVariants.Sequence}
 use Rattle.yaml_json.proofs.scalars.start.Goals as goal
 
 pub returns-in-Err-clause-stopped : goal.returns-in-Err-clause-stopped

@@ -7,8 +7,8 @@ use Rattle.yaml_json.proofs.Stops.{unread, item_stopped, member_stopped, again_s
 use Rattle.yaml_json.proofs.Taking.{gives_scalar, fails_scalar, step_closes, step_unclosed, step_without_memory, step_unread, step_unnamed, step_member}
 use Rattle.yaml_json.proofs.Taking.{step_no_member, step_item, step_no_item}
 use Rattle.yaml_json.specs.declared.values.Spot.TheVariants.{At, PastString}
-use Rattle.yaml_writer.specs.declared.kinds.CollectionKind.{CollectionKind}
-use Rattle.yaml_writer.specs.declared.kinds.CollectionKind.TheVariants.{Mapping, Sequence}
+use Rattle.yaml_emitter.specs.declared.place.CollectionKind.{CollectionKind}
+use Rattle.yaml_emitter.specs.declared.place.CollectionKind.TheVariants.{Mapping, Sequence}
 use Rattle.json.specs.Token as tokens
 use Rattle.json.specs.declared.token.Token.TheVariants as variants
 use Rattle.yaml_json.proofs.values.write_next.Goals as goal

@@ -1,5 +1,6 @@
 use Rattle.yaml_serde.{proofs.Giving.stands_begun, specs.Documents.mapping_call}
-use Rattle.yaml_writer.specs.{Writing.with_collection, declared.kinds.CollectionKind.TheVariants.Mapping}
+use Rattle.yaml_emitter.specs.declared.place.CollectionKind.TheVariants.{Mapping}
+use Rattle.yaml_writer.specs.Writing.{with_collection}
 use Rattle.yaml_serde.proofs.document.Document.begin_mapping.Goals as goal
 
 pub invariant_of-self : goal.invariant_of-self

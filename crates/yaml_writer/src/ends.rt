@@ -1,15 +1,6 @@
-//! Kinds of collections, and ends of documents.
+//! Ends of documents.
 ghost use Rattle.std.specs.Prelude.{◌≡◌};
 ghost use Rattle.yaml_writer.specs.Writing as writing;
-
-/// What kind a collection is of.
-#[derive(Clone, Copy, PartialEq, Eq, Debug)]
-pub enum CollectionKind {
-    /// Pairs of a key and a value.
-    Mapping,
-    /// Items.
-    Sequence,
-}
 
 /// How the end of a document is written.
 #[derive(Clone, Copy, PartialEq, Eq, Debug)]
