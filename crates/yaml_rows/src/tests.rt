@@ -15,9 +15,10 @@ mod types;
 use std::alloc::{Allocator, Global};
 use std::fmt::Debug;
 use std::process::Abort;
-use yaml_base::{yaml_error_t, yaml_tag_directive_t};
+use yaml_base::{yaml_error_t, yaml_event_t, yaml_tag_directive_t};
 use yaml_pen::{Indicator, Pen};
 use yaml_scalar::holds_break;
+use yaml_tool::read_script;
 
 /// The two are equal. (A comparison in a function of its own is proved once.)
 fn equal<T: PartialEq + Debug>(rt: &impl Abort, got: &T, wanted: &T) {
@@ -74,6 +75,12 @@ fn joined(rt: &impl Abort, alloc: Global, parts: &[&str]) -> String {
 /// This text, so many times, for which there is memory.
 fn repeated(rt: &impl Abort, alloc: Global, text: &str, count: usize) -> String {
     text.repeat(alloc, count).expect(rt, "no memory")
+}
+
+/// The event of a script's line, for which there is memory.
+fn event_of<A: Allocator + Copy>(rt: &impl Abort, alloc: A, line: &str) -> yaml_event_t<A> {
+    let mut script = read_script(alloc, line.as_bytes()).expect(rt, "a line");
+    script.events.pop().expect(rt, "an event").event
 }
 
 /// This was written.

@@ -28,7 +28,7 @@ pub(super) enum Given<'a> {
     Mapping(&'a [yaml_node_pair_t]),
 }
 
-fn copied<T: Copy, A: Allocator>(rt: &impl Abort, alloc: A, items: &[T]) -> Vec<T, A> {
+pub(super) fn copied<T: Copy, A: Allocator>(rt: &impl Abort, alloc: A, items: &[T]) -> Vec<T, A> {
     Vec::from_slice(alloc, items).expect(rt, "no memory")
 }
 

@@ -4,13 +4,11 @@ pub(super) mod depth;
 mod early;
 mod memory;
 pub(super) mod steps;
-pub(super) mod streams;
 mod taking;
 
-use crate::tests::{equal, same};
+use crate::tests::{equal, event_of, same};
 use std::alloc::{Allocator, Global};
 use std::process::Abort;
-use streams::{Given, event};
 use yaml_base::{
     YAML_ANY_BREAK, YAML_ANY_ENCODING, YAML_STREAM_END_EVENT, yaml_error_t, yaml_event_t,
 };
@@ -96,25 +94,26 @@ pub(super) fn flush_if_known<A: Allocator + Copy>(
     Ok(())
 }
 
-/// Emits an event that isn't refused.
+/// Emits the event of a script's line, which isn't refused.
 fn emit<A: Allocator + Copy>(
     rt: &impl Abort,
     alloc: A,
     emitter: &mut yaml_emitter_t<A>,
-    given: &Given,
+    line: &str,
 ) {
-    equal(rt, &give(rt, emitter, event(rt, alloc, given)), &Ok(()));
+    let answer = give(rt, emitter, event_of(rt, alloc, line));
+    equal(rt, &answer, &Ok(()));
 }
 
-/// Emits all events, none of which is refused.
+/// Emits the events of these lines, none of which is refused.
 fn emit_all<A: Allocator + Copy>(
     rt: &impl Abort,
     alloc: A,
     emitter: &mut yaml_emitter_t<A>,
-    events: &[Given],
+    lines: &[&str],
 ) {
-    for given in events {
-        emit(rt, alloc, emitter, given);
+    for line in lines {
+        emit(rt, alloc, emitter, line);
     }
 }
 

@@ -1,88 +1,9 @@
 //! Scripts read by `yaml_tool`, and what each end of a run says.
-use crate::tests::{directives, equal, joined, same};
+use crate::tests::{equal, same};
 use std::alloc::Global;
 use std::process::Abort;
-use yaml_base::{
-    YAML_ANY_BREAK, YAML_ANY_ENCODING, YAML_ANY_SCALAR_STYLE, YAML_DOCUMENT_END_EVENT,
-    YAML_DOCUMENT_START_EVENT, YAML_FLOW_SEQUENCE_STYLE, YAML_FOLDED_SCALAR_STYLE,
-    YAML_SCALAR_EVENT, YAML_SEQUENCE_START_EVENT, YAML_STREAM_END_EVENT, YAML_STREAM_START_EVENT,
-    YAML_UTF16BE_ENCODING, yaml_encoding_t, yaml_error_t, yaml_event_t, yaml_tag_directive_t,
-    yaml_version_directive_t,
-};
-use yaml_tool::{
-    NumberedEvent, Script, ScriptError, Settings, read_script, run_answer_t, status, write_line,
-};
-
-type Events = Vec<NumberedEvent<Global>>;
-
-/// An event of this line is the next.
-fn add(rt: &impl Abort, events: &mut Events, line: u64, event: yaml_event_t<Global>) {
-    let pushed = events.push(NumberedEvent { line, event });
-    pushed.expect(rt, "no memory");
-}
-
-// The events of a script, with their lines.
-fn check_events(
-    rt: &impl Abort,
-    events: &[NumberedEvent<Global>],
-    wanted: &[NumberedEvent<Global>],
-) {
-    equal(rt, &events, &wanted);
-}
-
-fn stream_start(encoding: yaml_encoding_t) -> yaml_event_t<Global> {
-    YAML_STREAM_START_EVENT { encoding }
-}
-
-fn plain_start(alloc: Global) -> yaml_event_t<Global> {
-    YAML_DOCUMENT_START_EVENT {
-        version_directive: None,
-        tag_directives: Vec::new(alloc),
-        implicit: true,
-    }
-}
-
-fn plain_scalar(value: String) -> yaml_event_t<Global> {
-    YAML_SCALAR_EVENT {
-        anchor: None,
-        tag: None,
-        value,
-        plain_implicit: true,
-        quoted_implicit: true,
-        style: YAML_ANY_SCALAR_STYLE,
-    }
-}
-
-fn full_start(tag_directives: Vec<yaml_tag_directive_t<Global>>) -> yaml_event_t<Global> {
-    YAML_DOCUMENT_START_EVENT {
-        version_directive: Some(yaml_version_directive_t { major: 1, minor: 2 }),
-        tag_directives,
-        implicit: false,
-    }
-}
-
-fn flow_start(anchor: String, tag: String) -> yaml_event_t<Global> {
-    YAML_SEQUENCE_START_EVENT {
-        anchor: Some(anchor),
-        tag: Some(tag),
-        implicit: false,
-        style: YAML_FLOW_SEQUENCE_STYLE,
-    }
-}
-
-fn folded_scalar(anchor: String, value: String) -> yaml_event_t<Global> {
-    YAML_SCALAR_EVENT {
-        anchor: Some(anchor),
-        tag: None,
-        value,
-        plain_implicit: false,
-        quoted_implicit: true,
-        style: YAML_FOLDED_SCALAR_STYLE,
-    }
-}
-
-const UNDERSTOOD: &str =
-    "canonical on\nwidth -1\n# all in one\n\n+STR any\n+DOC 1 -\n=VAL any 1 1 - - \"a\"\n-DOC 1\n-STR\n";
+use yaml_base::{YAML_ANY_BREAK, YAML_ANY_ENCODING, yaml_error_t, yaml_event_t};
+use yaml_tool::{Script, ScriptError, Settings, read_script, run_answer_t, status, write_line};
 
 const SETTINGS: Settings = Settings {
     limit: 1_000_000_000,
@@ -97,53 +18,84 @@ const SETTINGS: Settings = Settings {
     indented_sequences: false,
 };
 
-const DOCUMENT_END: yaml_event_t<Global> = YAML_DOCUMENT_END_EVENT { implicit: true };
+const UNSET: Settings = Settings {
+    canonical: false,
+    width: None,
+    ..SETTINGS
+};
 
-fn understood(rt: &impl Abort, alloc: Global) -> Events {
-    let mut events = Vec::new(alloc);
-    add(rt, &mut events, 5, stream_start(YAML_ANY_ENCODING));
-    add(rt, &mut events, 6, plain_start(alloc));
-    let value = joined(rt, alloc, &["a"]);
-    add(rt, &mut events, 7, plain_scalar(value));
-    add(rt, &mut events, 8, DOCUMENT_END);
-    add(rt, &mut events, 9, YAML_STREAM_END_EVENT);
-    events
-}
+/// The number of a line, and its event as it is printed.
+type Printed<'a> = (u64, &'a str);
 
-fn read(rt: &impl Abort, alloc: Global, script: &str) -> Script<Global> {
-    read_script(alloc, script.as_bytes()).expect(rt, "no script")
-}
+const UNDERSTOOD: &str =
+    "canonical on\nwidth -1\n# all in one\n\n+STR any\n+DOC 1 -\n=VAL any 1 1 - - \"a\"\n-DOC 1\n-STR\n";
 
-#[test]
-fn a_script_is_understood(rt: HostRuntime) {
-    let script = read(&rt, rt.alloc(), UNDERSTOOD);
-    equal(&rt, &script.settings, &SETTINGS);
-    let wanted = understood(&rt, rt.alloc());
-    check_events(&rt, script.events.as_slice(), wanted.as_slice());
-}
+const UNDERSTOOD_EVENTS: &[Printed] = &[
+    (5, "YAML_STREAM_START_EVENT { encoding: YAML_ANY_ENCODING }"),
+    (
+        6,
+        "YAML_DOCUMENT_START_EVENT { version_directive: None, tag_directives: [], implicit: true }",
+    ),
+    (
+        7,
+        "YAML_SCALAR_EVENT { anchor: None, tag: None, value: \"a\", plain_implicit: true, quoted_implicit: true, style: YAML_ANY_SCALAR_STYLE }",
+    ),
+    (8, "YAML_DOCUMENT_END_EVENT { implicit: true }"),
+    (9, "YAML_STREAM_END_EVENT"),
+];
 
 const EVERY_PART: &str =
     "+STR utf16be\n+DOC 0 1.02 \"!\" \"!a b\" \"!e!\" \"\"\n+SEQ flow 0 \"x\" \"-\"\n=VAL folded 0 1 \"a\" - \"\\u{1f600}\\n\\\\\\\"\"";
 
-fn every_part(rt: &impl Abort, alloc: Global) -> Events {
-    let mut events = Vec::new(alloc);
-    add(rt, &mut events, 1, stream_start(YAML_UTF16BE_ENCODING));
-    let start = full_start(directives(rt, alloc, &[("!", "!a b"), ("!e!", "")]));
-    add(rt, &mut events, 2, start);
-    let anchor = joined(rt, alloc, &["x"]);
-    let tag = joined(rt, alloc, &["-"]);
-    add(rt, &mut events, 3, flow_start(anchor, tag));
-    let anchor = joined(rt, alloc, &["a"]);
-    let value = joined(rt, alloc, &["\u{1F600}\n\\\""]);
-    add(rt, &mut events, 4, folded_scalar(anchor, value));
-    events
+const EVERY_PART_EVENTS: &[Printed] = &[
+    (
+        1,
+        "YAML_STREAM_START_EVENT { encoding: YAML_UTF16BE_ENCODING }",
+    ),
+    (
+        2,
+        "YAML_DOCUMENT_START_EVENT { version_directive: Some(yaml_version_directive_t { major: 1, minor: 2 }), \
+        tag_directives: [yaml_tag_directive_t { handle: \"!\", prefix: \"!a b\" }, yaml_tag_directive_t { handle: \"!e!\", prefix: \"\" }], \
+        implicit: false }",
+    ),
+    (
+        3,
+        "YAML_SEQUENCE_START_EVENT { anchor: Some(\"x\"), tag: Some(\"-\"), implicit: false, style: YAML_FLOW_SEQUENCE_STYLE }",
+    ),
+    (
+        4,
+        "YAML_SCALAR_EVENT { anchor: Some(\"a\"), tag: None, value: \"\u{1F600}\\n\\\\\\\"\", plain_implicit: false, quoted_implicit: true, \
+        style: YAML_FOLDED_SCALAR_STYLE }",
+    ),
+];
+
+/// Scripts, each with its settings and its events.
+const SCRIPTS: &[(&str, Settings, &[Printed])] = &[
+    (UNDERSTOOD, SETTINGS, UNDERSTOOD_EVENTS),
+    (EVERY_PART, UNSET, EVERY_PART_EVENTS),
+];
+
+// The event is printed so.
+fn check_event(rt: &impl Abort, alloc: Global, event: &yaml_event_t<Global>, printed: &str) {
+    let text = format!(in alloc; "{event:?}").expect(rt, "no memory");
+    equal(rt, &text.as_str(), &printed);
+}
+
+fn check_events(rt: &impl Abort, alloc: Global, script: &Script<Global>, wanted: &[Printed]) {
+    equal(rt, &script.events.len(), &wanted.len());
+    for (numbered, (line, printed)) in script.events.iter().zip(wanted) {
+        equal(rt, &numbered.line, line);
+        check_event(rt, alloc, &numbered.event, printed);
+    }
 }
 
 #[test]
-fn every_part_of_a_line_is_read(rt: HostRuntime) {
-    let script = read(&rt, rt.alloc(), EVERY_PART);
-    let wanted = every_part(&rt, rt.alloc());
-    check_events(&rt, script.events.as_slice(), wanted.as_slice());
+fn scripts_are_understood(rt: HostRuntime) {
+    for (bytes, settings, events) in SCRIPTS {
+        let script = read_script(rt.alloc(), bytes.as_bytes()).expect(&rt, "a script");
+        equal(&rt, &script.settings, settings);
+        check_events(&rt, rt.alloc(), &script, events);
+    }
 }
 
 // The script has a bad line, the first of which this is.

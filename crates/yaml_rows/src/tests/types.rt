@@ -1,98 +1,44 @@
 //! Events, nodes, refusals and classes of characters: what is equal, and what is printed.
 mod documents;
 
-use super::{Tag, directives, equal, owned};
+use super::dumps::copied;
+use super::{equal, event_of, owned};
 use std::alloc::Global;
 use std::fmt::Debug;
 use std::process::Abort;
 use yaml_base::*;
-
-const DIRECTIVES: &[Tag] = &[("!", "!a")];
-
-fn scalar(
-    rt: &impl Abort,
-    alloc: Global,
-    value: &str,
-    style: yaml_scalar_style_t,
-) -> yaml_event_t<Global> {
-    YAML_SCALAR_EVENT {
-        anchor: Some(owned(rt, alloc, "id")),
-        tag: None,
-        value: owned(rt, alloc, value),
-        plain_implicit: true,
-        quoted_implicit: false,
-        style,
-    }
-}
-
-fn flow_sequence(rt: &impl Abort, alloc: Global) -> yaml_event_t<Global> {
-    YAML_SEQUENCE_START_EVENT {
-        anchor: None,
-        tag: Some(owned(rt, alloc, "!t")),
-        implicit: true,
-        style: YAML_FLOW_SEQUENCE_STYLE,
-    }
-}
-
-fn document_start(rt: &impl Abort, alloc: Global, minor: i32) -> yaml_event_t<Global> {
-    YAML_DOCUMENT_START_EVENT {
-        version_directive: Some(yaml_version_directive_t { major: 1, minor }),
-        tag_directives: directives(rt, alloc, DIRECTIVES),
-        implicit: false,
-    }
-}
 
 // Two values are equal, or they differ. (What is owned is freed in one place.)
 fn check_same<T: PartialEq + Drop>(rt: &impl Abort, one: T, other: T, same: bool) {
     equal(rt, &(one == other, one != other), &(same, !same));
 }
 
-/// The value and the style of a scalar; those of another that is otherwise the same; whether the two are equal.
-type Scalars<'a> = (
-    (&'a str, yaml_scalar_style_t),
-    (&'a str, yaml_scalar_style_t),
-    bool,
-);
-
-fn check_scalars(rt: &impl Abort, alloc: Global, rows: &[Scalars]) {
-    for row in rows {
-        let one = scalar(rt, alloc, row.0.0, row.0.1);
-        let other = scalar(rt, alloc, row.1.0, row.1.1);
-        check_same(rt, one, other, row.2);
-    }
-}
-
-const PLAIN: yaml_scalar_style_t = YAML_PLAIN_SCALAR_STYLE;
-
-const SCALARS: &[Scalars] = &[
-    (("a", PLAIN), ("a", PLAIN), true),
-    (("a", PLAIN), ("b", PLAIN), false),
-    (("a", PLAIN), ("a", YAML_ANY_SCALAR_STYLE), false),
+/// Two lines of a script, and whether their events are equal.
+const LINES: &[(&str, &str, bool)] = &[
+    (SCALAR, SCALAR, true),
+    (SCALAR, r#"=VAL plain 1 0 "id" - "b""#, false),
+    (SCALAR, r#"=VAL any 1 0 "id" - "a""#, false),
+    (START, START, true),
+    (START, r#"+DOC 0 1.2 "!" "!a""#, false),
 ];
 
-#[test]
-fn scalars_are_compared_by_what_they_hold(rt: HostRuntime) {
-    check_scalars(&rt, rt.alloc(), SCALARS);
-}
+const SCALAR: &str = r#"=VAL plain 1 0 "id" - "a""#;
 
-// The starts of two documents, by their minor versions.
-fn check_starts(rt: &impl Abort, alloc: Global, first: i32, second: i32) {
-    let one = document_start(rt, alloc, first);
-    let other = document_start(rt, alloc, second);
-    check_same(rt, one, other, first == second);
-}
+const START: &str = r#"+DOC 0 1.1 "!" "!a""#;
 
 #[test]
-fn starts_are_compared_by_what_they_hold(rt: HostRuntime) {
-    check_starts(&rt, rt.alloc(), 1, 1);
-    check_starts(&rt, rt.alloc(), 1, 2);
+fn events_are_compared_by_what_they_hold(rt: HostRuntime) {
+    for (one, other, same) in LINES {
+        let one = event_of(&rt, rt.alloc(), one);
+        check_same(&rt, one, event_of(&rt, rt.alloc(), other), *same);
+    }
 }
 
 #[test]
 fn the_default_event_is_the_end_of_a_stream(rt: HostRuntime) {
     let end: yaml_event_t<Global> = YAML_STREAM_END_EVENT;
     check_same(&rt, Default::default(), end, true);
-    let scalar = scalar(&rt, rt.alloc(), "a", PLAIN);
+    let scalar = event_of(&rt, rt.alloc(), SCALAR);
     check_same(&rt, Default::default(), scalar, false);
 }
 
@@ -102,23 +48,25 @@ fn check_printed<T: Debug + Drop>(rt: &impl Abort, alloc: Global, value: T, want
     equal(rt, &text.as_str(), &wanted);
 }
 
-const PRINTED_START: &str =
-    "YAML_DOCUMENT_START_EVENT { version_directive: Some(yaml_version_directive_t { major: 1, minor: 1 }), \
-    tag_directives: [yaml_tag_directive_t { handle: \"!\", prefix: \"!a\" }], implicit: false }";
-
-const PRINTED_SEQUENCE: &str =
-    "YAML_SEQUENCE_START_EVENT { anchor: None, tag: Some(\"!t\"), implicit: true, style: YAML_FLOW_SEQUENCE_STYLE }";
+/// Lines of a script, each with its event as it is printed.
+const PRINTED: &[(&str, &str)] = &[
+    (
+        START,
+        "YAML_DOCUMENT_START_EVENT { version_directive: Some(yaml_version_directive_t { major: 1, minor: 1 }), \
+        tag_directives: [yaml_tag_directive_t { handle: \"!\", prefix: \"!a\" }], implicit: false }",
+    ),
+    (
+        r#"+SEQ flow 1 - "!t""#,
+        "YAML_SEQUENCE_START_EVENT { anchor: None, tag: Some(\"!t\"), implicit: true, style: YAML_FLOW_SEQUENCE_STYLE }",
+    ),
+];
 
 #[test]
 fn events_are_printed_by_their_fields(rt: HostRuntime) {
-    let start = document_start(&rt, rt.alloc(), 1);
-    check_printed(&rt, rt.alloc(), start, PRINTED_START);
-    let sequence = flow_sequence(&rt, rt.alloc());
-    check_printed(&rt, rt.alloc(), sequence, PRINTED_SEQUENCE);
-}
-
-fn copied<T: Copy>(rt: &impl Abort, alloc: Global, items: &[T]) -> Vec<T> {
-    Vec::from_slice(alloc, items).expect(rt, "no memory")
+    for (line, printed) in PRINTED {
+        let event = event_of(&rt, rt.alloc(), line);
+        check_printed(&rt, rt.alloc(), event, printed);
+    }
 }
 
 fn sequence_node(rt: &impl Abort, alloc: Global, first: i32) -> yaml_node_t<Global> {

@@ -1,10 +1,6 @@
 //! Scalars whose texts are borrowed stand as their events do; one that needn't wait takes no memory.
-use super::streams::Given::{
-    BlockMapping, Document, DocumentEnd, FlowSequence, MappingEnd, SequenceEnd, Stream, StreamEnd,
-};
-use super::streams::{Given, event};
 use super::{Answer, UNSET, emit, flush_if_known, give, made};
-use crate::tests::{equal, owned, owned_choice, same};
+use crate::tests::{equal, event_of, owned, owned_choice, same};
 use Part::{Borrowed, Other};
 use std::alloc::{Allocator, Global};
 use std::process::Abort;
@@ -20,7 +16,8 @@ use yaml_test_allocator::Refusing;
 #[derive(Clone, Copy)]
 enum Part<'a> {
     Borrowed(ScalarContent<'a>),
-    Other(Given<'a>),
+    /// Its line in a script.
+    Other(&'a str),
 }
 
 /// A scalar of any style without anchor and tag.
@@ -43,9 +40,9 @@ const TAGGED: ScalarContent<'static> = ScalarContent {
 
 /// Keys and values of each kind: the first key and value of the mapping wait, and the first item of the sequence.
 const ENTRIES: &[Part] = &[
-    Other(Stream),
-    Other(Document),
-    Other(BlockMapping),
+    Other("+STR any"),
+    Other("+DOC 1 -"),
+    Other("+MAP block 1 - -"),
     Borrowed(ScalarContent {
         value: "simple_ascii",
         ..TEXT
@@ -82,10 +79,10 @@ const ENTRIES: &[Part] = &[
         value: "one\ntwo\n",
         ..TEXT
     }),
-    Other(MappingEnd),
-    Other(DocumentEnd),
-    Other(Document),
-    Other(FlowSequence),
+    Other("-MAP"),
+    Other("-DOC 1"),
+    Other("+DOC 1 -"),
+    Other("+SEQ flow 1 - -"),
     Borrowed(ScalarContent {
         anchor: Some("first"),
         tag: Some("!item"),
@@ -102,16 +99,16 @@ const ENTRIES: &[Part] = &[
         value: "last",
         ..TEXT
     }),
-    Other(SequenceEnd),
-    Other(DocumentEnd),
-    Other(Document),
+    Other("-SEQ"),
+    Other("-DOC 1"),
+    Other("+DOC 1 -"),
     Borrowed(ScalarContent {
         plain_implicit: false,
         value: "root",
         ..TEXT
     }),
-    Other(DocumentEnd),
-    Other(StreamEnd),
+    Other("-DOC 1"),
+    Other("-STR"),
 ];
 
 const ENTRIES_TEXT: &str = "simple_ascii: a value
@@ -149,7 +146,7 @@ const ENTRIES_IN_CANONICAL_FORM: &str = "---
 ";
 
 /// The event of a scalar, for which there is memory.
-fn event_of<A: Allocator + Copy>(
+fn owned_scalar<A: Allocator + Copy>(
     rt: &impl Abort,
     alloc: A,
     content: &ScalarContent,
@@ -171,8 +168,8 @@ fn give_owned<A: Allocator + Copy>(
     part: &Part,
 ) -> Answer {
     let next = match part {
-        Borrowed(content) => event_of(rt, alloc, content),
-        Other(given) => event(rt, alloc, given),
+        Borrowed(content) => owned_scalar(rt, alloc, content),
+        Other(line) => event_of(rt, alloc, line),
     };
     give(rt, emitter, next)
 }
@@ -195,7 +192,7 @@ fn give_part<A: Allocator + Copy>(
 ) -> Answer {
     match part {
         Borrowed(content) => give_borrowed(rt, emitter, content),
-        Other(given) => give(rt, emitter, event(rt, alloc, given)),
+        Other(line) => give(rt, emitter, event_of(rt, alloc, line)),
     }
 }
 
@@ -267,26 +264,26 @@ const CANONICAL: &Settings = &Settings {
 const REFUSED: &[(&[Part], yaml_error_t)] = &[
     (&[Borrowed(TEXT)], yaml_error_t::ExpectedStreamStart),
     (
-        &[Other(Stream), Borrowed(TEXT)],
+        &[Other("+STR any"), Borrowed(TEXT)],
         yaml_error_t::ExpectedDocumentStart,
     ),
     (
         &[
-            Other(Stream),
-            Other(Document),
+            Other("+STR any"),
+            Other("+DOC 1 -"),
             Borrowed(TEXT),
             Borrowed(ScalarContent { value: "b", ..TEXT }),
         ],
         yaml_error_t::ExpectedDocumentEnd,
     ),
     (
-        &[Other(Stream), Other(StreamEnd), Borrowed(TEXT)],
+        &[Other("+STR any"), Other("-STR"), Borrowed(TEXT)],
         yaml_error_t::ExpectedNothing,
     ),
     (
         &[
-            Other(Stream),
-            Other(Document),
+            Other("+STR any"),
+            Other("+DOC 1 -"),
             Borrowed(ScalarContent {
                 anchor: Some(""),
                 ..TEXT
@@ -296,7 +293,7 @@ const REFUSED: &[(&[Part], yaml_error_t)] = &[
     ),
     (
         &[
-            Other(Stream),
+            Other("+STR any"),
             Borrowed(ScalarContent {
                 tag: Some(""),
                 ..TAGGED
@@ -306,9 +303,9 @@ const REFUSED: &[(&[Part], yaml_error_t)] = &[
     ),
     (
         &[
-            Other(Stream),
-            Other(Document),
-            Other(BlockMapping),
+            Other("+STR any"),
+            Other("+DOC 1 -"),
+            Other("+MAP block 1 - -"),
             Borrowed(TEXT),
             Borrowed(ScalarContent { value: "b", ..TEXT }),
             Borrowed(ScalarContent {
@@ -371,7 +368,7 @@ fn queued_of<'a>(
                     queued = queued.saturating_add(1);
                 }
             }
-            Other(given) => emit(rt, heap, emitter, given),
+            Other(line) => emit(rt, heap, emitter, line),
         }
     }
     queued

@@ -2,9 +2,6 @@
 use super::UNSET;
 use super::steps::Step::{Emit, Failed, Held, Output, Refused, Repeat};
 use super::steps::check_steps;
-use super::streams::Given::{
-    BlockSequence, Document, DocumentEnd, FlowSequence, SequenceEnd, Stream, StreamEnd,
-};
 use crate::tests::{joined, repeated};
 use std::alloc::Global;
 use std::process::Abort;
@@ -30,12 +27,12 @@ pub(crate) fn dashes(rt: &impl Abort, alloc: Global) -> String {
 fn a_million_collections_may_be_open(rt: HostRuntime) {
     let flushed = dashes(&rt, rt.alloc());
     let steps = [
-        Emit(Stream),
-        Emit(Document),
-        Emit(BlockSequence),
+        Emit("+STR any"),
+        Emit("+DOC 1 -"),
+        Emit("+SEQ block 1 - -"),
         Held(1),
-        Repeat(BlockSequence, MOST + 1, 2),
-        Refused(BlockSequence, yaml_error_t::TooDeep),
+        Repeat("+SEQ block 1 - -", MOST + 1, 2),
+        Refused("+SEQ block 1 - -", yaml_error_t::TooDeep),
         Output(flushed.as_str().as_bytes()),
         Failed(yaml_error_t::TooDeep),
     ];
@@ -53,15 +50,15 @@ pub(crate) fn brackets(rt: &impl Abort, alloc: Global) -> String {
 fn a_million_brackets_are_closed(rt: HostRuntime) {
     let text = brackets(&rt, rt.alloc());
     let steps = [
-        Emit(Stream),
-        Emit(Document),
-        Emit(FlowSequence),
+        Emit("+STR any"),
+        Emit("+DOC 1 -"),
+        Emit("+SEQ flow 1 - -"),
         Held(1),
-        Repeat(FlowSequence, MOST - 1, 2),
-        Repeat(SequenceEnd, MOST, 0),
-        Emit(DocumentEnd),
+        Repeat("+SEQ flow 1 - -", MOST - 1, 2),
+        Repeat("-SEQ", MOST, 0),
+        Emit("-DOC 1"),
         Output(text.as_str().as_bytes()),
-        Emit(StreamEnd),
+        Emit("-STR"),
         Held(0),
     ];
     check_steps(&rt, rt.alloc(), ENDLESS, &steps);

@@ -2,7 +2,6 @@
 use super::UNSET;
 use super::steps::Step::{Emit, Flush, Known, Output, Started};
 use super::steps::{Step, check_steps};
-use super::streams::Given::{Stream, StreamEnd};
 use yaml_base::{YAML_UTF8_ENCODING, YAML_UTF16LE_ENCODING};
 use yaml_emitter::Settings;
 
@@ -18,8 +17,8 @@ const EARLY: &[Step] = &[
     Flush(Ok(())),
     Output(b""),
     Started(false),
-    Emit(Stream),
-    Emit(StreamEnd),
+    Emit("+STR any"),
+    Emit("-STR"),
     Started(true),
     Output(b""),
 ];
@@ -35,8 +34,8 @@ const EARLY_MARKED: &[Step] = &[
     Flush(Ok(())),
     Output(b""),
     Started(false),
-    Emit(Stream),
-    Emit(StreamEnd),
+    Emit("+STR any"),
+    Emit("-STR"),
     Started(true),
     Output(b"\xFF\xFE"),
 ];

@@ -1,52 +1,43 @@
 //! Growths that are refused.
-use super::streams::Given::{
-    BlockMapping, BlockSequence, Directed, Document, DocumentEnd, MappingEnd, SequenceEnd, Stream,
-    StreamEnd, StreamIn, Tagged, Text,
-};
-use super::streams::{Given, event};
+use super::steps::granted;
 use super::{
     UNSET, begun, check_answer, check_out_of_memory, emit_all, flush_if_known, give, made,
 };
-use crate::tests::{equal, repeated, same};
+use crate::tests::{equal, joined, repeated, same};
 use linked_list_allocator::LocalHeap;
 use std::alloc::{Allocator, Global};
 use std::process::Abort;
-use yaml_base::{
-    YAML_ANY_ENCODING, YAML_UTF16LE_ENCODING, yaml_encoding_t, yaml_error_t, yaml_event_t,
-};
+use yaml_base::{yaml_error_t, yaml_event_t};
 use yaml_emitter::{yaml_emitter_delete, yaml_emitter_t};
 use yaml_test_allocator::Refusing;
 
-/// A stream in this encoding, whose events take memory in each way that there is.
-fn stream<'a>(encoding: yaml_encoding_t, long: &'a str) -> [Given<'a>; 18] {
-    [
-        StreamIn(encoding),
-        Directed(&[("!e!", "tag:e.com,2000:")]),
-        BlockMapping,
-        Text("a key"),
-        BlockSequence,
-        BlockSequence,
-        BlockSequence,
-        Tagged("tag:e.com,2000:t", "x"),
-        Text(long),
-        SequenceEnd,
-        SequenceEnd,
-        SequenceEnd,
-        MappingEnd,
-        DocumentEnd,
-        Document,
-        Text("b"),
-        DocumentEnd,
-        StreamEnd,
-    ]
-}
+/// A stream's events after its start, which take memory in each way that there is, up to a long value.
+const BEFORE: &str = r#"
++DOC 1 - "!e!" "tag:e.com,2000:"
++MAP block 1 - -
+=VAL any 1 1 - - "a key"
++SEQ block 1 - -
++SEQ block 1 - -
++SEQ block 1 - -
+=VAL any 0 0 - "tag:e.com,2000:t" "x"
+=VAL any 1 1 - - ""#;
 
-/// Its text.
+/// Those after it.
+const AFTER: &str = r#""
+-SEQ
+-SEQ
+-SEQ
+-MAP
+-DOC 1
++DOC 1 -
+=VAL any 1 1 - - "b"
+-DOC 1
+-STR"#;
+
+/// The stream's text.
 fn text_of(rt: &impl Abort, alloc: Global, long: &str) -> String {
     let start = "%TAG !e! tag:e.com,2000:\n---\na key:\n- - - !e!t x\n    - ";
-    [start, long, "\n--- b\n"]
-        .concat(alloc)
-        .expect(rt, "no memory")
+    joined(rt, alloc, &[start, long, "\n--- b\n"])
 }
 
 /// The bytes of a text of ASCII in UTF-16, after a mark.
@@ -57,20 +48,6 @@ fn in_utf16(rt: &impl Abort, alloc: Global, text: &str) -> Vec<u8> {
         pushed.expect(rt, "no memory");
     }
     bytes
-}
-
-// An event of which no growth is refused.
-pub(super) fn granted<A: Allocator + Copy>(
-    rt: &impl Abort,
-    heap: &Refusing<Global>,
-    alloc: A,
-    given: &Given,
-) -> yaml_event_t<A> {
-    let number = heap.left();
-    heap.refuse(0);
-    let next = event(rt, alloc, given);
-    heap.refuse(number);
-    next
 }
 
 // An event is emitted. After a refusal nothing is flushed.
@@ -111,11 +88,11 @@ fn check_stream<A: Allocator + Copy>(
     heap: &Refusing<Global>,
     alloc: A,
     emitter: &mut yaml_emitter_t<A>,
-    (events, flushes, whole): (&[Given], bool, &[u8]),
+    (events, flushes, whole): (&str, bool, &[u8]),
 ) {
     check_answer(rt, heap, Ok(()), Ok(()));
-    for given in events {
-        check_emit(rt, heap, emitter, granted(rt, heap, alloc, given));
+    for line in events.lines() {
+        check_emit(rt, heap, emitter, granted(rt, heap, alloc, line));
         if flushes {
             check_flush(rt, heap, emitter);
         }
@@ -131,7 +108,7 @@ fn check_stream<A: Allocator + Copy>(
 fn is_reported(
     rt: &impl Abort,
     heap: &Refusing<Global>,
-    events: &[Given],
+    events: &str,
     flushes: bool,
     whole: &[u8],
 ) -> bool {
@@ -143,7 +120,7 @@ fn is_reported(
 }
 
 /// A stream gives these bytes, without a flush and with one after each event; each growth that it takes is refused in turn.
-fn check_growths(rt: &impl Abort, alloc: Global, events: &[Given], whole: &[u8]) {
+fn check_growths(rt: &impl Abort, alloc: Global, events: &str, whole: &[u8]) {
     let heap = Refusing::new(alloc);
     for flushes in [false, true] {
         for number in 1..usize::MAX {
@@ -157,10 +134,11 @@ fn check_growths(rt: &impl Abort, alloc: Global, events: &[Given], whole: &[u8])
 
 // In UTF-8, and in UTF-16.
 fn check_encodings(rt: &impl Abort, alloc: Global, long: &str, text: &str) {
-    let events = stream(YAML_ANY_ENCODING, long);
-    check_growths(rt, alloc, &events, text.as_bytes());
-    let events = stream(YAML_UTF16LE_ENCODING, long);
-    check_growths(rt, alloc, &events, in_utf16(rt, alloc, text).as_slice());
+    let events = joined(rt, alloc, &["+STR any", BEFORE, long, AFTER]);
+    check_growths(rt, alloc, events.as_str(), text.as_bytes());
+    let events = joined(rt, alloc, &["+STR utf16le", BEFORE, long, AFTER]);
+    let bytes = in_utf16(rt, alloc, text);
+    check_growths(rt, alloc, events.as_str(), bytes.as_slice());
 }
 
 #[test]
@@ -171,7 +149,7 @@ fn each_refused_growth_is_reported(rt: HostRuntime) {
     check_encodings(&rt, alloc, long.as_str(), text.as_str());
 }
 
-const SHORT: &[Given] = &[Stream, Document, Text("a")];
+const SHORT: &[&str] = &["+STR any", "+DOC 1 -", r#"=VAL any 1 1 - - "a""#];
 
 // The heap has room for one emitter, and not for two.
 fn check_full<A: Allocator + Copy>(rt: &impl Abort, alloc: A, emitter: &mut yaml_emitter_t<A>) {

@@ -1,11 +1,9 @@
 //! Calls on one emitter, and what is then so, as tables write them; also with each growth refused in turn.
-use super::memory::granted;
-use super::streams::Given;
 use super::{Answer, begun, check_answer, check_failed, check_out_of_memory, flush_if_known, give};
-use crate::tests::{equal, same};
+use crate::tests::{equal, event_of, same};
 use std::alloc::{Allocator, Global};
 use std::process::Abort;
-use yaml_base::yaml_error_t;
+use yaml_base::{yaml_error_t, yaml_event_t};
 use yaml_emitter::{Settings, yaml_emitter_t, yaml_emitter_take_output};
 use yaml_test_allocator::Refusing;
 
@@ -27,12 +25,12 @@ pub(crate) trait Taken {
 /// Calls with their answers, or what stands after them.
 #[derive(Clone, Copy)]
 pub(super) enum Step<'a> {
-    /// This event is emitted, and not refused.
-    Emit(Given<'a>),
+    /// The event of this script's line is emitted, and not refused.
+    Emit(&'a str),
     /// This event is emitted so often, and so many events wait after each call.
-    Repeat(Given<'a>, usize, usize),
+    Repeat(&'a str, usize, usize),
     /// This event is refused so.
-    Refused(Given<'a>, yaml_error_t),
+    Refused(&'a str, yaml_error_t),
     /// A flush, where the encoding is known.
     Flush(Answer),
     /// The output, which is then taken.
@@ -47,6 +45,20 @@ pub(super) enum Step<'a> {
     Started(bool),
     /// Each call answers this error.
     Failed(yaml_error_t),
+}
+
+/// The event of a script's line, of which no growth is refused.
+pub(super) fn granted<A: Allocator + Copy>(
+    rt: &impl Abort,
+    heap: &Refusing<Global>,
+    alloc: A,
+    line: &str,
+) -> yaml_event_t<A> {
+    let number = heap.left();
+    heap.refuse(0);
+    let next = event_of(rt, alloc, line);
+    heap.refuse(number);
+    next
 }
 
 // The output is taken. A second call gives nothing, and nothing is left.
@@ -67,9 +79,9 @@ fn emit_one<A: Allocator + Copy>(
     heap: &Refusing<Global>,
     alloc: A,
     emitter: &mut yaml_emitter_t<A>,
-    (given, wanted): (&Given, Answer),
+    (line, wanted): (&str, Answer),
 ) {
-    let answer = give(rt, emitter, granted(rt, heap, alloc, given));
+    let answer = give(rt, emitter, granted(rt, heap, alloc, line));
     check_answer(rt, heap, answer, wanted);
 }
 
@@ -79,10 +91,10 @@ fn emit_until_refused<A: Allocator + Copy>(
     heap: &Refusing<Global>,
     alloc: A,
     emitter: &mut yaml_emitter_t<A>,
-    (given, times, held): (&Given, usize, usize),
+    (line, times, held): (&str, usize, usize),
 ) {
     for _ in 0..times {
-        emit_one(rt, heap, alloc, emitter, (given, Ok(())));
+        emit_one(rt, heap, alloc, emitter, (line, Ok(())));
         if heap.left() == 0 {
             return;
         }
@@ -98,11 +110,11 @@ fn take_step<A: Allocator + Copy>(
     step: &Step,
 ) {
     match step {
-        Step::Emit(given) => emit_one(rt, heap, alloc, emitter, (given, Ok(()))),
-        Step::Repeat(given, times, held) => {
-            emit_until_refused(rt, heap, alloc, emitter, (given, *times, *held))
+        Step::Emit(line) => emit_one(rt, heap, alloc, emitter, (line, Ok(()))),
+        Step::Repeat(line, times, held) => {
+            emit_until_refused(rt, heap, alloc, emitter, (line, *times, *held))
         }
-        Step::Refused(given, error) => { emit_one(rt, heap, alloc, emitter, (given, Err(*error))) }
+        Step::Refused(line, error) => { emit_one(rt, heap, alloc, emitter, (line, Err(*error))) }
         Step::Flush(answer) => check_answer(rt, heap, flush_if_known(rt, emitter), *answer),
         Step::Take(bytes) => check_taken(rt, emitter, bytes),
         Step::Output(bytes) => same(rt, emitter.output(), bytes),

@@ -2,39 +2,36 @@
 use super::UNSET;
 use super::steps::Step::{Emit, Failed, Flush, Held, Take};
 use super::steps::{Step, check_steps};
-use super::streams::Given::{
-    Document, DocumentEnd, FlowSequence, SequenceEnd, Stream, StreamEnd, Text,
-};
 use yaml_base::{YAML_UTF16LE_ENCODING, yaml_error_t};
 use yaml_emitter::Settings;
 
 // In the middle of a document, and where events wait.
 const PARTS: &[Step] = &[
     Take(b""),
-    Emit(Stream),
-    Emit(Document),
-    Emit(FlowSequence),
+    Emit("+STR any"),
+    Emit("+DOC 1 -"),
+    Emit("+SEQ flow 1 - -"),
     Flush(Ok(())),
     Take(b""),
-    Emit(Text("a")),
-    Emit(Text("b")),
+    Emit(r#"=VAL any 1 1 - - "a""#),
+    Emit(r#"=VAL any 1 1 - - "b""#),
     Flush(Ok(())),
     Take(b"[a, b"),
-    Emit(FlowSequence),
-    Emit(Text("c")),
+    Emit("+SEQ flow 1 - -"),
+    Emit(r#"=VAL any 1 1 - - "c""#),
     Flush(Ok(())),
     Take(b""),
     Held(2),
-    Emit(SequenceEnd),
+    Emit("-SEQ"),
     Flush(Ok(())),
     Take(b", [c]"),
-    Emit(SequenceEnd),
-    Emit(DocumentEnd),
+    Emit("-SEQ"),
+    Emit("-DOC 1"),
     Take(b"]\n"),
-    Emit(Document),
-    Emit(Text("d")),
-    Emit(DocumentEnd),
-    Emit(StreamEnd),
+    Emit("+DOC 1 -"),
+    Emit(r#"=VAL any 1 1 - - "d""#),
+    Emit("-DOC 1"),
+    Emit("-STR"),
     Take(b"--- d\n"),
 ];
 
@@ -50,15 +47,15 @@ const UTF16: &Settings = &Settings {
 
 // The byte order mark comes with the first part alone.
 const IN_UTF16: &[Step] = &[
-    Emit(Stream),
-    Emit(Document),
+    Emit("+STR any"),
+    Emit("+DOC 1 -"),
     Flush(Ok(())),
     Take(b"\xFF\xFE"),
-    Emit(Text("a")),
+    Emit(r#"=VAL any 1 1 - - "a""#),
     Flush(Ok(())),
     Take(b"a\0"),
-    Emit(DocumentEnd),
-    Emit(StreamEnd),
+    Emit("-DOC 1"),
+    Emit("-STR"),
     Take(b"\n\0"),
 ];
 
@@ -71,14 +68,14 @@ const SIX: &Settings = &Settings { limit: 6, ..UNSET };
 
 // Five bytes are taken, and the limit leaves one of the next three.
 const TO_THE_LIMIT: &[Step] = &[
-    Emit(Stream),
-    Emit(Document),
-    Emit(FlowSequence),
-    Emit(Text("a")),
-    Emit(Text("b")),
+    Emit("+STR any"),
+    Emit("+DOC 1 -"),
+    Emit("+SEQ flow 1 - -"),
+    Emit(r#"=VAL any 1 1 - - "a""#),
+    Emit(r#"=VAL any 1 1 - - "b""#),
     Flush(Ok(())),
     Take(b"[a, b"),
-    Emit(Text("c")),
+    Emit(r#"=VAL any 1 1 - - "c""#),
     Flush(Err(yaml_error_t::WriteError)),
     Take(b","),
     Failed(yaml_error_t::WriteError),

@@ -159,11 +159,6 @@ const SHORTEST: &[Table] = &[
     ),
 ];
 
-#[test]
-fn the_shortest_values_stand_in_each_style(rt: HostRuntime) {
-    check_tables(&rt, rt.alloc(), SHORTEST);
-}
-
 const FOUR_AFTER_SPACE: &[Table] = &[
     (
         16,
@@ -186,11 +181,6 @@ const FOUR_AFTER_SPACE: &[Table] = &[
         short_block::four::SPACE_AND_SEPARATOR,
     ),
 ];
-
-#[test]
-fn four_after_a_space_stand_in_each_style(rt: HostRuntime) {
-    check_tables(&rt, rt.alloc(), FOUR_AFTER_SPACE);
-}
 
 const FOUR_AFTER_FEED: &[Table] = &[
     (
@@ -215,11 +205,6 @@ const FOUR_AFTER_FEED: &[Table] = &[
     ),
 ];
 
-#[test]
-fn four_after_a_line_feed_stand_in_each_style(rt: HostRuntime) {
-    check_tables(&rt, rt.alloc(), FOUR_AFTER_FEED);
-}
-
 const FOUR_AFTER_LETTER: &[Table] = &[
     (
         16,
@@ -242,11 +227,6 @@ const FOUR_AFTER_LETTER: &[Table] = &[
         short_block::four::LETTER_AND_SEPARATOR,
     ),
 ];
-
-#[test]
-fn four_after_a_letter_stand_in_each_style(rt: HostRuntime) {
-    check_tables(&rt, rt.alloc(), FOUR_AFTER_LETTER);
-}
 
 const FOUR_AFTER_SEPARATOR: &[Table] = &[
     (
@@ -272,6 +252,14 @@ const FOUR_AFTER_SEPARATOR: &[Table] = &[
 ];
 
 #[test]
-fn four_after_a_separator_stand_in_each_style(rt: HostRuntime) {
-    check_tables(&rt, rt.alloc(), FOUR_AFTER_SEPARATOR);
+fn short_values_stand_in_each_style(rt: HostRuntime) {
+    for tables in [
+        SHORTEST,
+        FOUR_AFTER_SPACE,
+        FOUR_AFTER_FEED,
+        FOUR_AFTER_LETTER,
+        FOUR_AFTER_SEPARATOR,
+    ] {
+        check_tables(&rt, rt.alloc(), tables);
+    }
 }

@@ -62,35 +62,6 @@ fn write_folded(
     Ok(-1)
 }
 
-/// A value, at a width, and what is written.
-#[derive(Drop)]
-struct FoldedRow(&'static str, i32, &'static str);
-
-impl Row for FoldedRow {
-    fn check(&self, rt: &impl Abort, pen: &mut Pen<Global>) {
-        match write_folded(pen, self.0, 2, 2, self.1) {
-            Ok(_) => check_written(rt, pen, Ok(()), self.2),
-            Err(error) => check_written(rt, pen, Err(error), self.2),
-        }
-    }
-}
-
-const FOLDED: &[FoldedRow] = &[
-    FoldedRow("a\nb\n\n c\n", 80, ">\n  a\n\n  b\n\n   c\n"),
-    FoldedRow(" aaaaaa b", 5, ">2-\n   aaaaaa b"),
-    FoldedRow("aaaaaa  b", 5, ">-\n  aaaaaa \n  b"),
-    FoldedRow("aaa b", 5, ">-\n  aaa b"),
-    FoldedRow("aaaa b", 5, ">-\n  aaaa\n  b"),
-    FoldedRow("aaaa b", i32::MAX, ">-\n  aaaa b"),
-    FoldedRow("a b\nc d", -1, ">-\n  a\n  b\n\n  c\n  d"),
-    FoldedRow("a\u{2028}b", 80, ">-\n  a\u{2028}  b"),
-];
-
-#[test]
-fn long_lines_are_folded_past_the_width(rt: HostRuntime) {
-    check_rows(&rt, rt.alloc(), FOLDED);
-}
-
 fn write_items(pen: &mut Pen<Global>) -> Result<(i32, i32), yaml_error_t>
     requires { IsReady pen.old }
     ensures { IsReady pen.new }

@@ -2,7 +2,7 @@
 ghost use Rattle.yaml_pen.specs.Page.{IsReady};
 
 use super::block::is_allowed;
-use super::{Row, check_marked, check_rows, equal};
+use super::{Row, begun, check_marked, check_rows, check_written, equal};
 use std::alloc::Global;
 use std::process::Abort;
 use yaml_base::{
@@ -178,9 +178,190 @@ const IN_LINES: &[Root] = &[
     Root("aaaaaa  b", FOLDED, false, 5, ">-\n  aaaaaa \n  b", 0),
 ];
 
+const PLAIN: yaml_scalar_style_t = YAML_PLAIN_SCALAR_STYLE;
+
+const DOUBLE: yaml_scalar_style_t = YAML_DOUBLE_QUOTED_SCALAR_STYLE;
+
+const NO_WIDTH: i32 = i32::MAX;
+
+/// A style, whether unicode is on, and the width; values, each with what is written. No state is left open.
+type Texts = (
+    (yaml_scalar_style_t, bool, i32),
+    &'static [(&'static str, &'static str)],
+);
+
+const TEXTS: &[Texts] = &[
+    // Plain texts stand as they are, and fold past the width.
+    ((PLAIN, true, 80), &[("foo", "foo"), ("", ""), ("-x", "-x")]),
+    (
+        (PLAIN, true, 5),
+        &[
+            ("aaaaaa b", "aaaaaa\n  b"),
+            ("aaaaa b", "aaaaa b"),
+            ("aaaaaa  b c", "aaaaaa  b\n  c"),
+            (
+                "\u{E9}\u{E9}\u{E9}\u{E9} b c",
+                "\u{E9}\u{E9}\u{E9}\u{E9} b\n  c",
+            ),
+        ],
+    ),
+    ((PLAIN, true, i32::MAX), &[("aaaaaa b", "aaaaaa b")]),
+    ((PLAIN, true, 0), &[("a b c", "a\n  b\n  c")]),
+    ((PLAIN, true, -1), &[("a b", "a\n  b")]),
+    // Between single quotes.
+    (
+        (SINGLE, true, 80),
+        &[
+            ("", "''"),
+            ("'", "''''"),
+            ("a:", "'a:'"),
+            ("- x", "'- x'"),
+            ("a\nb", "'a\n\n  b'"),
+            ("\n", "'\n\n  '"),
+            ("a\n\nb", "'a\n\n\n  b'"),
+            ("a\u{2028}b", "'a\u{2028}  b'"),
+            ("a\n\u{2028}b", "'a\n\n\u{2028}  b'"),
+            ("a\u{2028}\nb", "'a\u{2028}\n  b'"),
+        ],
+    ),
+    ((SINGLE, true, 0), &[(" ", "' '"), (" a b ", "' a\n  b '")]),
+    (
+        (SINGLE, true, 5),
+        &[
+            ("aaaa b", "'aaaa b'"),
+            ("aaaaa b", "'aaaaa\n  b'"),
+            ("a''' b c", "'a''''''\n  b c'"),
+            ("aaaaaa  b", "'aaaaaa  b'"),
+        ],
+    ),
+    ((SINGLE, true, i32::MAX), &[("aaaaa b", "'aaaaa b'")]),
+    // Each escape between double quotes.
+    (
+        (DOUBLE, true, NO_WIDTH),
+        &[
+            ("\0\u{7}\u{8}\t\n\u{B}\u{C}\r", r#""\0\a\b\t\n\v\f\r""#),
+            ("\u{1B}\"\\\u{85}\u{2028}\u{2029}", r#""\e\"\\\N\L\P""#),
+            ("\u{A0}", "\"\u{A0}\""),
+            ("\u{E9}", "\"\u{E9}\""),
+            ("\u{7F}\u{1F}", r#""\x7F\x1F""#),
+            ("\u{FF}\u{100}", "\"\u{FF}\u{100}\""),
+            ("\u{FFFF}\u{10000}", "\"\\uFFFF\u{10000}\""),
+            ("\u{10FFFF}", "\"\u{10FFFF}\""),
+            ("\u{FEFF}\u{FFFE}", r#""\uFEFF\uFFFE""#),
+        ],
+    ),
+    (
+        (DOUBLE, false, NO_WIDTH),
+        &[
+            ("\u{A0}", r#""\_""#),
+            ("\u{E9}", r#""\xE9""#),
+            ("\u{FF}\u{100}", r#""\xFF\u0100""#),
+            ("\u{FFFF}\u{10000}", r#""\uFFFF\U00010000""#),
+            ("\u{10FFFF}", r#""\U0010FFFF""#),
+            ("\u{FEFF}\u{FFFE}", r#""\uFEFF\uFFFE""#),
+            ("\u{1F600}", r#""\U0001F600""#),
+            ("\0\u{7}\"\\\u{85}\u{7F}", r#""\0\a\"\\\N\x7F""#),
+            ("", r#""""#),
+            (" \n", r#"" \n""#),
+        ],
+    ),
+    // Folds between double quotes stand past the width.
+    (
+        (DOUBLE, false, 5),
+        &[
+            ("aaaaaa  b", "\"aaaaaa\n  \\ b\""),
+            ("aaaaaa b cccc d", "\"aaaaaa\n  b cccc\n  d\""),
+            ("aaaa b", "\"aaaa b\""),
+            ("aaaaa b", "\"aaaaa\n  b\""),
+            ("aaaaaa ", "\"aaaaaa \""),
+            ("aaaaaa  ", "\"aaaaaa\n  \\ \""),
+        ],
+    ),
+    ((DOUBLE, false, NO_WIDTH), &[("aaaaaa b", "\"aaaaaa b\"")]),
+    (
+        (DOUBLE, false, -1),
+        &[(" a", "\" a\""), ("a b", "\"a\n  b\"")],
+    ),
+    ((DOUBLE, false, 3), &[("a\nb c", "\"a\\nb\n  c\"")]),
+    // Long lines are folded past the width.
+    (
+        (FOLDED, true, 80),
+        &[
+            ("a\nb\n\n c\n", ">\n  a\n\n  b\n\n   c\n"),
+            ("a\u{2028}b", ">-\n  a\u{2028}  b"),
+        ],
+    ),
+    (
+        (FOLDED, true, 5),
+        &[
+            (" aaaaaa b", ">2-\n   aaaaaa b"),
+            ("aaaaaa  b", ">-\n  aaaaaa \n  b"),
+            ("aaa b", ">-\n  aaa b"),
+            ("aaaa b", ">-\n  aaaa\n  b"),
+        ],
+    ),
+    ((FOLDED, true, i32::MAX), &[("aaaa b", ">-\n  aaaa b")]),
+    (
+        (FOLDED, true, -1),
+        &[("a b\nc d", ">-\n  a\n  b\n\n  c\n  d")],
+    ),
+];
+
+fn check_texts(rt: &impl Abort, alloc: Global, texts: &Texts) {
+    let (style, unicode, width) = texts.0;
+    for (value, text) in texts.1 {
+        let root = Root(value, style, unicode, width, text, 0);
+        root.check(rt, &mut begun(rt, alloc));
+    }
+}
+
 #[test]
 fn each_style_is_chosen_and_written(rt: HostRuntime) {
     for rows in [CHOSEN, QUOTED, IN_LINES] {
         check_rows(&rt, rt.alloc(), rows);
     }
+}
+
+#[test]
+fn each_style_that_is_asked_for_is_written(rt: HostRuntime) {
+    for texts in TEXTS {
+        check_texts(&rt, rt.alloc(), texts);
+    }
+}
+
+/// The value of a simple key, in a style, and what is written; it never folds.
+#[derive(Drop)]
+struct Key(&'static str, yaml_scalar_style_t, &'static str);
+
+fn write_key(
+    pen: &mut Pen<Global>,
+    style: yaml_scalar_style_t,
+    value: &str,
+) -> Result<(), yaml_error_t>
+    requires { IsReady pen.old }
+    ensures { IsReady pen.new }
+{
+    match style {
+        YAML_PLAIN_SCALAR_STYLE => write_plain_scalar(pen, value, false, false, 2, 5),
+        YAML_SINGLE_QUOTED_SCALAR_STYLE => write_single_quoted_scalar(pen, value, false, 2, 5),
+        _ => write_double_quoted_scalar(pen, value, false, false, 2, 5),
+    }
+}
+
+impl Row for Key {
+    fn check(&self, rt: &impl Abort, pen: &mut Pen<Global>) {
+        let answer = write_key(pen, self.1, self.0);
+        check_written(rt, pen, answer, self.2);
+    }
+}
+
+const KEYS: &[Key] = &[
+    Key("aaaaaa b", PLAIN, "aaaaaa b"),
+    Key("aaaaa b", SINGLE, "'aaaaa b'"),
+    Key("aaaaaa b", DOUBLE, "\"aaaaaa b\""),
+];
+
+#[test]
+fn simple_keys_never_fold(rt: HostRuntime) {
+    check_rows(&rt, rt.alloc(), KEYS);
 }

@@ -1,55 +1,15 @@
-//! Single-quoted scalars.
+//! Single-quoted scalars after an indicator, with other breaks, and past a limit.
 ghost use Rattle.yaml_pen.specs.Page.{IsReady};
 
 use super::{
-    Row, begun, begun_with_breaks, begun_within, check_column, check_cut, check_rows,
-    check_written, equal, same, write_dash,
+    begun, begun_with_breaks, begun_within, check_column, check_cut, check_written, equal, same,
+    write_dash,
 };
 use std::alloc::Global;
 use std::process::Abort;
 use yaml_base::{YAML_CR_BREAK, YAML_CRLN_BREAK, yaml_error_t};
 use yaml_pen::Pen;
-use yaml_scalar::{analyze_scalar, write_single_quoted_scalar};
-
-/// Whether it may fold; a value, at a width, and what is written.
-#[derive(Drop)]
-struct Single(bool, &'static str, i32, &'static str);
-
-impl Row for Single {
-    fn check(&self, rt: &impl Abort, pen: &mut Pen<Global>) {
-        let allowed = analyze_scalar(self.1, true, false).single_quoted_allowed;
-        equal(rt, &(self.1, allowed), &(self.1, true));
-        let answer = write_single_quoted_scalar(pen, self.1, self.0, 2, self.2);
-        check_written(rt, pen, answer, self.3);
-    }
-}
-
-const ROOTS: &[Single] = &[
-    Single(true, "", 80, "''"),
-    Single(true, " ", 0, "' '"),
-    Single(true, "'", 80, "''''"),
-    Single(true, "a:", 80, "'a:'"),
-    Single(true, "- x", 80, "'- x'"),
-    Single(true, "a\nb", 80, "'a\n\n  b'"),
-    Single(true, "\n", 80, "'\n\n  '"),
-    Single(true, "a\n\nb", 80, "'a\n\n\n  b'"),
-    Single(true, "a\u{2028}b", 80, "'a\u{2028}  b'"),
-    Single(true, "a\n\u{2028}b", 80, "'a\n\n\u{2028}  b'"),
-    Single(true, "a\u{2028}\nb", 80, "'a\u{2028}\n  b'"),
-    Single(true, " a b ", 0, "' a\n  b '"),
-    Single(true, "aaaa b", 5, "'aaaa b'"),
-    Single(true, "aaaaa b", 5, "'aaaaa\n  b'"),
-    Single(true, "aaaaa b", i32::MAX, "'aaaaa b'"),
-    Single(true, "a''' b c", 5, "'a''''''\n  b c'"),
-    Single(true, "aaaaaa  b", 5, "'aaaaaa  b'"),
-    // A simple key never folds.
-    Single(false, "aaaaa b", 5, "'aaaaa b'"),
-];
-
-#[test]
-fn roots_stand_between_quotes(rt: HostRuntime) {
-    check_rows(&rt, rt.alloc(), ROOTS);
-}
+use yaml_scalar::write_single_quoted_scalar;
 
 fn write_item(pen: &mut Pen<Global>) -> Result<(), yaml_error_t>
     requires { IsReady pen.old }

@@ -1,8 +1,8 @@
 //! Documents made of nodes: what they give back, and which numbers are refused.
-use super::{DIRECTIVES, mapping, sequence_node};
+use super::{mapping, sequence_node};
 use crate::tests::dumps::Given::{Mapping, Sequence};
 use crate::tests::dumps::{Given, nodes};
-use crate::tests::{directives, equal};
+use crate::tests::{Tag, directives, equal};
 use std::alloc::Global;
 use std::process::Abort;
 use yaml_base::*;
@@ -11,6 +11,8 @@ const VERSION: Option<yaml_version_directive_t> = Some(yaml_version_directive_t 
     major: 1,
     minor: 1,
 });
+
+const DIRECTIVES: &[Tag] = &[("!", "!a")];
 
 type Nodes = Vec<yaml_node_t<Global>>;
 
