@@ -1,4 +1,4 @@
-use Rattle.yaml_emitter.proofs.Common.{option_map, option_and_then, map, refl, ap, subst, sym, ◌∙◌, DocumentStart, document_start, seen_version}
+use Rattle.yaml_emitter.proofs.Common.{Ok, at_node, option_map, option_and_then, map, refl, ap, subst, sym, ◌∙◌, DocumentStart, document_start, seen_version}
 use Rattle.yaml_emitter.proofs.Common.{seen_directive, version_fault, directives_fault, some_handle_breaks, machine_state, Processed, MachineState}
 use Rattle.yaml_emitter.proofs.{events_done.ProcessedBy.processed_exit, pieces.WritingNames.sound_handles, pieces.WritingNames.sound_in_force}
 use Rattle.yaml_emitter.proofs.events_done.DocumentsDone.{document_refused, document_start_cut, document_begun, none_behind}
@@ -76,7 +76,12 @@ returns g c = λ empty.
       directives = map seen_directive c.args.own.now;
       implicit = c.args.implicit;
     } in
-    rw (← c.self.view_is)
+    let after = record (machine_state c.self.inside) {
+      stage = at_node c.in_ok-directives.directives c.clear.new.self;
+      open_ended = 0;
+      page = c.write_document_start.new.pen;
+    } in
+    subst (λ (s : MachineState). Processed (document_start start) empty s after (Ok tt)) c.self.view_is
     (document_begun empty (machine_state c.self.inside) c.args.first start c.write_document_start.new.pen c.in_ok-directives.directives c.clear.new.self
     (stage_inside c.self.inside c.self.view_is c.requires.stage)
     (sym (c.in_ok-directives.ensures.refusal (λ h. cc))) c.in_ok-write_document_start.ensures c.in_ok-directives.ensures.in_force c.clear.ensures)
