@@ -264,6 +264,7 @@ static void json_refused(void) {
     memset(&given, 0, sizeof given);
     expect_json("a name twice", "{\"a\":1,\n\"a\":2}", given, YAML_DUPLICATE_NAME, 2, 1, "");
     expect_json("no JSON", "[1,]", given, YAML_NOT_JSON, 1, 4, "");
+    expect_json("a byte order mark", "\xef\xbb\xbf{}", given, YAML_NOT_JSON, 1, 1, "");
     expect_json("no UTF-8", "\"\xff\"", given, YAML_NOT_JSON, 1, 2, "");
     expect_json("half a character in the third line", "[\n1,\n \"\xc3\xa9\xc3", given, YAML_NOT_JSON, 3, 4, "");
     expect_json("no UTF-8 behind what is no JSON", "]\x80", given, YAML_NOT_JSON, 1, 2, "");

@@ -13,7 +13,7 @@ use Rattle.yaml_base.{specs.graphs.Isomorphic.IsWrittenAlike}
 use Rattle.yaml_base.specs.declared.errors.yaml_error_t.TheVariants.{Memory, TagEmpty, TooDeep, WriteError}
 use Rattle.yaml_caller.specs.{GraphBytes.WritesGraph, GraphBytes.AreRefused}
 use Rattle.yaml_pen.proofs.Writing.{none_from_result, some_from_result}
-use Rattle.yaml_dump.proofs.{EqualBytesLemmas.one_reading, EqualBytesLemmas.equal_documents, GraphLemmas.written_whole}
+use Rattle.yaml_dump.proofs.{EqualBytesLemmas.one_reading, EqualBytesLemmas.equal_graphs_give_bytes, GraphLemmas.written_whole}
 
 -- ---- a graph and its nodes alone
 
@@ -71,7 +71,7 @@ graphs_decide first second first_bytes second_bytes answer is also writes writes
   λ iso.
       let alike : IsWrittenAlike (bare first) (bare second) =
       record { says = record { version = refl; directives = refl; graphs = to_bare first second iso }; end_implicit = refl } in
-      let outputs = equal_documents typed_settings (bare first ∷ []) (bare second ∷ []) (graph_events first) (graph_events second) refl
+      let outputs = equal_graphs_give_bytes typed_settings (bare first ∷ []) (bare second ∷ []) (graph_events first) (graph_events second) refl
       (one_dumped first is) (one_dumped second also) refl (alike, tt) in
       same ∙ (bytes_eq-Decides first_bytes second_bytes).1 (writes.output ∙ outputs ∙ sym writes_also.output),
 )

@@ -53,20 +53,20 @@ one_reading_back breaks12 firsts seconds bytes read also =
     trees_say firsts seconds read.documents read.unfolds
     (subst (TreesUnfold seconds) (some_same (sym also.read ∙ read.read)) also.unfolds)
 
-pub equal_bytes : EqualBytesTellGraphs
-equal_bytes given firsts seconds first second dumped also whole also_whole same =
+pub equal_bytes_tell_graphs : EqualBytesTellGraphs
+equal_bytes_tell_graphs given firsts seconds first second dumped also whole also_whole same =
     let one = dumped_stream firsts first dumped in
     let two = dumped_stream seconds second also in
     let contents = some_same (sym two.content ∙ sym (output_tells given first second whole also_whole same) ∙ one.content) in
     contents_say firsts seconds one.contents one.unfolds (subst (ContentsUnfold seconds) contents two.unfolds)
 
-pub equal_readable_bytes : EqualReadableBytesTellGraphs
-equal_readable_bytes given firsts seconds first second dumped also readable also_readable same =
+pub equal_readable_bytes_tell_graphs : EqualReadableBytesTellGraphs
+equal_readable_bytes_tell_graphs given firsts seconds first second dumped also readable also_readable same =
     let content = output_tells_content given first second readable also_readable same in
     trees_say firsts seconds content.documents
     (dumped_trees_unfold given.canonical firsts first content.documents dumped content.first_agrees)
     (dumped_trees_unfold given.canonical seconds second content.documents also content.second_agrees)
 
-pub equal_documents : EqualGraphsGiveBytes
-equal_documents given firsts seconds first second canonical dumped also asked alike =
+pub equal_graphs_give_bytes : EqualGraphsGiveBytes
+equal_graphs_give_bytes given firsts seconds first second canonical dumped also asked alike =
     same_canonical_output given firsts seconds first second canonical dumped also asked alike

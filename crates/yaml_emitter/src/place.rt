@@ -12,12 +12,12 @@ pub(crate) enum Role {
     Value { simple: bool },
 }
 
-/// What kind a collection is of.
+/// The kind of a collection.
 #[derive(Clone, Copy, PartialEq, Eq, Debug)]
 pub enum CollectionKind {
-    /// Items.
+    /// A sequence of items.
     Sequence,
-    /// Pairs of a key and a value.
+    /// A mapping: pairs of a key and a value.
     Mapping,
 }
 

@@ -1,7 +1,8 @@
 //! Where in a text an offset is.
 ghost use Rattle.std.specs.Prelude.{◌≡◌, ◌≤◌, count_by, length, not};
+ghost use Rattle.std.specs.Fmt.{is_char_start};
 ghost use Rattle.std.specs.List.{after_last, suffix_len};
-ghost use Rattle.yaml_base.specs.values.LinesAndColumns.{begins_character, column_of, is_line_feed, line_of};
+ghost use Rattle.yaml_base.specs.values.LinesAndColumns.{column_of, is_line_feed, line_of};
 
 use crate::values::Spot;
 use crate::words::is_blank;
@@ -64,7 +65,7 @@ pub(crate) fn offset_of(text: &str, start: usize, spot: Spot) -> usize {
 
 /// Whether a character begins with this byte.
 fn begins_character(byte: u8) -> bool
-    ensures { result ≡ begins_character byte }
+    ensures { result ≡ is_char_start byte }
 {
     byte < 128 || byte >= 192
 }
@@ -109,7 +110,7 @@ fn last_line_length(bytes: &[u8]) -> usize
 
 /// Number of characters after the last line feed.
 fn last_line_characters(bytes: &[u8]) -> usize
-    ensures { result ≡ count_by begins_character (after_last is_line_feed bytes.now) }
+    ensures { result ≡ count_by is_char_start (after_last is_line_feed bytes.now) }
 {
     let last = bytes.split_at(bytes.len() - last_line_length(bytes)).1;
     last.iter().filter(|byte| begins_character(**byte)).count()
@@ -126,7 +127,7 @@ pub fn place_of(text: &[u8], offset: usize) -> (usize, usize)
 }
 
 /// A line and a column, both from 1.
-#[derive(Clone, Copy, PartialEq, Eq, Debug)]
+#[derive(Clone, Copy)]
 pub(crate) struct Place {
     line: usize,
     column: usize,

@@ -28,7 +28,7 @@ fn is_marked(text: &str) -> bool
     text.as_bytes().starts_with(MARK)
 }
 
-/// What a stop is for a caller, which came in this part of the text. `offset` bytes of the text stand before the part.
+/// The error that tells a caller of a stop in this part of a text. `offset` bytes of the text stand before the part.
 pub(crate) fn error_of(text: &str, offset: usize, part: &str, stop: Stop) -> JsonError
     ensures says { MatchesStop part.now stop result }
     ensures by_writer { writers_error result ≡ failure_of stop }

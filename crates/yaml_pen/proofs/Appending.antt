@@ -1,4 +1,4 @@
--- What it does to an outlet that bytes are put into its buffer.
+-- What an outlet does when bytes are put into its buffer.
 use Rattle.yaml_base.proofs.Common.{ℕ, Option, None, Some, List, length, take, ◌++◌, refl, ◌≡◌, append_assoc, ap, subst, sym, ◌∙◌, cut}
 use Rattle.std.proofs.Math.Seq.{take-append_seam, take-length}
 use Rattle.yaml_base.{proofs.Prefixes.prefix_itself, specs.Prefix.IsPrefix, specs.declared.errors.yaml_error_t.yaml_error_t}

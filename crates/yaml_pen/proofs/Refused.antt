@@ -1,4 +1,4 @@
--- What it does to a pen that its bytes are refused.
+-- What a pen does whose bytes are refused.
 use Rattle.yaml_pen.proofs.Common.{IsSome, Option, None, Some, Err, List, ℕ, Bool, if◌then◌else◌, [], refl, ◌≡◌, append-nil, ap, subst, sym, ◌∙◌}
 use Rattle.yaml_pen.proofs.Common.{Cursor, Rendered}
 use Rattle.yaml_pen.proofs.Common.{decode, encode, seen_encoding, Bytes, Page, IsReady, IsFlushedOutput, page_of, IsPen, named_text, Wrote}

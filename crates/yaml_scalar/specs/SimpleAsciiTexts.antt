@@ -20,14 +20,14 @@ pub record IsSimpleAscii (text : List ℕ) : Type 0 where
   pub line : IsShortRun (stays_in_line false false) text
 
 -- a simple ASCII text that isn't put between quotes
-pub record IsUnquoted (quoted : Bool) (text : List ℕ) : Type 0 where
+pub record IsUnquotedAscii (quoted : Bool) (text : List ℕ) : Type 0 where
   pub simple_ascii : IsSimpleAscii text
   pub plain : quoted ≡ false
 
--- a value is what is known of it; one that is simple ASCII isn't put between quotes
+-- what is known of a value is so; one that is known to be simple ASCII isn't put between quotes
 abbrev pub IsKnown : Known → (quoted : Bool) → List ℕ → Type 0
 IsKnown Nothing quoted text = Unit
-IsKnown SimpleAscii quoted text = IsUnquoted quoted text
+IsKnown SimpleAscii quoted text = IsUnquotedAscii quoted text
 
 -- it begins with a letter or a digit, and doesn't end with a space
 abbrev pub has_simple_ascii_ends : List ℕ → Bool

@@ -38,7 +38,7 @@ pub(crate) enum Known {
 }
 
 /// How lines are rendered: between quotes each `'` is written twice; a fold may stand where breaks are allowed
-/// and the column is past the width; later lines are indented.
+/// and the column is past the width; later lines are indented. What is known of the value spares a look at it.
 #[derive(Clone, Copy)]
 pub(crate) struct Lines {
     pub(crate) quoted: bool,
@@ -245,7 +245,7 @@ fn run_after<A: Allocator>(pen: &Pen<A>, character: char, rest: &str, lines: Lin
     line_run_within(character, rest, lines.quoted, room)
 }
 
-/// Whether a value is short and one line, which stands as it is. An empty value isn't, since no column may be left.
+/// Whether a value is one short line, which stands as it is. An empty value isn't: it would fit even where no column is left.
 #[inline(always)]
 fn is_short_line<A: Allocator>(pen: &Pen<A>, value: &str, lines: Lines) -> bool
     requires { IsKnown lines.known lines.quoted value.now }

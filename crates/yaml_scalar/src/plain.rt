@@ -73,7 +73,7 @@ fn needs_space(flow: bool, value: &str) -> bool
     flow || !is_at_end(value)
 }
 
-/// Writes what follows the space, if any.
+/// Writes a plain scalar after the space before it, where there is one.
 #[inline(always)]
 pub(crate) fn write_body<A: Allocator>(
     pen: &mut Pen<A>,

@@ -48,7 +48,7 @@ fn is_ordinary_byte(byte: u8) -> bool
 }
 
 /// Writes a simple ASCII text as a plain scalar: as `write_plain_scalar` does, in flow or not, without looking at its
-/// characters again.
+/// characters again where it fits the line.
 ///
 /// # Errors
 /// `WriteError` where the output passes its limit, `Memory` where a growth was refused, else the pen's first

@@ -139,13 +139,13 @@ abbrev pub sequence_event : WriterState → CollectionStyle → Event
 sequence_event writer style = sequence_start (collection_of writer style)
 
 -- the start of a collection of this kind and this style
-abbrev pub start_of : CollectionStart → (CollectionStyle → Collection) → Event
-start_of (start.Mapping style) make = mapping_start (make (seen_mapping_style style))
-start_of (start.Sequence style) make = sequence_start (make (seen_sequence_style style))
+abbrev pub collection_start : CollectionStart → (CollectionStyle → Collection) → Event
+collection_start (start.Mapping style) make = mapping_start (make (seen_mapping_style style))
+collection_start (start.Sequence style) make = sequence_start (make (seen_sequence_style style))
 
 -- a collection begins
-abbrev pub start_event : WriterState → CollectionStart → Event
-start_event writer start = start_of start (collection_of writer)
+abbrev pub collection_start_event : WriterState → CollectionStart → Event
+collection_start_event writer start = collection_start start (collection_of writer)
 
 -- a collection ends
 abbrev pub end_event : CollectionKind → Event

@@ -1,11 +1,11 @@
-//! Collections and documents of a writer.
+//! Collections of a writer.
 ghost use Rattle.std.specs.Prelude.{◌≡◌, ◌⊎◌, IfErr, OnOk, None, Some, true, false, length};
 ghost use Rattle.yaml_base.specs.Seen.{seen_mapping_style, seen_sequence_style};
-ghost use Rattle.yaml_writer.specs.Writing.{EndsInnermost, Failed, GaveEvent, NodeExpected, awaits_node, mapping_event, sequence_event};
-ghost use Rattle.yaml_writer.specs.Writing.{start_event, with_collection};
+ghost use Rattle.yaml_writer.specs.Writing.{EndsInnermost, GaveEvent, NodeExpected, awaits_node, mapping_event, sequence_event};
+ghost use Rattle.yaml_writer.specs.Writing.{collection_start_event, with_collection};
 ghost use Rattle.yaml_emitter.specs.declared.place.CollectionKind.TheVariants.{Mapping, Sequence};
 
-use crate::giving::{give, give_end, start_of};
+use crate::giving::{collection_start, give, give_end};
 use crate::writer::Writer;
 use std::alloc::Allocator;
 use yaml_base::{yaml_error_t, yaml_mapping_style_t, yaml_sequence_style_t};
@@ -82,11 +82,11 @@ impl<A: Allocator + Copy> Writer<A> {
 
     /// Gives the start of a collection to the emitter, with the properties of the next node.
     fn start(&mut self, start: CollectionStart) -> Result<(), yaml_error_t>
-        ensures given { OnOk result (GaveEvent self.old (start_event self.old start) None self.new) }
-        ensures failed { IfErr result (λ error. GaveEvent self.old (start_event self.old start) (Some error) self.new) }
+        ensures given { OnOk result (GaveEvent self.old (collection_start_event self.old start) None self.new) }
+        ensures failed { IfErr result (λ error. GaveEvent self.old (collection_start_event self.old start) (Some error) self.new) }
     {
         let anchor = self.anchor.take();
         let tag = self.tag.take();
-        give(&mut self.emitter, start_of(anchor, tag, start))
+        give(&mut self.emitter, collection_start(anchor, tag, start))
     }
 }

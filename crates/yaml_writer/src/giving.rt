@@ -142,13 +142,13 @@ pub(crate) fn use_up<A: Allocator>(anchor: &mut Option<String<A>>, tag: &mut Opt
 }
 
 /// The start of a collection; where it has no tag, none need be written.
-pub(crate) fn start_of<A: Allocator>(
+pub(crate) fn collection_start<A: Allocator>(
     anchor: Option<String<A>>,
     tag: Option<String<A>>,
     start: CollectionStart,
 ) -> yaml_event_t<A>
     ensures { seen_event result
-        ≡ writing.start_of start (λ style.
+        ≡ writing.collection_start start (λ style.
         record { anchor = option_map seen_text anchor; tag = option_map seen_text tag; implicit = is_none tag; style = style }) }
 {
     let implicit = tag.is_none();

@@ -14,7 +14,7 @@ single_root limit value = (render_single_quoted limit 2 value first_cursor).text
 abbrev later : Cursor
 later = record { column = 2; whitespace = false; indention = false }
 
--- the texts there
+-- the texts after that cursor
 abbrev plain_later : Text → Text
 plain_later value = (render_plain false (Some 80) 2 value later).text
 

@@ -160,7 +160,7 @@ collection_fits rules s place cursor brackets undented empty begun size text own
     let parts = each h read in
     block_fits rules size e place cursor begun (own false e begun.cursor) text (make false) anchor tag read.0 parts.0 parts.1
 
--- a sequence does
+-- a sequence fits where its items do, or by itself
 sequence_fits : (start : Collection) (items : Nodes) (rules : Rules) (s : Effective) (directives : List TagDirective) (place : Place) (cursor : Cursor)
     → 2 ≤ s.indent → Stands place.column cursor
     → Leaves (sequence_node start items) rules s directives place cursor

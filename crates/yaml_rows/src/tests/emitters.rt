@@ -6,7 +6,7 @@ mod memory;
 pub(super) mod steps;
 mod taking;
 
-use crate::tests::{equal, event_of, same};
+use crate::tests::{equal, event_of};
 use std::alloc::{Allocator, Global};
 use std::process::Abort;
 use yaml_base::{

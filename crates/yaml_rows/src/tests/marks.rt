@@ -232,7 +232,7 @@ fn tags_are_cut_at_the_first_prefix_of_a_documents_own_and_of_the_defaults(rt: H
 
 type Heap = Refusing<Global>;
 
-// A directive is added. Where a growth is refused, the answer is `Memory` and the list is as before; then it comes again.
+// Adds a directive. Where a growth is refused, the answer is `Memory` and the list is as before; the directive is then added again.
 fn check_added<'a>(
     rt: &impl Abort,
     heap: &'a Heap,

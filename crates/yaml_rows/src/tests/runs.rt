@@ -1,5 +1,5 @@
 //! Scripts, with what comes of each: by the calls of an emitter, one by one, and by a run of the whole. The expected values
-//! were worked out by hand. All is made again with each growth refused in turn.
+//! were worked out by hand. All but the scripts of a million collections is made again with each growth refused in turn.
 mod bad_lines;
 mod calls;
 mod canonical;

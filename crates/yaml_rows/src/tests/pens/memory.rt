@@ -33,7 +33,7 @@ fn write<A: Allocator>(pen: &mut Pen<A>, alloc: Global, text: Text) -> Result<()
 type Row<'a> = (Text, &'a [u8; 10], &'a [usize]);
 
 /// The output grows by the first flush, and then to twice its room. Each flush of the letters adds 16,384 bytes. The run's buffers
-/// end at 16,383, 32,766, 49,150 and 65,533 bytes, as the others would end in a character.
+/// end at 16,383, 32,766, 49,150 and 65,533 bytes, since none ends within a character.
 const ROWS: &[Row] = &[
     (Text::Letters, b"xxxxxxxxxx", &[0, 16_384, 32_768, 65_536]),
     (Text::Run, IN_UTF8, &[0, 16_383, 32_766, 49_150]),

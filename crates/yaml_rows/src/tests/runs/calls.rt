@@ -3,7 +3,7 @@
 use super::Row;
 use super::held::{Kind, held, kind_of};
 use crate::tests::emitters::{Answer, begun, check_failed, flush_if_known, give};
-use crate::tests::{equal, same};
+use crate::tests::equal;
 use std::alloc::{Allocator, Global};
 use std::process::Abort;
 use yaml_base::yaml_error_t;

@@ -107,7 +107,7 @@ const NARROW: &str = "unicode on\nwidth 5\n";
 
 const ENDLESS: &str = "unicode on\nwidth -1\n";
 
-// The text, in lines of this width.
+// The text, under these settings.
 fn check_style(rt: &impl Abort, alloc: Global, settings: &str, stream: &str, text: &str) {
     let document = joined(rt, alloc, &[text, last_break(text)]);
     let parts = [document.as_str(), dots_after(document.as_str())];
