@@ -145,6 +145,13 @@ impl<A: Allocator> yaml_document_t<A> {
         }
     }
 
+    /// The nodes, that of number 1 first. The directives are dropped.
+    pub fn into_nodes(self) -> Vec<yaml_node_t<A>, A>
+        ensures { map seen_node result.items ≡ (graph_of self).nodes }
+    {
+        self.nodes
+    }
+
     /// Does nothing; its contract is the law that each number that a node holds names a node.
     pub fn numbers_name_nodes(&self)
         ensures { is_whole (graph_of self.now) ≡ true }
