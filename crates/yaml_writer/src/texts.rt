@@ -1,6 +1,6 @@
 //! Texts that are read as texts, whichever schema reads them. A text is looked at by its bytes: a character past ASCII has none
 //! that one of ASCII has.
-ghost use Rattle.std.specs.Prelude.{◌≡◌, ◌≤◌, ◌||◌, not, chars, length, take};
+ghost use Rattle.std.specs.Prelude.{◌≡◌, ◌≤◌, ◌&&◌, ◌||◌, not, chars, length, take};
 ghost use Rattle.std.specs.Char.{to_ascii_lowercase};
 ghost use Rattle.std.specs.List.{list_all, list_any, prefix_len, take_while};
 ghost use Rattle.yaml_base.specs.Characters.{is_ascii};
@@ -160,37 +160,27 @@ fn begins_as_number(text: &[u8]) -> bool
     }
 }
 
-/// A text has the characters of numbers and timestamps alone.
-fn are_in_number(text: &[u8]) -> bool
-    ensures { result ≡ list_all surely.in_number text.now }
+/// A text has the characters of numbers and timestamps alone, and a digit if it has a letter. One scan tells it.
+fn are_of_number(text: &[u8]) -> bool
+    ensures { result ≡ (list_all surely.in_number text.now && (list_any is_decimal text.now || not (list_any surely.is_number_letter text.now))) }
 {
-    text.iter().all(|byte| in_number(*byte))
-}
-
-fn has_digit(text: &[u8]) -> bool
-    ensures { result ≡ list_any is_decimal text.now }
-{
-    text.iter().any(|byte| is_digit(*byte))
-}
-
-fn has_number_letter(text: &[u8]) -> bool
-    ensures { result ≡ list_any surely.is_number_letter text.now }
-{
-    text.iter().any(|byte| is_number_letter(*byte))
-}
-
-/// A text has a digit, or no letter of numbers.
-fn has_digit_or_no_letter(text: &[u8]) -> bool
-    ensures { result ≡ (list_any is_decimal text.now || not (list_any surely.is_number_letter text.now)) }
-{
-    has_digit(text) || !has_number_letter(text)
+    let mut has_digit = false;
+    let mut has_letter = false;
+    for byte in text {
+        if !in_number(*byte) {
+            return false;
+        }
+        has_digit |= is_digit(*byte);
+        has_letter |= is_number_letter(*byte);
+    }
+    has_digit || !has_letter
 }
 
 /// A text begins as a number, and has no other characters than numbers and timestamps.
 fn is_numeric(text: &[u8]) -> bool
     ensures { result ≡ surely.is_numeric text.now }
 {
-    begins_as_number(text) && are_in_number(text) && has_digit_or_no_letter(text)
+    begins_as_number(text) && are_of_number(text)
 }
 
 /// A text may be taken for another value, by its bytes.
