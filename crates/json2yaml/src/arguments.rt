@@ -49,9 +49,14 @@ fn files_of<'a>(alloc: Global, matches: &ArgMatches<'a>) -> Result<Vec<&'a str>,
     }
 }
 
+/// What the options are found to be.
+fn matches_of<'a>(alloc: Global, arguments: &'a [String]) -> Result<ArgMatches<'a>, Error> {
+    command_of(alloc)?.try_get_matches_from(arguments)
+}
+
 /// What the arguments after the program's name ask for, or the text that tells why they ask for no conversion.
 pub fn conversion_of<'a>(alloc: Global, arguments: &'a [String]) -> Result<Conversion<'a>, Error> {
-    let matches = command_of(alloc)?.try_get_matches_from(arguments)?;
+    let matches = matches_of(alloc, arguments)?;
     Ok(Conversion {
         settings: settings_of(&matches),
         output: matches.get_str("output"),

@@ -34,32 +34,37 @@ const DEPTH_HELP: &str = "How deep arrays and objects may nest, up to 1000000 [d
 const DEPTH_LONG: &str =
     "How deep arrays and objects may nest, up to 1000000; 1000 by default.{n}Example: json2yaml --depth=5000 deep.json";
 
-const FLOW_HELP: &str = "Arrays and objects between brackets, as in JSON";
-
-const FLOW_LONG: &str =
-    "Writes arrays and objects between brackets, as in JSON, and not a line for each item.{n}Example: json2yaml --flow in.json";
-
-const CANONICAL_HELP: &str = "The canonical form: brackets, double quotes and all tags";
-
-const CANONICAL_LONG: &str =
-    "Writes the canonical form: brackets, double quotes and all tags.{n}Example: json2yaml --canonical in.json";
-
-const PORTABLE_HELP: &str = "Portable mode off: no --- where none is needed";
-
-const PORTABLE_LONG: &str =
-    "Leaves portable mode: no --- before the first document where none is needed, and U+2028 and U+2029 as themselves.\
-    {n}Example: json2yaml --no-portable in.json";
-
-const SEQUENCES_HELP: &str = "Leaves a list's items in the column of the name that it belongs to";
-
-const SEQUENCES_LONG: &str =
-    "Leaves the items of a list in the column of the name that the list belongs to, as libyaml does, and doesn't indent them.\
-    {n}Example: json2yaml --no-indented-sequences in.json";
-
-const NAMES_HELP: &str = "Lets a name come several times in one object";
-
-const NAMES_LONG: &str =
-    "Lets a name come several times in one object, which is refused otherwise. Many readers refuse such YAML.{n}Example: json2yaml --allow-duplicates in.json";
+/// The options without a value, each with a line of help and a longer one.
+const FLAGS: &[(&str, &str, &str)] = &[
+    (
+        "flow",
+        "Arrays and objects between brackets, as in JSON",
+        "Writes arrays and objects between brackets, as in JSON, and not a line for each item.{n}Example: json2yaml --flow in.json",
+    ),
+    (
+        "canonical",
+        "The canonical form: brackets, double quotes and all tags",
+        "Writes the canonical form: brackets, double quotes and all tags.{n}Example: json2yaml --canonical in.json",
+    ),
+    (
+        "no-portable",
+        "Portable mode off: no --- where none is needed",
+        "Leaves portable mode: no --- before the first document where none is needed, and U+2028 and U+2029 as themselves.\
+        {n}Example: json2yaml --no-portable in.json",
+    ),
+    (
+        "no-indented-sequences",
+        "Leaves a list's items in the column of the name that it belongs to",
+        "Leaves the items of a list in the column of the name that the list belongs to, as libyaml does, and doesn't indent them.\
+        {n}Example: json2yaml --no-indented-sequences in.json",
+    ),
+    (
+        "allow-duplicates",
+        "Lets a name come several times in one object",
+        "Lets a name come several times in one object, which is refused otherwise. Many readers refuse such YAML.\
+        {n}Example: json2yaml --allow-duplicates in.json",
+    ),
+];
 
 /// An option without a value.
 fn flag<'a>(alloc: Global, name: &'a str, help: &'a str, long_help: &'a str) -> Arg<'a> {
@@ -86,53 +91,67 @@ fn option_with_value<'a>(
         .action(ArgAction::Set)
 }
 
+/// The option that names the file to write.
+fn output_option<'a>(alloc: Global) -> Arg<'a> {
+    option_with_value(alloc, "output", "FILE", OUTPUT_HELP, OUTPUT_LONG).short('o')
+}
+
+fn indent_option<'a>(alloc: Global) -> Arg<'a> {
+    let option = option_with_value(alloc, "indent", "COLUMNS", INDENT_HELP, INDENT_LONG);
+    option.value_parser(clap::value_parser!(i32).range(2..=9))
+}
+
+fn width_option<'a>(alloc: Global) -> Arg<'a> {
+    let option = option_with_value(alloc, "width", "COLUMN", WIDTH_HELP, WIDTH_LONG);
+    option
+        .allow_negative_numbers(true)
+        .value_parser(clap::value_parser!(i32))
+}
+
+fn depth_option<'a>(alloc: Global) -> Arg<'a> {
+    let option = option_with_value(alloc, "depth", "LEVELS", DEPTH_HELP, DEPTH_LONG);
+    option.value_parser(clap::value_parser!(usize).range(0..=1_000_000))
+}
+
 /// Adds the options that have a value.
 fn with_settings<'a>(alloc: Global, command: Command<'a>) -> Result<Command<'a>, AllocError> {
-    let output = option_with_value(alloc, "output", "FILE", OUTPUT_HELP, OUTPUT_LONG).short('o');
-    let indent = option_with_value(
-        alloc,
-        "indent",
-        "COLUMNS",
-        INDENT_HELP,
-        INDENT_LONG,
-    ).value_parser(clap::value_parser!(i32).range(2..=9));
-    let width = option_with_value(alloc, "width", "COLUMN", WIDTH_HELP, WIDTH_LONG)
-        .allow_negative_numbers(true)
-        .value_parser(clap::value_parser!(i32));
-    let depth = option_with_value(alloc, "depth", "LEVELS", DEPTH_HELP, DEPTH_LONG).value_parser(
-        clap::value_parser!(usize).range(0..=1_000_000),
-    );
-    command.arg(output)?.arg(indent)?.arg(width)?.arg(depth)
+    command
+        .arg(output_option(alloc))?
+        .arg(indent_option(alloc))?
+        .arg(width_option(alloc))?
+        .arg(depth_option(alloc))
 }
 
 /// Adds the options that have none.
 fn with_flags<'a>(alloc: Global, command: Command<'a>) -> Result<Command<'a>, AllocError> {
-    command
-        .arg(flag(alloc, "flow", FLOW_HELP, FLOW_LONG))?
-        .arg(flag(alloc, "canonical", CANONICAL_HELP, CANONICAL_LONG))?
-        .arg(flag(alloc, "no-portable", PORTABLE_HELP, PORTABLE_LONG))?
-        .arg(flag(
-            alloc,
-            "no-indented-sequences",
-            SEQUENCES_HELP,
-            SEQUENCES_LONG,
-        ))?
-        .arg(flag(alloc, "allow-duplicates", NAMES_HELP, NAMES_LONG))
+    let mut command = command;
+    for (name, help, long_help) in FLAGS {
+        command = command.arg(flag(alloc, name, help, long_help))?;
+    }
+    Ok(command)
 }
 
-/// The program's command line, whose words come without the program's name.
-pub fn command_of<'a>(alloc: Global) -> Result<Command<'a>, AllocError> {
-    let files = Arg::new(alloc, "files")
+/// The files that are read.
+fn files_argument<'a>(alloc: Global) -> Arg<'a> {
+    Arg::new(alloc, "files")
         .value_name("FILE")
         .help(FILES_HELP)
         .long_help(FILES_LONG)
         .num_args(0..)
-        .action(ArgAction::Append);
-    let command = Command::new(alloc, "json2yaml")
+        .action(ArgAction::Append)
+}
+
+/// The command line without its arguments. Its words come without the program's name.
+fn bare_command<'a>(alloc: Global) -> Command<'a> {
+    Command::new(alloc, "json2yaml")
         .version(VERSION)
         .about(ABOUT)
         .after_help(AFTER_HELP)
-        .no_binary_name(true);
-    let command = with_flags(alloc, with_settings(alloc, command)?)?;
-    command.arg(files)
+        .no_binary_name(true)
+}
+
+/// The program's command line, whose words come without the program's name.
+pub fn command_of<'a>(alloc: Global) -> Result<Command<'a>, AllocError> {
+    let command = with_settings(alloc, bare_command(alloc))?;
+    with_flags(alloc, command)?.arg(files_argument(alloc))
 }
