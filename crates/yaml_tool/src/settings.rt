@@ -12,7 +12,7 @@ use yaml_base::{yaml_break_t, yaml_encoding_t};
 use yaml_emitter::Settings;
 
 /// A setting's line.
-#[derive(Clone, Copy, PartialEq, Eq, Debug)]
+#[derive(Clone, Copy)]
 pub enum Setting {
     /// `limit`: the maximum output size in bytes.
     Limit(u32),

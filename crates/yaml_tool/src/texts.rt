@@ -10,7 +10,7 @@ use crate::numbers::parse_number;
 use std::alloc::{AllocError, Allocator};
 
 /// The meaning of the next character or escape of a text.
-#[derive(Clone, Copy, PartialEq, Eq, Debug)]
+#[derive(Clone, Copy)]
 pub enum TextStep<'a> {
     /// The text ends, and nothing follows.
     Ends,
