@@ -159,7 +159,8 @@ fn copied_choice<A: Allocator>(
     }
 }
 
-fn copied_text<A: Allocator>(alloc: A, text: &str) -> Result<String<A>, yaml_error_t>
+/// A text of its own.
+pub(crate) fn copied_text<A: Allocator>(alloc: A, text: &str) -> Result<String<A>, yaml_error_t>
     ensures text { IfOk result (λ copy. seen_text copy ≡ chars text.now) }
     ensures memory { IfErr result (λ error. error ≡ yaml_error_t.Memory) }
 {

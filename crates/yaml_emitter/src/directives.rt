@@ -7,6 +7,7 @@ ghost use Rattle.yaml_base.specs.Seen.{seen_directive, seen_version};
 ghost use Rattle.yaml_emitter.specs.InForce.{with_default};
 ghost use Rattle.yaml_base.specs.Tags.{default_directives, directives_fault, directives_in_force, next_directive_fault, version_fault};
 
+use crate::borrowed::copied_text;
 use std::alloc::Allocator;
 use yaml_base::{yaml_error_t, yaml_tag_directive_t, yaml_version_directive_t};
 use yaml_mark::{Directives, analyze_tag_directive, analyze_version};
@@ -58,6 +59,20 @@ pub(crate) fn add_defaults<A: Allocator + Copy>(
     add_default(alloc, directives, TYPES, TYPES_PREFIX)
 }
 
+/// A directive of these texts.
+fn directive_of<A: Allocator + Copy>(
+    alloc: A,
+    handle: &str,
+    prefix: &str,
+) -> Result<yaml_tag_directive_t<A>, yaml_error_t>
+    ensures texts { IfOk result (λ directive. seen_directive directive ≡ record { handle = chars handle.now; prefix = chars prefix.now }) }
+    ensures memory { IfErr result (λ error. error ≡ yaml_error_t.Memory) }
+{
+    let handle = copied_text(alloc, handle)?;
+    let prefix = copied_text(alloc, prefix)?;
+    Ok(yaml_tag_directive_t { handle, prefix })
+}
+
 fn add_default<A: Allocator + Copy>(
     alloc: A,
     directives: &mut Directives<A>,
@@ -67,10 +82,7 @@ fn add_default<A: Allocator + Copy>(
     ensures added { OnOk result (directives.new ≡ with_default directives.old (record { handle = chars handle.now; prefix = chars prefix.now })) }
     ensures memory { IfErr result (λ e. e ≡ yaml_error_t.Memory) }
 {
-    let directive = yaml_tag_directive_t {
-        handle: String::from_str(alloc, handle).map_err(|_| yaml_error_t::Memory)?,
-        prefix: String::from_str(alloc, prefix).map_err(|_| yaml_error_t::Memory)?,
-    };
+    let directive = directive_of(alloc, handle, prefix)?;
     let allow_duplicates = true;
     directives.append(&directive, allow_duplicates)
 }

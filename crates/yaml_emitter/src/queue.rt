@@ -5,7 +5,6 @@ ghost use Rattle.std.specs.List.{list_any};
 ghost use Rattle.yaml_base.specs.Ready.{is_start, is_end, awaited, is_balanced, nonempty_prefixes, is_ready};
 ghost use Rattle.yaml_base.specs.Seen.{seen_event, seen_events};
 ghost use Rattle.yaml_emitter.specs.Processing as processing;
-ghost use Rattle.yaml_emitter.specs.Processing.{ends_mapping, ends_sequence};
 ghost use Rattle.yaml_emitter.specs.Queue.{are_ready_by_one_more, is_head_ready};
 
 use crate::emitter::WaitingEvents;
@@ -134,23 +133,21 @@ pub(crate) fn closes_at_once<A: Allocator>(
 ) -> bool
     ensures { result ≡ processing.closes_at_once (seen_event event.now) (seen_events rest.now) }
 {
-    match event {
-        YAML_SEQUENCE_START_EVENT { .. } => begins_with_sequence_end(rest),
-        YAML_MAPPING_START_EVENT { .. } => begins_with_mapping_end(rest),
-        _ => false,
+    match rest.first() {
+        Some(next) => is_end_of(next, event),
+        None => false,
     }
 }
 
-fn begins_with_sequence_end<A: Allocator>(rest: &[yaml_event_t<A>]) -> bool
-    ensures { result ≡ ends_sequence (seen_events rest.now) }
+/// Whether an event is the end of a collection that starts with the other one.
+fn is_end_of<A: Allocator>(end: &yaml_event_t<A>, start: &yaml_event_t<A>) -> bool
+    ensures { result ≡ processing.closes_at_once (seen_event start.now) (seen_event end.now ∷ []) }
 {
-    matches!(rest, [YAML_SEQUENCE_END_EVENT, ..])
-}
-
-fn begins_with_mapping_end<A: Allocator>(rest: &[yaml_event_t<A>]) -> bool
-    ensures { result ≡ ends_mapping (seen_events rest.now) }
-{
-    matches!(rest, [YAML_MAPPING_END_EVENT, ..])
+    match start {
+        YAML_SEQUENCE_START_EVENT { .. } => matches!(end, YAML_SEQUENCE_END_EVENT),
+        YAML_MAPPING_START_EVENT { .. } => matches!(end, YAML_MAPPING_END_EVENT),
+        _ => false,
+    }
 }
 
 /// The first of the events that wait, and those behind it.
