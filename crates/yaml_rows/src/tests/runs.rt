@@ -129,8 +129,9 @@ fn check_text(rt: &impl Abort, alloc: Global, script: &str, text: &[u8]) {
     check_row(rt, alloc, &Row::done(script, text));
 }
 
-/// Streams, each with what the ends of documents and of the stream add to the output, and then the last flush.
-type Streams<'a> = &'a [(&'a str, &'a [&'a str])];
+/// Settings, the stream that comes after them, and what the ends of documents and of the stream add to the output, and then the
+/// last flush.
+type Streams<'a> = &'a [(&'a str, &'a str, &'a [&'a str])];
 
 /// The lengths of the parts together, after each.
 fn lengths(rt: &impl Abort, alloc: Global, parts: &[&str]) -> Vec<usize> {
@@ -155,17 +156,14 @@ fn check_stream(rt: &impl Abort, alloc: Global, settings: &str, stream: &str, pa
     check_row(rt, alloc, &row);
 }
 
-/// Settings, and the streams that come after them.
-fn check_streams(rt: &impl Abort, alloc: Global, groups: &[(&str, Streams)]) {
-    for (settings, streams) in groups {
-        for stream in *streams {
-            check_stream(rt, alloc, settings, stream.0, stream.1);
-        }
+fn check_streams(rt: &impl Abort, alloc: Global, rows: Streams) {
+    for (settings, stream, parts) in rows {
+        check_stream(rt, alloc, settings, stream, parts);
     }
 }
 
-/// Roots of documents, each with its text.
-type Rows<'a> = &'a [(&'a str, &'a str)];
+/// Settings, the root of the document that comes after them, by its events, and the document's text.
+type Roots<'a> = &'a [(&'a str, &'a str, &'a str)];
 
 /// A stream of one document, after these settings, by the events of its root.
 fn check_root(rt: &impl Abort, alloc: Global, settings: &str, root: &str, text: &str) {
@@ -174,12 +172,9 @@ fn check_root(rt: &impl Abort, alloc: Global, settings: &str, root: &str, text: 
     check_row(rt, alloc, &Row::done(script.as_str(), text.as_bytes()));
 }
 
-/// Settings, and the roots that come after them.
-fn check_roots(rt: &impl Abort, alloc: Global, groups: &[(&str, Rows)]) {
-    for (settings, rows) in groups {
-        for row in *rows {
-            check_root(rt, alloc, settings, row.0, row.1);
-        }
+fn check_roots(rt: &impl Abort, alloc: Global, rows: Roots) {
+    for (settings, root, text) in rows {
+        check_root(rt, alloc, settings, root, text);
     }
 }
 
@@ -188,16 +183,16 @@ const FIRST: &str =
     "canonical on\nwidth -1\n+STR any\n+DOC 1 -\n=VAL any 1 1 - - \"a\"\n-DOC 1\n-STR\n";
 
 const WHOLE: Streams = &[
-    ("", &[]),
-    ("limit 007", &[]),
-    (FIRST, &["---\n\"a\"\n"]),
-    ("+STR utf8\n-STR", &[]),
-    ("+STR any\n-STR", &[]),
+    ("", "", &[]),
+    ("", "limit 007", &[]),
+    ("", FIRST, &["---\n\"a\"\n"]),
+    ("", "+STR utf8\n-STR", &[]),
+    ("", "+STR any\n-STR", &[]),
 ];
 
 #[test]
 fn whole_streams_are_written(rt: HostRuntime) {
-    check_streams(&rt, rt.alloc(), &[("", WHOLE)]);
+    check_streams(&rt, rt.alloc(), WHOLE);
 }
 
 /// Scripts, each with the call that is refused, what is written, and what is returned.

@@ -1,11 +1,13 @@
 //! Canonical text: in flow, a node a line, every scalar between double quotes.
-use super::{Rows, Streams, check_roots, check_streams};
+use super::{Roots, Streams, check_roots, check_streams};
 
 const CANONICAL: &str = "canonical on\nwidth -1\n";
 
-/// Nodes with tags, all of which are written.
-const TAGGED: Rows = &[
+/// Settings, and the roots that come after them.
+const ROOTS: Roots = &[
+    // Nodes with tags, all of which are written.
     (
+        "canonical on\n",
         r#"
 +MAP any 0 - "tag:yaml.org,2002:map"
 =VAL any 1 1 "a" "tag:yaml.org,2002:str" "k"
@@ -14,6 +16,7 @@ const TAGGED: Rows = &[
         "---\n!!map {\n  ? &a !!str \"k\"\n  : *a,\n}\n",
     ),
     (
+        "canonical on\n",
         r#"
 +SEQ any 0 - "tag:yaml.org,2002:seq"
 =VAL any 0 0 - "tag:yaml.org,2002:int" "5"
@@ -21,14 +24,36 @@ const TAGGED: Rows = &[
 -SEQ"#,
         "---\n!!seq [\n  !!int \"5\",\n  !!str \"a\",\n]\n",
     ),
-    (r#"=VAL any 1 0 - - "a""#, "---\n! \"a\"\n"),
-];
-
-/// Nodes stand on lines of their own.
-const LINES: Rows = &[
-    (r#"=VAL any 1 1 - - "a""#, "---\n\"a\"\n"),
-    (r#"=VAL any 1 1 - - "\n ""#, "---\n\"\\n \"\n"),
     (
+        "canonical on\n",
+        r#"=VAL any 1 0 - - "a""#,
+        "---\n! \"a\"\n",
+    ),
+    // Nodes with tags, all of which are written.
+    (
+        CANONICAL,
+        r#"
++MAP any 0 - "tag:yaml.org,2002:map"
+=VAL any 1 1 "a" "tag:yaml.org,2002:str" "k"
+=ALI "a"
+-MAP"#,
+        "---\n!!map {\n  ? &a !!str \"k\"\n  : *a,\n}\n",
+    ),
+    (
+        CANONICAL,
+        r#"
++SEQ any 0 - "tag:yaml.org,2002:seq"
+=VAL any 0 0 - "tag:yaml.org,2002:int" "5"
+=VAL any 1 1 - "tag:yaml.org,2002:str" "a"
+-SEQ"#,
+        "---\n!!seq [\n  !!int \"5\",\n  !!str \"a\",\n]\n",
+    ),
+    (CANONICAL, r#"=VAL any 1 0 - - "a""#, "---\n! \"a\"\n"),
+    // Nodes stand on lines of their own.
+    (CANONICAL, r#"=VAL any 1 1 - - "a""#, "---\n\"a\"\n"),
+    (CANONICAL, r#"=VAL any 1 1 - - "\n ""#, "---\n\"\\n \"\n"),
+    (
+        CANONICAL,
         r#"
 +SEQ block 1 - -
 =VAL any 1 1 - - "a"
@@ -36,6 +61,7 @@ const LINES: Rows = &[
         "---\n[\n  \"a\",\n]\n",
     ),
     (
+        CANONICAL,
         r#"
 +MAP flow 1 - -
 =VAL any 1 1 - - "k"
@@ -44,12 +70,14 @@ const LINES: Rows = &[
         "---\n{\n  ? \"k\"\n  : \"v\",\n}\n",
     ),
     (
+        CANONICAL,
         r#"
 +SEQ block 1 - -
 -SEQ"#,
         "---\n[]\n",
     ),
     (
+        CANONICAL,
         r#"
 +SEQ block 1 - -
 +MAP block 1 - -
@@ -57,40 +85,47 @@ const LINES: Rows = &[
 -SEQ"#,
         "---\n[\n  {},\n]\n",
     ),
-];
-
-/// An indent of four moves items.
-const INDENTED: Rows = &[(
-    r#"
+    // An indent of four moves items.
+    (
+        "canonical on\nwidth -1\nindent 4\n",
+        r#"
 +SEQ block 1 - -
 =VAL any 1 1 - - "a"
 -SEQ"#,
-    "---\n[\n    \"a\",\n]\n",
-)];
-
-/// What a tag may not hold is escaped.
-const ESCAPED_TAGS: Rows = &[
-    (r#"=VAL any 0 0 - "!" "x""#, "---\n!<%21> \"x\"\n"),
-    (r#"=VAL any 0 0 - "!a!b" "x""#, "---\n!a%21b \"x\"\n"),
+        "---\n[\n    \"a\",\n]\n",
+    ),
+    // What a tag may not hold is escaped.
     (
+        CANONICAL,
+        r#"=VAL any 0 0 - "!" "x""#,
+        "---\n!<%21> \"x\"\n",
+    ),
+    (
+        CANONICAL,
+        r#"=VAL any 0 0 - "!a!b" "x""#,
+        "---\n!a%21b \"x\"\n",
+    ),
+    (
+        CANONICAL,
         r#"=VAL any 0 0 - "tag:yaml.org,2002:" "x""#,
         "---\n!<tag:yaml.org,2002:> \"x\"\n",
     ),
-    (r#"=VAL any 0 0 - "!a\u{0}" "x""#, "---\n!a%00 \"x\"\n"),
-    (r#"=VAL any 0 0 - "!\u{E9}" "x""#, "---\n!%C3%A9 \"x\"\n"),
-];
-
-/// A canonical line may end with a return.
-const ENDED_BY_CR: Rows = &[(r#"=VAL any 1 1 - - "a""#, "---\r\"a\"\r")];
-
-/// Settings, and the roots that come after them.
-const ROOTS: &[(&str, Rows)] = &[
-    ("canonical on\n", TAGGED),
-    (CANONICAL, TAGGED),
-    (CANONICAL, LINES),
-    ("canonical on\nwidth -1\nindent 4\n", INDENTED),
-    (CANONICAL, ESCAPED_TAGS),
-    ("canonical on\nwidth -1\nbreak cr\n", ENDED_BY_CR),
+    (
+        CANONICAL,
+        r#"=VAL any 0 0 - "!a\u{0}" "x""#,
+        "---\n!a%00 \"x\"\n",
+    ),
+    (
+        CANONICAL,
+        r#"=VAL any 0 0 - "!\u{E9}" "x""#,
+        "---\n!%C3%A9 \"x\"\n",
+    ),
+    // A canonical line may end with a return.
+    (
+        "canonical on\nwidth -1\nbreak cr\n",
+        r#"=VAL any 1 1 - - "a""#,
+        "---\r\"a\"\r",
+    ),
 ];
 
 #[test]
@@ -98,9 +133,11 @@ fn each_root_is_written(rt: HostRuntime) {
     check_roots(&rt, rt.alloc(), ROOTS);
 }
 
-/// The documents own handles come first.
-const OWN_HANDLES: Streams = &[
+/// Settings, and the streams that come after them.
+const STREAMS: Streams = &[
+    // The documents own handles come first.
     (
+        CANONICAL,
         r#"
 +STR any
 +DOC 1 - "!e!" "!x"
@@ -110,6 +147,7 @@ const OWN_HANDLES: Streams = &[
         &["%TAG !e! %21x\n---\n!e!y \"x\"\n"],
     ),
     (
+        CANONICAL,
         r#"
 +STR any
 +DOC 1 - "!!" "tag:e.com,2000:"
@@ -119,6 +157,7 @@ const OWN_HANDLES: Streams = &[
         &["%TAG !! tag:e.com,2000:\n---\n!!t \"x\"\n"],
     ),
     (
+        CANONICAL,
         r#"
 +STR any
 +DOC 1 - "!!" "tag:e.com,2000:"
@@ -127,11 +166,9 @@ const OWN_HANDLES: Streams = &[
 -STR"#,
         &["%TAG !! tag:e.com,2000:\n---\n!<tag:yaml.org,2002:str> \"x\"\n"],
     ),
-];
-
-/// Each document begins with dashes.
-const DOCUMENTS: Streams = &[
+    // Each document begins with dashes.
     (
+        CANONICAL,
         r#"
 +STR any
 +DOC 1 -
@@ -144,6 +181,7 @@ const DOCUMENTS: Streams = &[
         &["---\n\"a\"\n", "---\n\"b\"\n"],
     ),
     (
+        CANONICAL,
         r#"
 +STR any
 +DOC 1 -
@@ -153,6 +191,7 @@ const DOCUMENTS: Streams = &[
         &["---\n\"a\"\n...\n"],
     ),
     (
+        CANONICAL,
         r#"
 +STR any
 +DOC 1 -
@@ -165,9 +204,6 @@ const DOCUMENTS: Streams = &[
         &["---\n\"a\"\n", "...\n%YAML 1.1\n---\n\"b\"\n"],
     ),
 ];
-
-/// Settings, and the streams that come after them.
-const STREAMS: &[(&str, Streams)] = &[(CANONICAL, OWN_HANDLES), (CANONICAL, DOCUMENTS)];
 
 #[test]
 fn each_stream_is_written(rt: HostRuntime) {

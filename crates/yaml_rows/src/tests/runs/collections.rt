@@ -1,12 +1,14 @@
 //! Collections in blocks and in flow.
-use super::{Rows, check_root, check_roots};
+use super::{Roots, check_root, check_roots};
 use crate::tests::{joined, repeated};
 use std::alloc::Global;
 use std::process::Abort;
 
-/// Blocks stand in blocks.
-const BLOCKS_IN_BLOCKS: Rows = &[
+/// Settings, and the roots that come after them.
+const ROOTS: Roots = &[
+    // Blocks stand in blocks.
     (
+        "",
         r#"
 +MAP block 1 - -
 =VAL any 1 1 - - "a"
@@ -18,6 +20,7 @@ const BLOCKS_IN_BLOCKS: Rows = &[
         "a:\n- b\n- c\n",
     ),
     (
+        "",
         r#"
 +MAP block 1 - -
 =VAL any 1 1 - - "a"
@@ -28,6 +31,7 @@ const BLOCKS_IN_BLOCKS: Rows = &[
         "a: &x\n- b\n",
     ),
     (
+        "",
         r#"
 +SEQ block 1 - -
 +MAP block 1 - -
@@ -38,6 +42,7 @@ const BLOCKS_IN_BLOCKS: Rows = &[
         "- a: b\n",
     ),
     (
+        "",
         r#"
 +MAP block 1 - -
 =VAL any 1 1 - - "a"
@@ -49,6 +54,7 @@ const BLOCKS_IN_BLOCKS: Rows = &[
         "a:\n  b: c\n",
     ),
     (
+        "",
         r#"
 +MAP block 1 - -
 +SEQ block 1 - -
@@ -59,28 +65,27 @@ const BLOCKS_IN_BLOCKS: Rows = &[
         "? - b\n: v\n",
     ),
     (
+        "",
         r#"
 +SEQ block 1 - -
 =VAL literal 1 1 - - " a"
 -SEQ"#,
         "- |2-\n   a\n",
     ),
-];
-
-/// An indent of four moves what stands within.
-const INDENTED_BY_FOUR: Rows = &[(
-    r#"
+    // An indent of four moves what stands within.
+    (
+        "indent 4\n",
+        r#"
 +SEQ block 1 - -
 +SEQ block 1 - -
 =VAL any 1 1 - - "a"
 -SEQ
 -SEQ"#,
-    "-   - a\n",
-)];
-
-/// Flow goes on a line.
-const FLOW_ON_A_LINE: Rows = &[
+        "-   - a\n",
+    ),
+    // Flow goes on a line.
     (
+        "",
         r#"
 +SEQ flow 1 - -
 =VAL any 1 1 - - "a"
@@ -89,6 +94,7 @@ const FLOW_ON_A_LINE: Rows = &[
         "[a, b]\n",
     ),
     (
+        "",
         r#"
 +SEQ flow 1 - -
 =VAL any 1 1 - - ""
@@ -96,6 +102,7 @@ const FLOW_ON_A_LINE: Rows = &[
         "['']\n",
     ),
     (
+        "",
         r#"
 +MAP flow 1 - -
 =ALI "a"
@@ -103,31 +110,29 @@ const FLOW_ON_A_LINE: Rows = &[
 -MAP"#,
         "{*a : v}\n",
     ),
-];
-
-/// Flow past the width goes to the next line.
-const FLOW_PAST_THE_WIDTH: Rows = &[(
-    r#"
+    // Flow past the width goes to the next line.
+    (
+        "width 5\n",
+        r#"
 +SEQ flow 1 - -
 =VAL any 1 1 - - "aaaa"
 =VAL any 1 1 - - "bb"
 -SEQ"#,
-    "[aaaa,\n  bb]\n",
-)];
-
-/// An alias as a key is followed by a space.
-const ALIAS_AS_A_KEY: Rows = &[(
-    r#"
+        "[aaaa,\n  bb]\n",
+    ),
+    // An alias as a key is followed by a space.
+    (
+        "",
+        r#"
 +MAP block 1 - -
 =ALI "a"
 =VAL any 1 1 - - "v"
 -MAP"#,
-    "*a : v\n",
-)];
-
-/// Empty keys and values stand in blocks.
-const EMPTY_KEYS_AND_VALUES: Rows = &[
+        "*a : v\n",
+    ),
+    // Empty keys and values stand in blocks.
     (
+        "",
         r#"
 +MAP block 1 - -
 =VAL any 1 1 - - "a"
@@ -136,6 +141,7 @@ const EMPTY_KEYS_AND_VALUES: Rows = &[
         "a:\n",
     ),
     (
+        "",
         r#"
 +MAP block 1 - -
 =VAL any 1 1 - - ""
@@ -144,6 +150,7 @@ const EMPTY_KEYS_AND_VALUES: Rows = &[
         "'': v\n",
     ),
     (
+        "",
         r#"
 +MAP block 1 - -
 +SEQ block 1 - -
@@ -152,21 +159,19 @@ const EMPTY_KEYS_AND_VALUES: Rows = &[
 -MAP"#,
         "[]: v\n",
     ),
-];
-
-/// A key with a separator is not simple.
-const KEY_WITH_A_SEPARATOR: Rows = &[(
-    r#"
+    // A key with a separator is not simple.
+    (
+        "unicode on\nbreaks12 on\n",
+        r#"
 +MAP block 1 - -
 =VAL any 1 1 - - "a\u{2028}b"
 =VAL any 1 1 - - "v"
 -MAP"#,
-    "? \"a\\Lb\"\n: v\n",
-)];
-
-/// Nodes that stand elsewhere, and collections that hold themselves.
-const SHARED_NODES: Rows = &[
+        "? \"a\\Lb\"\n: v\n",
+    ),
+    // Nodes that stand elsewhere, and collections that hold themselves.
     (
+        "",
         r#"
 +SEQ block 1 - -
 =VAL any 1 1 "id001" - "a"
@@ -175,6 +180,7 @@ const SHARED_NODES: Rows = &[
         "- &id001 a\n- *id001\n",
     ),
     (
+        "",
         r#"
 +SEQ block 1 - -
 +SEQ block 1 - -
@@ -185,6 +191,7 @@ const SHARED_NODES: Rows = &[
         "- - &id001 a\n  - *id001\n",
     ),
     (
+        "",
         r#"
 +SEQ block 1 - -
 +SEQ block 1 "id002" -
@@ -196,24 +203,13 @@ const SHARED_NODES: Rows = &[
         "- &id002\n  - &id001 a\n  - *id001\n- *id002\n",
     ),
     (
+        "",
         r#"
 +SEQ block 1 "id001" -
 =ALI "id001"
 -SEQ"#,
         "&id001\n- *id001\n",
     ),
-];
-
-/// Settings, and the roots that come after them.
-const ROOTS: &[(&str, Rows)] = &[
-    ("", BLOCKS_IN_BLOCKS),
-    ("indent 4\n", INDENTED_BY_FOUR),
-    ("", FLOW_ON_A_LINE),
-    ("width 5\n", FLOW_PAST_THE_WIDTH),
-    ("", ALIAS_AS_A_KEY),
-    ("", EMPTY_KEYS_AND_VALUES),
-    ("unicode on\nbreaks12 on\n", KEY_WITH_A_SEPARATOR),
-    ("", SHARED_NODES),
 ];
 
 #[test]

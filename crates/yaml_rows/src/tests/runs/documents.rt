@@ -4,9 +4,10 @@ use crate::tests::joined;
 use std::alloc::Global;
 use std::process::Abort;
 
-/// Marks stand where they are needed.
-const MARKS: Streams = &[
+/// Settings, and streams that come after them: marks stand where they are needed.
+const STREAMS: Streams = &[
     (
+        "",
         r#"
 +STR any
 +DOC 0 -
@@ -16,6 +17,7 @@ const MARKS: Streams = &[
         &["--- foo\n...\n"],
     ),
     (
+        "",
         r#"
 +STR any
 +DOC 1 1.1
@@ -25,6 +27,7 @@ const MARKS: Streams = &[
         &["%YAML 1.1\n--- foo\n"],
     ),
     (
+        "",
         r#"
 +STR any
 +DOC 1 -
@@ -37,6 +40,7 @@ const MARKS: Streams = &[
         &["a\n", "...\n%TAG !e! tag:e.com,2000:\n--- !e!t x\n"],
     ),
     (
+        "",
         r#"
 +STR any
 +DOC 1 -
@@ -48,21 +52,18 @@ const MARKS: Streams = &[
 -STR"#,
         &["|+\n  a\n\n", "--- b\n"],
     ),
-];
-
-/// What is set goes before what the stream's start asks for.
-const SET_ENCODING: Streams = &[(
-    r#"
+    // What is set goes before what the stream's start asks for.
+    (
+        "encoding utf8\n",
+        r#"
 +STR utf16be
 +DOC 1 -
 =VAL any 1 1 - - "a"
 -DOC 1
 -STR"#,
-    &["a\n"],
-)];
-
-/// Settings, and the streams that come after them.
-const STREAMS: &[(&str, Streams)] = &[("", MARKS), ("encoding utf8\n", SET_ENCODING)];
+        &["a\n"],
+    ),
+];
 
 #[test]
 fn each_stream_is_written(rt: HostRuntime) {

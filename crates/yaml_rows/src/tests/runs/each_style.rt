@@ -123,143 +123,31 @@ fn check_styles(rt: &impl Abort, alloc: Global, texts: &Texts) {
     }
 }
 
-/// How many rows there are, and the rows of both tables, in one order.
-type Table<'a> = (usize, &'a [&'a str], &'a [&'a str]);
+/// How many values of at most four characters there are.
+const COUNT: usize = 341;
 
-fn check_tables(rt: &impl Abort, alloc: Global, tables: &[Table]) {
-    for (count, quoted, block) in tables {
-        equal(rt, &(quoted.len(), block.len()), &(*count, *count));
-        for (quoted, block) in quoted.iter().zip(*block) {
-            check_styles(rt, alloc, &texts_of(rt, quoted, block));
-        }
-    }
+/// A line of a table in the characters that it means.
+fn row_in(rt: &impl Abort, alloc: Global, line: &str) -> String {
+    let row = line.replace(alloc, '↵', "\n").expect(rt, "no memory");
+    let row = row.as_str().replace(alloc, '¶', "\u{2028}");
+    row.expect(rt, "no memory")
 }
 
-const SHORTEST: &[Table] = &[
-    (21, short_quoted::UP_TO_TWO, short_block::UP_TO_TWO),
-    (
-        16,
-        short_quoted::THREE_AFTER_SPACE,
-        short_block::THREE_AFTER_SPACE,
-    ),
-    (
-        16,
-        short_quoted::THREE_AFTER_FEED,
-        short_block::THREE_AFTER_FEED,
-    ),
-    (
-        16,
-        short_quoted::THREE_AFTER_LETTER,
-        short_block::THREE_AFTER_LETTER,
-    ),
-    (
-        16,
-        short_quoted::THREE_AFTER_SEPARATOR,
-        short_block::THREE_AFTER_SEPARATOR,
-    ),
-];
+// Lines of both tables of one value.
+fn check_value(rt: &impl Abort, alloc: Global, quoted: &str, block: &str) {
+    let quoted = row_in(rt, alloc, quoted);
+    let block = row_in(rt, alloc, block);
+    check_styles(rt, alloc, &texts_of(rt, quoted.as_str(), block.as_str()));
+}
 
-const FOUR_AFTER_SPACE: &[Table] = &[
-    (
-        16,
-        short_quoted::four::SPACE_AND_SPACE,
-        short_block::four::SPACE_AND_SPACE,
-    ),
-    (
-        16,
-        short_quoted::four::SPACE_AND_FEED,
-        short_block::four::SPACE_AND_FEED,
-    ),
-    (
-        16,
-        short_quoted::four::SPACE_AND_LETTER,
-        short_block::four::SPACE_AND_LETTER,
-    ),
-    (
-        16,
-        short_quoted::four::SPACE_AND_SEPARATOR,
-        short_block::four::SPACE_AND_SEPARATOR,
-    ),
-];
-
-const FOUR_AFTER_FEED: &[Table] = &[
-    (
-        16,
-        short_quoted::four::FEED_AND_SPACE,
-        short_block::four::FEED_AND_SPACE,
-    ),
-    (
-        16,
-        short_quoted::four::FEED_AND_FEED,
-        short_block::four::FEED_AND_FEED,
-    ),
-    (
-        16,
-        short_quoted::four::FEED_AND_LETTER,
-        short_block::four::FEED_AND_LETTER,
-    ),
-    (
-        16,
-        short_quoted::four::FEED_AND_SEPARATOR,
-        short_block::four::FEED_AND_SEPARATOR,
-    ),
-];
-
-const FOUR_AFTER_LETTER: &[Table] = &[
-    (
-        16,
-        short_quoted::four::LETTER_AND_SPACE,
-        short_block::four::LETTER_AND_SPACE,
-    ),
-    (
-        16,
-        short_quoted::four::LETTER_AND_FEED,
-        short_block::four::LETTER_AND_FEED,
-    ),
-    (
-        16,
-        short_quoted::four::LETTER_AND_LETTER,
-        short_block::four::LETTER_AND_LETTER,
-    ),
-    (
-        16,
-        short_quoted::four::LETTER_AND_SEPARATOR,
-        short_block::four::LETTER_AND_SEPARATOR,
-    ),
-];
-
-const FOUR_AFTER_SEPARATOR: &[Table] = &[
-    (
-        16,
-        short_quoted::four::SEPARATOR_AND_SPACE,
-        short_block::four::SEPARATOR_AND_SPACE,
-    ),
-    (
-        16,
-        short_quoted::four::SEPARATOR_AND_FEED,
-        short_block::four::SEPARATOR_AND_FEED,
-    ),
-    (
-        16,
-        short_quoted::four::SEPARATOR_AND_LETTER,
-        short_block::four::SEPARATOR_AND_LETTER,
-    ),
-    (
-        16,
-        short_quoted::four::SEPARATOR_AND_SEPARATOR,
-        short_block::four::SEPARATOR_AND_SEPARATOR,
-    ),
-];
-
+/// Both tables have a row for each value, in one order.
 #[test]
 fn short_values_stand_in_each_style(rt: HostRuntime) {
-    for tables in [
-        SHORTEST,
-        FOUR_AFTER_SPACE,
-        FOUR_AFTER_FEED,
-        FOUR_AFTER_LETTER,
-        FOUR_AFTER_SEPARATOR,
-    ] {
-        check_tables(&rt, rt.alloc(), tables);
+    let mut quoted = short_quoted::ROWS.lines();
+    let mut block = short_block::ROWS.lines();
+    for _ in 0..COUNT {
+        let quoted = quoted.next().expect(&rt, "a row");
+        check_value(&rt, rt.alloc(), quoted, block.next().expect(&rt, "a row"));
     }
+    equal(&rt, &(quoted.next(), block.next()), &(None, None));
 }

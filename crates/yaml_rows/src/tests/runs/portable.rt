@@ -1,12 +1,14 @@
 //! Portable mode: documents begin with `---`, flow indicators after a handle are escaped, a prefix begins with its `!`, and
 //! U+2028 and U+2029 are escaped.
-use super::{Rows, Streams, check_roots, check_streams};
+use super::{Roots, Streams, check_roots, check_streams};
 
-const BEGUN_BY_A_MARK: Rows = &[
-    (r#"=VAL any 1 1 - - """#, "---\n"),
-    (r#"=VAL any 1 1 - - "a""#, "--- a\n"),
-    ("+SEQ any 1 - -\n-SEQ", "--- []\n"),
+/// Settings, and the roots that come after them.
+const ROOTS: Roots = &[
+    ("portable on\n", r#"=VAL any 1 1 - - """#, "---\n"),
+    ("portable on\n", r#"=VAL any 1 1 - - "a""#, "--- a\n"),
+    ("portable on\n", "+SEQ any 1 - -\n-SEQ", "--- []\n"),
     (
+        "portable on\n",
         r#"
 +SEQ any 1 - -
 =VAL any 1 1 - - "a"
@@ -14,6 +16,7 @@ const BEGUN_BY_A_MARK: Rows = &[
         "---\n- a\n",
     ),
     (
+        "portable on\n",
         r#"
 +MAP any 1 - -
 =VAL any 1 1 - - "a"
@@ -21,20 +24,25 @@ const BEGUN_BY_A_MARK: Rows = &[
 -MAP"#,
         "---\na:\n",
     ),
-];
-
-const CANONICAL_BEGUN_BY_A_MARK: Rows = &[(r#"=VAL any 1 1 - - "a""#, "---\n\"a\"\n")];
-
-const BEGUN_WITHOUT_A_MARK: Rows = &[(r#"=VAL any 1 1 - - """#, "\n")];
-
-/// Signs of flow after a handle are escaped.
-const ESCAPED_FLOW_SIGNS: Rows = &[
-    (r#"=VAL any 0 0 - "!a,b[c]" "x""#, "--- !a%2Cb%5Bc%5D x\n"),
     (
+        "canonical on\nportable on\n",
+        r#"=VAL any 1 1 - - "a""#,
+        "---\n\"a\"\n",
+    ),
+    ("portable off\n", r#"=VAL any 1 1 - - """#, "\n"),
+    // Signs of flow after a handle are escaped.
+    (
+        "portable on\n",
+        r#"=VAL any 0 0 - "!a,b[c]" "x""#,
+        "--- !a%2Cb%5Bc%5D x\n",
+    ),
+    (
+        "portable on\n",
         r#"=VAL any 0 0 - "tag:yaml.org,2002:" "x""#,
         "--- !<tag:yaml.org,2002:> x\n",
     ),
     (
+        "portable on\n",
         r#"
 +SEQ flow 1 - -
 =VAL any 0 0 - "tag:yaml.org,2002:," "x"
@@ -42,27 +50,35 @@ const ESCAPED_FLOW_SIGNS: Rows = &[
 -SEQ"#,
         "--- [!!%2C x, !<a,b> x]\n",
     ),
-];
-
-const RAW_FLOW_SIGNS: Rows = &[(r#"=VAL any 0 0 - "!a,b[c]" "x""#, "!a,b[c] x\n")];
-
-/// U+2028 and U+2029 are escaped in each style, also where characters past ASCII stand as themselves.
-const ESCAPED_SEPARATORS: Rows = &[
-    (r#"=VAL any 1 1 - - "a\u{2028}b""#, "--- \"a\\Lb\"\n"),
-    (r#"=VAL plain 1 1 - - "\u{2029}""#, "--- \"\\P\"\n"),
+    ("", r#"=VAL any 0 0 - "!a,b[c]" "x""#, "!a,b[c] x\n"),
+    // U+2028 and U+2029 are escaped in each style, also where characters past ASCII stand as themselves.
     (
+        "portable on\nunicode on\n",
+        r#"=VAL any 1 1 - - "a\u{2028}b""#,
+        "--- \"a\\Lb\"\n",
+    ),
+    (
+        "portable on\nunicode on\n",
+        r#"=VAL plain 1 1 - - "\u{2029}""#,
+        "--- \"\\P\"\n",
+    ),
+    (
+        "portable on\nunicode on\n",
         r#"=VAL single 1 1 - - "é\u{2028}\nb""#,
         "--- \"é\\L\\nb\"\n",
     ),
     (
+        "portable on\nunicode on\n",
         r#"=VAL literal 1 1 - - "a\u{2028}\nb""#,
         "--- \"a\\L\\nb\"\n",
     ),
     (
+        "portable on\nunicode on\n",
         r#"=VAL folded 1 1 - - "a\u{2029}\nb""#,
         "--- \"a\\P\\nb\"\n",
     ),
     (
+        "portable on\nunicode on\n",
         r#"
 +MAP block 1 - -
 =VAL any 1 1 - - "a\u{2028}b"
@@ -70,36 +86,28 @@ const ESCAPED_SEPARATORS: Rows = &[
 -MAP"#,
         "---\n? \"a\\Lb\"\n: v\n",
     ),
-];
-
-const ESCAPED_SEPARATOR_IN_1_2: Rows = &[(r#"=VAL any 1 1 - - "é\u{2028}""#, "--- \"é\\L\"\n")];
-
-const CANONICAL_SEPARATOR: Rows = &[(r#"=VAL any 1 1 - - "\u{2028}""#, "---\n\"\\L\"\n")];
-
-const RAW_SEPARATOR: Rows = &[(r#"=VAL any 1 1 - - "a\u{2028}b""#, "'a\u{2028}  b'\n")];
-
-/// Settings, and the roots that come after them.
-const ROOTS: &[(&str, Rows)] = &[
-    ("portable on\n", BEGUN_BY_A_MARK),
-    ("canonical on\nportable on\n", CANONICAL_BEGUN_BY_A_MARK),
-    ("portable off\n", BEGUN_WITHOUT_A_MARK),
-    ("portable on\n", ESCAPED_FLOW_SIGNS),
-    ("", RAW_FLOW_SIGNS),
-    ("portable on\nunicode on\n", ESCAPED_SEPARATORS),
     (
         "portable on\nunicode on\nbreaks12 on\n",
-        ESCAPED_SEPARATOR_IN_1_2,
+        r#"=VAL any 1 1 - - "é\u{2028}""#,
+        "--- \"é\\L\"\n",
     ),
     (
         "canonical on\nportable on\nunicode on\n",
-        CANONICAL_SEPARATOR,
+        r#"=VAL any 1 1 - - "\u{2028}""#,
+        "---\n\"\\L\"\n",
     ),
-    ("unicode on\n", RAW_SEPARATOR),
+    (
+        "unicode on\n",
+        r#"=VAL any 1 1 - - "a\u{2028}b""#,
+        "'a\u{2028}  b'\n",
+    ),
 ];
 
-/// A mark that begins a prefix stands raw.
-const PREFIXES: Streams = &[
+/// Settings, and the streams that come after them.
+const STREAMS: Streams = &[
+    // A mark that begins a prefix stands raw.
     (
+        "portable on\n",
         r#"
 +STR any
 +DOC 1 - "!e!" "!x"
@@ -109,6 +117,7 @@ const PREFIXES: Streams = &[
         &["%TAG !e! !x\n--- !e!y x\n"],
     ),
     (
+        "portable on\n",
         r#"
 +STR any
 +DOC 1 - "!e!" "!!a!"
@@ -118,6 +127,7 @@ const PREFIXES: Streams = &[
         &["%TAG !e! !%21a%21\n--- !e!b x\n"],
     ),
     (
+        "portable on\n",
         r#"
 +STR any
 +DOC 1 - "!e!" "a!,["
@@ -126,21 +136,19 @@ const PREFIXES: Streams = &[
 -STR"#,
         &["%TAG !e! a%21,[\n--- !e!%2C x\n"],
     ),
-];
-
-const ESCAPED_PREFIX: Streams = &[(
-    r#"
+    (
+        "",
+        r#"
 +STR any
 +DOC 1 - "!e!" "!x"
 =VAL any 0 0 - "!xy" "x"
 -DOC 1
 -STR"#,
-    &["%TAG !e! %21x\n--- !e!y x\n"],
-)];
-
-/// Documents of nothing are kept apart.
-const EMPTY_DOCUMENTS: Streams = &[
+        &["%TAG !e! %21x\n--- !e!y x\n"],
+    ),
+    // Documents of nothing are kept apart.
     (
+        "portable on\n",
         r#"
 +STR any
 +DOC 1 -
@@ -150,6 +158,7 @@ const EMPTY_DOCUMENTS: Streams = &[
         &["---\n...\n"],
     ),
     (
+        "portable on\n",
         r#"
 +STR any
 +DOC 1 -
@@ -161,13 +170,6 @@ const EMPTY_DOCUMENTS: Streams = &[
 -STR"#,
         &["---\n", "---\n"],
     ),
-];
-
-/// Settings, and the streams that come after them.
-const STREAMS: &[(&str, Streams)] = &[
-    ("portable on\n", PREFIXES),
-    ("", ESCAPED_PREFIX),
-    ("portable on\n", EMPTY_DOCUMENTS),
 ];
 
 #[test]

@@ -1,5 +1,5 @@
 //! Events that are refused: with which error, and by which call.
-use super::{Row, Streams, check_row, check_streams};
+use super::{Row, check_row, check_stream};
 use crate::tests::joined;
 use std::alloc::Global;
 use std::process::Abort;
@@ -210,17 +210,14 @@ fn each_refusal_is_reported(rt: HostRuntime) {
 }
 
 /// A tag that isn't written isn't checked.
-const UNWRITTEN: Streams = &[(
-    r#"
+const UNWRITTEN: &str = r#"
 +STR any
 +DOC 1 -
 =VAL any 1 1 - "" "a"
 -DOC 1
--STR"#,
-    &["a\n"],
-)];
+-STR"#;
 
 #[test]
 fn an_empty_tag_passes_where_it_is_not_written(rt: HostRuntime) {
-    check_streams(&rt, rt.alloc(), &[("", UNWRITTEN)]);
+    check_stream(&rt, rt.alloc(), "", UNWRITTEN, &["a\n"]);
 }

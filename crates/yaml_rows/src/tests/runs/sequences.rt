@@ -1,5 +1,5 @@
 //! Block sequences in a mapping, indented and undented, with an indent of 2 and of 4.
-use super::{Rows, check_root, check_roots};
+use super::{Roots, check_root, check_roots};
 use std::alloc::Global;
 use std::process::Abort;
 
@@ -198,21 +198,21 @@ const VALUE: &str = r#"
 -MAP"#;
 
 /// Settings, and how it is written.
-const TEXTS: &[(&str, Rows)] = &[
+const TEXTS: Roots = &[
     (
         "width 5\nsequences indented\n",
-        &[(VALUE, "a:\n  - |\n    b\n  - c d\n")],
+        VALUE,
+        "a:\n  - |\n    b\n  - c d\n",
     ),
     (
         INDENTED_BY_FOUR,
-        &[(VALUE, "a:\n    - |\n        b\n    - c d\n")],
+        VALUE,
+        "a:\n    - |\n        b\n    - c d\n",
     ),
     (
         "canonical on\nsequences indented\n",
-        &[(
-            VALUE,
-            "---\n{\n  ? \"a\"\n  : [\n    \"b\\n\",\n    \"c d\",\n  ],\n}\n",
-        )],
+        VALUE,
+        "---\n{\n  ? \"a\"\n  : [\n    \"b\\n\",\n    \"c d\",\n  ],\n}\n",
     ),
 ];
 

@@ -1,7 +1,7 @@
 //! Values of at most four characters out of space, LF, `a` and U+2028, plain and between quotes.
 //!
 //! A row holds a value, what stands between single quotes (nothing where they aren't allowed) and between double quotes, quotes
-//! and all, as a root with an indent of 2; `;` is between them.
+//! and all, as a root with an indent of 2; `;` is between them. A row is a line, in which `↵` is LF and `¶` U+2028.
 //!
 //! Twelve by hand: between single quotes a run of breaks that begins with LF has it twice, and two spaces follow the run; a space
 //! beside a break lets no single quotes stand; between double quotes a break is `\n` or `\L`, and all else stands for itself.
@@ -18,107 +18,348 @@
 //!   ` \n`      no single quotes; `" \n"`
 //!   `a\na`     `'a\n\n  a'` and `"a\na"`
 //!   `a a`      `'a a'` and `"a a"`: its column is 2 or 3, and the width 5
-pub(super) mod four;
-
-pub(super) const UP_TO_TWO: &[&str] = &[
-    ";'';\"\"",
-    " ;' ';\" \"",
-    "\n;'\n\n  ';\"\\n\"",
-    "a;'a';\"a\"",
-    "\u{2028};'\u{2028}  ';\"\\L\"",
-    "  ;'  ';\"  \"",
-    " \n;;\" \\n\"",
-    " a;' a';\" a\"",
-    " \u{2028};;\" \\L\"",
-    "\n ;;\"\\n \"",
-    "\n\n;'\n\n\n  ';\"\\n\\n\"",
-    "\na;'\n\n  a';\"\\na\"",
-    "\n\u{2028};'\n\n\u{2028}  ';\"\\n\\L\"",
-    "a ;'a ';\"a \"",
-    "a\n;'a\n\n  ';\"a\\n\"",
-    "aa;'aa';\"aa\"",
-    "a\u{2028};'a\u{2028}  ';\"a\\L\"",
-    "\u{2028} ;;\"\\L \"",
-    "\u{2028}\n;'\u{2028}\n  ';\"\\L\\n\"",
-    "\u{2028}a;'\u{2028}  a';\"\\La\"",
-    "\u{2028}\u{2028};'\u{2028}\u{2028}  ';\"\\L\\L\"",
-];
-
-pub(super) const THREE_AFTER_SPACE: &[&str] = &[
-    "   ;'   ';\"   \"",
-    "  \n;;\"  \\n\"",
-    "  a;'  a';\"  a\"",
-    "  \u{2028};;\"  \\L\"",
-    " \n ;;\" \\n \"",
-    " \n\n;;\" \\n\\n\"",
-    " \na;;\" \\na\"",
-    " \n\u{2028};;\" \\n\\L\"",
-    " a ;' a ';\" a \"",
-    " a\n;' a\n\n  ';\" a\\n\"",
-    " aa;' aa';\" aa\"",
-    " a\u{2028};' a\u{2028}  ';\" a\\L\"",
-    " \u{2028} ;;\" \\L \"",
-    " \u{2028}\n;;\" \\L\\n\"",
-    " \u{2028}a;;\" \\La\"",
-    " \u{2028}\u{2028};;\" \\L\\L\"",
-];
-
-pub(super) const THREE_AFTER_FEED: &[&str] = &[
-    "\n  ;;\"\\n  \"",
-    "\n \n;;\"\\n \\n\"",
-    "\n a;;\"\\n a\"",
-    "\n \u{2028};;\"\\n \\L\"",
-    "\n\n ;;\"\\n\\n \"",
-    "\n\n\n;'\n\n\n\n  ';\"\\n\\n\\n\"",
-    "\n\na;'\n\n\n  a';\"\\n\\na\"",
-    "\n\n\u{2028};'\n\n\n\u{2028}  ';\"\\n\\n\\L\"",
-    "\na ;'\n\n  a ';\"\\na \"",
-    "\na\n;'\n\n  a\n\n  ';\"\\na\\n\"",
-    "\naa;'\n\n  aa';\"\\naa\"",
-    "\na\u{2028};'\n\n  a\u{2028}  ';\"\\na\\L\"",
-    "\n\u{2028} ;;\"\\n\\L \"",
-    "\n\u{2028}\n;'\n\n\u{2028}\n  ';\"\\n\\L\\n\"",
-    "\n\u{2028}a;'\n\n\u{2028}  a';\"\\n\\La\"",
-    "\n\u{2028}\u{2028};'\n\n\u{2028}\u{2028}  ';\"\\n\\L\\L\"",
-];
-
-pub(super) const THREE_AFTER_LETTER: &[&str] = &[
-    "a  ;'a  ';\"a  \"",
-    "a \n;;\"a \\n\"",
-    "a a;'a a';\"a a\"",
-    "a \u{2028};;\"a \\L\"",
-    "a\n ;;\"a\\n \"",
-    "a\n\n;'a\n\n\n  ';\"a\\n\\n\"",
-    "a\na;'a\n\n  a';\"a\\na\"",
-    "a\n\u{2028};'a\n\n\u{2028}  ';\"a\\n\\L\"",
-    "aa ;'aa ';\"aa \"",
-    "aa\n;'aa\n\n  ';\"aa\\n\"",
-    "aaa;'aaa';\"aaa\"",
-    "aa\u{2028};'aa\u{2028}  ';\"aa\\L\"",
-    "a\u{2028} ;;\"a\\L \"",
-    "a\u{2028}\n;'a\u{2028}\n  ';\"a\\L\\n\"",
-    "a\u{2028}a;'a\u{2028}  a';\"a\\La\"",
-    "a\u{2028}\u{2028};'a\u{2028}\u{2028}  ';\"a\\L\\L\"",
-];
-
-pub(super) const THREE_AFTER_SEPARATOR: &[&str] = &[
-    "\u{2028}  ;;\"\\L  \"",
-    "\u{2028} \n;;\"\\L \\n\"",
-    "\u{2028} a;;\"\\L a\"",
-    "\u{2028} \u{2028};;\"\\L \\L\"",
-    "\u{2028}\n ;;\"\\L\\n \"",
-    "\u{2028}\n\n;'\u{2028}\n\n  ';\"\\L\\n\\n\"",
-    "\u{2028}\na;'\u{2028}\n  a';\"\\L\\na\"",
-    "\u{2028}\n\u{2028};'\u{2028}\n\u{2028}  ';\"\\L\\n\\L\"",
-    "\u{2028}a ;'\u{2028}  a ';\"\\La \"",
-    "\u{2028}a\n;'\u{2028}  a\n\n  ';\"\\La\\n\"",
-    "\u{2028}aa;'\u{2028}  aa';\"\\Laa\"",
-    "\u{2028}a\u{2028};'\u{2028}  a\u{2028}  ';\"\\La\\L\"",
-    "\u{2028}\u{2028} ;;\"\\L\\L \"",
-    "\u{2028}\u{2028}\n;'\u{2028}\u{2028}\n  ';\"\\L\\L\\n\"",
-    "\u{2028}\u{2028}a;'\u{2028}\u{2028}  a';\"\\L\\La\"",
-    "\u{2028}\u{2028}\u{2028};'\u{2028}\u{2028}\u{2028}  ';\"\\L\\L\\L\"",
-];
+pub(super) const ROWS: &str = r#";'';""
+ ;' ';" "
+↵;'↵↵  ';"\n"
+a;'a';"a"
+¶;'¶  ';"\L"
+  ;'  ';"  "
+ ↵;;" \n"
+ a;' a';" a"
+ ¶;;" \L"
+↵ ;;"\n "
+↵↵;'↵↵↵  ';"\n\n"
+↵a;'↵↵  a';"\na"
+↵¶;'↵↵¶  ';"\n\L"
+a ;'a ';"a "
+a↵;'a↵↵  ';"a\n"
+aa;'aa';"aa"
+a¶;'a¶  ';"a\L"
+¶ ;;"\L "
+¶↵;'¶↵  ';"\L\n"
+¶a;'¶  a';"\La"
+¶¶;'¶¶  ';"\L\L"
+   ;'   ';"   "
+  ↵;;"  \n"
+  a;'  a';"  a"
+  ¶;;"  \L"
+ ↵ ;;" \n "
+ ↵↵;;" \n\n"
+ ↵a;;" \na"
+ ↵¶;;" \n\L"
+ a ;' a ';" a "
+ a↵;' a↵↵  ';" a\n"
+ aa;' aa';" aa"
+ a¶;' a¶  ';" a\L"
+ ¶ ;;" \L "
+ ¶↵;;" \L\n"
+ ¶a;;" \La"
+ ¶¶;;" \L\L"
+↵  ;;"\n  "
+↵ ↵;;"\n \n"
+↵ a;;"\n a"
+↵ ¶;;"\n \L"
+↵↵ ;;"\n\n "
+↵↵↵;'↵↵↵↵  ';"\n\n\n"
+↵↵a;'↵↵↵  a';"\n\na"
+↵↵¶;'↵↵↵¶  ';"\n\n\L"
+↵a ;'↵↵  a ';"\na "
+↵a↵;'↵↵  a↵↵  ';"\na\n"
+↵aa;'↵↵  aa';"\naa"
+↵a¶;'↵↵  a¶  ';"\na\L"
+↵¶ ;;"\n\L "
+↵¶↵;'↵↵¶↵  ';"\n\L\n"
+↵¶a;'↵↵¶  a';"\n\La"
+↵¶¶;'↵↵¶¶  ';"\n\L\L"
+a  ;'a  ';"a  "
+a ↵;;"a \n"
+a a;'a a';"a a"
+a ¶;;"a \L"
+a↵ ;;"a\n "
+a↵↵;'a↵↵↵  ';"a\n\n"
+a↵a;'a↵↵  a';"a\na"
+a↵¶;'a↵↵¶  ';"a\n\L"
+aa ;'aa ';"aa "
+aa↵;'aa↵↵  ';"aa\n"
+aaa;'aaa';"aaa"
+aa¶;'aa¶  ';"aa\L"
+a¶ ;;"a\L "
+a¶↵;'a¶↵  ';"a\L\n"
+a¶a;'a¶  a';"a\La"
+a¶¶;'a¶¶  ';"a\L\L"
+¶  ;;"\L  "
+¶ ↵;;"\L \n"
+¶ a;;"\L a"
+¶ ¶;;"\L \L"
+¶↵ ;;"\L\n "
+¶↵↵;'¶↵↵  ';"\L\n\n"
+¶↵a;'¶↵  a';"\L\na"
+¶↵¶;'¶↵¶  ';"\L\n\L"
+¶a ;'¶  a ';"\La "
+¶a↵;'¶  a↵↵  ';"\La\n"
+¶aa;'¶  aa';"\Laa"
+¶a¶;'¶  a¶  ';"\La\L"
+¶¶ ;;"\L\L "
+¶¶↵;'¶¶↵  ';"\L\L\n"
+¶¶a;'¶¶  a';"\L\La"
+¶¶¶;'¶¶¶  ';"\L\L\L"
+    ;'    ';"    "
+   ↵;;"   \n"
+   a;'   a';"   a"
+   ¶;;"   \L"
+  ↵ ;;"  \n "
+  ↵↵;;"  \n\n"
+  ↵a;;"  \na"
+  ↵¶;;"  \n\L"
+  a ;'  a ';"  a "
+  a↵;'  a↵↵  ';"  a\n"
+  aa;'  aa';"  aa"
+  a¶;'  a¶  ';"  a\L"
+  ¶ ;;"  \L "
+  ¶↵;;"  \L\n"
+  ¶a;;"  \La"
+  ¶¶;;"  \L\L"
+ ↵  ;;" \n  "
+ ↵ ↵;;" \n \n"
+ ↵ a;;" \n a"
+ ↵ ¶;;" \n \L"
+ ↵↵ ;;" \n\n "
+ ↵↵↵;;" \n\n\n"
+ ↵↵a;;" \n\na"
+ ↵↵¶;;" \n\n\L"
+ ↵a ;;" \na "
+ ↵a↵;;" \na\n"
+ ↵aa;;" \naa"
+ ↵a¶;;" \na\L"
+ ↵¶ ;;" \n\L "
+ ↵¶↵;;" \n\L\n"
+ ↵¶a;;" \n\La"
+ ↵¶¶;;" \n\L\L"
+ a  ;' a  ';" a  "
+ a ↵;;" a \n"
+ a a;' a a';" a a"
+ a ¶;;" a \L"
+ a↵ ;;" a\n "
+ a↵↵;' a↵↵↵  ';" a\n\n"
+ a↵a;' a↵↵  a';" a\na"
+ a↵¶;' a↵↵¶  ';" a\n\L"
+ aa ;' aa ';" aa "
+ aa↵;' aa↵↵  ';" aa\n"
+ aaa;' aaa';" aaa"
+ aa¶;' aa¶  ';" aa\L"
+ a¶ ;;" a\L "
+ a¶↵;' a¶↵  ';" a\L\n"
+ a¶a;' a¶  a';" a\La"
+ a¶¶;' a¶¶  ';" a\L\L"
+ ¶  ;;" \L  "
+ ¶ ↵;;" \L \n"
+ ¶ a;;" \L a"
+ ¶ ¶;;" \L \L"
+ ¶↵ ;;" \L\n "
+ ¶↵↵;;" \L\n\n"
+ ¶↵a;;" \L\na"
+ ¶↵¶;;" \L\n\L"
+ ¶a ;;" \La "
+ ¶a↵;;" \La\n"
+ ¶aa;;" \Laa"
+ ¶a¶;;" \La\L"
+ ¶¶ ;;" \L\L "
+ ¶¶↵;;" \L\L\n"
+ ¶¶a;;" \L\La"
+ ¶¶¶;;" \L\L\L"
+↵   ;;"\n   "
+↵  ↵;;"\n  \n"
+↵  a;;"\n  a"
+↵  ¶;;"\n  \L"
+↵ ↵ ;;"\n \n "
+↵ ↵↵;;"\n \n\n"
+↵ ↵a;;"\n \na"
+↵ ↵¶;;"\n \n\L"
+↵ a ;;"\n a "
+↵ a↵;;"\n a\n"
+↵ aa;;"\n aa"
+↵ a¶;;"\n a\L"
+↵ ¶ ;;"\n \L "
+↵ ¶↵;;"\n \L\n"
+↵ ¶a;;"\n \La"
+↵ ¶¶;;"\n \L\L"
+↵↵  ;;"\n\n  "
+↵↵ ↵;;"\n\n \n"
+↵↵ a;;"\n\n a"
+↵↵ ¶;;"\n\n \L"
+↵↵↵ ;;"\n\n\n "
+↵↵↵↵;'↵↵↵↵↵  ';"\n\n\n\n"
+↵↵↵a;'↵↵↵↵  a';"\n\n\na"
+↵↵↵¶;'↵↵↵↵¶  ';"\n\n\n\L"
+↵↵a ;'↵↵↵  a ';"\n\na "
+↵↵a↵;'↵↵↵  a↵↵  ';"\n\na\n"
+↵↵aa;'↵↵↵  aa';"\n\naa"
+↵↵a¶;'↵↵↵  a¶  ';"\n\na\L"
+↵↵¶ ;;"\n\n\L "
+↵↵¶↵;'↵↵↵¶↵  ';"\n\n\L\n"
+↵↵¶a;'↵↵↵¶  a';"\n\n\La"
+↵↵¶¶;'↵↵↵¶¶  ';"\n\n\L\L"
+↵a  ;'↵↵  a  ';"\na  "
+↵a ↵;;"\na \n"
+↵a a;'↵↵  a a';"\na a"
+↵a ¶;;"\na \L"
+↵a↵ ;;"\na\n "
+↵a↵↵;'↵↵  a↵↵↵  ';"\na\n\n"
+↵a↵a;'↵↵  a↵↵  a';"\na\na"
+↵a↵¶;'↵↵  a↵↵¶  ';"\na\n\L"
+↵aa ;'↵↵  aa ';"\naa "
+↵aa↵;'↵↵  aa↵↵  ';"\naa\n"
+↵aaa;'↵↵  aaa';"\naaa"
+↵aa¶;'↵↵  aa¶  ';"\naa\L"
+↵a¶ ;;"\na\L "
+↵a¶↵;'↵↵  a¶↵  ';"\na\L\n"
+↵a¶a;'↵↵  a¶  a';"\na\La"
+↵a¶¶;'↵↵  a¶¶  ';"\na\L\L"
+↵¶  ;;"\n\L  "
+↵¶ ↵;;"\n\L \n"
+↵¶ a;;"\n\L a"
+↵¶ ¶;;"\n\L \L"
+↵¶↵ ;;"\n\L\n "
+↵¶↵↵;'↵↵¶↵↵  ';"\n\L\n\n"
+↵¶↵a;'↵↵¶↵  a';"\n\L\na"
+↵¶↵¶;'↵↵¶↵¶  ';"\n\L\n\L"
+↵¶a ;'↵↵¶  a ';"\n\La "
+↵¶a↵;'↵↵¶  a↵↵  ';"\n\La\n"
+↵¶aa;'↵↵¶  aa';"\n\Laa"
+↵¶a¶;'↵↵¶  a¶  ';"\n\La\L"
+↵¶¶ ;;"\n\L\L "
+↵¶¶↵;'↵↵¶¶↵  ';"\n\L\L\n"
+↵¶¶a;'↵↵¶¶  a';"\n\L\La"
+↵¶¶¶;'↵↵¶¶¶  ';"\n\L\L\L"
+a   ;'a   ';"a   "
+a  ↵;;"a  \n"
+a  a;'a  a';"a  a"
+a  ¶;;"a  \L"
+a ↵ ;;"a \n "
+a ↵↵;;"a \n\n"
+a ↵a;;"a \na"
+a ↵¶;;"a \n\L"
+a a ;'a a ';"a a "
+a a↵;'a a↵↵  ';"a a\n"
+a aa;'a aa';"a aa"
+a a¶;'a a¶  ';"a a\L"
+a ¶ ;;"a \L "
+a ¶↵;;"a \L\n"
+a ¶a;;"a \La"
+a ¶¶;;"a \L\L"
+a↵  ;;"a\n  "
+a↵ ↵;;"a\n \n"
+a↵ a;;"a\n a"
+a↵ ¶;;"a\n \L"
+a↵↵ ;;"a\n\n "
+a↵↵↵;'a↵↵↵↵  ';"a\n\n\n"
+a↵↵a;'a↵↵↵  a';"a\n\na"
+a↵↵¶;'a↵↵↵¶  ';"a\n\n\L"
+a↵a ;'a↵↵  a ';"a\na "
+a↵a↵;'a↵↵  a↵↵  ';"a\na\n"
+a↵aa;'a↵↵  aa';"a\naa"
+a↵a¶;'a↵↵  a¶  ';"a\na\L"
+a↵¶ ;;"a\n\L "
+a↵¶↵;'a↵↵¶↵  ';"a\n\L\n"
+a↵¶a;'a↵↵¶  a';"a\n\La"
+a↵¶¶;'a↵↵¶¶  ';"a\n\L\L"
+aa  ;'aa  ';"aa  "
+aa ↵;;"aa \n"
+aa a;'aa a';"aa a"
+aa ¶;;"aa \L"
+aa↵ ;;"aa\n "
+aa↵↵;'aa↵↵↵  ';"aa\n\n"
+aa↵a;'aa↵↵  a';"aa\na"
+aa↵¶;'aa↵↵¶  ';"aa\n\L"
+aaa ;'aaa ';"aaa "
+aaa↵;'aaa↵↵  ';"aaa\n"
+aaaa;'aaaa';"aaaa"
+aaa¶;'aaa¶  ';"aaa\L"
+aa¶ ;;"aa\L "
+aa¶↵;'aa¶↵  ';"aa\L\n"
+aa¶a;'aa¶  a';"aa\La"
+aa¶¶;'aa¶¶  ';"aa\L\L"
+a¶  ;;"a\L  "
+a¶ ↵;;"a\L \n"
+a¶ a;;"a\L a"
+a¶ ¶;;"a\L \L"
+a¶↵ ;;"a\L\n "
+a¶↵↵;'a¶↵↵  ';"a\L\n\n"
+a¶↵a;'a¶↵  a';"a\L\na"
+a¶↵¶;'a¶↵¶  ';"a\L\n\L"
+a¶a ;'a¶  a ';"a\La "
+a¶a↵;'a¶  a↵↵  ';"a\La\n"
+a¶aa;'a¶  aa';"a\Laa"
+a¶a¶;'a¶  a¶  ';"a\La\L"
+a¶¶ ;;"a\L\L "
+a¶¶↵;'a¶¶↵  ';"a\L\L\n"
+a¶¶a;'a¶¶  a';"a\L\La"
+a¶¶¶;'a¶¶¶  ';"a\L\L\L"
+¶   ;;"\L   "
+¶  ↵;;"\L  \n"
+¶  a;;"\L  a"
+¶  ¶;;"\L  \L"
+¶ ↵ ;;"\L \n "
+¶ ↵↵;;"\L \n\n"
+¶ ↵a;;"\L \na"
+¶ ↵¶;;"\L \n\L"
+¶ a ;;"\L a "
+¶ a↵;;"\L a\n"
+¶ aa;;"\L aa"
+¶ a¶;;"\L a\L"
+¶ ¶ ;;"\L \L "
+¶ ¶↵;;"\L \L\n"
+¶ ¶a;;"\L \La"
+¶ ¶¶;;"\L \L\L"
+¶↵  ;;"\L\n  "
+¶↵ ↵;;"\L\n \n"
+¶↵ a;;"\L\n a"
+¶↵ ¶;;"\L\n \L"
+¶↵↵ ;;"\L\n\n "
+¶↵↵↵;'¶↵↵↵  ';"\L\n\n\n"
+¶↵↵a;'¶↵↵  a';"\L\n\na"
+¶↵↵¶;'¶↵↵¶  ';"\L\n\n\L"
+¶↵a ;'¶↵  a ';"\L\na "
+¶↵a↵;'¶↵  a↵↵  ';"\L\na\n"
+¶↵aa;'¶↵  aa';"\L\naa"
+¶↵a¶;'¶↵  a¶  ';"\L\na\L"
+¶↵¶ ;;"\L\n\L "
+¶↵¶↵;'¶↵¶↵  ';"\L\n\L\n"
+¶↵¶a;'¶↵¶  a';"\L\n\La"
+¶↵¶¶;'¶↵¶¶  ';"\L\n\L\L"
+¶a  ;'¶  a  ';"\La  "
+¶a ↵;;"\La \n"
+¶a a;'¶  a a';"\La a"
+¶a ¶;;"\La \L"
+¶a↵ ;;"\La\n "
+¶a↵↵;'¶  a↵↵↵  ';"\La\n\n"
+¶a↵a;'¶  a↵↵  a';"\La\na"
+¶a↵¶;'¶  a↵↵¶  ';"\La\n\L"
+¶aa ;'¶  aa ';"\Laa "
+¶aa↵;'¶  aa↵↵  ';"\Laa\n"
+¶aaa;'¶  aaa';"\Laaa"
+¶aa¶;'¶  aa¶  ';"\Laa\L"
+¶a¶ ;;"\La\L "
+¶a¶↵;'¶  a¶↵  ';"\La\L\n"
+¶a¶a;'¶  a¶  a';"\La\La"
+¶a¶¶;'¶  a¶¶  ';"\La\L\L"
+¶¶  ;;"\L\L  "
+¶¶ ↵;;"\L\L \n"
+¶¶ a;;"\L\L a"
+¶¶ ¶;;"\L\L \L"
+¶¶↵ ;;"\L\L\n "
+¶¶↵↵;'¶¶↵↵  ';"\L\L\n\n"
+¶¶↵a;'¶¶↵  a';"\L\L\na"
+¶¶↵¶;'¶¶↵¶  ';"\L\L\n\L"
+¶¶a ;'¶¶  a ';"\L\La "
+¶¶a↵;'¶¶  a↵↵  ';"\L\La\n"
+¶¶aa;'¶¶  aa';"\L\Laa"
+¶¶a¶;'¶¶  a¶  ';"\L\La\L"
+¶¶¶ ;;"\L\L\L "
+¶¶¶↵;'¶¶¶↵  ';"\L\L\L\n"
+¶¶¶a;'¶¶¶  a';"\L\L\La"
+¶¶¶¶;'¶¶¶¶  ';"\L\L\L\L"
+"#;
 
 /// The values that may be plain; each is its own text.
 pub(super) const PLAIN: &[&str] = &["", "a", "aa", "a a", "aaa", "a  a", "a aa", "aa a", "aaaa"];
