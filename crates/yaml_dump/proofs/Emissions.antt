@@ -1,5 +1,5 @@
 -- Events emitted one after another.
-use Rattle.yaml_base.proofs.Common.{◌≤◌, if◌then◌else◌, Option, None, Some, length, Bool, false, true, ◌||◌, List, [], map, ◌++◌, ◌∷◌, refl, ◌≡◌}
+use Rattle.yaml_base.proofs.Common.{◌≤◌, if◌then◌else◌, None, Some, length, Bool, false, true, ◌||◌, List, [], map, ◌++◌, ◌∷◌, refl, ◌≡◌}
 use Rattle.yaml_base.proofs.Common.{length-append, append-nil, append_assoc, inl, inr, ap, subst, sym, ◌∙◌, arith, or-true, false≢true, map-append, Event}
 use Rattle.yaml_base.proofs.Common.{Settings}
 use Rattle.yaml_emitter.proofs.Common.{Promised, StandsAfter, State, KeepsSet}

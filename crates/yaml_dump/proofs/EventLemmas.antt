@@ -1,10 +1,12 @@
 -- The events of a walk, one more step at a time.
-use Rattle.yaml_dump.proofs.Common.{suc, ℕ, ◌+◌, ◌-◌, ◌<◌, flat_map, Option, Some, nat_le, length, slice_index_or as get_or, take, Bool, false, true, ◌&&◌}
-use Rattle.yaml_dump.proofs.Common.{List, [], map, ◌++◌, ◌∷◌, refl, ◌≡◌, append-nil, ap, sym, ◌∙◌, arith, nat_tests, map-append, Text, Event, seen_event}
-use Rattle.yaml_dump.proofs.Common.{seen_events, Graph, Step, enters, opening_events, step_events, IsNumbered, is_numbered, anchor_of_place, HasPlaces}
+use Rattle.yaml_dump.proofs.Common.{suc, zero, ℕ, ◌+◌, ◌-◌, ◌<◌, flat_map, unwrap_or, Option, None, Some, nat_le, length, slice_index_or as get_or, take, Bool, false, true, ◌&&◌}
+use Rattle.yaml_dump.proofs.Common.{List, [], map, ◌++◌, ◌∷◌, refl, ◌≡◌, append-nil, append_assoc, ap, sym, ◌∙◌, arith, nat_tests, map-append, Text, Event, seen_event}
+use Rattle.yaml_dump.proofs.Common.{seen_events, Graph, Step, steps, enters, meets_again, numbered_name, document_start, opening_events, step_events, IsNumbered, is_numbered, anchor_of_place, HasPlaces}
 use Rattle.yaml_dump.proofs.Common.{seen_events_of, number_in, AreNamed, seen_step}
-use Rattle.yaml_base.proofs.Common.{flat_map-append, node_numbered}
+use Rattle.yaml_base.proofs.Common.{flat_map-append, node_numbered, alias, document_end}
 use Rattle.yaml_base.specs.declared.events.yaml_event_t.{yaml_event_t}
+use Rattle.yaml_base.specs.declared.events.yaml_event_t.TheVariants.{YAML_DOCUMENT_END_EVENT}
+use Rattle.yaml_dump.specs.{Events.walk_events, Outlines.IsOutline, declared.outlines.Outline.Outline}
 use Rattle.yaml_dump.proofs.AnchorLemmas.{anchor_placed, seen_more}
 use Rattle.yaml_dump.specs.declared.steps.Step as declared
 
@@ -16,6 +18,20 @@ entered graph walk places number events numbered has_places is =
     is ∙ ap (λ (anchor : Option Text). opening_events anchor (node_numbered graph number))
     (ap anchor_of_place (has_places.placed number numbered.first numbered.last) ∙ sym (anchor_placed walk number))
 
+named_place : (place : ℕ) → 0 < place → unwrap_or (anchor_of_place place) [] ≡ numbered_name place
+named_place zero some = absurd (omega arith)
+named_place (suc before) some = refl
+
+-- a node that is met again is an alias of the name of its place
+pub met_again : (graph : Graph) (walk : List Step) (places : List ℕ) (number : ℕ) (name : Text) → IsNumbered (length places) (meets_again number)
+    → HasPlaces walk places → 0 < get_or places (number - 1) 0 → name ≡ numbered_name (get_or places (number - 1) 0)
+    → alias name ∷ [] ≡ step_events graph walk (meets_again number)
+met_again graph walk places number name numbered has_places some is =
+    ap (λ (text : Text). alias text ∷ [])
+    (is ∙ sym (named_place (get_or places (number - 1) 0) some)
+    ∙ ap (λ (place : ℕ). unwrap_or (anchor_of_place place) []) (has_places.placed number numbered.first numbered.last)
+    ∙ sym (ap (λ (anchor : Option Text). unwrap_or anchor []) (anchor_placed walk number)))
+
 -- one more event
 pub pushed : {A : Type 0} (events grown : List (yaml_event_t A)) (event : yaml_event_t A) (found : Option (yaml_event_t A)) (more : List Event)
     → grown ≡ events ++ event ∷ [] → found ≡ Some event → seen_events_of found ≡ more
@@ -24,19 +40,45 @@ pushed events grown event found more grows is seen =
     ap seen_events grows ∙ map-append seen_event events (event ∷ [])
     ∙ ap (λ (others : List Event). seen_events events ++ others) (sym (ap seen_events_of is) ∙ seen)
 
+-- where there is none
+pub nothing_pushed : {A : Type 0} (events : List (yaml_event_t A)) (found : Option (yaml_event_t A)) (more : List Event)
+    → found ≡ None → seen_events_of found ≡ more → seen_events events ≡ seen_events events ++ more
+nothing_pushed events found more is seen =
+    sym (append-nil (seen_events events)) ∙ ap (λ (others : List Event). seen_events events ++ others) (sym (ap seen_events_of is) ∙ seen)
+
 -- the events of the steps so far, and those of the next
-pub events_more : (of : Step → List Event) (walk : List declared.Step) (index : ℕ) (default : declared.Step) (start : Event) (before after : List Event)
+pub events_more : (of : Step → List Event) (walk : List declared.Step) (index : ℕ) (default : declared.Step) (start before after : List Event)
     → index < length walk
-    → before ≡ start ∷ flat_map of (map seen_step (take index walk)) → after ≡ before ++ of (seen_step (get_or walk index default))
-    → after ≡ start ∷ flat_map of (map seen_step (take (index + 1) walk))
+    → before ≡ start ++ flat_map of (map seen_step (take index walk)) → after ≡ before ++ of (seen_step (get_or walk index default))
+    → after ≡ start ++ flat_map of (map seen_step (take (index + 1) walk))
 events_more of walk index default start before after inside is adds =
     let so_far = map seen_step (take index walk) in
     let next = seen_step (get_or walk index default) in
     adds
     ∙ ap (λ (events : List Event). events ++ of next) is
-    ∙ ap (λ (events : List Event). start ∷ (flat_map of so_far ++ events)) (sym (append-nil (of next)))
-    ∙ ap (λ (events : List Event). start ∷ events) (sym (flat_map-append of so_far (next ∷ [])))
-    ∙ ap (λ (steps : List Step). start ∷ flat_map of steps) (sym (seen_more walk index default inside))
+    ∙ append_assoc start (flat_map of so_far) (of next)
+    ∙ ap (λ (events : List Event). start ++ (flat_map of so_far ++ events)) (sym (append-nil (of next)))
+    ∙ ap (λ (events : List Event). start ++ events) (sym (flat_map-append of so_far (next ∷ [])))
+    ∙ ap (λ (steps : List Step). start ++ flat_map of steps) (sym (seen_more walk index default inside))
+
+-- the events of a walk between those of the document
+pub events_walked : {A : Type 0} (graph : Graph) (walk : List Step) (start : yaml_event_t A) (end_implicit : Bool)
+    (none begun walked ended : List (yaml_event_t A)) → seen_event start ≡ document_start graph.start → end_implicit ≡ graph.end_implicit → none ≡ []
+    → begun ≡ none ++ start ∷ [] → seen_events walked ≡ seen_events begun ++ flat_map (step_events graph walk) walk
+    → ended ≡ walked ++ YAML_DOCUMENT_END_EVENT end_implicit ∷ [] → walk ≡ steps graph → seen_events ended ≡ walk_events graph (steps graph)
+events_walked graph walk start end_implicit none begun walked ended starts ends empty begins walks last whole =
+    let events = flat_map (step_events graph walk) walk in
+    ap seen_events last ∙ map-append seen_event walked (YAML_DOCUMENT_END_EVENT end_implicit ∷ [])
+    ∙ ap (λ (others : List Event). others ++ document_end end_implicit ∷ [])
+    (walks ∙ ap (λ others. seen_events others ++ events) (begins ∙ ap (λ others. others ++ start ∷ []) empty)
+    ∙ ap (λ (event : Event). event ∷ events) starts)
+    ∙ ap (λ (implicit : Bool). document_start graph.start ∷ (events ++ document_end implicit ∷ [])) ends
+    ∙ ap (walk_events graph) whole
+
+-- an outline's steps in a slice
+pub outline_walked : {A : Type 0} (graph : Graph) (outline : Outline A) (slice : List declared.Step) → slice ≡ outline.walk.items → IsOutline graph outline
+    → map seen_step slice ≡ steps graph
+outline_walked graph outline slice same is = ap (map seen_step) same ∙ is.walked
 
 -- the steps of a walk whose nodes are named are numbered
 pub named_numbered : (count : ℕ) (walk : List declared.Step) → AreNamed count walk → is_numbered count (map seen_step walk) ≡ true

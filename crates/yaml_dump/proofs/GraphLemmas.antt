@@ -1,24 +1,34 @@
 -- A document's events unfold its graph, and so does what is read back of them.
-use Rattle.yaml_dump.proofs.Common.{ℕ, if◌then◌else◌, OnOk, Option, None, Some, Result, Err, Ok, Vec, drop, length, Bool, false, true, List, [], map, ◌++◌}
+use Rattle.yaml_dump.proofs.Common.{ℕ, ◌==◌, if◌then◌else◌, OnOk, Option, None, Some, Result, Err, Ok, Vec, drop, length, Bool, false, true, List, [], map, ◌++◌}
 use Rattle.yaml_dump.proofs.Common.{◌∷◌, refl, ◌≡◌, ap, subst, sym, ◌∙◌, false≢true, dumped_stream, document_unfolds, Event, stream_end, seen_event}
-use Rattle.yaml_dump.proofs.Common.{seen_events, Settings, AreDumped, Graph, Step, steps, document_event_list, DocumentTree, EmitsAll, EmitsEach, opening}
+use Rattle.yaml_dump.proofs.Common.{seen_events, Settings, AreDumped, Graph, steps, document_event_list, DocumentTree, EmitsAll, EmitsEach, opening}
 use Rattle.yaml_dump.proofs.Common.{closing, Promised, StandsAfter, State}
 use Rattle.yaml_base.proofs.Common.{written, IsDocument, agrees, stream_trees}
 use Rattle.std.{proofs.Math.Seq.drop-length, specs.Prelude.IfOk}
 use Rattle.yaml_base.{proofs.QueueLaws.stream_written, specs.declared.errors.yaml_error_t.yaml_error_t, specs.declared.events.yaml_event_t.yaml_event_t}
 use Rattle.yaml_base.{specs.graphs.Dumped.GraphsRead, specs.graphs.Unfolding.EventsUnfold}
 use Rattle.yaml_dump.proofs.GraphTreeLemmas.{dumped_trees_unfold}
-use Rattle.yaml_dump.specs.{Dumps.ReadsGraphs, Events.walk_events, GraphTrees.GraphsReadBack, GraphTrees.ReadsTrees}
+use Rattle.yaml_base.specs.{declared.nodes.yaml_node_t.yaml_node_t, graphs.SeenNodes.seen_node}
+use Rattle.yaml_dump.specs.{Outlines.IsOutline, declared.outlines.Outline.Outline}
+use Rattle.yaml_dump.specs.{Dumps.ReadsGraphs, Events.HoldsTexts, Events.walk_events, GraphTrees.GraphsReadBack, GraphTrees.ReadsTrees}
 use Rattle.yaml_emitter.{proofs.EndedStreams.ends_last, specs.Promises.HasRoom, specs.Promises.IsWritten}
 
--- the events of a document's walk
-pub walk_unfolds : {A E : Type 0} (graph : Graph) (answer : Result (Vec (yaml_event_t A) A) E) (walk : List Step) → IsDocument graph → walk ≡ steps graph
-    → IfOk answer (λ events. seen_events events.items ≡ walk_events graph walk) → IfOk answer (λ events. EventsUnfold graph (map seen_event events.items))
-walk_unfolds graph (Ok events) walk is whole same =
-    let events_are : map seen_event events.items ≡ document_event_list graph =
-    same ∙ ap (walk_events graph) whole ∙ sym (ap (λ (none : Bool). if none then [] else walk_events graph (steps graph)) is.has_nodes) in
-    subst (EventsUnfold graph) (sym events_are) (document_unfolds graph is)
-walk_unfolds graph (Err error) walk is whole same = tt
+-- the events of a walk over nodes that hold what they need are the document's
+pub dumped_events : {A E : Type 0} (graph : Graph) (outline : Outline A) (nodes : List (yaml_node_t A)) (answer : Result (Vec (yaml_event_t A) A) E)
+    → (length graph.nodes == 0) ≡ false → IsOutline graph outline → HoldsTexts graph [] (map seen_node nodes)
+    → IfOk answer (λ events. (other : Graph) → IsOutline other outline → HoldsTexts other [] (map seen_node nodes)
+    → seen_events events.items ≡ walk_events other (steps other))
+    → IfOk answer (λ events. map seen_event events.items ≡ document_event_list graph)
+dumped_events graph outline nodes (Ok events) some is holds walked =
+    walked graph is holds ∙ sym (ap (λ (none : Bool). if none then [] else walk_events graph (steps graph)) some)
+dumped_events graph outline nodes (Err error) some is holds walked = tt
+
+-- a document's events unfold its graph
+pub events_unfold : {A E : Type 0} (graph : Graph) (answer : Result (Vec (yaml_event_t A) A) E) → IsDocument graph
+    → IfOk answer (λ events. map seen_event events.items ≡ document_event_list graph)
+    → IfOk answer (λ events. EventsUnfold graph (map seen_event events.items))
+events_unfold graph (Ok events) is same = subst (EventsUnfold graph) (sym same) (document_unfolds graph is)
+events_unfold graph (Err error) is same = tt
 
 -- what was dumped and closed without an error is written whole
 pub written_whole : (given : Settings) (before : List Event) (graphs : List Graph) (state : State) → Promised given (before ++ stream_end ∷ []) state

@@ -4,5 +4,6 @@ pub mod EqualBytes
 pub mod Events
 pub mod GraphTrees
 pub mod Named
+pub mod Outlines
 pub mod WalkState
 pub mod WalkSteps

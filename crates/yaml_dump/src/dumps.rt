@@ -13,10 +13,11 @@ ghost use Rattle.yaml_dump.specs.Dumps.{Dumps, EmitsEach, IsBegun, ReadsGraphs, 
 ghost use Rattle.yaml_dump.specs.GraphTrees.{ReadsTrees};
 ghost use Rattle.yaml_emitter.specs.StandsAfter.{StandsAfter};
 
+use crate::copies::copied_nodes;
 use crate::emitting::emit_each;
 use crate::events::events_of_walk;
+use crate::outlines::outline_of;
 use crate::streams::{yaml_emitter_close, yaml_emitter_open};
-use crate::walk::walk;
 use std::alloc::{AllocError, Allocator};
 use yaml_base::{yaml_document_t, yaml_error_t, yaml_event_t};
 use yaml_emitter::{standing_is_promised, yaml_emitter_t};
@@ -41,11 +42,11 @@ pub fn document_events<A: Allocator + Copy>(
     if document.is_empty() {
         return Ok(Vec::new(alloc));
     }
-    events_of_nodes(alloc, document).map_err(|_| yaml_error_t::Memory)
+    events_of_copies(alloc, document).map_err(|_| yaml_error_t::Memory)
 }
 
-/// Those of a document that has nodes.
-fn events_of_nodes<A: Allocator + Copy>(
+/// Those of a document that has nodes, with copies of its texts.
+fn events_of_copies<A: Allocator + Copy>(
     alloc: A,
     document: &yaml_document_t<A>,
 ) -> Result<Vec<yaml_event_t<A>, A>, AllocError>
@@ -55,8 +56,36 @@ fn events_of_nodes<A: Allocator + Copy>(
 {
     // A law: what the nodes hold are numbers of nodes.
     document.numbers_name_nodes();
-    let walk = walk(alloc, document)?;
-    events_of_walk(alloc, document, walk.as_slice())
+    let outline = outline_of(alloc, document)?;
+    let copies = copied_nodes(alloc, document)?;
+    events_of_walk(alloc, outline, copies)
+}
+
+/// The events of a document, into which its texts are moved; none where it has no nodes.
+fn moved_events<A: Allocator + Copy>(
+    alloc: A,
+    document: yaml_document_t<A>,
+) -> Result<Vec<yaml_event_t<A>, A>, yaml_error_t>
+    ensures events { IfOk result (λ events. map seen_event events.items ≡ document_event_list (graph_of document)) }
+    ensures memory { IfErr result (λ error. error ≡ yaml_error_t.Memory) }
+{
+    if document.is_empty() {
+        return Ok(Vec::new(alloc));
+    }
+    events_of_moved(alloc, document).map_err(|_| yaml_error_t::Memory)
+}
+
+/// Those of a document that has nodes.
+fn events_of_moved<A: Allocator + Copy>(
+    alloc: A,
+    document: yaml_document_t<A>,
+) -> Result<Vec<yaml_event_t<A>, A>, AllocError>
+    requires nonempty { (length (graph_of document).nodes == 0) ≡ false }
+    ensures { IfOk result (λ events. map seen_event events.items ≡ document_event_list (graph_of document)) }
+{
+    let outline = outline_of(alloc, &document)?;
+    let nodes = document.into_nodes();
+    events_of_walk(alloc, outline, nodes)
 }
 
 /// Opens the stream where it isn't opened.
@@ -140,9 +169,10 @@ pub fn yaml_emitter_dump<A: Allocator + Copy>(
     }
     // A law: what the nodes hold are numbers of nodes.
     document.numbers_name_nodes();
-    let events = document_events(alloc, &document)?;
+    let is_empty = document.is_empty();
+    let events = moved_events(alloc, document)?;
     open_if_needed(emitter)?;
-    if document.is_empty() {
+    if is_empty {
         return close_if_needed(emitter);
     }
     emit_each(emitter, events)

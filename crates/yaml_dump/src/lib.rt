@@ -2,10 +2,12 @@
 #![tactic(auto)]
 
 mod anchors;
+mod copies;
 mod dumps;
 mod emitting;
 mod events;
 mod laws;
+mod outlines;
 mod steps;
 mod streams;
 mod tags;

@@ -26,7 +26,7 @@ returns-then-is_empty-clause-dumps g c none =
     let begun = c.in_ok-open_if_needed.ensures.emits given all stands in
     dumps_closing given all c.args.emitter.now.opened (document_event_list graph) c.args.emitter.now.closed
     (length graph.nodes == 0) c.open_if_needed.new.emitter c.close_if_needed.new.emitter c.close_if_needed.result
-    c.open_if_needed.ensures.closed (sym c.is_empty.ensures ∙ c.if-is_empty.true) c.close_if_needed.ensures.opened begun
+    c.open_if_needed.ensures.closed (sym c.is_empty-is_empty.ensures ∙ c.if-is_empty.true) c.close_if_needed.ensures.opened begun
     (c.close_if_needed.ensures.emits given (all ++ opening c.args.emitter.now.opened) begun.stands))
 
 pub returns-clause-dumps : goal.returns-clause-dumps
@@ -37,7 +37,7 @@ returns-clause-dumps g c none =
     let begun = c.in_ok-open_if_needed.ensures.emits given all stands in
     dumps_events given all c.args.emitter.now.opened (closing c.args.emitter.now.closed) (document_event_list graph)
     (map seen_event c.in_ok-events.events.items) (length graph.nodes == 0) c.open_if_needed.new.emitter c.emit_each.new.emitter c.emit_each.result
-    c.in_ok-events.ensures.events (sym c.is_empty.ensures ∙ c.if-is_empty.false) (c.emit_each.ensures.set.opened ∙ c.in_ok-open_if_needed.ensures.opened) begun
+    c.in_ok-events.ensures.events (sym c.is_empty-is_empty.ensures ∙ c.if-is_empty.false) (c.emit_each.ensures.set.opened ∙ c.in_ok-open_if_needed.ensures.opened) begun
     (c.emit_each.ensures.emits given (all ++ opening c.args.emitter.now.opened) begun.stands))
 
 pub returns-then-is_empty-clause-opened : goal.returns-then-is_empty-clause-opened
@@ -46,7 +46,7 @@ returns-then-is_empty-clause-opened g c = on_ok c.close_if_needed.result c.close
 pub returns-then-is_empty-clause-closed : goal.returns-then-is_empty-clause-closed
 returns-then-is_empty-clause-closed g c =
     closed_by c.close_if_needed.result c.close_if_needed.new.emitter.closed c.args.emitter.now.closed (length (graph_of c.args.document).nodes == 0)
-    (sym c.is_empty.ensures ∙ c.if-is_empty.true) c.close_if_needed.ensures.closed
+    (sym c.is_empty-is_empty.ensures ∙ c.if-is_empty.true) c.close_if_needed.ensures.closed
 
 pub returns-clause-opened : goal.returns-clause-opened
 returns-clause-opened g c = on_ok c.emit_each.result (c.emit_each.ensures.set.opened ∙ c.in_ok-open_if_needed.ensures.opened)
@@ -55,7 +55,7 @@ pub returns-clause-closed : goal.returns-clause-closed
 returns-clause-closed g c =
     on_ok c.emit_each.result
     (c.emit_each.ensures.set.closed ∙ c.open_if_needed.ensures.closed
-    ∙ sym (ap (λ empty. c.args.emitter.now.closed || empty) (sym c.is_empty.ensures ∙ c.if-is_empty.false) ∙ or-false c.args.emitter.now.closed))
+    ∙ sym (ap (λ empty. c.args.emitter.now.closed || empty) (sym c.is_empty-is_empty.ensures ∙ c.if-is_empty.false) ∙ or-false c.args.emitter.now.closed))
 
 pub returns-clause-unclosed : goal.returns-clause-unclosed
 returns-clause-unclosed g c = on_err c.emit_each.result (c.emit_each.ensures.set.closed ∙ c.open_if_needed.ensures.closed)
@@ -85,7 +85,7 @@ returns-then-is_empty-clause-graphs g c =
 
 pub returns-clause-graphs : goal.returns-clause-graphs
 returns-clause-graphs g c =
-    on_ok c.emit_each.result (λ none. absurd (false≢true (sym (sym c.is_empty.ensures ∙ c.if-is_empty.false) ∙ none)))
+    on_ok c.emit_each.result (λ none. absurd (false≢true (sym (sym c.is_empty-is_empty.ensures ∙ c.if-is_empty.false) ∙ none)))
 
 pub returns-then-is_empty-clause-trees : goal.returns-then-is_empty-clause-trees
 returns-then-is_empty-clause-trees g c =
@@ -97,7 +97,7 @@ returns-then-is_empty-clause-trees g c =
 
 pub returns-clause-trees : goal.returns-clause-trees
 returns-clause-trees g c =
-    on_ok c.emit_each.result (λ none. absurd (false≢true (sym (sym c.is_empty.ensures ∙ c.if-is_empty.false) ∙ none)))
+    on_ok c.emit_each.result (λ none. absurd (false≢true (sym (sym c.is_empty-is_empty.ensures ∙ c.if-is_empty.false) ∙ none)))
 
 pub returns-then-is_empty-clause-begun : goal.returns-then-is_empty-clause-begun
 returns-then-is_empty-clause-begun g c = begun_then _ _ _ c.in_ok-open_if_needed.ensures.begun c.close_if_needed.ensures.begun

@@ -1,19 +1,13 @@
-use Rattle.yaml_dump.proofs.Common.{length, map, ap, subst, sym, ◌∙◌, document_start, seen_events, graph_of, step_events, HasPlaces, seen_step}
-use Rattle.yaml_dump.{proofs.AnchorLemmas.step_placed, proofs.EventLemmas.events_more, specs.declared.steps.Step.TheVariants.Enters}
+use Rattle.yaml_dump.proofs.Common.{[], map, subst, sym, seen_step}
+use Rattle.yaml_base.specs.graphs.SeenNodes.{seen_node}
+use Rattle.yaml_dump.specs.Events.{HoldsTexts}
+use Rattle.yaml_dump.proofs.EventLemmas.{outline_walked, events_walked}
 use Rattle.yaml_dump.proofs.events.events_of_walk.Goals as goal
 
-pub push_event-requires-clause-placed : goal.push_event-requires-clause-placed
-push_event-requires-clause-placed g c =
-    let placed = subst (λ places. HasPlaces (map seen_step c.args.walk.now) places) (sym c.as_slice.ensures.value) c.in_ok-places.ensures.placed in
-    step_placed c.args.walk.now (length (graph_of c.args.document.now).nodes) c.loop-step.step-index c.as_slice.result.now
-    (Enters 0) c.requires c.loop-step-test.true
-    (ap length c.as_slice.ensures.value ∙ c.in_ok-places.ensures.each ∙ c.count_of.ensures.all) placed
-
-pub loop-step-preserved : goal.loop-step-preserved
-loop-step-preserved g c =
-    let graph = graph_of c.args.document.now in
-    let walk = map seen_step c.args.walk.now in
-    let placed = subst (λ places. HasPlaces walk places) (sym c.as_slice.ensures.value) c.in_ok-places.ensures.placed in
-    events_more (step_events graph walk) c.args.walk.now c.loop-step.step-index (Enters 0) (document_start graph.start) (seen_events c.loop-step.events.items)
-    (seen_events c.push_event.new.events.items) c.loop-step-test.true
-    c.loop-step.invariant (c.in_ok-push_event.ensures walk placed)
+pub returns : goal.returns
+returns g c graph is holds =
+    let whole = outline_walked graph c.args.outline c.as_slice-3.result.now c.as_slice-3.ensures.value is in
+    let held = subst (λ nodes. HoldsTexts graph [] (map seen_node nodes)) (sym c.as_mut_slice.ensures.value) holds in
+    events_walked graph (map seen_step c.as_slice-3.result.now) c.args.outline.start c.args.outline.end_implicit c.new-events.result.items
+    c.push.new.self.items c.push_events.new.events.items c.push-2.new.self.items is.start is.end_implicit c.new-events.ensures.items
+    c.in_ok-push.ensures.items (c.in_ok-push_events.ensures graph whole held) c.in_ok-push-2.ensures.items whole

@@ -1,0 +1,18 @@
+use Rattle.yaml_dump.proofs.Common.{◌<◌, length, map, ap, ◌∙◌, arith, graph_of}
+use Rattle.yaml_base.specs.graphs.SeenNodes.{seen_node}
+use Rattle.yaml_dump.proofs.HoldLemmas.{copied_more, some_next}
+use Rattle.yaml_dump.proofs.copies.copied_nodes.Goals as goal
+use Rattle.yaml_dump.proofs.copies.copied_nodes.Goals.{in-Some+in_ok-copied_node+in_ok-push, in_default}
+
+pub loop-before-preserved : goal.loop-before-preserved
+loop-before-preserved g c =
+    let graph = graph_of c.args.document.now in
+    let before = c.loop-before.before in
+    let inside : before < length graph.nodes = omega (arith, c.loop-before-test.true, c.count_of-before-end.ensures.all) in
+    elim c.match-node_of.branch [
+      | in-Some+in_ok-copied_node+in_ok-push w ↦
+          ap (λ copies. map seen_node copies.items) w.copies-is
+          ∙ copied_more graph before c.loop-before.copies.items w.push.new.self.items w.in_ok-copied_node.field-0 (seen_node w.in-Some.node.now)
+          w.in-Some.ensures c.loop-before.invariant w.in_ok-push.ensures.items w.in_ok-copied_node.ensures
+      | in_default w ↦ absurd (some_next graph before inside w.in_default.ensures)
+    ]
