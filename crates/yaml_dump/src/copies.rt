@@ -68,8 +68,9 @@ pub(crate) fn copied_nodes<A: Allocator + Copy>(
 ) -> Result<Vec<yaml_node_t<A>, A>, AllocError>
     ensures { IfOk result (λ copies. map seen_node copies.items ≡ map without_children (graph_of document.now).nodes) }
 {
-    let mut copies = Vec::new(alloc);
-    for before in 0..count_of(document) {
+    let count = count_of(document);
+    let mut copies = Vec::with_capacity(alloc, count)?;
+    for before in 0..count {
         if let Some(node) = node_of(document, before + 1) {
             copies.push(copied_node(alloc, node)?)?;
         }

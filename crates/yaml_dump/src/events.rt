@@ -257,7 +257,8 @@ pub(crate) fn events_of_walk<A: Allocator + Copy>(
         end_implicit,
     } = outline;
     let places = shared_places(alloc, walk.as_slice(), nodes.len())?;
-    let mut events = Vec::new(alloc);
+    // A step has at most one event.
+    let mut events = Vec::with_capacity(alloc, walk.len().saturating_add(2))?;
     events.push(start)?;
     push_events(
         alloc,

@@ -8,7 +8,7 @@ pub loop-before-preserved : goal.loop-before-preserved
 loop-before-preserved g c =
     let graph = graph_of c.args.document.now in
     let before = c.loop-before.before in
-    let inside : before < length graph.nodes = omega (arith, c.loop-before-test.true, c.count_of-before-end.ensures.all) in
+    let inside : before < length graph.nodes = omega (arith, c.loop-before-test.true, c.count_of-count.ensures.all) in
     elim c.match-node_of.branch [
       | in-Some+in_ok-copied_node+in_ok-push w ↦
           ap (λ copies. map seen_node copies.items) w.copies-is
