@@ -84,7 +84,8 @@ impl<A: Allocator> Walker<A> {
         ensures { IfOk result (λ walker. seen_walker walker ≡ at_start count) }
     {
         Ok(Walker {
-            steps: Vec::new(alloc),
+            // A node is entered and left.
+            steps: Vec::with_capacity(alloc, count.saturating_mul(2))?,
             entered: vec![in alloc; false; count]?,
             visits: Vec::new(alloc),
         })
