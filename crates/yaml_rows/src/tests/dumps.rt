@@ -79,7 +79,7 @@ pub(super) fn nodes<A: Allocator + Copy>(
     alloc: A,
     given: &[Given],
 ) -> Vec<yaml_node_t<A>, A> {
-    let mut nodes = Vec::new(alloc);
+    let mut nodes = Vec::with_capacity(alloc, given.len()).expect(rt, "no memory");
     for each in given {
         add(rt, alloc, &mut nodes, each);
     }

@@ -1,10 +1,11 @@
-//! Documents of many nodes dumped, each growth refused in turn; of a million sequences two growths are refused.
+//! Documents of many nodes dumped, each growth refused in turn.
 use super::Given::{Sequence, Text};
 use super::events::events_of;
 use super::steps::Step::{Close, Dump, Output};
 use super::{Given, document, nodes};
 use crate::tests::emitters::UNSET;
-use crate::tests::emitters::steps::{check_steps, check_steps_at};
+use crate::tests::emitters::depth::dashes;
+use crate::tests::emitters::steps::check_steps;
 use crate::tests::{equal, joined, repeated};
 use std::alloc::Global;
 use std::process::Abort;
@@ -156,16 +157,17 @@ const ENDLESS: Settings = Settings {
     ..UNSET
 };
 
-/// The tag of each event takes one, so the second comes once the events are emitted, before the output grows; the last stands for none.
-const REFUSED_OF_A_MILLION: &[usize] = &[1_000, 1_000_078, usize::MAX];
-
-// A million and one sequences, each the one item of the one before.
+// A million and one sequences, each the one item of the one before. A node takes no growth of its own.
 #[test]
 fn too_many_nodes_in_each_other_are_refused(rt: HostRuntime) {
     let alloc = rt.alloc();
     let numbers = numbers(&rt, alloc, 1_000_001);
     let mut given = sequences(&rt, alloc, numbers.as_slice(), 1);
     given.push(Sequence(&[])).expect(&rt, "no memory");
-    let steps = [Dump(given.as_slice(), Err(yaml_error_t::TooDeep))];
-    check_steps_at(&rt, alloc, &ENDLESS, &steps, REFUSED_OF_A_MILLION);
+    let flushed = dashes(&rt, alloc);
+    let steps = [
+        Dump(given.as_slice(), Err(yaml_error_t::TooDeep)),
+        Output(flushed.as_str().as_bytes()),
+    ];
+    check_steps(&rt, alloc, &ENDLESS, &steps);
 }

@@ -203,18 +203,3 @@ pub(crate) fn check_steps<S: Taken>(
         }
     }
 }
-
-/// The steps are taken with each of these growths refused, until there is none of that number, which the last stands for.
-pub(crate) fn check_steps_at<S: Taken>(
-    rt: &impl Abort,
-    alloc: Global,
-    settings: &Settings,
-    steps: &[S],
-    numbers: &[usize],
-) {
-    let mut refused = true;
-    for number in numbers {
-        refused = refused && is_refused(rt, alloc, settings, steps, *number);
-    }
-    equal(rt, &refused, &false);
-}
