@@ -8,7 +8,7 @@ use crate::lexemes::plain_end;
 use crate::words::{is_blank, is_operator};
 
 /// What a scan has before it.
-#[derive(Clone, Copy, PartialEq, Eq, Debug)]
+#[derive(Clone, Copy)]
 pub(crate) enum Mode {
     /// A text, after some blanks.
     Before,
@@ -25,7 +25,7 @@ pub(crate) enum Mode {
 }
 
 /// Where a scan is, and how many brackets and braces are open.
-#[derive(Clone, Copy, PartialEq, Eq, Debug)]
+#[derive(Clone, Copy)]
 pub(crate) struct Scan {
     pub(crate) mode: Mode,
     pub(crate) levels: usize,
@@ -180,7 +180,7 @@ fn step(scan: Scan, byte: u8) -> Option<Scan>
 }
 
 /// How far a text was scanned.
-#[derive(Clone, Copy, PartialEq, Eq, Debug)]
+#[derive(Clone, Copy)]
 pub(crate) struct Cut {
     pub(crate) scan: Scan,
     /// How many bytes were scanned.

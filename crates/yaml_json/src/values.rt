@@ -21,7 +21,7 @@ use std::alloc::Allocator;
 use yaml_writer::{CollectionKind, Writer, yaml_error_t};
 
 /// Where a token is that can't stand there, by an offset in bytes.
-#[derive(Clone, Copy, PartialEq, Eq, Debug)]
+#[derive(Clone, Copy)]
 pub(crate) enum Spot {
     /// It begins here.
     At(usize),
@@ -32,7 +32,7 @@ pub(crate) enum Spot {
 }
 
 /// Why a value isn't written.
-#[derive(Clone, Copy, PartialEq, Eq, Debug)]
+#[derive(Clone, Copy)]
 pub(crate) enum Stop {
     /// A token can't stand where it stands, or the text ends too early.
     NotJson(Spot),
