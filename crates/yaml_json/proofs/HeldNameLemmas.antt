@@ -1,14 +1,14 @@
 -- The lists and sets that hold the names of the objects that are open.
 use Rattle.yaml_base.proofs.Common.{bytes_eq-Decides, ap, arith, inl, inr, length-append, subst, sym, ◌∙◌, or_parts, or_cases, same_from_decides, list_any}
 use Rattle.yaml_base.proofs.Common.{Bool, List, [], cond, drop, false, length, not, refl, slice_index_or as get_or, take, true, ℕ, ◌++◌, ◌-◌, ◌||◌, ◌∷◌, ◌≡◌}
-use Rattle.yaml_base.proofs.Common.{bytes_eq, ◌≤◌}
+use Rattle.yaml_base.proofs.Common.{bytes_eq, ◌<◌, ◌≤◌, ◌+◌}
 use Rattle.std.proofs.{Common.ap₂, Common.set, Common.length-drop, Common.take_all, Math.Seq.get_or-append_seam, Math.Seq.set-append_seam}
 use Rattle.std.proofs.{lemmas.Bool.both_ways}
 use Rattle.std.proofs.lemmas.List.{Folds.list_any-append, drop-append-le, take-append-le}
 use Rattle.std.{proofs.lemmas.Bool.Decides.Decides-like, proofs.lemmas.Map.Text.is_eq-slice_cmp, specs.BTreeSet.BTreeSet, specs.BTreeSet.Updates}
 use Rattle.std.{specs.BTreeSet.contains_by, specs.Borrow.Bor, specs.Cmp.Lexicographic.slice_cmp, specs.List.slice_range, specs.Ordering.nat_cmp}
 use Rattle.std.specs.declared.cmp.Ordering.{Ordering}
-use Rattle.yaml_json.specs.{HeldNames.HasNames, HeldNames.HaveNames, Names.IsNewName, declared.names.Level.Level}
+use Rattle.yaml_json.specs.{HeldNames.HasNames, HeldNames.HaveNames, Names.IsNewName, Names.outer_names, declared.names.Level.Level}
 
 -- a name is new exactly where it is none of those
 pub new_among : (names : List (List ℕ)) (name : List ℕ) → list_any (bytes_eq name) names ≡ false → IsNewName names name
@@ -112,6 +112,55 @@ true_from_not false is = sym is
 none_in_empty : (keys : Keys) (p : Bor (List ℕ) → Bool) → length keys ≡ 0 → list_any p keys ≡ false
 none_in_empty [] p none = refl
 none_in_empty (key ∷ keys) p none = cc
+
+-- a level more, without a name
+pub entered : {A : Type 0} (few : Keys) (levels later : List (Level A)) (level : Level A) (outer : List (List (List ℕ))) → level.first ≡ length few
+    → length level.many.keys ≡ 0 → later ≡ levels ++ level ∷ [] → HaveNames few levels outer → HaveNames few later ([] ∷ outer)
+entered few levels later level outer first empty is have =
+    let none_listed : length (drop level.first few) ≡ 0 = omega (arith, first, length-drop level.first few) in (
+      levels,
+      level,
+      is,
+      omega (arith, first),
+      λ name. ap₂ (λ listed in_set. listed || in_set) (none_in_empty (drop level.first few) (λ key. bytes_eq key.now name) none_listed)
+          (none_in_empty level.many.keys _ empty),
+      subst (λ (keys : Keys). HaveNames keys levels outer) (sym (take_all level.first few (omega (arith, first)))) have,
+    )
+
+pub longer : {A : Type 0} (levels later : List A) (level : A) → later ≡ levels ++ level ∷ [] → length later ≡ length levels + 1
+longer levels later level is = ap length is ∙ length-append levels (level ∷ [])
+
+-- a list that ends with a level isn't empty
+pub never_last : {A : Type 0} (init : List A) (last : A) (levels : List A) → levels ≡ init ++ last ∷ [] → (0 < length levels → false ≡ true) → ⊥
+never_last init last levels is none =
+    let no : false ≡ true = none (omega (arith, ap length is, length-append init (last ∷ []))) in
+    cc
+
+-- a level fewer
+same_ends : {A : Type 0} (first second : List A) (x y : A) → first ++ x ∷ [] ≡ second ++ y ∷ [] → (first ≡ second) × (x ≡ y)
+same_ends [] [] x y same = (refl, cc)
+same_ends [] (b ∷ []) x y same = cc
+same_ends [] (b ∷ c ∷ second) x y same = cc
+same_ends (a ∷ []) [] x y same = cc
+same_ends (a ∷ b ∷ first) [] x y same = cc
+same_ends (a ∷ first) (b ∷ second) x y same =
+    let head : a ≡ b = cc in
+    let rest : first ++ x ∷ [] ≡ second ++ y ∷ [] = cc in
+    let ends = same_ends first second x y rest in
+    (ap₂ (λ h t. h ∷ t) head ends.0, ends.1)
+
+none_left : {A : Type 0} (left : List A) (level : A) → [] ≡ left ++ level ∷ [] → ⊥
+none_left [] level is = cc
+none_left (first ∷ left) level is = cc
+
+pub left : {A : Type 0} (few later : Keys) (levels before : List (Level A)) (level : Level A) (names : List (List (List ℕ)))
+    → levels ≡ before ++ level ∷ [] → later ≡ take level.first few → HaveNames few levels names → HaveNames later before (outer_names names)
+left few later levels before level [] is cut have = absurd (none_left before level (sym have ∙ is))
+left few later levels before level (names ∷ outer) is cut have =
+    let ends = same_ends have.0 before have.1 level (sym have.2 ∙ is) in
+    subst (λ (keys : Keys). HaveNames keys before outer) (sym cut)
+    (subst (λ (l : Level _). HaveNames (take l.first few) before outer) ends.1
+    (subst (λ (ls : List (Level _)). HaveNames (take have.1.first few) ls outer) ends.0 have.5))
 
 module _ {A : Type 0} (few : Keys) (levels : List (Level A)) (n : ℕ) (long : n ≡ length levels) (level : Level A) (at : level ≡ get_or levels (n - 1) level)
     (part : Keys) (part_is : part ≡ slice_range few level.first (length few)) (key : Bor (List ℕ)) (names : List (List ℕ))

@@ -1,4 +1,4 @@
-use Rattle.yaml_json.proofs.Common.{◌<◌, length, arith, emitter_error_of}
+use Rattle.yaml_json.proofs.Common.{◌<◌, length, arith, refl, emitter_error_of}
 use Rattle.yaml_json.proofs.{KeepingNames.keeps_opener, Stopping.if_some, Taking.opener_began, Taking.opener_failed, Taking.opener_without_memory}
 use Rattle.yaml_json.proofs.{WroteLemmas.on_ok, WroteLemmas.always}
 use Rattle.yaml_json.proofs.values.begin.Goals as goal
@@ -36,3 +36,6 @@ returns-in-Ok-clause-stopped g c =
     if_some (emitter_error_of c.start.result)
     (opener_failed a.settings.now.depth a.settings.now.flow a.nest.now.kinds.items a.writer.now c.start.new.writer a.kind fits)
     c.start.ensures.stopped
+
+pub returns-then-len-settings-clause-refused : goal.returns-then-len-settings-clause-refused
+returns-then-len-settings-clause-refused g c = ((c.args.kind, refl), grind arith)

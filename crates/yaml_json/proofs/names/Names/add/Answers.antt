@@ -1,5 +1,5 @@
-use Rattle.std.{proofs.Common.arith, proofs.Common.sym, proofs.Common.◌∙◌, specs.Vec.vec_len}
-use Rattle.yaml_json.proofs.HeldNameLemmas.{adds_again, adds_listed, adds_more}
+use Rattle.std.{proofs.lemmas.List.length-set, proofs.Common.arith, proofs.Common.sym, proofs.Common.◌∙◌, specs.Vec.vec_len}
+use Rattle.yaml_json.proofs.HeldNameLemmas.{never_last, adds_again, adds_listed, adds_more}
 use Rattle.yaml_json.proofs.names.Names.add.Goals as goal
 
 pub returns-then-is_among-clause-adds : goal.returns-then-is_among-clause-adds
@@ -21,3 +21,17 @@ returns-in-Ok-insert-clause-adds g c names levels holds =
     adds_more held.few.items held.levels.items (vec_len held.levels) (grind arith) c.in-Some.level.now c.in-Some.ensures.value c.in-Some-get.few.now
     (grind arith) c.args.name names levels held.are_kept (grind arith) holds (sym c.is_among.ensures ∙ c.if-is_among.false) c.insert.new.self
     c.in-Ok-insert.ensures.updates c.in-Ok-insert.new c.in-Ok-insert.ensures.added
+
+pub returns-then-is_among-clause-as_long : goal.returns-then-is_among-clause-as_long
+returns-then-is_among-clause-as_long g c = length-set _ _ _
+
+pub returns-in-Ok-clause-as_long : goal.returns-in-Ok-clause-as_long
+returns-in-Ok-clause-as_long g c = length-set _ _ _
+
+pub returns-in-Ok-insert-clause-as_long : goal.returns-in-Ok-insert-clause-as_long
+returns-in-Ok-insert-clause-as_long g c = length-set _ _ _
+
+pub returns-in_default-clause-adds : goal.returns-in_default-clause-adds
+returns-in_default-clause-adds g c names levels holds =
+    let have = holds c.if-not-self.false in
+    absurd (never_last have.0 have.1 c.args.self.now.levels.items have.2 (λ some. c.in_default.ensures.variant.1 (grind (arith, some))))
