@@ -13,7 +13,7 @@ use yaml_base::{yaml_break_t, yaml_encoding_t};
 pub(crate) type CharacterBytes = ArrayVec<u8, 4>;
 
 /// The order of the two bytes of a code unit.
-#[derive(Clone, Copy, PartialEq, Eq, Debug)]
+#[derive(Clone, Copy)]
 pub(crate) enum ByteOrder {
     LowerFirst,
     UpperFirst,

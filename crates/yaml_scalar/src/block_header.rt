@@ -13,7 +13,7 @@ use yaml_base::{is_break, is_space, yaml_error_t};
 use yaml_pen::{Indicator, Pen};
 
 /// How the lines of a block scalar stand.
-#[derive(Clone, Copy, PartialEq, Eq)]
+#[derive(Clone, Copy)]
 pub(crate) enum BlockStyle {
     /// As they are.
     Literal,
@@ -22,7 +22,7 @@ pub(crate) enum BlockStyle {
 }
 
 /// How a value ends.
-#[derive(Clone, Copy, PartialEq, Eq)]
+#[derive(Clone, Copy)]
 enum Ending {
     WithoutBreak,
     OneBreak,

@@ -24,7 +24,7 @@ use yaml_base::{is_break, is_space, yaml_error_t};
 use yaml_pen::Pen;
 
 /// Where a character stands: where a line begins, in a line that may be folded, or in one that may not.
-#[derive(Clone, Copy, PartialEq, Eq)]
+#[derive(Clone, Copy)]
 pub(crate) enum Place {
     LineStart,
     Folding,

@@ -12,7 +12,7 @@ use std::io::Write;
 const BINARY_TAG: &str = "tag:yaml.org,2002:binary";
 
 /// What the next call is about.
-#[derive(Clone, Copy, PartialEq, Eq)]
+#[derive(Clone, Copy)]
 enum Next {
     /// A node.
     Node,
@@ -27,7 +27,7 @@ enum Next {
 }
 
 /// Whether a map has a start and an end of its own.
-#[derive(Clone, Copy, PartialEq, Eq)]
+#[derive(Clone, Copy)]
 enum MapKind {
     Written,
     /// A variant with its data, or a flattened map.
@@ -61,7 +61,7 @@ impl<G: Given, W: Write + Drop> ValueSerializer<G, W> {
 
     /// Makes ready for a node that is no map.
     fn ready(&mut self) -> Result<(), Error> {
-        if self.next == Next::Members {
+        if matches!(self.next, Next::Members) {
             return Err(Error::Flattened);
         }
         self.open_entry()?;
@@ -161,7 +161,7 @@ impl<G: Given, W: Write + Drop> Serializer for ValueSerializer<G, W> {
 
     /// The tag says that the text is base64; it can't stand beside the tag of a variant.
     fn bytes(&mut self, v: &[u8]) -> Result<(), Error> {
-        if self.next == Next::Data {
+        if matches!(self.next, Next::Data) {
             return Err(Error::TwoTags);
         }
         self.ready()?;
@@ -171,7 +171,7 @@ impl<G: Given, W: Write + Drop> Serializer for ValueSerializer<G, W> {
     }
 
     fn unit(&mut self) -> Result<(), Error> {
-        if self.next == Next::Members {
+        if matches!(self.next, Next::Members) {
             self.next = Next::Node;
             return Ok(());
         }
