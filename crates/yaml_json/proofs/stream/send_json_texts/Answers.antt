@@ -110,3 +110,15 @@ returns-clause-sent g c sent =
     let s = a.settings in
     comes_sent s.depth s.flow s.unique_names a.writer.now (g.W.Write.contents a.sink.now) (g.R.Read.remaining a.reader.now) l.incoming.held.items
     (g.R.Read.remaining l.reader) l.writer (g.W.Write.contents l.sink) (faults.ReadFailed c.from.result) tt l.invariant.2
+
+pub returns-in-Err-flush-clause-refused : goal.returns-in-Err-flush-clause-refused
+returns-in-Err-flush-clause-refused g c =
+    let a = c.args in
+    none_refused a.settings.depth a.settings.flow a.settings.unique_names a.writer.now (g.W.Write.contents a.sink.now) (g.R.Read.remaining a.reader.now)
+    (faults.WriteFailed c.in-Err-flush.error) tt
+
+pub returns-clause-refused : goal.returns-clause-refused
+returns-clause-refused g c =
+    let a = c.args in
+    none_refused a.settings.depth a.settings.flow a.settings.unique_names a.writer.now (g.W.Write.contents a.sink.now) (g.R.Read.remaining a.reader.now)
+    (faults.ReadFailed c.from.result) tt

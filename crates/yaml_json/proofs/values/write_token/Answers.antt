@@ -159,3 +159,39 @@ returns-in-String-clause-names g c =
     let held = c.args.nest.now.names in
     subst (λ (t : Token). OnOk c.write_text.result (Keeps held (token_of t ∷ []) held)) (sym c.in-String.is)
     (always c.write_text.result (keeps_scalar (tokens.string c.in-String.text.now) held tt))
+
+pub returns-in-Null-clause-fits : goal.returns-in-Null-clause-fits
+returns-in-Null-clause-fits g c = always c.write_null.result c.requires.fits
+
+pub returns-in-Bool-clause-fits : goal.returns-in-Bool-clause-fits
+returns-in-Bool-clause-fits g c = always c.write_bool.result c.requires.fits
+
+pub returns-in-Number-clause-fits : goal.returns-in-Number-clause-fits
+returns-in-Number-clause-fits g c = always c.write_number.result c.requires.fits
+
+pub returns-in-String-clause-fits : goal.returns-in-String-clause-fits
+returns-in-String-clause-fits g c = always c.write_text.result c.requires.fits
+
+-- Arrays and objects
+
+pub returns-in-BeginArray : goal.returns-in-BeginArray
+returns-in-BeginArray g c =
+    let begun = c.begin.ensures in
+    record {
+      began = rw c.in-BeginArray.is begun.began;
+      fits = begun.fits;
+      names = rw c.in-BeginArray.is begun.names;
+      refused = rw c.in-BeginArray.is begun.refused;
+      stopped = rw c.in-BeginArray.is begun.stopped;
+    }
+
+pub returns-in-BeginObject : goal.returns-in-BeginObject
+returns-in-BeginObject g c =
+    let begun = c.begin-in-BeginObject.ensures in
+    record {
+      began = rw c.in-BeginObject.is begun.began;
+      fits = begun.fits;
+      names = rw c.in-BeginObject.is begun.names;
+      refused = rw c.in-BeginObject.is begun.refused;
+      stopped = rw c.in-BeginObject.is begun.stopped;
+    }
