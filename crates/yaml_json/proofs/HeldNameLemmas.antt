@@ -130,6 +130,10 @@ entered few levels later level outer first empty is have =
 pub longer : {A : Type 0} (levels later : List A) (level : A) → later ≡ levels ++ level ∷ [] → length later ≡ length levels + 1
 longer levels later level is = ap length is ∙ length-append levels (level ∷ [])
 
+pub no_item : {A : Type 0} (items : List A) → length items ≡ 0 → items ≡ []
+no_item [] none = refl
+no_item (item ∷ items) none = cc
+
 -- a list that ends with a level isn't empty
 pub never_last : {A : Type 0} (init : List A) (last : A) (levels : List A) → levels ≡ init ++ last ∷ [] → (0 < length levels → false ≡ true) → ⊥
 never_last init last levels is none =

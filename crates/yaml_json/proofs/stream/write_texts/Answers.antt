@@ -74,3 +74,18 @@ returns-clause-gives g c =
     let l = c.texts in
     advances_same a.settings.now.depth a.settings.now.flow a.settings.now.unique_names a.held.now a.writer.now (g.W.Write.contents a.sink.now) l.rest.now
     l.writer (g.W.Write.contents l.sink) l.invariant.4 (drop (length a.held.now - length l.rest.now) a.held.now) (sym l.invariant.3)
+
+pub find_end-requires : goal.find_end-requires
+find_end-requires g c = c.texts.invariant.1
+
+pub write_bytes-requires-clause-bare : goal.write_bytes-requires-clause-bare
+write_bytes-requires-clause-bare g c = c.texts.invariant.0
+
+pub write_bytes-requires-clause-ready : goal.write_bytes-requires-clause-ready
+write_bytes-requires-clause-ready g c = c.texts.invariant.5
+
+pub begin_next-requires : goal.begin_next-requires
+begin_next-requires g c = c.in_default-write_bytes.ensures.written.wrote.bare
+
+pub returns-clause-bare : goal.returns-clause-bare
+returns-clause-bare g c = c.texts.invariant.0

@@ -31,3 +31,18 @@ returns-in-Err-finish-clause-failed g c =
     finish_failed (seen_settings settings.writer) settings.flow settings.depth c.args.text.now first.writer c.write_json.new.writer c.in-Err-finish.error
     first.ensures.stands first.ensures.canonical wrote
     (c.in-Err-finish.ensures.unfinished (bare_awaits_none c.write_json.new.writer wrote.wrote.bare))
+
+pub returns-in_default-clause-refused : goal.returns-in_default-clause-refused
+returns-in_default-clause-refused g c denied = absurd denied
+
+pub returns-in-Err-clause-refused : goal.returns-in-Err-clause-refused
+returns-in-Err-clause-refused g c = c.in-Err.ensures.refused
+
+pub returns-in-Err-clause-why : goal.returns-in-Err-clause-why
+returns-in-Err-clause-why g c = c.in-Err.ensures.why
+
+pub returns-in-Ok-finish-clause-names : goal.returns-in-Ok-finish-clause-names
+returns-in-Ok-finish-clause-names g c = c.in_default-write_json.ensures.names
+
+pub returns-in-Err-finish-clause-refused : goal.returns-in-Err-finish-clause-refused
+returns-in-Err-finish-clause-refused g c denied = absurd denied

@@ -1,4 +1,4 @@
-use Rattle.yaml_json.proofs.Common.{ℕ, false, true, List, [], ◌++◌, ◌∷◌, refl, ◌≡◌, Bor, ap, ◌∙◌, arith, chars, token_of, scalar, failure_of, emitter_error_of}
+use Rattle.yaml_json.proofs.Common.{ℕ, false, true, List, [], ◌++◌, ◌∷◌, refl, ◌≡◌, Bor, ap, sym, ◌∙◌, arith, chars, token_of, scalar, failure_of, emitter_error_of}
 use Rattle.yaml_json.proofs.Common.{text_content, closer, Refuses}
 use Rattle.json.specs.declared.token.Token.{Token}
 use Rattle.yaml_json.proofs.{KeepingNames.keeps_closer, KeepingNames.keeps_name, KeepingNames.keeps_then, Refusing.IsNoKey, Refusing.unrefused}
@@ -287,3 +287,24 @@ returns-in_default-token g c =
           (no_key c.in-Ok.found.0 c.in_default-token.not-Key c.in_default-token.not-EndObject);
       stopped = tt;
     }
+
+pub leave-requires : goal.leave-requires
+leave-requires g c = record { bare = c.requires.bare }
+
+pub leave-requires-in-EndObject : goal.leave-requires-in-EndObject
+leave-requires-in-EndObject g c = record { bare = c.requires.bare }
+
+pub write_token-requires : goal.write_token-requires
+write_token-requires g c = record { bare = c.requires.bare; fits = c.requires.fits; good = c.in-Ok.ensures.printable }
+
+pub write_text-requires : goal.write_text-requires
+write_text-requires g c = c.requires.bare
+
+pub returns-in_default-write_text-clause-fits : goal.returns-in_default-write_text-clause-fits
+returns-in_default-write_text-clause-fits g c = c.write_first.ensures.fits
+
+pub write_first-requires-clause-fits : goal.write_first-requires-clause-fits
+write_first-requires-clause-fits g c =
+    let fits = c.requires.fits in
+    let added = c.in-Ok-add.ensures in
+    (fits.0, (added.kept ∙ fits.1.0, λ kept. added.as_long ∙ fits.1.1 (sym added.kept ∙ kept)))

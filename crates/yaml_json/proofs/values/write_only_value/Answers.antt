@@ -12,3 +12,14 @@ returns-in-Ok-Some-clause-refused g c =
     past_refused a.settings.now.depth a.settings.now.unique_names a.reader.now wrote.json (token_of c.in-Ok-Some._token) c.next.new.self read
     (value_names a.settings.now.depth a.settings.now.unique_names a.reader.now c.write_value.new.reader wrote.json wrote.read
     c.in_default.ensures.names)
+
+pub write_value-requires-clause-bare : goal.write_value-requires-clause-bare
+write_value-requires-clause-bare g c = c.requires.bare
+
+pub write_value-requires-clause-none : goal.write_value-requires-clause-none
+write_value-requires-clause-none g c = c.requires.none
+
+pub returns-in-Err : goal.returns-in-Err
+returns-in-Err g c =
+    let failed = c.in-Err.ensures in
+    record { none = tt; written = tt; names = tt; refused = failed.refused; stopped = failed.stopped }

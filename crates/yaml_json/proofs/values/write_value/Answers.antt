@@ -1,5 +1,5 @@
-use Rattle.yaml_json.proofs.Common.{IfSome, List, [], ◌≡◌, subst, arith, failure_of, BeganFirstValue, FirstFailed, RefusesFirst}
-use Rattle.yaml_json.proofs.{KeepingNames.names_begin, KeepingNames.names_on, Refusing.first_refused, Stopping.if_some, Walking.awaiting_whole}
+use Rattle.yaml_json.proofs.Common.{IfSome, List, [], ◌≡◌, ◌∙◌, ap, length, subst, arith, failure_of, BeganFirstValue, FirstFailed, RefusesFirst}
+use Rattle.yaml_json.proofs.{KeepingNames.names_begin, KeepingNames.names_on, Refusing.first_refused, Stopping.if_some, Walking.awaiting_whole, HeldNameLemmas.no_item}
 use Rattle.yaml_json.proofs.Taking.{first_so_far, first_failed, steps_on, step_failed, step_stopped, all_written}
 use Rattle.yaml_emitter.specs.declared.place.CollectionKind.{CollectionKind}
 use Rattle.yaml_json.proofs.values.write_value.Goals as goal
@@ -66,3 +66,16 @@ returns-clause-written g c =
     let l = c.each_token in
     let none : l.nest.kinds.items ≡ [] = grind arith in
     all_written a.settings.now.depth a.settings.now.flow a.reader.now a.writer.now l.reader l.nest.kinds.items l.writer l.invariant.0 none
+
+pub write_next-requires-clause-fits : goal.write_next-requires-clause-fits
+write_next-requires-clause-fits g c = c.each_token.invariant.1
+
+pub write_next-requires-clause-innermost : goal.write_next-requires-clause-innermost
+write_next-requires-clause-innermost g c = c.in-Some.ensures
+
+pub returns-clause-none : goal.returns-clause-none
+returns-clause-none g c =
+    let l = c.each_token in
+    let none : l.nest.kinds.items ≡ [] = grind arith in
+    let fits = l.invariant.1.1 in
+    (none, fits.0, λ kept. no_item l.nest.names.levels.items (fits.1 kept ∙ ap length none))
