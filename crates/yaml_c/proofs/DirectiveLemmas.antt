@@ -1,7 +1,8 @@
 -- The directives of an array, read one after another.
 use Rattle.yaml_c.proofs.Common.{ℕ, ◌+◌, ◌<◌, option_map, Option, None, Some, drop, length, slice_index_or as get_or, List, [], ◌++◌, ◌∷◌, refl, ◌≡◌}
 use Rattle.yaml_c.proofs.Common.{append_assoc, ap, sym, ◌∙◌, at_drop_more, TagDirective, directives_of}
-use Rattle.yaml_base.proofs.Common.{option_and_then}
+use Rattle.yaml_base.proofs.Common.{option_and_then, ◌≤◌}
+use Rattle.std.proofs.lemmas.List.{append-nil, drop_all}
 use Rattle.yaml_c.specs.{EventRecords.directive_of, declared.records.DirectiveRecord.DirectiveRecord}
 
 -- directives before others
@@ -12,6 +13,10 @@ behind_more : (read : List TagDirective) (next : TagDirective) (others : Option 
     → behind read (option_map (λ (more : List TagDirective). next ∷ more) others) ≡ behind (read ++ next ∷ []) others
 behind_more read next None = refl
 behind_more read next (Some more) = ap (λ (xs : List TagDirective). Some xs) (sym (append_assoc read (next ∷ []) more))
+
+behind_none : (others : Option (List TagDirective)) → others ≡ behind [] others
+behind_none None = refl
+behind_none (Some more) = refl
 
 -- the directives of an array, by what its first element reads as
 abbrev led : (arena : List ℕ) → (rest : List DirectiveRecord) → Option TagDirective → Option (List TagDirective)
@@ -28,3 +33,28 @@ read_more arena all i d read next low is parts =
     ∙ at_drop_more (λ (xs : List DirectiveRecord). behind read (directives_of arena xs)) all i d low
     ∙ ap (λ (o : Option TagDirective). behind read (led arena (drop (i + 1) all) o)) (sym is)
     ∙ behind_more read next (directives_of arena (drop (i + 1) all))
+
+-- none was read
+pub read_none : (arena : List ℕ) (all : List DirectiveRecord) (read : List TagDirective) → read ≡ []
+    → directives_of arena all ≡ behind read (directives_of arena all)
+read_none arena all read none =
+    behind_none (directives_of arena all) ∙ ap (λ (xs : List TagDirective). behind xs (directives_of arena all)) (sym none)
+
+-- the next has no reading
+pub read_bad : (arena : List ℕ) (all : List DirectiveRecord) (i : ℕ) (d : DirectiveRecord) (read : List TagDirective)
+    → i < length all → None ≡ directive_of arena (get_or all i d)
+    → directives_of arena all ≡ behind read (directives_of arena (drop i all)) → None ≡ directives_of arena all
+read_bad arena all i d read low is parts =
+    sym
+    (parts
+    ∙ at_drop_more (λ (xs : List DirectiveRecord). behind read (directives_of arena xs)) all i d low
+    ∙ ap (λ (o : Option TagDirective). behind read (led arena (drop (i + 1) all) o)) (sym is))
+
+-- all were read
+pub read_all : (arena : List ℕ) (all : List DirectiveRecord) (i : ℕ) (read : List TagDirective) → length all ≤ i
+    → directives_of arena all ≡ behind read (directives_of arena (drop i all)) → Some read ≡ directives_of arena all
+read_all arena all i read past parts =
+    sym
+    (parts
+    ∙ ap (λ (xs : List DirectiveRecord). behind read (directives_of arena xs)) (drop_all i all past)
+    ∙ ap (λ (xs : List TagDirective). Some xs) (append-nil read))

@@ -144,3 +144,14 @@ ended_flushed arena directives records first before after i number last set emis
     (subst (λ (xs : List Numbered). StandsAfter set (events_in xs) before) same stood)
     (subst (λ (xs : List Numbered). Promised set (events_in xs) before) same promised) none
     (subst (λ (xs : List Numbered). EndsAt xs number) same (last_line has.given last number before is has.ends)) h
+
+-- the next record has no reading
+pub bad_next : (arena : List ℕ) (directives : List DirectiveRecord) (records : List EventRecord) (i : ℕ) (d : EventRecord) (given : List Numbered)
+    → i < length records → event_of arena directives (get_or records i d) ≡ None
+    → events_from 0 arena directives records ≡ given ++ events_from i arena directives (drop i records)
+    → events_from 0 arena directives records ≡ given
+bad_next arena directives records i d given low bad parts =
+    parts
+    ∙ at_drop_more (λ (xs : List EventRecord). given ++ events_from i arena directives xs) records i d low
+    ∙ ap (λ (o : Option Event). given ++ before_others i o (events_from (suc i) arena directives (drop (i + 1) records))) bad
+    ∙ append-nil given

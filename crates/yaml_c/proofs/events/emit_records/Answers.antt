@@ -1,7 +1,8 @@
-use Rattle.yaml_c.proofs.Common.{ℕ, ◌<◌, ◌≤◌, None, drop, length, refl, rules, ◌≡◌, inl, ap, subst, sym, ◌∙◌, StandsAfter, State, events_from, events_in}
+use Rattle.yaml_c.proofs.Common.{ℕ, List, ◌<◌, ◌≤◌, None, drop, length, refl, rules, ◌≡◌, inl, ap, subst, sym, ◌∙◌, StandsAfter, State, events_from, events_in}
 use Rattle.std.proofs.Common.{Err, Ok}
-use Rattle.yaml_c.proofs.EmissionLemmas.{given_more, refused_next, ended_flushed}
-use Rattle.yaml_c.proofs.GivingLemmas.{took, took_nothing}
+use Rattle.yaml_c.proofs.EmissionLemmas.{bad_next, given_more, refused_next, ended_flushed}
+use Rattle.yaml_base.specs.scripts.Script.{Numbered}
+use Rattle.yaml_c.proofs.GivingLemmas.{took, took_bad, took_nothing}
 use Rattle.yaml_c.specs.declared.giving.Giving.TheVariants.{Emitted}
 use Rattle.yaml_pen.proofs.Writing.{none_from_result, some_from_result}
 use Rattle.yaml_c.proofs.events.emit_records.Goals as goal
@@ -66,3 +67,40 @@ returns-in-NoMemory-clause-emits g c given stands =
       stands = subst (λ (state : State). StandsAfter given (events_in has.given) state) same (has.stands given stands);
       no_error = subst (λ (state : State). state.error ≡ None) same now.invariant.3;
     }
+
+pub returns-in-Unreadable-clause-emits : goal.returns-in-Unreadable-clause-emits
+returns-in-Unreadable-clause-emits g c given stands =
+    let now = c.loop-record in
+    let has = now.invariant.5 in
+    let bad = took_bad _ c.give_record.result c.give_record.ensures.gave c.in-Unreadable.is in
+    let read : List Numbered = events_from 0 c.args.arena.now c.args.directives.now c.args.events.now in
+    let all : read ≡ has.given = bad_next c.args.arena.now c.args.directives.now c.args.events.now now.record-index _ has.given c.loop-record-test.true bad.0 has.parts in
+    record {
+      first = now.invariant.4 ∙ sym has.count ∙ ap length (sym all);
+      within = subst (λ (n : ℕ). n < length c.args.events.now) (sym now.invariant.4) c.loop-record-test.true;
+      stands = subst (λ (state : State). StandsAfter given (events_in read) state) (sym bad.1)
+          (subst (λ (events : List Numbered). StandsAfter given (events_in events) now.emitter) (sym all) (has.stands given stands));
+      no_error = ap (λ (state : State). state.error) bad.1 ∙ now.invariant.3;
+    }
+
+pub returns-in-Unreadable-clause-taken : goal.returns-in-Unreadable-clause-taken
+returns-in-Unreadable-clause-taken g c =
+    let bad = took_bad _ c.give_record.result c.give_record.ensures.gave c.in-Unreadable.is in
+    ap (λ (state : State). state.page.taken) bad.1 ∙ c.loop-record.invariant.6
+
+pub returns-in-NoMemory-clause-taken : goal.returns-in-NoMemory-clause-taken
+returns-in-NoMemory-clause-taken g c =
+    let same = took_nothing _ c.give_record.result c.give_record.ensures.gave c.in-NoMemory.is in
+    ap (λ (state : State). state.page.taken) same ∙ c.loop-record.invariant.6
+
+pub returns-in-Emitted-Err-clause-taken : goal.returns-in-Emitted-Err-clause-taken
+returns-in-Emitted-Err-clause-taken g c =
+    let event = took c.give_record.result (Err c.in-Emitted-Err.error) c.give_record.ensures.gave
+    (c.in-Emitted-Err.is ∙ ap (λ answer. Emitted answer) c.in-Emitted-Err.field-0-is) in
+    event.2.set.taken ∙ c.loop-record.invariant.6
+
+pub returns-in-Some-clause-taken : goal.returns-in-Some-clause-taken
+returns-in-Some-clause-taken g c = c.flush_after.ensures.taken ∙ c.loop-record.invariant.6
+
+pub returns-in-None-clause-taken : goal.returns-in-None-clause-taken
+returns-in-None-clause-taken g c = c.loop-record.invariant.6

@@ -1,6 +1,6 @@
 use Rattle.yaml_c.proofs.Common.{◌+◌, option_map, drop, List, [], map, ◌++◌, ◌∷◌, ◌≡◌, rules, ap, sym, ◌∙◌, TagDirective, seen_directive, directives_of}
-use Rattle.std.proofs.lemmas.List.{map_push}
-use Rattle.yaml_c.proofs.DirectiveLemmas.{behind, read_more}
+use Rattle.std.proofs.{Common.arith, Common.refl, lemmas.List.map_push}
+use Rattle.yaml_c.proofs.DirectiveLemmas.{behind, read_all, read_bad, read_more, read_none}
 use Rattle.yaml_c.proofs.records.directives_of.Goals as goal
 
 pub loop-directive-preserved : goal.loop-directive-preserved
@@ -16,3 +16,24 @@ loop-directive-preserved g c =
       search rules,
       more ∙ ap (λ (xs : List TagDirective). behind xs (directives_of c.args.arena.now (drop (now.directive-index + 1) all))) (sym pushed),
     )
+
+pub loop-directive-init : goal.loop-directive-init
+loop-directive-init g c = (
+  omega arith,
+  refl,
+  read_none c.args.arena.now c.args.directives.now (map seen_directive c.new-all.result.items) (ap (map seen_directive) c.new-all.ensures.items),
+)
+
+pub loop-directive-smaller : goal.loop-directive-smaller
+loop-directive-smaller g c = let more = c.loop-directive-test.true in omega (arith, more)
+
+pub returns-in_default : goal.returns-in_default
+returns-in_default g c =
+    let now = c.loop-directive in
+    read_bad c.args.arena.now c.args.directives.now now.directive-index _ (map seen_directive now.all.items) c.loop-directive-test.true
+    (ap (option_map seen_directive) (sym c.in_default.is) ∙ c.in_ok-directive.ensures) now.invariant.2
+
+pub returns : goal.returns
+returns g c =
+    let now = c.loop-directive in
+    read_all c.args.arena.now c.args.directives.now now.directive-index (map seen_directive now.all.items) c.loop-directive-test.false now.invariant.2
