@@ -58,7 +58,7 @@ fn answers<A: Allocator>(
     }
 }
 
-/// A sink that takes at most three bytes at once, and so many in all.
+/// A sink that takes one byte at once, and so many in all.
 #[derive(Drop)]
 struct Narrow {
     taken: Vec<u8>,
@@ -76,13 +76,17 @@ impl Narrow {
 
 impl Write for Narrow {
     fn write(&mut self, bytes: &[u8]) -> io::Result<usize> {
-        let count = bytes.len().min(3).min(self.room);
-        if count == 0 {
+        if self.room == 0 {
             return Err(io::Error::from(io::ErrorKind::StorageFull));
         }
-        self.taken.extend_from_slice(&bytes[..count])?;
-        self.room -= count;
-        Ok(count)
+        self.room -= 1;
+        match bytes.first() {
+            Some(byte) => {
+                self.taken.push(*byte)?;
+                Ok(1)
+            }
+            None => Ok(0),
+        }
     }
 
     fn flush(&mut self) -> io::Result<()> {

@@ -7,44 +7,17 @@ use yaml_caller::{
 };
 use yaml_dump::{
     YAML_ANY_SCALAR_STYLE, YAML_BLOCK_SEQUENCE_STYLE, YAML_SEQ_TAG, YAML_STR_TAG, yaml_document_t,
-    yaml_error_t, yaml_node_data_t, yaml_node_t,
+    yaml_node_data_t, yaml_node_t,
 };
 use yaml_value::Value;
 
-// Each caller is called by a function that promises nothing: tests need none of its clauses.
-fn letter(alloc: Global) -> Result<Vec<u8>, yaml_error_t> {
-    letter_written(alloc)
-}
-
-fn list(alloc: Global) -> Result<Vec<u8>, yaml_error_t> {
-    list_written(alloc)
-}
-
-fn cycle(alloc: Global) -> Result<Vec<u8>, yaml_error_t> {
-    cycle_written(alloc)
-}
-
-fn pair(alloc: Global, key: String, value: String) -> Result<Vec<u8>, yaml_error_t> {
-    pair_written(alloc, key, value)
-}
-
 #[test]
-fn a_letter_is_written(rt: HostRuntime) {
-    let bytes = letter(rt.alloc());
-    answers(&rt, bytes, &Ok(b"---\n\"a\"\n"));
-}
-
-#[test]
-fn a_list_is_written(rt: HostRuntime) {
-    let bytes = list(rt.alloc());
-    answers(&rt, bytes, &Ok(b"---\n- 'no'\n- null\n"));
-}
-
-#[test]
-fn a_mapping_that_holds_itself_is_written(rt: HostRuntime) {
-    let bytes = cycle(rt.alloc());
+fn a_letter_a_list_and_a_mapping_that_holds_itself_are_written(rt: HostRuntime) {
+    let alloc = rt.alloc();
+    answers(&rt, letter_written(alloc), &Ok(b"---\n\"a\"\n"));
+    answers(&rt, list_written(alloc), &Ok(b"---\n- 'no'\n- null\n"));
     let expected = "---\n&id001 !!map {\n  ? !!str \"k\"\n  : *id001,\n}\n";
-    answers(&rt, bytes, &Ok(expected.as_bytes()));
+    answers(&rt, cycle_written(alloc), &Ok(expected.as_bytes()));
 }
 
 fn text(rt: &impl Abort, alloc: Global, characters: &str) -> String {
@@ -55,19 +28,21 @@ fn text(rt: &impl Abort, alloc: Global, characters: &str) -> String {
 fn a_pair_is_written(rt: HostRuntime) {
     let key = text(&rt, rt.alloc(), "a");
     let value = text(&rt, rt.alloc(), "b # c");
-    answers(&rt, pair(rt.alloc(), key, value), &Ok(b"---\na: 'b # c'\n"));
-}
-
-/// Whether the integer 5 and this value have the same bytes.
-fn is_five(alloc: Global, other: Value<Global>) -> Result<bool, yaml_error_t> {
-    same_bytes(alloc, &Value::Int(5), &other)
+    let bytes = pair_written(rt.alloc(), key, value);
+    answers(&rt, bytes, &Ok(b"---\na: 'b # c'\n"));
 }
 
 #[test]
 fn equal_values_have_the_same_bytes(rt: HostRuntime) {
-    let number = is_five(rt.alloc(), Value::Int(5));
-    let text = is_five(rt.alloc(), Value::Text(text(&rt, rt.alloc(), "5")));
-    equal(&rt, &(number, text), &(Ok(true), Ok(false)));
+    let alloc = rt.alloc();
+    let text = Value::Text(text(&rt, alloc, "5"));
+    for (other, are_same) in [(Value::Int(5), true), (text, false)] {
+        equal(
+            &rt,
+            &same_bytes(alloc, &Value::Int(5), &other),
+            &Ok(are_same),
+        );
+    }
 }
 
 /// A text of one letter.
@@ -110,26 +85,25 @@ fn list_of(
     made.expect(rt, "each number names a node")
 }
 
-fn same(
-    alloc: Global,
-    first: yaml_document_t<Global>,
-    second: yaml_document_t<Global>,
-) -> Result<bool, yaml_error_t> {
-    same_graph(alloc, first, second)
-}
+/// The items of a list and its letters, those of another, and whether they are the same graph.
+type Graphs = (
+    ((i32, i32), (&'static str, &'static str)),
+    ((i32, i32), (&'static str, &'static str)),
+    bool,
+);
+
+/// Graphs are compared but for the numbers of their nodes; a shared node is not two equal ones.
+const GRAPHS: &[Graphs] = &[
+    (((2, 3), ("a", "b")), ((3, 2), ("b", "a")), true),
+    (((2, 2), ("a", "a")), ((2, 3), ("a", "a")), false),
+];
 
 #[test]
-fn graphs_are_compared_but_for_their_numbers(rt: HostRuntime) {
+fn graphs_are_compared_by_what_is_shared(rt: HostRuntime) {
     let alloc = rt.alloc();
-    let first = list_of(&rt, alloc, (2, 3), ("a", "b"));
-    let exchanged = list_of(&rt, alloc, (3, 2), ("b", "a"));
-    equal(&rt, &same(alloc, first, exchanged), &Ok(true));
-}
-
-#[test]
-fn a_shared_node_is_not_two_equal_ones(rt: HostRuntime) {
-    let alloc = rt.alloc();
-    let shared = list_of(&rt, alloc, (2, 2), ("a", "a"));
-    let equal_ones = list_of(&rt, alloc, (2, 3), ("a", "a"));
-    equal(&rt, &same(alloc, shared, equal_ones), &Ok(false));
+    for (first, second, are_same) in GRAPHS {
+        let first = list_of(&rt, alloc, first.0, first.1);
+        let second = list_of(&rt, alloc, second.0, second.1);
+        equal(&rt, &same_graph(alloc, first, second), &Ok(*are_same));
+    }
 }

@@ -58,34 +58,25 @@ fn numbers_are_spelled_and_other_texts_are_none(rt: HostRuntime) {
     }
 }
 
-/// A text, and whether it is an integer; none where it is no number.
-type Kind<'a> = (&'a str, Option<bool>);
-
-/// The number keeps its text, and is an integer or not.
-fn check_kind(rt: &impl Abort, row: &Kind) {
-    let found = match number_of(row.0) {
-        Some(number) => Some((number.as_str(), number.is_integer())),
-        None => None,
-    };
-    let wanted = match row.1 {
-        Some(is_integer) => Some((row.0, is_integer)),
-        None => None,
-    };
-    equal(rt, &found, &wanted);
-}
+/// A text, and whether the number that keeps it is an integer; none where it is no number.
+type Kind<'a> = (&'a str, Option<(&'a str, bool)>);
 
 const KINDS: &[Kind] = &[
-    ("-120", Some(true)),
-    ("0", Some(true)),
-    ("-0", Some(false)),
-    ("1E5", Some(false)),
-    ("2.50", Some(false)),
+    ("-120", Some(("-120", true))),
+    ("0", Some(("0", true))),
+    ("-0", Some(("-0", false))),
+    ("1E5", Some(("1E5", false))),
+    ("2.50", Some(("2.50", false))),
     ("01", None),
 ];
 
 #[test]
 fn numbers_keep_their_texts(rt: HostRuntime) {
-    for row in KINDS {
-        check_kind(&rt, row);
+    for (text, wanted) in KINDS {
+        let found = match number_of(text) {
+            Some(number) => Some((number.as_str(), number.is_integer())),
+            None => None,
+        };
+        equal(&rt, &found, wanted);
     }
 }

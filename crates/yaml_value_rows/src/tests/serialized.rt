@@ -5,7 +5,7 @@ use serde::{Case, Described, Serialize, Serializer};
 use std::alloc::{AllocError, Global};
 use std::collections::BTreeMap;
 use std::process::Abort;
-use yaml_serde::{Error, to_string, to_vec, to_writer, yaml_error_t};
+use yaml_serde::{Error, to_string, to_vec, to_writer};
 
 /// The YAML of a value. (Tests need none of the clauses of the call.)
 fn yaml_of<T: Serialize>(alloc: Global, value: &T) -> Result<String, Error> {
@@ -53,21 +53,19 @@ fn check_made<T: Serialize + Drop>(
     check_text(rt, alloc, &made.expect(rt, "no memory"), expected);
 }
 
-fn has_two_tags<T: Serialize + Drop>(alloc: Global, value: T) -> bool {
-    matches!(yaml_of(alloc, &value), Err(Error::TwoTags))
+/// The value is refused with these words.
+fn check_refused<T: Serialize>(rt: &impl Abort, alloc: Global, value: &T, wanted: &str) {
+    let error = yaml_of(alloc, value).err().expect(rt, "an error");
+    let words = error.to_string(alloc).expect(rt, "no memory");
+    equal(rt, &words.as_str(), &wanted);
 }
 
-fn is_wrongly_flattened<T: Serialize>(alloc: Global, value: &T) -> bool {
-    matches!(yaml_of(alloc, value), Err(Error::Flattened))
-}
+/// The words of an emitter that is given no node where one is expected, or one too many.
+const NO_NODE: &str = "expected SCALAR, SEQUENCE-START, MAPPING-START, or ALIAS";
 
-/// What the emitter says of a value; nothing where another says something, or the value is written.
-fn emitter_error<T: Serialize>(alloc: Global, value: &T) -> Option<yaml_error_t> {
-    match yaml_of(alloc, value) {
-        Err(Error::Emitter(error)) => Some(error),
-        _ => None,
-    }
-}
+const NO_DOCUMENT_END: &str = "expected DOCUMENT-END";
+
+const TWO_TAGS: &str = "the data of a variant has a tag of its own";
 
 #[derive(Drop, Serialize)]
 pub(super) struct Server<'a> {
@@ -157,8 +155,16 @@ enum Shape {
     Empty,
     Circle(f64),
     Rectangle(u32, u32),
+}
+
+#[derive(Drop, Serialize)]
+enum Label {
     Named { id: u8 },
     Maybe(Option<u8>),
+}
+
+#[derive(Drop, Serialize)]
+enum Filling {
     Colored(Color),
     Counted(BTreeMap<u8, bool>),
 }
@@ -176,27 +182,31 @@ fn counted(alloc: Global) -> Result<BTreeMap<u8, bool>, AllocError> {
     Ok(counted)
 }
 
-fn shapes(alloc: Global) -> Result<[Shape; 7], AllocError> {
-    let counted = counted(alloc)?;
+fn fillings(alloc: Global) -> Result<[Filling; 2], AllocError> {
     Ok([
-        Shape::Empty,
-        Shape::Circle(1.5),
-        Shape::Rectangle(1, 2),
-        Shape::Named { id: 7 },
-        Shape::Maybe(None),
-        Shape::Colored(Color::DarkRed),
-        Shape::Counted(counted),
+        Filling::Colored(Color::DarkRed),
+        Filling::Counted(counted(alloc)?),
     ])
 }
 
 #[test]
 fn variants_with_data_have_tags(rt: HostRuntime) {
-    let expected =
-        "---\n- Empty\n- !Circle 1.5\n- !Rectangle\n  - 1\n  - 2\n- !Named\n  id: 7\n- !Maybe null\n- !Colored dark-red\n- !Counted\n  5: true\n";
-    check_made(&rt, rt.alloc(), shapes(rt.alloc()), expected);
-    check_text(&rt, rt.alloc(), &Color::Grey(3), "--- !grey 3\n");
-    let nested = Shape::Colored(Color::Grey(3));
-    equal(&rt, &has_two_tags(rt.alloc(), nested), &true);
+    let alloc = rt.alloc();
+    let shapes = [Shape::Empty, Shape::Circle(1.5), Shape::Rectangle(1, 2)];
+    let expected = "---\n- Empty\n- !Circle 1.5\n- !Rectangle\n  - 1\n  - 2\n";
+    check_text(&rt, alloc, &shapes, expected);
+    let labels = [Label::Named { id: 7 }, Label::Maybe(None)];
+    check_text(
+        &rt,
+        alloc,
+        &labels,
+        "---\n- !Named\n  id: 7\n- !Maybe null\n",
+    );
+    let expected = "---\n- !Colored dark-red\n- !Counted\n  5: true\n";
+    check_made(&rt, alloc, fillings(alloc), expected);
+    check_text(&rt, alloc, &Color::Grey(3), "--- !grey 3\n");
+    let nested = Filling::Colored(Color::Grey(3));
+    check_refused(&rt, alloc, &nested, TWO_TAGS);
 }
 
 /// The key is a pair.
@@ -250,7 +260,7 @@ fn bytes_are_base64(rt: HostRuntime) {
     let expected = "---\n- !!binary aGVsbG8=\n- !!binary ''\n- !!binary '1234'\n";
     check_text(&rt, rt.alloc(), &raw, expected);
     let packet = Packet::Data(Raw(b"x"));
-    equal(&rt, &has_two_tags(rt.alloc(), packet), &true);
+    check_refused(&rt, rt.alloc(), &packet, TWO_TAGS);
 }
 
 #[derive(Drop, Serialize)]
@@ -282,8 +292,8 @@ fn flattened_members_go_into_the_map_around_them(rt: HostRuntime) {
         none: None,
     };
     check_text(&rt, rt.alloc(), &outer, "---\nfirstName: 1\ndepth: 2\n");
-    let is_reported = is_wrongly_flattened(rt.alloc(), &Wrong { number: 1 });
-    equal(&rt, &is_reported, &true);
+    let words = "a flattened value is neither a struct nor a map";
+    check_refused(&rt, rt.alloc(), &Wrong { number: 1 }, words);
 }
 
 /// The name of a variant with data, and no data.
@@ -302,10 +312,8 @@ impl Serialize for Named {
 
 #[test]
 fn a_variant_without_its_data_is_refused(rt: HostRuntime) {
-    let error = Some(yaml_error_t::ExpectedNode);
-    let alone = emitter_error(rt.alloc(), &Named);
-    let within = emitter_error(rt.alloc(), &[Named]);
-    equal(&rt, &(alone, within), &(error, error));
+    check_refused(&rt, rt.alloc(), &Named, NO_NODE);
+    check_refused(&rt, rt.alloc(), &[Named], NO_NODE);
 }
 
 /// So many values, and then a complaint or none.
@@ -326,18 +334,10 @@ impl Serialize for Values {
     }
 }
 
-fn check_complaint(rt: &impl Abort, alloc: Global, value: &Values, wanted: &str) {
-    let error = yaml_of(alloc, value).err().expect(rt, "an error");
-    let words = error.to_string(alloc).expect(rt, "no memory");
-    equal(rt, &words.as_str(), &wanted);
-}
-
 #[test]
 fn what_is_no_value_is_refused(rt: HostRuntime) {
-    let none = emitter_error(rt.alloc(), &Values(0, None));
-    let two = emitter_error(rt.alloc(), &Values(2, None));
-    let error = Some(yaml_error_t::ExpectedNode);
-    let late = Some(yaml_error_t::ExpectedDocumentEnd);
-    equal(&rt, &(none, two), &(error, late));
-    check_complaint(&rt, rt.alloc(), &Values(1, Some("not today")), "not today");
+    let alloc = rt.alloc();
+    check_refused(&rt, alloc, &Values(0, None), NO_NODE);
+    check_refused(&rt, alloc, &Values(2, None), NO_DOCUMENT_END);
+    check_refused(&rt, alloc, &Values(1, Some("not today")), "not today");
 }

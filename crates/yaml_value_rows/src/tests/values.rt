@@ -19,11 +19,6 @@ fn canonical<'a>(heap: Heap<'a>, value: &Made<'a>) -> Result<Vec<u8, Heap<'a>>, 
     write_canonical(heap, value)
 }
 
-/// Why a value isn't written; none where it is.
-fn refusal<'a>(heap: Heap<'a>, value: &Made<'a>) -> Option<yaml_error_t> {
-    canonical(heap, value).err()
-}
-
 /// A value of a row.
 #[derive(Drop)]
 enum Example {
@@ -53,9 +48,9 @@ fn made<'a>(rt: &impl Abort, heap: Heap<'a>, example: &Example) -> Made<'a> {
         Example::Text(characters) => text(rt, heap, characters),
         Example::EmptyList => Value::List(Vec::new(heap)),
         Example::EmptyMap => Value::Map(Vec::new(heap)),
-        Example::List => list(rt, heap),
+        Example::List => list(rt, heap, false),
         Example::Map => falsehood(rt, heap),
-        Example::Mixed => mixed(rt, heap),
+        Example::Mixed => list(rt, heap, true),
         Example::Nested(count) => nested_lists(rt, heap, *count),
         Example::NestedKey(count) => map(rt, heap, nested_lists(rt, heap, *count), Value::Null),
     }
@@ -65,15 +60,26 @@ fn text<'a>(rt: &impl Abort, heap: Heap<'a>, characters: &str) -> Made<'a> {
     Value::Text(String::from_str(heap, characters).expect(rt, "no memory"))
 }
 
-/// The integer 5 and the text `a`.
-fn list<'a>(rt: &impl Abort, heap: Heap<'a>) -> Made<'a> {
-    let items = vec![in heap; Value::Int(5), text(rt, heap, "a")];
-    Value::List(items.expect(rt, "no memory"))
+/// A list or a map begins with this.
+fn one<'a, T: Drop>(rt: &impl Abort, heap: Heap<'a>, item: T) -> Vec<T, Heap<'a>> {
+    let mut items = Vec::new(heap);
+    items.push(item).expect(rt, "no memory");
+    items
+}
+
+/// The integer 5 and the text `a`, and a map where it has one.
+fn list<'a>(rt: &impl Abort, heap: Heap<'a>, has_map: bool) -> Made<'a> {
+    let mut items = one(rt, heap, Value::Int(5));
+    items.push(text(rt, heap, "a")).expect(rt, "no memory");
+    if has_map {
+        items.push(falsehood(rt, heap)).expect(rt, "no memory");
+    }
+    Value::List(items)
 }
 
 /// A map of one pair.
 fn map<'a>(rt: &impl Abort, heap: Heap<'a>, key: Made<'a>, value: Made<'a>) -> Made<'a> {
-    Value::Map(vec![in heap; (key, value)].expect(rt, "no memory"))
+    Value::Map(one(rt, heap, (key, value)))
 }
 
 /// A map of the text `k` to false.
@@ -81,21 +87,10 @@ fn falsehood<'a>(rt: &impl Abort, heap: Heap<'a>) -> Made<'a> {
     map(rt, heap, text(rt, heap, "k"), Value::Bool(false))
 }
 
-/// The integer 5, the text `a`, and that map.
-fn mixed<'a>(rt: &impl Abort, heap: Heap<'a>) -> Made<'a> {
-    let items = vec![in heap; Value::Int(5), text(rt, heap, "a"), falsehood(rt, heap)];
-    Value::List(items.expect(rt, "no memory"))
-}
-
-/// A list of this value alone.
-fn around<'a>(rt: &impl Abort, heap: Heap<'a>, value: Made<'a>) -> Made<'a> {
-    Value::List(vec![in heap; value].expect(rt, "no memory"))
-}
-
 fn nested_lists<'a>(rt: &impl Abort, heap: Heap<'a>, count: u32) -> Made<'a> {
     let mut value = Value::List(Vec::new(heap));
     for _ in 1..count {
-        value = around(rt, heap, value);
+        value = Value::List(one(rt, heap, value));
     }
     value
 }

@@ -123,17 +123,31 @@ fn check_written(
 /// Calls, and what they write.
 type Row<'a> = (&'a [Call], &'a str);
 
-fn check_rows(rt: &impl Abort, alloc: Global, settings: Settings, rows: &[Row]) {
-    for row in rows {
-        check_written(rt, alloc, settings, row.0, &Ok(row.1.as_bytes()));
+fn check_rows(rt: &impl Abort, alloc: Global, settings: Settings, tables: &[&[Row]]) {
+    for rows in tables {
+        for row in *rows {
+            check_written(rt, alloc, settings, row.0, &Ok(row.1.as_bytes()));
+        }
     }
 }
 
-fn canonical() -> Settings {
-    Settings {
+const WRITTEN: &[&[Row]] = &[
+    kinds::WRITTEN,
+    styles::WRITTEN,
+    texts::WRITTEN,
+    timestamps::WRITTEN,
+];
+
+const CANONICAL: &[&[Row]] = &[kinds::CANONICAL, styles::CANONICAL, timestamps::CANONICAL];
+
+#[test]
+fn values_are_written(rt: HostRuntime) {
+    check_rows(&rt, rt.alloc(), value_settings(), WRITTEN);
+    let canonical = Settings {
         canonical: true,
         ..value_settings()
-    }
+    };
+    check_rows(&rt, rt.alloc(), canonical, CANONICAL);
 }
 
 /// The maximum output size in bytes.

@@ -1,10 +1,10 @@
 //! Values whose canonical form was written out by hand.
 use super::Example;
-use super::memory::{Row, check_rows};
+use super::memory::{Row, check_row};
 use yaml_test_allocator::Refusing;
 use yaml_value::equal_bytes_equal_values;
 
-const SCALARS: &[Row] = &[
+const WRITTEN: &[Row] = &[
     (Example::Null, "---\n!!null \"null\"\n"),
     (Example::Bool(true), "---\n!!bool \"true\"\n"),
     (Example::Bool(false), "---\n!!bool \"false\"\n"),
@@ -21,14 +21,6 @@ const SCALARS: &[Row] = &[
     (Example::Text(""), "---\n!!str \"\"\n"),
     (Example::Text("a\nb"), "---\n!!str \"a\\nb\"\n"),
     (Example::Text("é"), "---\n!!str \"é\"\n"),
-];
-
-#[test]
-fn scalars_are_written_with_their_tags(rt: HostRuntime) {
-    check_rows(&rt, &Refusing::new(rt.alloc()), SCALARS);
-}
-
-const COLLECTIONS: &[Row] = &[
     (Example::EmptyList, "---\n!!seq []\n"),
     (Example::EmptyMap, "---\n!!map {}\n"),
     (
@@ -46,8 +38,11 @@ const COLLECTIONS: &[Row] = &[
 ];
 
 #[test]
-fn collections_are_written_with_their_tags(rt: HostRuntime) {
-    check_rows(&rt, &Refusing::new(rt.alloc()), COLLECTIONS);
+fn values_are_written_with_their_tags(rt: HostRuntime) {
+    let heap = Refusing::new(rt.alloc());
+    for row in WRITTEN {
+        check_row(&rt, &heap, row, true);
+    }
 }
 
 // A law, which is called once.

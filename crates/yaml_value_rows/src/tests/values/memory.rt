@@ -1,6 +1,6 @@
 //! Values written where memory is refused.
-use super::{Example, Heap, canonical, made, refusal};
-use crate::tests::{answers, equal};
+use super::{Example, Heap, canonical, made};
+use crate::tests::answers;
 use std::alloc::Global;
 use std::process::Abort;
 use yaml_base::yaml_error_t;
@@ -28,27 +28,21 @@ fn is_reported<'a>(
     is_met
 }
 
-// Each growth that a value takes is refused in turn, and after each refusal it gives this text as ever.
-fn writes<'a>(rt: &impl Abort, heap: Heap<'a>, value: &Value<Heap<'a>>, expected: &[u8]) {
-    for number in 1..usize::MAX {
-        if !is_reported(rt, heap, value, expected, number) {
-            return;
-        }
-        answers(rt, canonical(heap, value), &Ok(expected));
-    }
-}
-
-// Each growth that a value takes is refused in turn, and after them all it gives this text: a long one takes too much time to be
-// written after each.
-fn writes_in_the_end<'a>(
+// Each growth that a value takes is refused in turn, and after them all it gives this text; also after each, where it is written
+// again: a long one takes too much time for that.
+fn writes<'a>(
     rt: &impl Abort,
     heap: Heap<'a>,
     value: &Value<Heap<'a>>,
     expected: &[u8],
+    again: bool,
 ) {
     for number in 1..usize::MAX {
         if !is_reported(rt, heap, value, expected, number) {
             return;
+        }
+        if again {
+            answers(rt, canonical(heap, value), &Ok(expected));
         }
     }
 }
@@ -56,16 +50,10 @@ fn writes_in_the_end<'a>(
 /// A value, and what is written.
 pub(super) type Row<'a> = (Example, &'a str);
 
-fn check_row(rt: &impl Abort, heap: Heap<'_>, row: &Row) {
+pub(super) fn check_row(rt: &impl Abort, heap: Heap<'_>, row: &Row, again: bool) {
     let value = made(rt, heap, &row.0);
-    writes(rt, heap, &value, row.1.as_bytes());
+    writes(rt, heap, &value, row.1.as_bytes(), again);
     drop(value);
-}
-
-pub(super) fn check_rows(rt: &impl Abort, heap: Heap<'_>, rows: &[Row]) {
-    for row in rows {
-        check_row(rt, heap, row);
-    }
 }
 
 /// A line of a list within so many others.
@@ -90,44 +78,12 @@ fn nested_text(rt: &impl Abort, alloc: Global, count: u32) -> String {
     text
 }
 
-fn check_nested(rt: &impl Abort, alloc: Global, count: u32) {
-    let text = nested_text(rt, alloc, count.saturating_sub(1));
-    let heap = Refusing::new(alloc);
-    check_row(rt, &heap, &(Example::Nested(count), text.as_str()));
-}
-
 #[test]
-fn thirty_lists_are_written(rt: HostRuntime) {
-    check_nested(&rt, rt.alloc(), 30);
-}
-
-fn check_deep(rt: &impl Abort, heap: Heap<'_>, expected: &[u8]) {
-    let value = made(rt, heap, &Example::Nested(1_000));
-    writes_in_the_end(rt, heap, &value, expected);
-    drop(value);
-}
-
-#[test]
-fn a_thousand_lists_are_written(rt: HostRuntime) {
-    let text = nested_text(&rt, rt.alloc(), 999);
-    check_deep(&rt, &Refusing::new(rt.alloc()), text.as_str().as_bytes());
-}
-
-fn check_too_deep<'a>(rt: &impl Abort, heap: Heap<'a>, value: &Value<Heap<'a>>) {
-    heap.refuse(1);
-    let error = refusal(heap, value);
-    equal(rt, &error, &Some(yaml_error_t::TooDeep));
-    equal(rt, &heap.left(), &1);
-}
-
-fn check_depth(rt: &impl Abort, heap: Heap<'_>, depth: u32) {
-    let value = made(rt, heap, &Example::Nested(depth));
-    check_too_deep(rt, heap, &value);
-    drop(value);
-}
-
-// A value that is nested too deep is refused before anything is allocated.
-#[test]
-fn too_deep_needs_no_memory(rt: HostRuntime) {
-    check_depth(&rt, &Refusing::new(rt.alloc()), 1_001);
+fn thirty_lists_and_a_thousand_are_written(rt: HostRuntime) {
+    let heap = Refusing::new(rt.alloc());
+    for (count, again) in [(30, true), (1_000, false)] {
+        let text = nested_text(&rt, rt.alloc(), count - 1);
+        let row = (Example::Nested(count), text.as_str());
+        check_row(&rt, &heap, &row, again);
+    }
 }

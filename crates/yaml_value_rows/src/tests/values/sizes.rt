@@ -1,5 +1,5 @@
 //! How many values there are, and how deep they lie.
-use super::{Example, Heap, Made, made, refusal};
+use super::{Example, Heap, Made, canonical, made};
 use crate::tests::equal;
 use std::process::Abort;
 use yaml_base::yaml_error_t;
@@ -33,12 +33,6 @@ fn counted(rt: &impl Abort, heap: Heap<'_>, example: &Example) -> u64 {
     count
 }
 
-fn check_counts(rt: &impl Abort, heap: Heap<'_>, rows: &[(Example, u64)]) {
-    for row in rows {
-        equal(rt, &counted(rt, heap, &row.0), &row.1);
-    }
-}
-
 const COUNTS: &[(Example, u64)] = &[
     (Example::Null, 1),
     (Example::Text("abc"), 1),
@@ -49,20 +43,21 @@ const COUNTS: &[(Example, u64)] = &[
 
 #[test]
 fn a_value_counts_itself(rt: HostRuntime) {
-    check_counts(&rt, &Refusing::new(rt.alloc()), COUNTS);
-}
-
-fn refusal_of(rt: &impl Abort, heap: Heap<'_>, example: &Example) -> Option<yaml_error_t> {
-    let value = made(rt, heap, example);
-    let error = refusal(heap, &value);
-    drop_nested(value);
-    error
-}
-
-fn check_depths(rt: &impl Abort, heap: Heap<'_>, rows: &[(Example, Option<yaml_error_t>)]) {
-    for row in rows {
-        equal(rt, &refusal_of(rt, heap, &row.0), &row.1);
+    let heap = Refusing::new(rt.alloc());
+    for (example, count) in COUNTS {
+        equal(&rt, &counted(&rt, &heap, example), count);
     }
+}
+
+// A value that is nested too deep is refused before anything is allocated.
+fn check_depth(rt: &impl Abort, heap: Heap<'_>, example: &Example, error: Option<yaml_error_t>) {
+    let value = made(rt, heap, example);
+    if error.is_some() {
+        heap.refuse(1);
+    }
+    equal(rt, &canonical(heap, &value).err(), &error);
+    heap.refuse(0);
+    drop_nested(value);
 }
 
 const DEPTHS: &[(Example, Option<yaml_error_t>)] = &[
@@ -74,5 +69,8 @@ const DEPTHS: &[(Example, Option<yaml_error_t>)] = &[
 
 #[test]
 fn a_thousand_may_lie_within_one_another(rt: HostRuntime) {
-    check_depths(&rt, &Refusing::new(rt.alloc()), DEPTHS);
+    let heap = Refusing::new(rt.alloc());
+    for (example, error) in DEPTHS {
+        check_depth(&rt, &heap, example, *error);
+    }
 }

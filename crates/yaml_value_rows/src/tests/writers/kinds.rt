@@ -1,6 +1,5 @@
 //! Values of each kind, with their properties, in documents that follow one another, and in canonical mode.
-use super::{Call, Row, canonical, check_rows};
-use yaml_writer::value_settings;
+use super::{Call, Row};
 
 /// A value of each kind.
 const KINDS: &[Call] = &[
@@ -59,7 +58,8 @@ const FLOAT: &[Call] = &[
     Call::Number("5"),
 ];
 
-const WRITTEN: &[Row] = &[
+/// Values of each kind, with their properties.
+pub(super) const WRITTEN: &[Row] = &[
     (
         KINDS,
         "---\n'true': true\nfalse: null\nnumbers: [-9223372036854775808, 18446744073709551615]\n",
@@ -73,13 +73,8 @@ const WRITTEN: &[Row] = &[
     (FLOAT, "--- &a !!float 5\n"),
 ];
 
-#[test]
-fn values_of_each_kind_are_written_with_their_properties(rt: HostRuntime) {
-    check_rows(&rt, rt.alloc(), value_settings(), WRITTEN);
-}
-
 /// Numbers have the tag of their spelling.
-const CANONICAL: &[Row] = &[
+pub(super) const CANONICAL: &[Row] = &[
     (NULL_AND_TEXT, "---\n[\n  !!null \"null\",\n  \"no\",\n]\n"),
     (
         NUMBERS,
@@ -87,8 +82,3 @@ const CANONICAL: &[Row] = &[
          !!float \"0.5\",\n  !!float \"-1.5e-7\",\n  !!int \"12345678901234567890123\",\n]\n",
     ),
 ];
-
-#[test]
-fn canonical_values_have_tags(rt: HostRuntime) {
-    check_rows(&rt, rt.alloc(), canonical(), CANONICAL);
-}

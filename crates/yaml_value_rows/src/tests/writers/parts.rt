@@ -1,58 +1,23 @@
 //! Streams that are taken in parts, and their limit.
-use super::{Answer, Call, check_written, equal, give_all, limited, writer};
-use crate::tests::{came, finished, same};
+use super::{Answer, Call, check_given, check_written, give_all, limited, writer};
+use crate::tests::same;
 use std::alloc::Global;
 use std::process::Abort;
 use yaml_writer::{Writer, value_settings, yaml_error_t};
 
-/// What came since the last call is added to these bytes.
-fn take(rt: &impl Abort, writer: &mut Writer<Global>, sent: &mut Vec<u8>) {
-    add(rt, sent, writer.take_output().as_slice());
-}
-
-fn add(rt: &impl Abort, sent: &mut Vec<u8>, part: &[u8]) {
-    sent.extend_from_slice(part).expect(rt, "no memory");
-}
-
 /// Calls, and what was sent after them.
 type Part = (&'static [Call], &'static str);
 
+/// What came since the last call is added to these bytes.
 fn check_part(rt: &impl Abort, writer: &mut Writer<Global>, sent: &mut Vec<u8>, row: &Part) {
     give_all(rt, writer, row.0);
-    take(rt, writer, sent);
+    let part = writer.take_output();
+    sent.extend_from_slice(part.as_slice())
+        .expect(rt, "no memory");
     same(rt, sent.as_slice(), row.1.as_bytes());
 }
 
-fn check_parts(rt: &impl Abort, writer: &mut Writer<Global>, sent: &mut Vec<u8>, rows: &[Part]) {
-    for row in rows {
-        check_part(rt, writer, sent, row);
-    }
-}
-
-/// The last part of a stream.
-fn check_last(rt: &impl Abort, writer: Writer<Global>, sent: &mut Vec<u8>, wanted: &Answer) {
-    match finished(writer) {
-        Ok(bytes) => {
-            add(rt, sent, bytes.as_slice());
-            came(rt, sent.as_slice(), wanted);
-        }
-        Err(error) => equal(rt, &Some(error), &wanted.err()),
-    }
-}
-
-fn check_taken(
-    rt: &impl Abort,
-    mut writer: Writer<Global>,
-    sent: &mut Vec<u8>,
-    rows: &[Part],
-    last: (&[Call], Answer),
-) {
-    check_parts(rt, &mut writer, sent, rows);
-    give_all(rt, &mut writer, last.0);
-    check_last(rt, writer, sent, &last.1);
-}
-
-/// A stream with this limit: parts that are taken, and the last, with all that was sent after it.
+/// A stream with this limit: parts that are taken, and the last calls, with what is left for the end.
 fn check_in_parts(
     rt: &impl Abort,
     alloc: Global,
@@ -60,8 +25,12 @@ fn check_in_parts(
     rows: &[Part],
     last: (&[Call], Answer),
 ) {
-    let writer = writer(rt, alloc, limited(limit));
-    check_taken(rt, writer, &mut Vec::new(alloc), rows, last);
+    let mut writer = writer(rt, alloc, limited(limit));
+    let mut sent = Vec::new(alloc);
+    for row in rows {
+        check_part(rt, &mut writer, &mut sent, row);
+    }
+    check_given(rt, writer, last.0, &last.1);
 }
 
 /// A document of one letter, and the start of the next.
@@ -94,7 +63,7 @@ const PARTS: &[Part] = &[(LETTER, "---\n- a\n"), (WORD, "---\n- a\n---\n- 'no'\n
 fn parts_that_are_taken_make_the_stream(rt: HostRuntime) {
     let whole = Ok(THREE.as_bytes());
     check_written(&rt, rt.alloc(), value_settings(), WHOLE, &whole);
-    let last = (LAST, Ok(THREE.as_bytes()));
+    let last: (&[Call], Answer) = (LAST, Ok(b"---\n- c\n"));
     check_in_parts(&rt, rt.alloc(), usize::MAX, PARTS, last);
 }
 

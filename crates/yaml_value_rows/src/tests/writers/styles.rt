@@ -1,11 +1,10 @@
 //! Texts in a style that is asked for, and ends of documents that are.
-use super::{Call, Row, canonical, check_rows, check_written, give_all, writer};
+use super::{Call, Row, give_all, writer};
 use crate::tests::answers;
-use std::alloc::Global;
 use yaml_writer::{
-    DocumentEnd, Writer, YAML_ANY_SCALAR_STYLE, YAML_DOUBLE_QUOTED_SCALAR_STYLE,
-    YAML_FOLDED_SCALAR_STYLE, YAML_LITERAL_SCALAR_STYLE, YAML_PLAIN_SCALAR_STYLE,
-    YAML_SINGLE_QUOTED_SCALAR_STYLE, value_settings, yaml_error_t,
+    DocumentEnd, YAML_ANY_SCALAR_STYLE, YAML_DOUBLE_QUOTED_SCALAR_STYLE, YAML_FOLDED_SCALAR_STYLE,
+    YAML_LITERAL_SCALAR_STYLE, YAML_PLAIN_SCALAR_STYLE, YAML_SINGLE_QUOTED_SCALAR_STYLE,
+    value_settings,
 };
 
 const PLAIN: &[Call] = &[
@@ -53,7 +52,7 @@ const ENDED: &[Call] = &[
 ];
 
 /// A plain text is one that may stand plain, and a text stands in a block where it can.
-const WRITTEN: &[Row] = &[
+pub(super) const WRITTEN: &[Row] = &[
     (
         PLAIN,
         "---\n- a b\n- 'no'\n- '1.0'\n- 'a: b'\n- 'a\n\n  b'\n- |-\n  a\n  b\n",
@@ -66,26 +65,17 @@ const WRITTEN: &[Row] = &[
     (ENDED, "---\n- a\n...\n--- b\n"),
 ];
 
-#[test]
-fn texts_and_ends_have_the_style_that_is_asked_for(rt: HostRuntime) {
-    check_rows(&rt, rt.alloc(), value_settings(), WRITTEN);
-}
-
-#[test]
-fn canonical_form_asks_for_double_quotes(rt: HostRuntime) {
-    let calls = &[Call::Styled(YAML_LITERAL_SCALAR_STYLE, "a")];
-    check_written(&rt, rt.alloc(), canonical(), calls, &Ok(b"---\n\"a\"\n"));
-}
-
-/// The bytes of a writer whose document ends with `...`. (Tests need none of the clauses of the call.)
-fn ended(writer: Writer<Global>) -> Result<Vec<u8>, yaml_error_t> {
-    writer.finish_after(DocumentEnd::Explicit)
-}
+/// Canonical form asks for double quotes.
+pub(super) const CANONICAL: &[Row] = &[(
+    &[Call::Styled(YAML_LITERAL_SCALAR_STYLE, "a")],
+    "---\n\"a\"\n",
+)];
 
 #[test]
 fn a_stream_ends_with_dots_where_asked(rt: HostRuntime) {
     let mut writer = writer(&rt, rt.alloc(), value_settings());
     give_all(&rt, &mut writer, ENDED);
     let expected = b"---\n- a\n...\n--- b\n...\n".as_slice();
-    answers(&rt, ended(writer), &Ok(expected));
+    let ended = writer.finish_after(DocumentEnd::Explicit);
+    answers(&rt, ended, &Ok(expected));
 }

@@ -1,6 +1,5 @@
 //! Which texts stand plain, and which in quotes or literally.
-use super::{Call, Row, check_rows};
-use yaml_writer::value_settings;
+use super::{Call, Row};
 
 /// Words, which stand in quotes.
 const WORDS: &[Call] = &[
@@ -70,7 +69,8 @@ const OTHERS: &[Call] = &[
     Call::End,
 ];
 
-const WRITTEN: &[Row] = &[
+/// Texts stand in quotes where a reader takes them for something else.
+pub(super) const WRITTEN: &[Row] = &[
     (
         WORDS,
         "---\n- 'no'\n- 'NO'\n- 'n'\n- 'off'\n- '~'\n- ''\n- '='\n- '<<'\n- 'null'\n- 'True'\n- 'tRue'\n- 'inf'\n- 'No\u{eb}l'\n",
@@ -88,8 +88,3 @@ const WRITTEN: &[Row] = &[
         "---\n- none\n- 'null '\n- a b\n- '# c'\n- |\n  a\n  b\n- |-\n  1\n  2\n",
     ),
 ];
-
-#[test]
-fn texts_stand_in_quotes_where_a_reader_takes_them_for_something_else(rt: HostRuntime) {
-    check_rows(&rt, rt.alloc(), value_settings(), WRITTEN);
-}

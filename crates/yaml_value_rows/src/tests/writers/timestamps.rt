@@ -1,9 +1,9 @@
 //! Dates and times of day, against texts written by hand.
-use super::{Call, Row, canonical, check_rows, check_written};
+use super::{Call, Row};
 use crate::tests::{equal, same};
 use std::alloc::Global;
 use std::process::Abort;
-use yaml_writer::{Date, Offset, Sign, Time, Timestamp, value_settings};
+use yaml_writer::{Date, Offset, Sign, Time, Timestamp};
 
 fn check_text(rt: &impl Abort, alloc: Global, timestamp: &Timestamp, wanted: &str) {
     let text = timestamp.text(alloc).expect(rt, "no memory");
@@ -40,10 +40,7 @@ const DATES: &[DateRow] = &[
     (2001, 10, 31, "2001-10-31"),
     (2001, 11, 30, "2001-11-30"),
     (2001, 12, 31, "2001-12-31"),
-];
-
-/// Leap years have a day more.
-const LEAP_DAYS: &[DateRow] = &[
+    // Leap years have a day more.
     (1900, 2, 28, "1900-02-28"),
     (2000, 2, 29, "2000-02-29"),
     (2004, 2, 29, "2004-02-29"),
@@ -54,9 +51,6 @@ const LEAP_DAYS: &[DateRow] = &[
 #[test]
 fn dates_have_ten_characters(rt: HostRuntime) {
     for row in DATES {
-        check_date(&rt, rt.alloc(), row);
-    }
-    for row in LEAP_DAYS {
         check_date(&rt, rt.alloc(), row);
     }
 }
@@ -84,13 +78,6 @@ const NO_DATES: &[(u16, u8, u8)] = &[
     (2001, 12, 32),
     (2001, 12, 255),
 ];
-
-#[test]
-fn the_calendar_lacks_other_days(rt: HostRuntime) {
-    for (year, month, day) in NO_DATES {
-        equal(&rt, &Date::new(*year, *month, *day), &None);
-    }
-}
 
 /// A plus or a minus, hours and minutes.
 type OffsetRow = (Sign, u8, u8);
@@ -188,18 +175,14 @@ const NO_TIMES: &[(u8, u8, u8, u32)] = &[
 ];
 
 #[test]
-fn no_clock_shows_other_times(rt: HostRuntime) {
-    for (hour, minute, second, nanosecond) in NO_TIMES {
-        equal(
-            &rt,
-            &Time::new(*hour, *minute, *second, *nanosecond, None),
-            &None,
-        );
+fn the_calendar_and_the_clock_lack_others(rt: HostRuntime) {
+    for (year, month, day) in NO_DATES {
+        equal(&rt, &Date::new(*year, *month, *day), &None);
     }
-}
-
-#[test]
-fn offsets_are_less_than_a_day(rt: HostRuntime) {
+    for (hour, minute, second, nanosecond) in NO_TIMES {
+        let time = Time::new(*hour, *minute, *second, *nanosecond, None);
+        equal(&rt, &time, &None);
+    }
     let day = Offset::new(Sign::Plus, 24, 0);
     let hour = Offset::new(Sign::Minus, 0, 60);
     equal(&rt, &(day, hour), &(None, None));
@@ -234,7 +217,8 @@ const PROPERTIES: &[Call] = &[
     Call::End,
 ];
 
-const WRITTEN: &[Row] = &[
+/// Dates stand plain, and times have their tag.
+pub(super) const WRITTEN: &[Row] = &[
     (
         TIMESTAMPS,
         "---\n2001-01-01: 9999-12-31\n\
@@ -247,11 +231,6 @@ const WRITTEN: &[Row] = &[
     ),
 ];
 
-#[test]
-fn dates_stand_plain_and_times_have_their_tag(rt: HostRuntime) {
-    check_rows(&rt, rt.alloc(), value_settings(), WRITTEN);
-}
-
 const DATE_AND_TIME: &[Call] = &[
     Call::Sequence,
     Call::Date(2002, 12, 14),
@@ -259,9 +238,8 @@ const DATE_AND_TIME: &[Call] = &[
     Call::End,
 ];
 
-#[test]
-fn canonical_timestamps_have_tags(rt: HostRuntime) {
-    let expected =
-        b"---\n[\n  !!timestamp \"2002-12-14\",\n  !!timestamp \"2001-12-14T12:00:00Z\",\n]\n";
-    check_written(&rt, rt.alloc(), canonical(), DATE_AND_TIME, &Ok(expected));
-}
+/// Timestamps have tags.
+pub(super) const CANONICAL: &[Row] = &[(
+    DATE_AND_TIME,
+    "---\n[\n  !!timestamp \"2002-12-14\",\n  !!timestamp \"2001-12-14T12:00:00Z\",\n]\n",
+)];
