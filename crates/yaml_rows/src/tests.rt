@@ -15,7 +15,7 @@ mod types;
 use std::alloc::{Allocator, Global};
 use std::fmt::Debug;
 use std::process::Abort;
-use yaml_base::{yaml_error_t, yaml_event_t, yaml_tag_directive_t};
+use yaml_base::{YAML_DOCUMENT_START_EVENT, yaml_error_t, yaml_event_t, yaml_tag_directive_t};
 use yaml_pen::{Indicator, Pen};
 use yaml_scalar::holds_break;
 use yaml_tool::read_script;
@@ -30,41 +30,16 @@ fn owned<A: Allocator>(rt: &impl Abort, alloc: A, s: &str) -> String<A> {
     String::from_str(alloc, s).expect(rt, "no memory")
 }
 
-/// A copy of a text, where there is one.
-fn owned_choice<A: Allocator>(
-    rt: &impl Abort,
-    alloc: A,
-    choice: Option<&str>,
-) -> Option<String<A>> {
-    match choice {
-        Some(text) => Some(owned(rt, alloc, text)),
-        None => None,
-    }
-}
-
-/// A handle, and a prefix.
-type Tag<'a> = (&'a str, &'a str);
-
-/// A directive, for which there is memory.
-fn directive<A: Allocator + Copy>(rt: &impl Abort, alloc: A, tag: &Tag) -> yaml_tag_directive_t<A> {
-    yaml_tag_directive_t {
-        handle: owned(rt, alloc, tag.0),
-        prefix: owned(rt, alloc, tag.1),
-    }
-}
-
-/// Directives, for which there is memory.
+/// The directives of a document's start, by its line in a script.
 fn directives<A: Allocator + Copy>(
     rt: &impl Abort,
     alloc: A,
-    tags: &[Tag],
+    line: &str,
 ) -> Vec<yaml_tag_directive_t<A>, A> {
-    let mut directives = Vec::new(alloc);
-    for tag in tags {
-        let given = directive(rt, alloc, tag);
-        directives.push(given).expect(rt, "no memory");
+    match event_of(rt, alloc, line) {
+        YAML_DOCUMENT_START_EVENT { tag_directives, .. } => tag_directives,
+        _ => Vec::new(alloc),
     }
-    directives
 }
 
 /// These texts in one, for which there is memory.
@@ -85,7 +60,7 @@ fn event_of<A: Allocator + Copy>(rt: &impl Abort, alloc: A, line: &str) -> yaml_
 
 /// This was written.
 fn same(rt: &impl Abort, got: &[u8], wanted: &[u8]) {
-    assert_eq!(rt; got, wanted);
+    equal(rt, &got, &wanted);
 }
 
 /// Writes an indicator; an error where it holds a break, so that no caller has to show that it holds none.

@@ -6,7 +6,7 @@ mod memory;
 pub(super) mod steps;
 mod taking;
 
-use crate::tests::{equal, event_of};
+use crate::tests::equal;
 use std::alloc::{Allocator, Global};
 use std::process::Abort;
 use yaml_base::{
@@ -92,29 +92,6 @@ pub(super) fn flush_if_known<A: Allocator + Copy>(
         return yaml_emitter_flush(emitter);
     }
     Ok(())
-}
-
-/// Emits the event of a script's line, which isn't refused.
-fn emit<A: Allocator + Copy>(
-    rt: &impl Abort,
-    alloc: A,
-    emitter: &mut yaml_emitter_t<A>,
-    line: &str,
-) {
-    let answer = give(rt, emitter, event_of(rt, alloc, line));
-    equal(rt, &answer, &Ok(()));
-}
-
-/// Emits the events of these lines, none of which is refused.
-fn emit_all<A: Allocator + Copy>(
-    rt: &impl Abort,
-    alloc: A,
-    emitter: &mut yaml_emitter_t<A>,
-    lines: &[&str],
-) {
-    for line in lines {
-        emit(rt, alloc, emitter, line);
-    }
 }
 
 /// After an error each call answers it, an event and a flush; nothing waits, and nothing more is flushed.

@@ -1,35 +1,42 @@
 //! Names, versions, directives, and where a tag is cut.
 mod spelled;
 
-use super::{Tag, directive, directives, equal};
+use super::{directives, equal};
 use std::alloc::{Allocator, Global};
 use std::process::Abort;
 use yaml_base::{yaml_error_t, yaml_tag_directive_t, yaml_version_directive_t};
 use yaml_mark::*;
 use yaml_test_allocator::Refusing;
 
-const DEFAULTS: &[Tag] = &[("!", "!"), ("!!", "tag:yaml.org,2002:")];
-
-// The directives in force in a document that gives these.
-fn in_force(rt: &impl Abort, alloc: Global, own: &[Tag]) -> Directives<Global> {
-    let mut directives = Directives::new(alloc);
-    for (tags, as_default) in [(own, false), (DEFAULTS, true)] {
-        for tag in tags {
-            let answer = directives.append(&directive(rt, alloc, tag), as_default);
-            equal(rt, &answer, &Ok(()));
-        }
-    }
-    directives
+/// A directive, by its line in a script.
+fn directive(rt: &impl Abort, alloc: Global, line: &str) -> yaml_tag_directive_t<Global> {
+    let mut given = directives(rt, alloc, line);
+    given.pop().expect(rt, "a directive")
 }
 
-fn holds<A: Allocator>(
+const DEFAULTS: &str = r#"+DOC 1 - "!" "!" "!!" "tag:yaml.org,2002:""#;
+
+// The directives in force in a document whose start is this line.
+fn in_force(rt: &impl Abort, alloc: Global, own: &str) -> Directives<Global> {
+    let mut in_force = Directives::new(alloc);
+    for (line, as_default) in [(own, false), (DEFAULTS, true)] {
+        for given in &directives(rt, alloc, line) {
+            equal(rt, &in_force.append(given, as_default), &Ok(()));
+        }
+    }
+    in_force
+}
+
+// These are in force, in their order.
+fn check_all<A: Allocator>(
+    rt: &impl Abort,
     directives: &Directives<A>,
-    i: usize,
-    wanted: &yaml_tag_directive_t<A>,
-) -> bool {
-    match directives.get(i) {
-        Some(directive) => directive == wanted,
-        None => false,
+    wanted: &[yaml_tag_directive_t<A>],
+) {
+    equal(rt, &directives.len(), &wanted.len());
+    equal(rt, &directives.get(wanted.len()).is_none(), &true);
+    for (number, directive) in wanted.iter().enumerate() {
+        equal(rt, &directives.get(number), &Some(directive));
     }
 }
 
@@ -37,16 +44,6 @@ type Answer = Result<(), yaml_error_t>;
 
 /// A major and a minor version, and what is said of them.
 type Version = (i32, i32, Answer);
-
-fn check_versions(rt: &impl Abort, rows: &[Version]) {
-    for row in rows {
-        let version = yaml_version_directive_t {
-            major: row.0,
-            minor: row.1,
-        };
-        equal(rt, &analyze_version(version), &row.2);
-    }
-}
 
 const OTHER: Answer = Err(yaml_error_t::IncompatibleVersion);
 
@@ -61,18 +58,17 @@ const VERSIONS: &[Version] = &[
 
 #[test]
 fn versions_are_1_1_and_1_2(rt: HostRuntime) {
-    check_versions(&rt, VERSIONS);
+    for (major, minor, answer) in VERSIONS {
+        let version = yaml_version_directive_t {
+            major: *major,
+            minor: *minor,
+        };
+        equal(&rt, &analyze_version(version), answer);
+    }
 }
 
 /// A name, and what is said of it as an anchor, and as an alias.
 type Name<'a> = (&'a str, Answer, Answer);
-
-fn check_names(rt: &impl Abort, rows: &[Name]) {
-    for row in rows {
-        let answers = (analyze_anchor(row.0, false), analyze_anchor(row.0, true));
-        equal(rt, &answers, &(row.1, row.2));
-    }
-}
 
 const ANCHOR: Answer = Err(yaml_error_t::AnchorAlphabet);
 
@@ -93,112 +89,109 @@ const NAMES: &[Name] = &[
 
 #[test]
 fn anchors_and_aliases_are_names(rt: HostRuntime) {
-    check_names(&rt, NAMES);
-}
-
-/// A handle, a prefix, and what is said of them.
-type Row<'a> = (&'a str, &'a str, Answer);
-
-fn check_directives(rt: &impl Abort, alloc: Global, rows: &[Row]) {
-    for row in rows {
-        let given = directive(rt, alloc, &(row.0, row.1));
-        equal(rt, &analyze_tag_directive(&given), &row.2);
+    for row in NAMES {
+        let (anchor, alias) = (analyze_anchor(row.0, false), analyze_anchor(row.0, true));
+        equal(&rt, &(row.0, anchor, alias), row);
     }
 }
 
-const DIRECTIVES: &[Row] = &[
-    ("!", "x", Ok(())),
-    ("!!", "x", Ok(())),
-    ("!e-_9!", "x", Ok(())),
-    ("", "", Err(yaml_error_t::TagHandleEmpty)),
-    ("a!", "", Err(yaml_error_t::TagHandleStart)),
-    ("!a", "", Err(yaml_error_t::TagHandleEnd)),
-    ("!a.b!", "", Err(yaml_error_t::TagHandleAlphabet)),
-    ("!a\0!", "", Err(yaml_error_t::TagHandleAlphabet)),
-    ("!!!", "x", Err(yaml_error_t::TagHandleAlphabet)),
-    ("!e!", "", Err(yaml_error_t::TagPrefixEmpty)),
+/// A directive's line, and what is said of its handle and its prefix.
+const DIRECTIVES: &[(&str, Answer)] = &[
+    (r#"+DOC 1 - "!" "x""#, Ok(())),
+    (r#"+DOC 1 - "!!" "x""#, Ok(())),
+    (r#"+DOC 1 - "!e-_9!" "x""#, Ok(())),
+    (r#"+DOC 1 - "" """#, Err(yaml_error_t::TagHandleEmpty)),
+    (r#"+DOC 1 - "a!" """#, Err(yaml_error_t::TagHandleStart)),
+    (r#"+DOC 1 - "!a" """#, Err(yaml_error_t::TagHandleEnd)),
+    (
+        r#"+DOC 1 - "!a.b!" """#,
+        Err(yaml_error_t::TagHandleAlphabet),
+    ),
+    (
+        r#"+DOC 1 - "!a\u{0}!" """#,
+        Err(yaml_error_t::TagHandleAlphabet),
+    ),
+    (
+        r#"+DOC 1 - "!!!" "x""#,
+        Err(yaml_error_t::TagHandleAlphabet),
+    ),
+    (r#"+DOC 1 - "!e!" """#, Err(yaml_error_t::TagPrefixEmpty)),
 ];
 
 #[test]
 fn directives_are_refused_in_order(rt: HostRuntime) {
-    check_directives(&rt, rt.alloc(), DIRECTIVES);
-}
-
-/// A handle, a prefix, and whether they are a default; what is said of them, and how many are then in force.
-type Given<'a> = (&'a str, &'a str, bool, Answer, usize);
-
-// A directive is added, and then so many are in force; or it is refused.
-fn check_appends(
-    rt: &impl Abort,
-    alloc: Global,
-    directives: &mut Directives<Global>,
-    rows: &[Given],
-) {
-    for row in rows {
-        let given = directive(rt, alloc, &(row.0, row.1));
-        equal(rt, &directives.append(&given, row.2), &row.3);
-        equal(rt, &directives.len(), &row.4);
+    for (line, answer) in DIRECTIVES {
+        let given = directive(&rt, rt.alloc(), line);
+        equal(&rt, &analyze_tag_directive(&given), answer);
     }
 }
 
-// This one is in force at that place.
-fn check_held(
+/// A directive's line, and whether it is a default; what is said of it, and how many are then in force.
+type Given<'a> = (&'a str, bool, Answer, usize);
+
+// Directives are added, and so many are in force after each; in the end those of the start of a document.
+fn check_handles(
     rt: &impl Abort,
     alloc: Global,
-    directives: &Directives<Global>,
-    i: usize,
-    tag: &Tag,
+    added: &mut Directives<Global>,
+    rows: &[Given],
+    start: &str,
 ) {
-    equal(rt, &holds(directives, i, &directive(rt, alloc, tag)), &true);
+    for (line, as_default, answer, count) in rows {
+        let given = directive(rt, alloc, line);
+        let got = added.append(&given, *as_default);
+        equal(rt, &(got, added.len()), &(*answer, *count));
+    }
+    check_all(rt, added, directives(rt, alloc, start).as_slice());
 }
 
 const TWICE: Answer = Err(yaml_error_t::DuplicateDirective);
 
 /// Two directives with one handle, one with another.
 const GIVEN: &[Given] = &[
-    ("!!", "a", false, Ok(()), 1),
-    ("!!", "b", false, TWICE, 1),
-    ("!!", "b", true, Ok(()), 1),
-    ("!", "c", true, Ok(()), 2),
+    (r#"+DOC 1 - "!!" "a""#, false, Ok(()), 1),
+    (r#"+DOC 1 - "!!" "b""#, false, TWICE, 1),
+    (r#"+DOC 1 - "!!" "b""#, true, Ok(()), 1),
+    (r#"+DOC 1 - "!" "c""#, true, Ok(()), 2),
 ];
 
-const AFTER_ALL: &[Given] = &[("!!", "b", false, Ok(()), 1)];
+const IN_FORCE: &str = r#"+DOC 1 - "!!" "a" "!" "c""#;
 
-// Those that are given are in force; then all are dropped, and the second is given alone.
-fn check_handles(rt: &impl Abort, alloc: Global, directives: &mut Directives<Global>) {
-    check_appends(rt, alloc, directives, GIVEN);
-    check_held(rt, alloc, directives, 0, &("!!", "a"));
-    check_held(rt, alloc, directives, 1, &("!", "c"));
-    equal(rt, &directives.get(2).is_none(), &true);
-    directives.clear();
-    equal(rt, &directives.len(), &0);
-    check_appends(rt, alloc, directives, AFTER_ALL);
-    check_held(rt, alloc, directives, 0, &("!!", "b"));
-}
+const SECOND: &str = r#"+DOC 1 - "!!" "b""#;
 
+// All are dropped, and then the second is given alone.
 #[test]
 fn a_handle_is_given_once(rt: HostRuntime) {
-    check_handles(&rt, rt.alloc(), &mut Directives::new(rt.alloc()));
+    let mut added = Directives::new(rt.alloc());
+    check_handles(&rt, rt.alloc(), &mut added, GIVEN, IN_FORCE);
+    added.clear();
+    let rows = &[(SECOND, false, Ok(()), 1)];
+    check_handles(&rt, rt.alloc(), &mut added, rows, SECOND);
 }
 
 /// A tag, the number of its directive, and the length of that one's prefix.
 type Cut<'a> = (&'a str, Option<usize>, usize);
 
 fn check_cuts(rt: &impl Abort, directives: &Directives<Global>, rows: &[Cut]) {
-    for row in rows {
+    equal(
+        rt,
+        &analyze_tag("", directives),
+        &Err(yaml_error_t::TagEmpty),
+    );
+    for (tag, directive, prefix_length) in rows {
         let wanted = tag_t {
-            directive: row.1,
-            prefix_length: row.2,
+            directive: *directive,
+            prefix_length: *prefix_length,
         };
         equal(
             rt,
-            &(row.0, analyze_tag(row.0, directives)),
-            &(row.0, Ok(wanted)),
+            &(*tag, analyze_tag(tag, directives)),
+            &(*tag, Ok(wanted)),
         );
     }
 }
 
-const CUTS: &[Cut] = &[
+const BY_DEFAULTS: &[Cut] = &[
     ("!", None, 0),
     ("!foo", Some(0), 1),
     ("!a!b", Some(0), 1),
@@ -207,16 +200,9 @@ const CUTS: &[Cut] = &[
     ("tag:yaml.org,2002", None, 0),
 ];
 
-#[test]
-fn an_empty_tag_is_refused(rt: HostRuntime) {
-    let defaults = in_force(&rt, rt.alloc(), &[]);
-    let answer = analyze_tag("", &defaults);
-    equal(&rt, &answer, &Err(yaml_error_t::TagEmpty));
-}
+const OWN: &str = r#"+DOC 1 - "!e!" "!x" "!!" "tag:e.com,2000:" "!f!" "!xy""#;
 
-const OWN: &[Tag] = &[("!e!", "!x"), ("!!", "tag:e.com,2000:"), ("!f!", "!xy")];
-
-const OWN_CUTS: &[Cut] = &[
+const BY_OWN: &[Cut] = &[
     ("!xy", Some(0), 2),
     ("!xyz", Some(0), 2),
     ("!x", Some(3), 1),
@@ -224,10 +210,14 @@ const OWN_CUTS: &[Cut] = &[
     ("tag:yaml.org,2002:str", None, 0),
 ];
 
+/// The start of a document, and tags in it. An empty tag is refused.
+const CUTS: &[(&str, &[Cut])] = &[("+DOC 1 -", BY_DEFAULTS), (OWN, BY_OWN)];
+
 #[test]
 fn tags_are_cut_at_the_first_prefix_of_a_documents_own_and_of_the_defaults(rt: HostRuntime) {
-    check_cuts(&rt, &in_force(&rt, rt.alloc(), &[]), CUTS);
-    check_cuts(&rt, &in_force(&rt, rt.alloc(), OWN), OWN_CUTS);
+    for (start, rows) in CUTS {
+        check_cuts(&rt, &in_force(&rt, rt.alloc(), start), rows);
+    }
 }
 
 type Heap = Refusing<Global>;
@@ -248,26 +238,10 @@ fn check_added<'a>(
     } else {
         equal(rt, &answer, &Ok(()));
     }
-    equal(rt, &directives.len(), &before.saturating_add(1));
 }
 
-// These are in force, in their order.
-fn check_all<A: Allocator>(
-    rt: &impl Abort,
-    directives: &Directives<A>,
-    wanted: &[yaml_tag_directive_t<A>],
-) {
-    equal(rt, &directives.len(), &wanted.len());
-    for (number, directive) in wanted.iter().enumerate() {
-        equal(rt, &holds(directives, number, directive), &true);
-    }
-}
-
-const ADDED: &[Tag] = &[
-    ("!first!", "p"),
-    ("!second-of-them!", "tag:a-long-prefix.example,2000:"),
-    ("!third!", "q"),
-];
+const ADDED: &str =
+    r#"+DOC 1 - "!first!" "p" "!second-of-them!" "tag:a-long-prefix.example,2000:" "!third!" "q""#;
 
 // Directives are added with this growth refused. Answers whether there is that growth.
 fn is_refused(rt: &impl Abort, alloc: Global, number: usize) -> bool {

@@ -1,13 +1,10 @@
 //! Documents as events: tables of graphs, with the events worked out by hand.
-use super::Given::{Mapping, Sequence, Text};
-use super::{Given, copied, document, in_each_other, nodes};
-use crate::tests::{Tag, directives, equal, event_of, owned};
+use super::Given::{Flow, Mapping, Quoted, Sequence, Text};
+use super::{Given, add, document, marked_document, nodes};
+use crate::tests::{equal, event_of};
 use std::alloc::Global;
 use std::process::Abort;
-use yaml_base::{
-    YAML_DOUBLE_QUOTED_SCALAR_STYLE, YAML_FLOW_MAPPING_STYLE, yaml_document_t, yaml_event_t,
-    yaml_node_data_t, yaml_node_pair_t, yaml_node_t, yaml_version_directive_t,
-};
+use yaml_base::{yaml_document_t, yaml_event_t, yaml_node_pair_t};
 use yaml_dump::document_events;
 use yaml_tool::read_script;
 
@@ -24,8 +21,7 @@ fn check_events(rt: &impl Abort, alloc: Global, graph: &yaml_document_t<Global>,
     let script = read_script(alloc, lines.as_bytes()).expect(rt, "lines");
     equal(rt, &events.len(), &script.events.len());
     for (event, wanted) in events.iter().zip(script.events.as_slice()) {
-        let line = wanted.line;
-        equal(rt, &(line, *event == wanted.event), &(line, true));
+        equal(rt, event, &wanted.event);
     }
 }
 
@@ -77,49 +73,16 @@ const GRAPHS: &[(&[Given], &str)] = &[
 #[test]
 fn nodes_are_met_from_the_root_in_their_order(rt: HostRuntime) {
     for (given, lines) in GRAPHS {
-        let nodes = nodes(&rt, rt.alloc(), given);
-        let graph = document(&rt, rt.alloc(), nodes);
+        let graph = document(&rt, rt.alloc(), nodes(&rt, rt.alloc(), given));
         check_events(&rt, rt.alloc(), &graph, lines);
     }
 }
 
-const DIRECTIVES: &[Tag] = &[("!e!", "tag:e,2026:")];
-
-/// A flow mapping whose key is its value, with a tag of its own.
-fn tagged_mapping(rt: &impl Abort, alloc: Global) -> yaml_node_t<Global> {
-    yaml_node_t {
-        tag: owned(rt, alloc, "!m"),
-        contents: yaml_node_data_t::Mapping {
-            pairs: copied(rt, alloc, &[yaml_node_pair_t { key: 2, value: 2 }]),
-            style: YAML_FLOW_MAPPING_STYLE,
-        },
-    }
-}
-
-/// A quoted scalar with a tag of its own.
-fn tagged_scalar(rt: &impl Abort, alloc: Global) -> yaml_node_t<Global> {
-    yaml_node_t {
-        tag: owned(rt, alloc, "!s"),
-        contents: yaml_node_data_t::Scalar {
-            value: owned(rt, alloc, "x"),
-            style: YAML_DOUBLE_QUOTED_SCALAR_STYLE,
-        },
-    }
-}
-
-fn tagged_nodes(rt: &impl Abort, alloc: Global) -> Vec<yaml_node_t<Global>> {
-    let mut nodes = Vec::new(alloc);
-    let pushed = nodes.push(tagged_mapping(rt, alloc));
-    pushed.expect(rt, "no memory");
-    let pushed = nodes.push(tagged_scalar(rt, alloc));
-    pushed.expect(rt, "no memory");
-    nodes
-}
-
-const VERSION: Option<yaml_version_directive_t> = Some(yaml_version_directive_t {
-    major: 1,
-    minor: 1,
-});
+/// A flow mapping whose key is its value, and a quoted scalar, each with a tag of its own.
+const TAGGED: &[Given] = &[
+    Flow("!m", &[yaml_node_pair_t { key: 2, value: 2 }]),
+    Quoted("!s", "x"),
+];
 
 /// The document's version and directive are those of its start, which has a mark.
 const TAGGED_EVENTS: &str = r#"+DOC 0 1.1 "!e!" "tag:e,2026:"
@@ -129,23 +92,20 @@ const TAGGED_EVENTS: &str = r#"+DOC 0 1.1 "!e!" "tag:e,2026:"
 -MAP
 -DOC 1"#;
 
-fn tagged_document(rt: &impl Abort, alloc: Global) -> yaml_document_t<Global> {
-    let nodes = tagged_nodes(rt, alloc);
-    assert!(rt; nodes.len() <= 2_000_000);
-    yaml_document_t::from_nodes(
-        VERSION,
-        directives(rt, alloc, DIRECTIVES),
-        nodes,
-        false,
-        true,
-    )
-    .expect(rt, "each number names a node")
-}
-
 #[test]
 fn tags_styles_and_directives_are_copied(rt: HostRuntime) {
-    let tagged = tagged_document(&rt, rt.alloc());
+    let tagged = marked_document(&rt, rt.alloc(), TAGGED);
     check_events(&rt, rt.alloc(), &tagged, TAGGED_EVENTS);
+}
+
+/// A text in sequences, each the one item of the one before: so many nodes.
+fn in_each_other(rt: &impl Abort, alloc: Global, count: i32) -> yaml_document_t<Global> {
+    let mut nodes = Vec::new(alloc);
+    for number in 2..=count {
+        add(rt, alloc, &mut nodes, &Sequence(&[number]));
+    }
+    add(rt, alloc, &mut nodes, &Text("a"));
+    document(rt, alloc, nodes)
 }
 
 /// Places, from 0 on, each with its event's line: the text behind 99,999 starts, the last of as many ends, and the document's end.
@@ -159,18 +119,13 @@ fn check_deep(rt: &impl Abort, alloc: Global, events: &[yaml_event_t<Global>]) {
     equal(rt, &events.len(), &200_001);
     for (place, line) in DEEP {
         let wanted = event_of(rt, alloc, line);
-        let got = (*place, events.get(*place) == Some(&wanted));
-        equal(rt, &got, &(*place, true));
+        equal(rt, &events.get(*place), &Some(&wanted));
     }
 }
 
 #[test]
 fn nodes_may_lie_a_hundred_thousand_deep(rt: HostRuntime) {
-    let graph = document(
-        &rt,
-        rt.alloc(),
-        in_each_other(&rt, rt.alloc(), 100_000, &Text("a")),
-    );
+    let graph = in_each_other(&rt, rt.alloc(), 100_000);
     let events = events_of(&rt, rt.alloc(), &graph);
     check_deep(&rt, rt.alloc(), events.as_slice());
 }

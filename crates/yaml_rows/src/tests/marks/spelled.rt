@@ -46,24 +46,6 @@ fn write_whole(pen: &mut Pen<Global>, tag: &str) -> Result<(), yaml_error_t>
     write_indicator(pen, &Indicator::tight(">"))
 }
 
-fn write_tag(
-    pen: &mut Pen<Global>,
-    tag: &str,
-    directives: &Directives<Global>,
-) -> Result<(), yaml_error_t>
-    requires { IsReady pen.old }
-    ensures { IsReady pen.new }
-{
-    let cut = analyze_tag(tag, directives)?;
-    let Some(number) = cut.directive else {
-        return write_whole(pen, tag);
-    };
-    match directives.get(number) {
-        Some(directive) => write_short(pen, directive, &tag[cut.prefix_length..]),
-        None => Err(yaml_error_t::TagEmpty),
-    }
-}
-
 // `&a`, which stands before each tag.
 #[tactic(auto, using(yaml_base::proofs::Literals::literal_unbroken))]
 fn write_property(pen: &mut Pen<Global>) -> Result<(), yaml_error_t>
@@ -75,7 +57,7 @@ fn write_property(pen: &mut Pen<Global>) -> Result<(), yaml_error_t>
 }
 
 // The tag, `&a` before it.
-fn write_both(
+fn write_tag(
     pen: &mut Pen<Global>,
     tag: &str,
     directives: &Directives<Global>,
@@ -84,18 +66,25 @@ fn write_both(
     ensures { IsReady pen.new }
 {
     write_property(pen)?;
-    write_tag(pen, tag, directives)
+    let cut = analyze_tag(tag, directives)?;
+    let Some(number) = cut.directive else {
+        return write_whole(pen, tag);
+    };
+    match directives.get(number) {
+        Some(directive) => write_short(pen, directive, &tag[cut.prefix_length..]),
+        None => Err(yaml_error_t::TagEmpty),
+    }
 }
 
 /// A tag, and what is written.
 type Tag<'a> = (&'a str, &'a str);
 
-// Where a document gives these directives.
-fn check_tags(rt: &impl Abort, alloc: Global, own: &[Tag], rows: &[Tag]) {
-    let directives = in_force(rt, alloc, own);
+// Where a document starts so.
+fn check_tags(rt: &impl Abort, alloc: Global, start: &str, rows: &[Tag]) {
+    let directives = in_force(rt, alloc, start);
     for row in rows {
         let mut pen = begun(rt, alloc);
-        let answer = write_both(&mut pen, row.0, &directives);
+        let answer = write_tag(&mut pen, row.0, &directives);
         check_written(rt, &mut pen, answer, row.1);
     }
 }
@@ -113,7 +102,7 @@ const SPELLED: &[Tag] = &[
     ("a b<c>", "&a !<a%20b%3Cc%3E>"),
 ];
 
-const OWN: &[(&str, &str)] = &[("!e!", "!x"), ("!!", "tag:e.com,2000:")];
+const OWN: &str = r#"+DOC 1 - "!e!" "!x" "!!" "tag:e.com,2000:""#;
 
 const BY_OWN: &[Tag] = &[
     ("!xy", "&a !e!y"),
@@ -122,7 +111,7 @@ const BY_OWN: &[Tag] = &[
     ("tag:yaml.org,2002:str", "&a !<tag:yaml.org,2002:str>"),
 ];
 
-const REPLACED: &[(&str, &str)] = &[("!", "tag:e.com,2000:")];
+const REPLACED: &str = r#"+DOC 1 - "!" "tag:e.com,2000:""#;
 
 const BY_REPLACED: &[Tag] = &[
     ("tag:e.com,2000:t", "&a !t"),
@@ -130,14 +119,18 @@ const BY_REPLACED: &[Tag] = &[
     ("tag:yaml.org,2002:str", "&a !!str"),
 ];
 
-/// A document's own directives, and tags as they are spelled where no handle of its own is for them, by its own handles, and by
-/// one that replaces a default.
-const TAGS: &[(&[Tag], &[Tag])] = &[(&[], SPELLED), (OWN, BY_OWN), (REPLACED, BY_REPLACED)];
+/// A document's start, and tags as they are spelled where no handle of its own is for them, by its own handles, and by one that
+/// replaces a default.
+const TAGS: &[(&str, &[Tag])] = &[
+    ("+DOC 1 -", SPELLED),
+    (OWN, BY_OWN),
+    (REPLACED, BY_REPLACED),
+];
 
 #[test]
 fn tags_are_written_by_their_spelling_and_by_handles(rt: HostRuntime) {
-    for (own, rows) in TAGS {
-        check_tags(&rt, rt.alloc(), own, rows);
+    for (start, rows) in TAGS {
+        check_tags(&rt, rt.alloc(), start, rows);
     }
 }
 
@@ -155,38 +148,24 @@ fn escaped(rt: &impl Abort, alloc: Global, text: &str) -> String {
     forms
 }
 
-fn check_content(rt: &impl Abort, alloc: Global, text: &str, written: &str) {
+// A character by itself.
+fn check_character(rt: &impl Abort, alloc: Global, character: char) {
+    let mut bytes = [0; 4];
+    let text: &str = character.encode_utf8(&mut bytes);
+    let escaped = escaped(rt, alloc, text);
+    let is_kept = KEPT.contains(character);
+    let wanted = if is_kept { text } else { escaped.as_str() };
     let mut pen = begun(rt, alloc);
     let answer = write_tag_content(&mut pen, text, false);
-    check_written(rt, &mut pen, answer, written);
+    check_written(rt, &mut pen, answer, wanted);
 }
 
-// A character by itself.
-fn check_alone(rt: &impl Abort, alloc: Global, text: &str, is_kept: bool) {
-    if is_kept {
-        check_content(rt, alloc, text, text);
-    } else {
-        check_content(rt, alloc, text, escaped(rt, alloc, text).as_str());
-    }
-}
-
-fn check_character(rt: &impl Abort, alloc: Global, character: char) {
-    let mut text = String::new(alloc);
-    text.push(character).expect(rt, "no memory");
-    check_alone(rt, alloc, text.as_str(), KEPT.contains(character));
-}
-
-// Each character up to U+00FF.
+// Each character up to U+00FF, and the first and last of each longer form of UTF-8.
 #[test]
 fn every_byte_is_kept_or_escaped(rt: HostRuntime) {
     for character in '\0'..='\u{FF}' {
         check_character(&rt, rt.alloc(), character);
     }
-}
-
-// The first and last of each longer form of UTF-8.
-#[test]
-fn longer_characters_are_escaped(rt: HostRuntime) {
     for character in "\u{7FF}\u{800}\u{FFFF}\u{10000}\u{10FFFF}".chars() {
         check_character(&rt, rt.alloc(), character);
     }
@@ -221,14 +200,6 @@ fn write_ends(pen: &mut Pen<Global>, text: &str, portable: bool) -> Result<(), y
 /// A text, whether it is to be portable, and what is written.
 type Ends<'a> = (&'a str, bool, &'a str);
 
-fn check_ends(rt: &impl Abort, alloc: Global, rows: &[Ends]) {
-    for row in rows {
-        let mut pen = begun(rt, alloc);
-        let answer = write_ends(&mut pen, row.0, row.1);
-        check_written(rt, &mut pen, answer, row.2);
-    }
-}
-
 const ENDS: &[Ends] = &[
     (";,[]", false, ";,[];,[]"),
     (";,[]", true, ";,[];%2C%5B%5D"),
@@ -240,5 +211,9 @@ const ENDS: &[Ends] = &[
 
 #[test]
 fn prefixes_and_suffixes_are_portable_where_asked(rt: HostRuntime) {
-    check_ends(&rt, rt.alloc(), ENDS);
+    for row in ENDS {
+        let mut pen = begun(&rt, rt.alloc());
+        let answer = write_ends(&mut pen, row.0, row.1);
+        check_written(&rt, &mut pen, answer, row.2);
+    }
 }

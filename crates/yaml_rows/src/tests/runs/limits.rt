@@ -1,6 +1,7 @@
 //! Outputs with a limit, and outputs longer than the buffer.
+use super::calls::check_calls;
 use super::growths::answered;
-use super::{Flushes, Row, check_row, check_text};
+use super::{Flushes, Row, check_row, check_stream, check_text};
 use crate::tests::{equal, joined, repeated};
 use std::alloc::Global;
 use std::process::Abort;
@@ -164,13 +165,59 @@ fn of_value(rt: &impl Abort, alloc: Global, start: &str, value: &str) -> String 
     joined(rt, alloc, &parts)
 }
 
+// A text longer than the buffer, with a flush in the end alone, and with one after each event: so many bytes come after a
+// stream's start, a document's start, and the value.
+fn check_long(rt: &impl Abort, alloc: Global, script: &str, text: &[u8], lengths: &[usize]) {
+    check_text(rt, alloc, script, text);
+    let row = Row {
+        lengths,
+        flushes: Flushes::Each,
+        ..Row::done(script, text)
+    };
+    check_calls(rt, alloc, &row);
+}
+
 #[test]
 fn a_text_longer_than_the_buffer_is_whole(rt: HostRuntime) {
     let value = repeated(&rt, rt.alloc(), "x", 40_000);
     let script = of_value(&rt, rt.alloc(), "+STR any", value.as_str());
     let text = joined(&rt, rt.alloc(), &[value.as_str(), "\n"]);
     equal(&rt, &text.len(), &40_001);
-    check_text(&rt, rt.alloc(), script.as_str(), text.as_bytes());
+    let lengths = &[0, 0, 40_000];
+    check_long(&rt, rt.alloc(), script.as_str(), text.as_bytes(), lengths);
+}
+
+/// A stream's start, and events that take memory in each way that there is, up to a long value.
+const BEFORE: &str = r#"+STR any
++DOC 1 - "!e!" "tag:e.com,2000:"
++MAP block 1 - -
+=VAL any 1 1 - - "a key"
++SEQ block 1 - -
++SEQ block 1 - -
++SEQ block 1 - -
+=VAL any 0 0 - "tag:e.com,2000:t" "x"
+=VAL any 1 1 - - ""#;
+
+/// Those after it.
+const AFTER: &str = r#""
+-SEQ
+-SEQ
+-SEQ
+-MAP
+-DOC 1
++DOC 1 -
+=VAL any 1 1 - - "b"
+-DOC 1
+-STR"#;
+
+#[test]
+fn a_stream_that_takes_memory_in_each_way_is_whole(rt: HostRuntime) {
+    let value = repeated(&rt, rt.alloc(), "y", 17_000);
+    let script = joined(&rt, rt.alloc(), &[BEFORE, value.as_str(), AFTER]);
+    let start = "%TAG !e! tag:e.com,2000:\n---\na key:\n- - - !e!t x\n    - ";
+    let first = joined(&rt, rt.alloc(), &[start, value.as_str(), "\n"]);
+    let parts = [first.as_str(), "--- b\n"];
+    check_stream(&rt, rt.alloc(), "", script.as_str(), &parts);
 }
 
 /// So many letters in UTF-16.
@@ -191,7 +238,7 @@ fn is_cut(answer: run_answer_t) -> bool {
     )
 }
 
-fn check_long(rt: &impl Abort, alloc: Global, script: &str, text: &[u8]) {
+fn check_cut(rt: &impl Abort, alloc: Global, script: &str, text: &[u8]) {
     let answer = answered(rt, alloc, script.as_bytes(), &mut Vec::new(alloc));
     equal(rt, &is_cut(answer), &true);
     let row = Row {
@@ -204,9 +251,9 @@ fn check_long(rt: &impl Abort, alloc: Global, script: &str, text: &[u8]) {
 fn check_units(rt: &impl Abort, alloc: Global, value: &str, text: &[u8]) {
     equal(rt, &text.len(), &40_004);
     let whole = of_value(rt, alloc, "unicode on\n+STR utf16le", value);
-    check_text(rt, alloc, whole.as_str(), text);
+    check_long(rt, alloc, whole.as_str(), text, &[2, 2, 40_002]);
     let limited = joined(rt, alloc, &["limit 32771\n", whole.as_str()]);
-    check_long(rt, alloc, limited.as_str(), text);
+    check_cut(rt, alloc, limited.as_str(), text);
 }
 
 #[test]
