@@ -78,20 +78,6 @@ fn check_marked(
     same(rt, pen.output(), wanted.0.as_bytes());
 }
 
-/// A row of a table.
-trait Row {
-    /// A pen at the start of a text writes what the row says.
-    fn check(&self, rt: &impl Abort, pen: &mut Pen<Global>)
-        requires { IsReady pen.old };
-}
-
-/// Each row has a pen of its own.
-fn check_rows<R: Row>(rt: &impl Abort, alloc: Global, rows: &[R]) {
-    for row in rows {
-        row.check(rt, &mut begun(rt, alloc));
-    }
-}
-
 /// An indicator `-`, which a space must follow.
 fn write_dash(pen: &mut Pen<Global>) -> Result<(), yaml_error_t>
     requires { IsReady pen.old }

@@ -58,35 +58,42 @@ fn check_refused<A: Allocator>(
     check_bytes(rt, pen.output(), flushed, row.1);
 }
 
-// The whole text is flushed.
-fn check_whole<A: Allocator>(rt: &impl Abort, alloc: Global, pen: &mut Pen<A>, row: &Row)
+// So many bytes of the text were flushed before a growth is refused, or the whole text is.
+fn check_text<A: Allocator>(
+    rt: &impl Abort,
+    alloc: Global,
+    pen: &mut Pen<A>,
+    row: &Row,
+    growth: usize,
+)
     requires { IsReady pen.old }
 {
-    let answers = (write(pen, alloc, row.0), pen.flush());
-    equal(rt, &answers, &(Ok(()), Ok(())));
-    check_bytes(rt, pen.output(), 100_000, row.1);
+    match row.2.get(growth) {
+        Some(flushed) => check_refused(rt, alloc, pen, row, *flushed),
+        None => {
+            let answers = (write(pen, alloc, row.0), pen.flush());
+            equal(rt, &answers, &(Ok(()), Ok(())));
+            check_bytes(rt, pen.output(), 100_000, row.1);
+        }
+    }
 }
 
-// The first growth is the pen's own, and those after it are the output's.
-fn check_growths(rt: &impl Abort, alloc: Global, row: &Row) {
-    let heap = Refusing::new(alloc);
-    heap.refuse(1);
-    equal(rt, &Pen::new(&heap).err(), &Some(yaml_error_t::Memory));
-    for (growth, flushed) in row.2.iter().enumerate() {
+// The first growth is the pen's own, and those after it are the output's; there is none after these.
+fn check_growths(rt: &impl Abort, alloc: Global, heap: &Refusing<Global>, row: &Row) {
+    for growth in 0..row.2.len().saturating_add(1) {
         heap.refuse(growth.saturating_add(2));
-        let mut pen = made(rt, &heap, usize::MAX, YAML_UTF8_ENCODING);
-        check_refused(rt, alloc, &mut pen, row, *flushed);
-        equal(rt, &heap.left(), &0);
+        let mut pen = made(rt, heap, usize::MAX, YAML_UTF8_ENCODING);
+        check_text(rt, alloc, &mut pen, row, growth);
+        equal(rt, &heap.left(), &usize::from(growth == row.2.len()));
     }
-    heap.refuse(row.2.len().saturating_add(2));
-    let mut pen = made(rt, &heap, usize::MAX, YAML_UTF8_ENCODING);
-    check_whole(rt, alloc, &mut pen, row);
-    equal(rt, &heap.left(), &1);
 }
 
 #[test]
 fn refused_growths_leave_the_output(rt: HostRuntime) {
+    let heap = Refusing::new(rt.alloc());
+    heap.refuse(1);
+    equal(&rt, &Pen::new(&heap).err(), &Some(yaml_error_t::Memory));
     for row in ROWS {
-        check_growths(&rt, rt.alloc(), row);
+        check_growths(&rt, rt.alloc(), &heap, row);
     }
 }

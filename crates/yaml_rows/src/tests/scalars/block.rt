@@ -5,8 +5,8 @@ ghost use Rattle.yaml_base.specs.scalars.Analysis.{is_empty};
 ghost use Rattle.yaml_pen.specs.Page.{IsReady};
 
 use super::{
-    Row, begun, begun_with_breaks, begun_within, check_cut, check_marked, check_rows,
-    check_written, equal, same, write_dash,
+    begun, begun_with_breaks, begun_within, check_cut, check_marked, check_written, equal, same,
+    write_dash,
 };
 use std::alloc::Global;
 use std::process::Abort;
@@ -97,8 +97,7 @@ fn an_item_follows_its_indicator(rt: HostRuntime) {
 }
 
 /// A value, at an indent, its header, and the open-ended state.
-#[derive(Drop)]
-struct Header(&'static str, i32, &'static str, i32);
+type Header<'a> = (&'a str, i32, &'a str, i32);
 
 // The open-ended state; -1 where no setting indents so.
 fn write_header(pen: &mut Pen<Global>, row: &Header) -> Result<i32, yaml_error_t>
@@ -111,25 +110,22 @@ fn write_header(pen: &mut Pen<Global>, row: &Header) -> Result<i32, yaml_error_t
     write_block_scalar_hints(pen, row.0, row.1)
 }
 
-impl Row for Header {
-    fn check(&self, rt: &impl Abort, pen: &mut Pen<Global>) {
-        let answer = write_header(pen, self);
-        check_marked(rt, pen, answer, (self.2, self.3));
-    }
-}
-
 const HEADERS: &[Header] = &[
-    Header("a", 2, "-", 0),
-    Header("a\n", 2, "", 0),
-    Header("a\n\n", 2, "+", 2),
-    Header(" a", 9, "9-", 0),
-    Header("\na\n", 4, "4", 0),
-    Header("\u{2028}", 3, "3+", 2),
+    ("a", 2, "-", 0),
+    ("a\n", 2, "", 0),
+    ("a\n\n", 2, "+", 2),
+    (" a", 9, "9-", 0),
+    ("\na\n", 4, "4", 0),
+    ("\u{2028}", 3, "3+", 2),
 ];
 
 #[test]
 fn hints_stand_alone(rt: HostRuntime) {
-    check_rows(&rt, rt.alloc(), HEADERS);
+    for row in HEADERS {
+        let mut pen = begun(&rt, rt.alloc());
+        let answer = write_header(&mut pen, row);
+        check_marked(&rt, &mut pen, answer, (row.2, row.3));
+    }
 }
 
 fn check_breaks(rt: &impl Abort, pen: &mut Pen<Global>, text: &str)

@@ -2,7 +2,7 @@
 ghost use Rattle.yaml_pen.specs.Page.{IsReady};
 
 use super::block::is_allowed;
-use super::{Row, begun, check_marked, check_rows, check_written, equal};
+use super::{begun, check_marked, check_written, equal};
 use std::alloc::Global;
 use std::process::Abort;
 use yaml_base::{
@@ -16,42 +16,39 @@ use yaml_scalar::{
     write_literal_scalar, write_plain_scalar, write_single_quoted_scalar,
 };
 
+/// A style, whether unicode is on, and the width.
+type Layout = (yaml_scalar_style_t, bool, i32);
+
 // Writes in one style that stands on a line, between double quotes where no such style is asked for.
 fn write_in_line(
     pen: &mut Pen<Global>,
-    style: yaml_scalar_style_t,
+    layout: Layout,
     value: &str,
-    unicode: bool,
-    width: i32,
+    folds: bool,
 ) -> Result<(), yaml_error_t>
     requires { IsReady pen.old }
     ensures { IsReady pen.new }
 {
+    let (style, unicode, width) = layout;
     match style {
-        YAML_PLAIN_SCALAR_STYLE => write_plain_scalar(pen, value, true, false, 2, width),
-        YAML_SINGLE_QUOTED_SCALAR_STYLE => write_single_quoted_scalar(pen, value, true, 2, width),
-        _ => write_double_quoted_scalar(pen, value, true, unicode, 2, width),
+        YAML_PLAIN_SCALAR_STYLE => write_plain_scalar(pen, value, folds, false, 2, width),
+        YAML_SINGLE_QUOTED_SCALAR_STYLE => write_single_quoted_scalar(pen, value, folds, 2, width),
+        _ => write_double_quoted_scalar(pen, value, folds, unicode, 2, width),
     }
 }
 
 // Writes in one style; answers the open-ended state.
-pub(super) fn write_in(
-    pen: &mut Pen<Global>,
-    style: yaml_scalar_style_t,
-    value: &str,
-    unicode: bool,
-    width: i32,
-) -> Result<i32, yaml_error_t>
+fn write_in(pen: &mut Pen<Global>, layout: Layout, value: &str) -> Result<i32, yaml_error_t>
     requires { IsReady pen.old }
     ensures { IsReady pen.new }
 {
-    match style {
+    match layout.0 {
         YAML_LITERAL_SCALAR_STYLE if is_allowed(value) => { write_literal_scalar(pen, value, 2, 2) }
         YAML_FOLDED_SCALAR_STYLE if is_allowed(value) => {
-            write_folded_scalar(pen, value, 2, 2, width)
+            write_folded_scalar(pen, value, 2, 2, layout.2)
         }
         _ => {
-            write_in_line(pen, style, value, unicode, width)?;
+            write_in_line(pen, layout, value, true)?;
             Ok(0)
         }
     }
@@ -72,25 +69,17 @@ fn chosen(
 }
 
 /// A value, the style asked for, whether unicode is on, the width; what is written, and the open-ended state.
-#[derive(Drop)]
-struct Root(
-    &'static str,
-    yaml_scalar_style_t,
-    bool,
-    i32,
-    &'static str,
-    i32,
-);
+type Root<'a> = (&'a str, yaml_scalar_style_t, bool, i32, &'a str, i32);
 
-impl Row for Root {
-    fn check(&self, rt: &impl Abort, pen: &mut Pen<Global>) {
-        match chosen(self.0, self.1, self.2) {
-            Ok(style) => {
-                let answer = write_in(pen, style, self.0, self.2, self.3);
-                check_marked(rt, pen, answer, (self.4, self.5));
-            }
-            Err(error) => equal(rt, &Some(error), &None),
+fn check_root(rt: &impl Abort, alloc: Global, row: &Root) {
+    let (value, asked, unicode, width, text, state) = *row;
+    match chosen(value, asked, unicode) {
+        Ok(style) => {
+            let mut pen = begun(rt, alloc);
+            let answer = write_in(&mut pen, (style, unicode, width), value);
+            check_marked(rt, &mut pen, answer, (text, state));
         }
+        Err(error) => equal(rt, &Some(error), &None),
     }
 }
 
@@ -98,15 +87,15 @@ const ANY: yaml_scalar_style_t = YAML_ANY_SCALAR_STYLE;
 
 /// Any style is plain or quoted.
 const CHOSEN: &[Root] = &[
-    Root("", ANY, false, 80, "", 0),
-    Root("foo", ANY, false, 80, "foo", 0),
-    Root("a:", ANY, false, 80, "'a:'", 0),
-    Root("- x", ANY, false, 80, "'- x'", 0),
-    Root(" ", ANY, false, 80, "' '", 0),
-    Root("'", ANY, false, 80, "''''", 0),
-    Root("aaaaaa b", ANY, false, 5, "aaaaaa\n  b", 0),
-    Root("\u{E9}", ANY, false, 80, r#""\xE9""#, 0),
-    Root(
+    ("", ANY, false, 80, "", 0),
+    ("foo", ANY, false, 80, "foo", 0),
+    ("a:", ANY, false, 80, "'a:'", 0),
+    ("- x", ANY, false, 80, "'- x'", 0),
+    (" ", ANY, false, 80, "' '", 0),
+    ("'", ANY, false, 80, "''''", 0),
+    ("aaaaaa b", ANY, false, 5, "aaaaaa\n  b", 0),
+    ("\u{E9}", ANY, false, 80, r#""\xE9""#, 0),
+    (
         "\u{E9}\u{E9}\u{E9}\u{E9} b c",
         ANY,
         true,
@@ -114,7 +103,7 @@ const CHOSEN: &[Root] = &[
         "\u{E9}\u{E9}\u{E9}\u{E9} b\n  c",
         0,
     ),
-    Root(
+    (
         "\0\u{7}\"\\\u{85}\u{7F}",
         ANY,
         false,
@@ -122,15 +111,15 @@ const CHOSEN: &[Root] = &[
         r#""\0\a\"\\\N\x7F""#,
         0,
     ),
-    Root("\u{1F600}", ANY, false, 80, r#""\U0001F600""#, 0),
-    Root("\u{1F600}", ANY, true, 80, "\u{1F600}", 0),
+    ("\u{1F600}", ANY, false, 80, r#""\U0001F600""#, 0),
+    ("\u{1F600}", ANY, true, 80, "\u{1F600}", 0),
 ];
 
 const SINGLE: yaml_scalar_style_t = YAML_SINGLE_QUOTED_SCALAR_STYLE;
 
 /// Quotes that are asked for.
 const QUOTED: &[Root] = &[
-    Root(
+    (
         "aaaaaa  b",
         YAML_DOUBLE_QUOTED_SCALAR_STYLE,
         false,
@@ -138,12 +127,12 @@ const QUOTED: &[Root] = &[
         "\"aaaaaa\n  \\ b\"",
         0,
     ),
-    Root("a\nb", SINGLE, false, 80, "'a\n\n  b'", 0),
-    Root("\n", SINGLE, false, 80, "'\n\n  '", 0),
-    Root(" \n", SINGLE, false, 80, "\" \\n\"", 0),
-    Root("a\u{2028}b", SINGLE, true, 80, "'a\u{2028}  b'", 0),
-    Root("a\n\u{2028}b", SINGLE, true, 80, "'a\n\n\u{2028}  b'", 0),
-    Root("a\u{2028}\nb", SINGLE, true, 80, "'a\u{2028}\n  b'", 0),
+    ("a\nb", SINGLE, false, 80, "'a\n\n  b'", 0),
+    ("\n", SINGLE, false, 80, "'\n\n  '", 0),
+    (" \n", SINGLE, false, 80, "\" \\n\"", 0),
+    ("a\u{2028}b", SINGLE, true, 80, "'a\u{2028}  b'", 0),
+    ("a\n\u{2028}b", SINGLE, true, 80, "'a\n\n\u{2028}  b'", 0),
+    ("a\u{2028}\nb", SINGLE, true, 80, "'a\u{2028}\n  b'", 0),
 ];
 
 const LITERAL: yaml_scalar_style_t = YAML_LITERAL_SCALAR_STYLE;
@@ -152,10 +141,10 @@ const FOLDED: yaml_scalar_style_t = YAML_FOLDED_SCALAR_STYLE;
 
 /// Block styles that are asked for.
 const IN_LINES: &[Root] = &[
-    Root("a\n\n", LITERAL, false, 80, "|+\n  a\n\n", 2),
-    Root("\n", LITERAL, false, 80, "|2+\n\n", 2),
-    Root(" ", LITERAL, false, 80, "\" \"", 0),
-    Root(
+    ("a\n\n", LITERAL, false, 80, "|+\n  a\n\n", 2),
+    ("\n", LITERAL, false, 80, "|2+\n\n", 2),
+    (" ", LITERAL, false, 80, "\" \"", 0),
+    (
         "a\nb\n\n c\n",
         FOLDED,
         false,
@@ -163,8 +152,8 @@ const IN_LINES: &[Root] = &[
         ">\n  a\n\n  b\n\n   c\n",
         0,
     ),
-    Root(" aaaaaa b", FOLDED, false, 5, ">2-\n   aaaaaa b", 0),
-    Root(
+    (" aaaaaa b", FOLDED, false, 5, ">2-\n   aaaaaa b", 0),
+    (
         "a\n\u{2028}b",
         FOLDED,
         true,
@@ -172,10 +161,10 @@ const IN_LINES: &[Root] = &[
         ">-\n  a\n\n\u{2028}  b",
         0,
     ),
-    Root("a\u{2028}\nb", FOLDED, true, 80, ">-\n  a\u{2028}\n  b", 0),
-    Root("\n\n", FOLDED, false, 80, ">2+\n\n\n", 2),
-    Root("\n a", FOLDED, false, 80, ">2-\n\n   a", 0),
-    Root("aaaaaa  b", FOLDED, false, 5, ">-\n  aaaaaa \n  b", 0),
+    ("a\u{2028}\nb", FOLDED, true, 80, ">-\n  a\u{2028}\n  b", 0),
+    ("\n\n", FOLDED, false, 80, ">2+\n\n\n", 2),
+    ("\n a", FOLDED, false, 80, ">2-\n\n   a", 0),
+    ("aaaaaa  b", FOLDED, false, 5, ">-\n  aaaaaa \n  b", 0),
 ];
 
 const PLAIN: yaml_scalar_style_t = YAML_PLAIN_SCALAR_STYLE;
@@ -185,10 +174,7 @@ const DOUBLE: yaml_scalar_style_t = YAML_DOUBLE_QUOTED_SCALAR_STYLE;
 const NO_WIDTH: i32 = i32::MAX;
 
 /// A style, whether unicode is on, and the width; values, each with what is written. No state is left open.
-type Texts = (
-    (yaml_scalar_style_t, bool, i32),
-    &'static [(&'static str, &'static str)],
-);
+type Texts<'a> = (Layout, &'a [(&'a str, &'a str)]);
 
 const TEXTS: &[Texts] = &[
     // Plain texts stand as they are, and fold past the width.
@@ -310,15 +296,16 @@ const TEXTS: &[Texts] = &[
 fn check_texts(rt: &impl Abort, alloc: Global, texts: &Texts) {
     let (style, unicode, width) = texts.0;
     for (value, text) in texts.1 {
-        let root = Root(value, style, unicode, width, text, 0);
-        root.check(rt, &mut begun(rt, alloc));
+        check_root(rt, alloc, &(value, style, unicode, width, text, 0));
     }
 }
 
 #[test]
 fn each_style_is_chosen_and_written(rt: HostRuntime) {
     for rows in [CHOSEN, QUOTED, IN_LINES] {
-        check_rows(&rt, rt.alloc(), rows);
+        for row in rows {
+            check_root(&rt, rt.alloc(), row);
+        }
     }
 }
 
@@ -330,38 +317,19 @@ fn each_style_that_is_asked_for_is_written(rt: HostRuntime) {
 }
 
 /// The value of a simple key, in a style, and what is written; it never folds.
-#[derive(Drop)]
-struct Key(&'static str, yaml_scalar_style_t, &'static str);
-
-fn write_key(
-    pen: &mut Pen<Global>,
-    style: yaml_scalar_style_t,
-    value: &str,
-) -> Result<(), yaml_error_t>
-    requires { IsReady pen.old }
-    ensures { IsReady pen.new }
-{
-    match style {
-        YAML_PLAIN_SCALAR_STYLE => write_plain_scalar(pen, value, false, false, 2, 5),
-        YAML_SINGLE_QUOTED_SCALAR_STYLE => write_single_quoted_scalar(pen, value, false, 2, 5),
-        _ => write_double_quoted_scalar(pen, value, false, false, 2, 5),
-    }
-}
-
-impl Row for Key {
-    fn check(&self, rt: &impl Abort, pen: &mut Pen<Global>) {
-        let answer = write_key(pen, self.1, self.0);
-        check_written(rt, pen, answer, self.2);
-    }
-}
+type Key<'a> = (&'a str, yaml_scalar_style_t, &'a str);
 
 const KEYS: &[Key] = &[
-    Key("aaaaaa b", PLAIN, "aaaaaa b"),
-    Key("aaaaa b", SINGLE, "'aaaaa b'"),
-    Key("aaaaaa b", DOUBLE, "\"aaaaaa b\""),
+    ("aaaaaa b", PLAIN, "aaaaaa b"),
+    ("aaaaa b", SINGLE, "'aaaaa b'"),
+    ("aaaaaa b", DOUBLE, "\"aaaaaa b\""),
 ];
 
 #[test]
 fn simple_keys_never_fold(rt: HostRuntime) {
-    check_rows(&rt, rt.alloc(), KEYS);
+    for (value, style, text) in KEYS {
+        let mut pen = begun(&rt, rt.alloc());
+        let answer = write_in_line(&mut pen, (*style, false, 5), value, false);
+        check_written(&rt, &mut pen, answer, text);
+    }
 }
