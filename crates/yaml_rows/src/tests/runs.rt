@@ -87,7 +87,7 @@ struct Returned {
 }
 
 /// The line that tells how a run ended.
-fn line_of(rt: &impl Abort, alloc: Global, answer: &run_answer_t) -> Vec<u8> {
+pub(super) fn line_of(rt: &impl Abort, alloc: Global, answer: &run_answer_t) -> Vec<u8> {
     let mut line: Vec<u8> = Vec::new(alloc);
     equal(rt, &write_line(answer, &mut line).is_ok(), &true);
     line

@@ -1,9 +1,10 @@
 //! Scripts read by `yaml_tool`, and what each end of a run says.
+use crate::tests::runs::line_of;
 use crate::tests::{equal, same};
 use std::alloc::Global;
 use std::process::Abort;
 use yaml_base::{YAML_ANY_BREAK, YAML_ANY_ENCODING, yaml_error_t, yaml_event_t};
-use yaml_tool::{Script, ScriptError, Settings, read_script, run_answer_t, status, write_line};
+use yaml_tool::{Script, ScriptError, Settings, read_script, run_answer_t, status};
 
 const SETTINGS: Settings = Settings {
     limit: 1_000_000_000,
@@ -104,12 +105,6 @@ fn check_bad_line(rt: &impl Abort, alloc: Global, script: &[u8], line: u64) {
     equal(rt, &error, &Some(ScriptError::BadLine(line)));
 }
 
-fn check_bad_lines(rt: &impl Abort, alloc: Global, rows: &[(&str, u64)]) {
-    for row in rows {
-        check_bad_line(rt, alloc, row.0.as_bytes(), row.1);
-    }
-}
-
 const BAD_LINES: &[(&str, u64)] = &[
     ("+FOO", 1),
     ("\u{FEFF}+STR any", 1),
@@ -130,25 +125,14 @@ const BAD_LINES: &[(&str, u64)] = &[
 
 #[test]
 fn the_first_bad_line_is_reported(rt: HostRuntime) {
-    check_bad_lines(&rt, rt.alloc(), BAD_LINES);
+    for (script, line) in BAD_LINES {
+        check_bad_line(&rt, rt.alloc(), script.as_bytes(), *line);
+    }
     check_bad_line(&rt, rt.alloc(), b"+STR any\n# \xFF", 2);
 }
 
 /// How a run ends, with its status and its line.
 type End<'a> = (run_answer_t, u8, &'a str);
-
-fn check_line(rt: &impl Abort, alloc: Global, answer: &run_answer_t, line: &str) {
-    let mut written: Vec<u8> = Vec::new(alloc);
-    equal(rt, &write_line(answer, &mut written).is_ok(), &true);
-    same(rt, written.as_slice(), line.as_bytes());
-}
-
-fn check_ends(rt: &impl Abort, alloc: Global, rows: &[End]) {
-    for row in rows {
-        equal(rt, &status(&row.0), &row.1);
-        check_line(rt, alloc, &row.0, row.2);
-    }
-}
 
 const ENDS: &[End] = &[
     (run_answer_t::Done, 0, ""),
@@ -174,5 +158,9 @@ const ENDS: &[End] = &[
 
 #[test]
 fn each_answer_has_its_status_and_its_line(rt: HostRuntime) {
-    check_ends(&rt, rt.alloc(), ENDS);
+    for (answer, number, line) in ENDS {
+        equal(&rt, &status(answer), number);
+        let written = line_of(&rt, rt.alloc(), answer);
+        same(&rt, written.as_slice(), line.as_bytes());
+    }
 }

@@ -35,11 +35,6 @@ const PARTS: &[Step] = &[
     Take(b"--- d\n"),
 ];
 
-#[test]
-fn a_stream_is_taken_in_parts(rt: HostRuntime) {
-    check_steps(&rt, rt.alloc(), &UNSET, PARTS);
-}
-
 const UTF16: &Settings = &Settings {
     encoding: YAML_UTF16LE_ENCODING,
     ..UNSET
@@ -59,11 +54,6 @@ const IN_UTF16: &[Step] = &[
     Take(b"\n\0"),
 ];
 
-#[test]
-fn utf16_is_taken_in_parts(rt: HostRuntime) {
-    check_steps(&rt, rt.alloc(), UTF16, IN_UTF16);
-}
-
 const SIX: &Settings = &Settings { limit: 6, ..UNSET };
 
 // Five bytes are taken, and the limit leaves one of the next three.
@@ -82,7 +72,12 @@ const TO_THE_LIMIT: &[Step] = &[
     Take(b""),
 ];
 
+/// Calls on an emitter of these settings.
+const TAKEN: &[(&Settings, &[Step])] = &[(&UNSET, PARTS), (UTF16, IN_UTF16), (SIX, TO_THE_LIMIT)];
+
 #[test]
-fn the_limit_counts_what_was_taken(rt: HostRuntime) {
-    check_steps(&rt, rt.alloc(), SIX, TO_THE_LIMIT);
+fn a_stream_is_taken_in_parts_up_to_the_limit(rt: HostRuntime) {
+    for (settings, steps) in TAKEN {
+        check_steps(&rt, rt.alloc(), settings, steps);
+    }
 }

@@ -89,29 +89,34 @@ fn check_encoded(rt: &impl Abort, alloc: Global, stream: Stream, expected: &[u8]
     check_text(rt, alloc, joined(rt, alloc, &asked).as_str(), expected);
 }
 
-#[test]
-fn a_stream_without_documents_has_only_its_byte_order_mark(rt: HostRuntime) {
-    check_encoded(&rt, rt.alloc(), ("", "utf8", ""), b"");
-    check_encoded(&rt, rt.alloc(), ("", "utf16be", ""), b"\xFE\xFF");
-    check_encoded(&rt, rt.alloc(), ("", "utf16le", ""), b"\xFF\xFE");
-}
-
 const CANONICAL: &str = "canonical on\nwidth -1\n";
-
-#[test]
-fn characters_become_units_of_two_bytes(rt: HostRuntime) {
-    let bytes = b"\xFE\xFF\0-\0-\0-\0\n\0\"\0a\0\"\0\n";
-    check_encoded(&rt, rt.alloc(), (CANONICAL, "utf16be", LETTER), bytes);
-}
 
 const WITH_UNICODE: &str = "canonical on\nwidth -1\nunicode on\n";
 
+const ENCODED: &[(Stream, &[u8])] = &[
+    // A stream without documents has only its byte order mark.
+    (("", "utf8", ""), b""),
+    (("", "utf16be", ""), b"\xFE\xFF"),
+    (("", "utf16le", ""), b"\xFF\xFE"),
+    // Characters become units of two bytes.
+    (
+        (CANONICAL, "utf16be", LETTER),
+        b"\xFE\xFF\0-\0-\0-\0\n\0\"\0a\0\"\0\n",
+    ),
+    // A character past two bytes becomes two units.
+    (
+        ("unicode on\n", "utf16le", FACE),
+        b"\xFF\xFE\x3D\xD8\x00\xDE\x0A\x00",
+    ),
+    (
+        (WITH_UNICODE, "utf16le", FACE),
+        b"\xFF\xFE-\0-\0-\0\n\0\"\0\x3D\xD8\x00\xDE\"\0\n\0",
+    ),
+];
+
 #[test]
-fn a_character_past_two_bytes_becomes_two_units(rt: HostRuntime) {
-    let plain: Stream = ("unicode on\n", "utf16le", FACE);
-    let bytes = b"\xFF\xFE\x3D\xD8\x00\xDE\x0A\x00";
-    check_encoded(&rt, rt.alloc(), plain, bytes);
-    let canonical: Stream = (WITH_UNICODE, "utf16le", FACE);
-    let bytes = b"\xFF\xFE-\0-\0-\0\n\0\"\0\x3D\xD8\x00\xDE\"\0\n\0";
-    check_encoded(&rt, rt.alloc(), canonical, bytes);
+fn each_encoding_has_its_mark_and_its_units(rt: HostRuntime) {
+    for (stream, expected) in ENCODED {
+        check_encoded(&rt, rt.alloc(), *stream, expected);
+    }
 }

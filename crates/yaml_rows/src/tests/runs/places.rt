@@ -61,12 +61,6 @@ fn check_place(rt: &impl Abort, alloc: Global, place: &Place) {
     }
 }
 
-fn check_places(rt: &impl Abort, alloc: Global, places: &[Place]) {
-    for place in places {
-        check_place(rt, alloc, place);
-    }
-}
-
 const PLACES: &[Place] = &[
     ("", &[], "+---------", yaml_error_t::ExpectedStreamStart),
     (
@@ -95,11 +89,6 @@ const PLACES: &[Place] = &[
     ),
 ];
 
-#[test]
-fn each_kind_stands_only_at_its_places(rt: HostRuntime) {
-    check_places(&rt, rt.alloc(), PLACES);
-}
-
 const NODE: yaml_error_t = yaml_error_t::ExpectedNode;
 
 // At a root, at an item, at a key, and at its value.
@@ -126,6 +115,10 @@ const NODE_PLACES: &[Place] = &[
 ];
 
 #[test]
-fn each_node_stands_only_at_its_places(rt: HostRuntime) {
-    check_places(&rt, rt.alloc(), NODE_PLACES);
+fn each_kind_stands_only_at_its_places(rt: HostRuntime) {
+    for places in [PLACES, NODE_PLACES] {
+        for place in places {
+            check_place(&rt, rt.alloc(), place);
+        }
+    }
 }

@@ -43,15 +43,11 @@ const ANALYSES: &[Analysis] = &[
     ("\t", true, false, false, false, false, false, false),
 ];
 
-fn check_analyses(rt: &impl Abort, rows: &[Analysis]) {
-    for row in rows {
-        check_analysis(rt, row);
-    }
-}
-
 #[test]
 fn values_are_analysed(rt: HostRuntime) {
-    check_analyses(&rt, ANALYSES);
+    for row in ANALYSES {
+        check_analysis(&rt, row);
+    }
 }
 
 const ANY: yaml_scalar_style_t = YAML_ANY_SCALAR_STYLE;
@@ -84,12 +80,6 @@ fn choice(asked: &Asked, tagged: bool) -> Choice {
 
 /// What is asked for, whether the value has a tag, and the choice.
 type Choosing<'a> = (Asked<'a>, bool, Choice);
-
-fn check_choices(rt: &impl Abort, rows: &[Choosing]) {
-    for row in rows {
-        equal(rt, &choice(&row.0, row.1), &row.2);
-    }
-}
 
 const CHOICES: &[Choosing] = &[
     (
@@ -146,5 +136,7 @@ const NEITHER: Asked = ("x", ANY, (false, false), false, false, false);
 
 #[test]
 fn styles_are_chosen(rt: HostRuntime) {
-    check_choices(&rt, CHOICES);
+    for (asked, tagged, wanted) in CHOICES {
+        equal(&rt, &choice(asked, *tagged), wanted);
+    }
 }
