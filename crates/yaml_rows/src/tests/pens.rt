@@ -143,21 +143,14 @@ fn end_line(rt: &impl Abort, pen: &mut Pen<Global>) -> Result<(), yaml_error_t>
     Ok(())
 }
 
-fn write_all(rt: &impl Abort, pen: &mut Pen<Global>) -> Result<(), yaml_error_t>
-    requires { IsReady pen.old }
-    ensures { IsReady pen.new }
-{
-    write_line(rt, pen)?;
-    end_line(rt, pen)
-}
-
 /// An encoding, and what is written in it.
 type Written<'a> = (yaml_encoding_t, &'a [u8]);
 
 fn check_calls(rt: &impl Abort, alloc: Global, rows: &[Written]) {
     for row in rows {
         let mut pen = made(rt, alloc, usize::MAX, row.0);
-        equal(rt, &write_all(rt, &mut pen), &Ok(()));
+        equal(rt, &write_line(rt, &mut pen), &Ok(()));
+        equal(rt, &end_line(rt, &mut pen), &Ok(()));
         check_flushed(rt, &mut pen, row.1);
     }
 }
@@ -225,14 +218,6 @@ fn check_cut(rt: &impl Abort, pen: &mut Pen<Global>, cut: &[u8])
     same(rt, pen.output(), cut);
 }
 
-fn write_face(pen: &mut Pen<Global>) -> Result<(), yaml_error_t>
-    requires { IsReady pen.old }
-    ensures { IsReady pen.new }
-{
-    pen.write_char('\u{1F600}')?;
-    pen.put_break()
-}
-
 // The text is cut where the limit leaves less, and else whole.
 fn check_text(rt: &impl Abort, pen: &mut Pen<Global>, text: &[u8], limit: usize)
     requires { IsReady pen.old }
@@ -245,24 +230,24 @@ fn check_text(rt: &impl Abort, pen: &mut Pen<Global>, text: &[u8], limit: usize)
 
 fn check_limit(rt: &impl Abort, alloc: Global, row: &Written, limit: usize) {
     let mut pen = made(rt, alloc, limit, row.0);
-    equal(rt, &write_face(&mut pen), &Ok(()));
+    let answers = (pen.write_char('\u{1F600}'), pen.put_break());
+    equal(rt, &answers, &(Ok(()), Ok(())));
     check_text(rt, &mut pen, row.1, limit);
 }
 
-fn check_limits(rt: &impl Abort, alloc: Global, row: &Written) {
-    for limit in 0..row.1.len().saturating_add(2) {
-        check_limit(rt, alloc, row, limit);
-    }
-}
+const FACES: &[Written] = &[
+    (YAML_UTF8_ENCODING, b"\xF0\x9F\x98\x80\n"),
+    (YAML_UTF16LE_ENCODING, b"\xFF\xFE\x3D\xD8\x00\xDE\n\0"),
+    (YAML_UTF16BE_ENCODING, b"\xFE\xFF\xD8\x3D\xDE\x00\0\n"),
+];
 
 #[test]
 fn a_limit_cuts_at_any_byte(rt: HostRuntime) {
-    let utf8: Written = (YAML_UTF8_ENCODING, b"\xF0\x9F\x98\x80\n");
-    check_limits(&rt, rt.alloc(), &utf8);
-    let little: Written = (YAML_UTF16LE_ENCODING, b"\xFF\xFE\x3D\xD8\x00\xDE\n\0");
-    check_limits(&rt, rt.alloc(), &little);
-    let big: Written = (YAML_UTF16BE_ENCODING, b"\xFE\xFF\xD8\x3D\xDE\x00\0\n");
-    check_limits(&rt, rt.alloc(), &big);
+    for row in FACES {
+        for limit in 0..row.1.len().saturating_add(2) {
+            check_limit(&rt, rt.alloc(), row, limit);
+        }
+    }
 }
 
 /// `a`, U+00E9, U+20AC and U+1F600 in an encoding, ten bytes in each.
@@ -274,8 +259,9 @@ const IN_UTF16LE: &[u8; 10] = b"a\0\xE9\0\xAC\x20\x3D\xD8\x00\xDE";
 
 const IN_UTF16BE: &[u8; 10] = b"\0a\0\xE9\x20\xAC\xD8\x3D\xDE\x00";
 
-// So many bytes: the cycle again and again.
-fn check_bytes(rt: &impl Abort, bytes: &[u8], count: usize, cycle: &[u8; 10]) {
+// So many bytes from the start on: the cycle again and again.
+fn check_bytes(rt: &impl Abort, output: &[u8], start: usize, count: usize, cycle: &[u8; 10]) {
+    let bytes = output.get(start..).unwrap_or(b"");
     equal(rt, &bytes.len(), &count);
     for (place, byte) in bytes.iter().enumerate() {
         equal(rt, &(place, *byte), &(place, cycle[place % 10]));
@@ -298,26 +284,24 @@ fn write_cycles_after(pen: &mut Pen<Global>, ahead: usize) -> Result<(), yaml_er
     pen.flush()
 }
 
-fn check_rest(rt: &impl Abort, output: &[u8], start: usize, count: usize, cycle: &[u8; 10]) {
-    check_bytes(rt, output.get(start..).unwrap_or(b""), count, cycle);
-}
-
 fn check_cycles(rt: &impl Abort, alloc: Global, row: &Cycle, ahead: usize) {
     let mut pen = made(rt, alloc, usize::MAX, row.0);
     equal(rt, &write_cycles_after(&mut pen, ahead), &Ok(()));
-    check_rest(rt, pen.output(), start_of(row.0, ahead), 100_000, row.1);
+    check_bytes(rt, pen.output(), start_of(row.0, ahead), 100_000, row.1);
 }
 
-fn check_each_cycle(rt: &impl Abort, alloc: Global, row: &Cycle) {
-    for ahead in 0..10 {
-        check_cycles(rt, alloc, row, ahead);
-    }
-}
+const CYCLES: &[Cycle] = &[
+    (YAML_UTF8_ENCODING, IN_UTF8),
+    (YAML_UTF16LE_ENCODING, IN_UTF16LE),
+    (YAML_UTF16BE_ENCODING, IN_UTF16BE),
+];
 
 // After some letters the buffer's end falls into each place of the ten bytes.
 #[test]
 fn characters_stay_whole_across_the_buffer(rt: HostRuntime) {
-    check_each_cycle(&rt, rt.alloc(), &(YAML_UTF8_ENCODING, IN_UTF8));
-    check_each_cycle(&rt, rt.alloc(), &(YAML_UTF16LE_ENCODING, IN_UTF16LE));
-    check_each_cycle(&rt, rt.alloc(), &(YAML_UTF16BE_ENCODING, IN_UTF16BE));
+    for row in CYCLES {
+        for ahead in 0..10 {
+            check_cycles(&rt, rt.alloc(), row, ahead);
+        }
+    }
 }

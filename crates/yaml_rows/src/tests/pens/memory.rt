@@ -55,7 +55,7 @@ fn check_refused<A: Allocator>(
     check_run_refused(rt, pen, alloc, error);
     let answers = (pen.put(b'a'), pen.flush());
     equal(rt, &answers, &(Err(error), Err(error)));
-    check_bytes(rt, pen.output(), flushed, row.1);
+    check_bytes(rt, pen.output(), 0, flushed, row.1);
 }
 
 // So many bytes of the text were flushed before a growth is refused, or the whole text is.
@@ -73,7 +73,7 @@ fn check_text<A: Allocator>(
         None => {
             let answers = (write(pen, alloc, row.0), pen.flush());
             equal(rt, &answers, &(Ok(()), Ok(())));
-            check_bytes(rt, pen.output(), 100_000, row.1);
+            check_bytes(rt, pen.output(), 0, 100_000, row.1);
         }
     }
 }

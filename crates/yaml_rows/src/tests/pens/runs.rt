@@ -1,10 +1,7 @@
 //! Runs of characters: across the buffer's end, cut by a limit, and refused.
 ghost use Rattle.yaml_pen.specs.Page.{IsReady};
 
-use super::{
-    Cycle, IN_UTF8, IN_UTF16LE, check_bytes, check_rest, made, put_letters, start_of,
-    write_long_run,
-};
+use super::{Cycle, IN_UTF8, IN_UTF16LE, check_bytes, made, put_letters, start_of, write_long_run};
 use crate::tests::equal;
 use std::alloc::{Allocator, Global};
 use std::process::Abort;
@@ -43,20 +40,22 @@ fn check_runs(rt: &impl Abort, alloc: Global, row: &Cycle, ahead: u8) {
     let mut pen = made(rt, alloc, usize::MAX, row.0);
     write_runs_after(rt, &mut pen, alloc, ahead);
     let start = start_of(row.0, usize::from(ahead));
-    check_rest(rt, pen.output(), start, 100_010, row.1);
+    check_bytes(rt, pen.output(), start, 100_010, row.1);
 }
 
-fn check_each_run(rt: &impl Abort, alloc: Global, row: &Cycle) {
-    for ahead in 0..10 {
-        check_runs(rt, alloc, row, ahead);
-    }
-}
+/// The ten bytes of each encoding, written as runs.
+const RUNS: &[Cycle] = &[
+    (YAML_UTF8_ENCODING, IN_UTF8),
+    (YAML_UTF16LE_ENCODING, IN_UTF16LE),
+];
 
-// The ten bytes of each encoding, written as runs.
 #[test]
 fn runs_stay_whole_across_the_buffer(rt: HostRuntime) {
-    check_each_run(&rt, rt.alloc(), &(YAML_UTF8_ENCODING, IN_UTF8));
-    check_each_run(&rt, rt.alloc(), &(YAML_UTF16LE_ENCODING, IN_UTF16LE));
+    for row in RUNS {
+        for ahead in 0..10 {
+            check_runs(&rt, rt.alloc(), row, ahead);
+        }
+    }
 }
 
 // After a refusal a run is refused by the same error, and flushes nothing.
@@ -87,7 +86,7 @@ fn check_run_flushed(rt: &impl Abort, pen: &mut Pen<Global>, alloc: Global, limi
     let answer = write_long_run(pen, alloc, 5_000);
     equal(rt, &is_good_or_cut(answer), &true);
     equal(rt, &pen.flush().is_ok(), &(limit == 50_000));
-    check_bytes(rt, pen.output(), limit, IN_UTF8);
+    check_bytes(rt, pen.output(), 0, limit, IN_UTF8);
 }
 
 fn check_run_cut(rt: &impl Abort, pen: &mut Pen<Global>, alloc: Global, limit: usize)
@@ -99,16 +98,12 @@ fn check_run_cut(rt: &impl Abort, pen: &mut Pen<Global>, alloc: Global, limit: u
     }
 }
 
-fn check_run_limits(rt: &impl Abort, alloc: Global, limits: &[usize]) {
-    for limit in limits {
-        let mut pen = made(rt, alloc, *limit, YAML_UTF8_ENCODING);
-        check_run_cut(rt, &mut pen, alloc, *limit);
-    }
-}
-
 const LIMITS: &[usize] = &[0, 1, 16_383, 16_384, 16_385, 33_333, 49_999, 50_000];
 
 #[test]
 fn a_limit_cuts_a_run_at_any_byte(rt: HostRuntime) {
-    check_run_limits(&rt, rt.alloc(), LIMITS);
+    for limit in LIMITS {
+        let mut pen = made(&rt, rt.alloc(), *limit, YAML_UTF8_ENCODING);
+        check_run_cut(&rt, &mut pen, rt.alloc(), *limit);
+    }
 }
