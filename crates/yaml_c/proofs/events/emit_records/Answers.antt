@@ -74,7 +74,8 @@ returns-in-Unreadable-clause-emits g c given stands =
     let has = now.invariant.5 in
     let bad = took_bad _ c.give_record.result c.give_record.ensures.gave c.in-Unreadable.is in
     let read : List Numbered = events_from 0 c.args.arena.now c.args.directives.now c.args.events.now in
-    let all : read ≡ has.given = bad_next c.args.arena.now c.args.directives.now c.args.events.now now.record-index _ has.given c.loop-record-test.true bad.0 has.parts in
+    let all : read ≡ has.given =
+    bad_next c.args.arena.now c.args.directives.now c.args.events.now now.record-index _ has.given c.loop-record-test.true bad.0 has.parts in
     record {
       first = now.invariant.4 ∙ sym has.count ∙ ap length (sym all);
       within = subst (λ (n : ℕ). n < length c.args.events.now) (sym now.invariant.4) c.loop-record-test.true;

@@ -1,5 +1,5 @@
-use Rattle.yaml_json.proofs.Common.{ℕ, false, true, List, [], ◌++◌, ◌∷◌, refl, ◌≡◌, Bor, ap, sym, ◌∙◌, arith, chars, token_of, scalar, failure_of, emitter_error_of}
-use Rattle.yaml_json.proofs.Common.{text_content, closer, Refuses}
+use Rattle.yaml_json.proofs.Common.{ℕ, false, true, List, [], ◌++◌, ◌∷◌, refl, ◌≡◌, Bor, ap, sym, ◌∙◌, arith, chars, token_of, scalar}
+use Rattle.yaml_json.proofs.Common.{text_content, closer, Refuses, failure_of, emitter_error_of}
 use Rattle.json.specs.declared.token.Token.{Token}
 use Rattle.yaml_json.proofs.{KeepingNames.keeps_closer, KeepingNames.keeps_name, KeepingNames.keeps_then, Refusing.IsNoKey, Refusing.unrefused}
 use Rattle.yaml_json.proofs.{Stopping.if_some, WroteLemmas.on_ok, WroteLemmas.always, WroteLemmas.on_err}

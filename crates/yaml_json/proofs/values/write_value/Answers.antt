@@ -1,5 +1,6 @@
 use Rattle.yaml_json.proofs.Common.{IfSome, List, [], ◌≡◌, ◌∙◌, ap, length, subst, arith, failure_of, BeganFirstValue, FirstFailed, RefusesFirst}
-use Rattle.yaml_json.proofs.{KeepingNames.names_begin, KeepingNames.names_on, Refusing.first_refused, Stopping.if_some, Walking.awaiting_whole, HeldNameLemmas.no_item}
+use Rattle.yaml_json.proofs.{KeepingNames.names_begin, KeepingNames.names_on, Refusing.first_refused, Stopping.if_some, Walking.awaiting_whole}
+use Rattle.yaml_json.proofs.HeldNameLemmas.{no_item}
 use Rattle.yaml_json.proofs.Taking.{first_so_far, first_failed, steps_on, step_failed, step_stopped, all_written}
 use Rattle.yaml_emitter.specs.declared.place.CollectionKind.{CollectionKind}
 use Rattle.yaml_json.proofs.values.write_value.Goals as goal
