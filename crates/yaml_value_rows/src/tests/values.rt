@@ -48,9 +48,9 @@ fn made<'a>(rt: &impl Abort, heap: Heap<'a>, example: &Example) -> Made<'a> {
         Example::Text(characters) => text(rt, heap, characters),
         Example::EmptyList => Value::List(Vec::new(heap)),
         Example::EmptyMap => Value::Map(Vec::new(heap)),
-        Example::List => list(rt, heap, false),
+        Example::List => Value::List(items(rt, heap)),
         Example::Map => falsehood(rt, heap),
-        Example::Mixed => list(rt, heap, true),
+        Example::Mixed => mixed(rt, heap),
         Example::Nested(count) => nested_lists(rt, heap, *count),
         Example::NestedKey(count) => map(rt, heap, nested_lists(rt, heap, *count), Value::Null),
     }
@@ -67,13 +67,17 @@ fn one<'a, T: Drop>(rt: &impl Abort, heap: Heap<'a>, item: T) -> Vec<T, Heap<'a>
     items
 }
 
-/// The integer 5 and the text `a`, and a map where it has one.
-fn list<'a>(rt: &impl Abort, heap: Heap<'a>, has_map: bool) -> Made<'a> {
+/// The integer 5 and the text `a`.
+fn items<'a>(rt: &impl Abort, heap: Heap<'a>) -> Vec<Made<'a>, Heap<'a>> {
     let mut items = one(rt, heap, Value::Int(5));
     items.push(text(rt, heap, "a")).expect(rt, "no memory");
-    if has_map {
-        items.push(falsehood(rt, heap)).expect(rt, "no memory");
-    }
+    items
+}
+
+/// A list of both, and of a map.
+fn mixed<'a>(rt: &impl Abort, heap: Heap<'a>) -> Made<'a> {
+    let mut items = items(rt, heap);
+    items.push(falsehood(rt, heap)).expect(rt, "no memory");
     Value::List(items)
 }
 

@@ -41,7 +41,7 @@ const WRITTEN: &[Row] = &[
 fn values_are_written_with_their_tags(rt: HostRuntime) {
     let heap = Refusing::new(rt.alloc());
     for row in WRITTEN {
-        check_row(&rt, &heap, row, true);
+        check_row(&rt, &heap, row);
     }
 }
 

@@ -28,20 +28,16 @@ fn is_reported<'a>(
     is_met
 }
 
-// Each growth that a value takes is refused in turn, and after them all it gives this text; also after each, where it is written
-// again: a long one takes too much time for that.
-fn writes<'a>(
-    rt: &impl Abort,
-    heap: Heap<'a>,
-    value: &Value<Heap<'a>>,
-    expected: &[u8],
-    again: bool,
-) {
+/// A longer text takes too much time to be written after each refusal.
+const LONG: usize = 100_000;
+
+// Each growth that a value takes is refused in turn, and after them all it gives this text; also after each.
+fn writes<'a>(rt: &impl Abort, heap: Heap<'a>, value: &Value<Heap<'a>>, expected: &[u8]) {
     for number in 1..usize::MAX {
         if !is_reported(rt, heap, value, expected, number) {
             return;
         }
-        if again {
+        if expected.len() < LONG {
             answers(rt, canonical(heap, value), &Ok(expected));
         }
     }
@@ -50,9 +46,9 @@ fn writes<'a>(
 /// A value, and what is written.
 pub(super) type Row<'a> = (Example, &'a str);
 
-pub(super) fn check_row(rt: &impl Abort, heap: Heap<'_>, row: &Row, again: bool) {
+pub(super) fn check_row(rt: &impl Abort, heap: Heap<'_>, row: &Row) {
     let value = made(rt, heap, &row.0);
-    writes(rt, heap, &value, row.1.as_bytes(), again);
+    writes(rt, heap, &value, row.1.as_bytes());
     drop(value);
 }
 
@@ -81,9 +77,9 @@ fn nested_text(rt: &impl Abort, alloc: Global, count: u32) -> String {
 #[test]
 fn thirty_lists_and_a_thousand_are_written(rt: HostRuntime) {
     let heap = Refusing::new(rt.alloc());
-    for (count, again) in [(30, true), (1_000, false)] {
+    for count in [30, 1_000] {
         let text = nested_text(&rt, rt.alloc(), count - 1);
         let row = (Example::Nested(count), text.as_str());
-        check_row(&rt, &heap, &row, again);
+        check_row(&rt, &heap, &row);
     }
 }
