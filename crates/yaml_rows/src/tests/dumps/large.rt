@@ -5,9 +5,10 @@ use super::steps::Step::{Close, Dump, Output};
 use super::{Given, document, nodes};
 use crate::tests::emitters::UNSET;
 use crate::tests::emitters::depth::dashes;
-use crate::tests::emitters::steps::check_steps;
+use crate::tests::emitters::steps::{check_growths, check_steps};
 use crate::tests::{equal, joined, repeated};
 use std::alloc::Global;
+use std::ops::Range;
 use std::process::Abort;
 use yaml_base::yaml_error_t;
 use yaml_emitter::Settings;
@@ -157,17 +158,37 @@ const ENDLESS: Settings = Settings {
     ..UNSET
 };
 
-// A million and one sequences, each the one item of the one before. A node takes no growth of its own.
-#[test]
-fn too_many_nodes_in_each_other_are_refused(rt: HostRuntime) {
-    let alloc = rt.alloc();
-    let numbers = numbers(&rt, alloc, 1_000_001);
-    let mut given = sequences(&rt, alloc, numbers.as_slice(), 1);
-    given.push(Sequence(&[])).expect(&rt, "no memory");
-    let flushed = dashes(&rt, alloc);
+// A million and one sequences, each the one item of the one before, dumped with each of these growths refused. A node takes no
+// growth of its own.
+fn check_too_many(rt: &impl Abort, alloc: Global, growths: Range<usize>) {
+    let numbers = numbers(rt, alloc, 1_000_001);
+    let mut given = sequences(rt, alloc, numbers.as_slice(), 1);
+    given.push(Sequence(&[])).expect(rt, "no memory");
+    let flushed = dashes(rt, alloc);
     let steps = [
         Dump(given.as_slice(), Err(yaml_error_t::TooDeep)),
         Output(flushed.as_str().as_bytes()),
     ];
-    check_steps(&rt, alloc, &ENDLESS, &steps);
+    check_growths(rt, alloc, &ENDLESS, &steps, growths);
+}
+
+// There are some sixty growths. The tests share them, since each has a minute, also on a busy machine.
+#[test]
+fn too_many_nodes_in_each_other_are_refused(rt: HostRuntime) {
+    check_too_many(&rt, rt.alloc(), 1..12);
+}
+
+#[test]
+fn too_many_nodes_are_refused_at_the_next_growths(rt: HostRuntime) {
+    check_too_many(&rt, rt.alloc(), 12..28);
+}
+
+#[test]
+fn too_many_nodes_are_refused_at_later_growths(rt: HostRuntime) {
+    check_too_many(&rt, rt.alloc(), 28..44);
+}
+
+#[test]
+fn too_many_nodes_are_refused_at_the_last_growths(rt: HostRuntime) {
+    check_too_many(&rt, rt.alloc(), 44..usize::MAX);
 }

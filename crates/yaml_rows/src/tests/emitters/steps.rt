@@ -2,6 +2,7 @@
 use super::{Answer, begun, check_answer, check_failed, check_out_of_memory, flush_if_known, give};
 use crate::tests::{equal, event_of, same};
 use std::alloc::{Allocator, Global};
+use std::ops::Range;
 use std::process::Abort;
 use yaml_base::{yaml_error_t, yaml_event_t};
 use yaml_emitter::{Settings, yaml_emitter_t, yaml_emitter_take_output};
@@ -190,6 +191,21 @@ fn is_refused<S: Taken>(
     heap.left() == 0 || heap.left() > number
 }
 
+/// The steps are taken with each of these growths refused in turn, up to one that there isn't.
+pub(crate) fn check_growths<S: Taken>(
+    rt: &impl Abort,
+    alloc: Global,
+    settings: &Settings,
+    steps: &[S],
+    growths: Range<usize>,
+) {
+    for number in growths {
+        if !is_refused(rt, alloc, settings, steps, number) {
+            return;
+        }
+    }
+}
+
 /// The steps are taken with the first growth refused, the second, and so on, until none is.
 pub(crate) fn check_steps<S: Taken>(
     rt: &impl Abort,
@@ -197,9 +213,5 @@ pub(crate) fn check_steps<S: Taken>(
     settings: &Settings,
     steps: &[S],
 ) {
-    for number in 1..usize::MAX {
-        if !is_refused(rt, alloc, settings, steps, number) {
-            return;
-        }
-    }
+    check_growths(rt, alloc, settings, steps, 1..usize::MAX);
 }
