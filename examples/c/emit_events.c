@@ -23,27 +23,23 @@ static const struct yaml_c_event events[] = {
     {.kind = STREAM_END},
 };
 
+/* By the settings of a new emitter, without directives. */
 static int32_t emit(size_t count, uint8_t *out, size_t capacity, struct yaml_c_result *result) {
-    static const struct yaml_c_directive none[1];
-    static const struct yaml_c_settings settings; /* zeros: those of a new emitter */
-    return yaml_emit(events, count, none, 0, texts, sizeof texts - 1, &settings, out, capacity, result);
+    return yaml_emit(events, count, NULL, 0, texts, sizeof texts - 1, NULL, out, capacity, result);
 }
 
 int main(void) {
     size_t count = sizeof events / sizeof *events;
-    uint8_t small[8];
     struct yaml_c_result result;
-    if (emit(count, small, sizeof small, &result) != YAML_TOO_SMALL) return 1;
+    if (emit(count, NULL, 0, &result) != YAML_TOO_SMALL) return 1;
     printf("%zu bytes\n", result.length);
     uint8_t *yaml = malloc(result.length);
     if (yaml == NULL) return 1;
     if (emit(count, yaml, result.length, &result) != YAML_DONE) return 1;
     fwrite(yaml, 1, result.length, stdout);
     free(yaml);
-    static const struct yaml_c_event wrong[] = {{.kind = STREAM_START}, {.kind = MAPPING_END}};
-    static const struct yaml_c_directive none[1];
-    static const struct yaml_c_settings settings;
-    int32_t status = yaml_emit(wrong, 2, none, 0, texts, 0, &settings, small, sizeof small, &result);
+    int32_t status =
+        yaml_emit((struct yaml_c_event[]){{.kind = STREAM_START}, {.kind = MAPPING_END}}, 2, NULL, 0, NULL, 0, NULL, NULL, 0, &result);
     if (status != YAML_REFUSED) return 1;
     printf("%s: event %" PRIu64 ", %s\n", yaml_status_text(status), result.event, yaml_error_text(result.error));
     if (yaml_c_version() != YAML_C_VERSION) return 1;

@@ -12,10 +12,8 @@ static struct yaml_c_result result;
 
 /* Gives an event with this text for its value. */
 static int give(uint32_t kind, const char *text) {
-    static const struct yaml_c_directive none[1];
-    struct yaml_c_event event = {.kind = kind, .implicit = 1, .quoted_implicit = 1};
-    event.value.length = strlen(text);
-    return yaml_c_emitter_emit(&emitter, &event, none, 0, (const uint8_t *)text, event.value.length, &result) == YAML_DONE;
+    struct yaml_c_event event = {.kind = kind, .implicit = 1, .quoted_implicit = 1, .value = {0, strlen(text)}};
+    return yaml_c_emitter_emit(&emitter, &event, NULL, 0, (const uint8_t *)text, strlen(text), &result) == YAML_DONE;
 }
 
 /* Writes what is flushed, and how many bytes that are. */
@@ -34,8 +32,7 @@ static int give_document(const char *first, const char *second) {
 }
 
 int main(void) {
-    static const struct yaml_c_settings settings; /* zeros: those of a new emitter */
-    if (yaml_c_emitter_new(&settings, &emitter) != YAML_DONE) return 1;
+    if (yaml_c_emitter_new(NULL, &emitter) != YAML_DONE) return 1;
     int done = give(STREAM_START, "") && give_document("one", "yes") && write_flushed() && give_document("two", "x: y") && write_flushed();
     done = done && give(DOCUMENT_START, "") && give(SEQUENCE_START, "") && give(SCALAR, "three") && give(SCALAR, "four") && write_so_far();
     done = done && give(SCALAR, "five") && give(SEQUENCE_END, "") && give(DOCUMENT_END, "") && write_flushed();

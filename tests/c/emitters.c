@@ -169,12 +169,34 @@ static void two(void) {
     yaml_c_emitter_delete(emitter);
 }
 
+/* NULL for settings, for directives and texts of which there are none, and for a buffer without room. */
+static void nulls(void) {
+    struct yaml_c_event start, item;
+    memset(&start, 0, sizeof start);
+    memset(&item, 0, sizeof item);
+    memset(&result, 0, sizeof result);
+    start.kind = STREAM_START;
+    item.kind = ALIAS;
+    check("no settings", yaml_c_emitter_new(NULL, emitter), YAML_DONE, 0, 0);
+    check("no arrays", yaml_c_emitter_emit(emitter, &start, NULL, 0, NULL, 0, &result), YAML_DONE, 0, 0);
+    check("no room, and none needed", yaml_c_emitter_take_output(emitter, NULL, 0, &result), YAML_DONE, 0, 0);
+    give(DOCUMENT_START, "", YAML_DONE, 0);
+    give(SCALAR, "one", YAML_DONE, 0);
+    give(DOCUMENT_END, "", YAML_DONE, 0);
+    check("no room", yaml_c_emitter_take_output(emitter, NULL, 0, &result), YAML_TOO_SMALL, 4, 0);
+    item.anchor.length = 1;
+    check("a text of none", yaml_c_emitter_emit(emitter, &item, NULL, 0, NULL, 0, &result), YAML_BAD_EVENT, 0, 0);
+    take("what didn't fit", 4, "one\n");
+    yaml_c_emitter_delete(emitter);
+}
+
 int main(void) {
     written();
     named();
     refused();
     set();
     two();
+    nulls();
     printf("%d calls, %d not as written\n", calls, failures);
     return failures != 0;
 }

@@ -1,5 +1,5 @@
-/* Calls of yaml_emit, one for each status and for each kind of event that has no reading, and of yaml_from_json, one for each setting
- * and status; a line for each that isn't as written. */
+/* Calls of yaml_emit, one for each status and for each kind of event that has no reading, of yaml_from_json, one for each setting and
+ * status, and of both and yaml_run with NULL where there is nothing; a line for each that isn't as written. */
 #include <stdio.h>
 #include <stdlib.h>
 #include <string.h>
@@ -359,6 +359,60 @@ static void long_output(void) {
     printf("a long output: length %lu, event %lu\n", (unsigned long)result.length, (unsigned long)result.event);
 }
 
+/* How a call that is given NULL went: its status, and the length of its YAML, which stands in `out` if it is done. */
+static void expect_null(const char *name, int32_t got, int32_t status, const char *written) {
+    size_t i, length = strlen(written), size = status == YAML_DONE ? length : 0;
+    int good = got == status && result.length == length && result.error == 0 && memcmp(out, written, size) == 0;
+    for (i = size; i < sizeof out; i++) good = good && out[i] == 0xa5;
+    calls++;
+    failures += !good;
+    if (!good) printf("%s: status %d, length %lu\n%.*s\n", name, (int)got, (unsigned long)result.length, (int)result.length, (const char *)out);
+    memset(out, 0xa5, sizeof out);
+    memset(&result, 0xff, sizeof result);
+}
+
+static void null_scripts(void) {
+    static const uint8_t script[] = "+STR any\n+DOC 1 -\n=VAL any 1 1 - - \"one\"\n-DOC 1\n-STR\n";
+    const size_t length = sizeof script - 1;
+    expect_null("no script", yaml_run(NULL, 0, out, sizeof out, &result), YAML_DONE, "");
+    expect_null("no room for a script's YAML", yaml_run(script, length, NULL, 0, &result), YAML_TOO_SMALL, "one\n");
+    expect_null("neither", yaml_run(NULL, 0, NULL, 0, &result), YAML_DONE, "");
+    expect_null("a direct call", (yaml_run)(script, length, out, sizeof out, &result), YAML_DONE, "one\n");
+}
+
+static void null_json(void) {
+    static const uint8_t text[] = "[1]";
+    const struct yaml_c_json_settings *defaults = NULL;
+    expect_null("no JSON", yaml_from_json(NULL, 0, defaults, out, sizeof out, &result), YAML_NOT_JSON, "");
+    expect_null("no settings of JSON", yaml_from_json(text, 3, NULL, out, sizeof out, &result), YAML_DONE, "---\n- 1\n");
+    expect_null("no room for JSON's YAML", yaml_from_json(text, 3, defaults, NULL, 0, &result), YAML_TOO_SMALL, "---\n- 1\n");
+    expect_null("neither", yaml_from_json(NULL, 0, NULL, NULL, 0, &result), YAML_NOT_JSON, "");
+}
+
+static void null_events(void) {
+    begin();
+    expect_null("no events", yaml_emit(NULL, 0, directives, 1, texts, texts_len, &settings, out, sizeof out, &result), YAML_DONE, "");
+    expect_null("no settings", yaml_emit(events, 5, directives, 1, texts, texts_len, NULL, out, sizeof out, &result), YAML_DONE, yaml);
+    expect_null("no room", yaml_emit(events, 5, directives, 1, texts, texts_len, &settings, NULL, 0, &result), YAML_TOO_SMALL, yaml);
+    expect_null("nothing", yaml_emit(NULL, 0, NULL, 0, NULL, 0, NULL, NULL, 0, &result), YAML_DONE, "");
+    events[1].directives.length = events[2].has_tag = 0;
+    events[2].implicit = 1;
+    expect_null("no directives", yaml_emit(events, 5, NULL, 0, texts, texts_len, &settings, out, sizeof out, &result), YAML_DONE,
+                "%YAML 1.1\n--- &a1 Oslo\n");
+    events[2].has_anchor = events[2].value.start = events[2].value.length = 0;
+    expect_null("no texts", yaml_emit(events, 5, directives, 1, NULL, 0, &settings, out, sizeof out, &result), YAML_DONE, "%YAML 1.1\n---\n");
+    events[2].value.length = 1;
+    expect_null("a text of none", yaml_emit(events, 5, NULL, 0, NULL, 0, NULL, NULL, 0, &result), YAML_BAD_EVENT, "");
+}
+
+static void nulls(void) {
+    memset(out, 0xa5, sizeof out);
+    memset(&result, 0xff, sizeof result);
+    null_scripts();
+    null_json();
+    null_events();
+}
+
 int main(void) {
     if (yaml_c_version() != YAML_C_VERSION) return 1;
     done();
@@ -371,6 +425,7 @@ int main(void) {
     refused();
     json_settings();
     json_refused();
+    nulls();
     deep();
     printf("%d calls, %d not as written\n", calls, failures);
     return failures != 0;
