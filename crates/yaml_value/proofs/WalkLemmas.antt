@@ -9,7 +9,7 @@ use Rattle.yaml_base.proofs.Common.{append-nil, length-append, Option, false}
 use Rattle.yaml_base.specs.Event.{sequence_end, mapping_end}
 use Rattle.yaml_base.specs.values.TypedValues.{value_count}
 use Rattle.yaml_value.specs.{declared.value.Value.Value, declared.walk.Rest.Rest}
-use Rattle.yaml_value.specs.Walk.{items_in, values_in, Left, seen_flat, seen_rest, entered, stepped, opening, HasOwn64Bits, step_event, StepHas64Bits}
+use Rattle.yaml_value.specs.Walk.{items_in, values_in, count_all, count_left, Left, seen_flat, seen_rest, entered, stepped, opening, HasOwn64Bits, step_event, StepHas64Bits}
 
 -- ---- what lies in a value
 
@@ -35,11 +35,6 @@ pairs_seen pairs = pairs_more no_value_pairs pairs
 
 -- ---- counts
 
--- the number of values in some values
-abbrev pub count_all : List TypedValue → ℕ
-count_all [] = 0
-count_all (value ∷ values) = value_count value + count_all values
-
 count_all-append : (first second : List TypedValue) → count_all (first ++ second) ≡ count_all first + count_all second
 count_all-append [] second = omega arith
 count_all-append (value ∷ first) second = let rest = count_all-append first second in omega (arith, rest)
@@ -58,12 +53,7 @@ count_pairs (value_pairs_and pairs key value) =
     let more = count_all-append (values_in pairs) (key ∷ value ∷ []) in
     omega (arith, before, more)
 
--- the number of values that are left
-abbrev pub count_left : List Left → ℕ
-count_left [] = 0
-count_left (left ∷ inner) = count_all left.values + count_left inner
-
-count_left-append : (outer inner : List Left) → count_left (outer ++ inner) ≡ count_left outer + count_left inner
+pub count_left-append : (outer inner : List Left) → count_left (outer ++ inner) ≡ count_left outer + count_left inner
 count_left-append [] inner = omega arith
 count_left-append (left ∷ outer) inner = let rest = count_left-append outer inner in omega (arith, rest)
 
@@ -76,7 +66,7 @@ count_entered (text_value text) = refl
 count_entered (list_value items) = let inside = count_items items in omega (arith, inside)
 count_entered (map_value pairs) = let inside = count_pairs pairs in omega (arith, inside)
 
-entered_one : (value : TypedValue) → length (entered value) ≤ 1
+pub entered_one : (value : TypedValue) → length (entered value) ≤ 1
 entered_one null_value = omega arith
 entered_one (bool_value b) = omega arith
 entered_one (int_value n) = omega arith

@@ -1,11 +1,12 @@
 -- A walk over a value, by what it has left to visit: of each list and map that was entered, the outermost first.
 use Rattle.std.specs.Prelude.{Option, None, Some, List, [], ◌∷◌, ◌++◌, map, flat_map, drop}
-use Rattle.std.specs.Prelude.{ℕ, ◌<◌, ◌^◌}
+use Rattle.std.specs.Prelude.{ℕ, ◌+◌, ◌<◌, ◌^◌, ◌≡◌, ◌⊎◌, min}
 use Rattle.std.specs.Int.Signed.{mag}
 use Rattle.yaml_base.specs.Event.{Event, alias, scalar, sequence_start, mapping_start, sequence_end, mapping_end}
 use Rattle.yaml_base.specs.Grammar.{Node, alias_node, scalar_node, sequence_node, mapping_node}
 use Rattle.yaml_base.specs.values.TypedValues.{TypedValue, list_value, map_value, TypedValues, no_values, values_and, TypedPairs, no_value_pairs}
-use Rattle.yaml_base.specs.values.TypedValues.{value_pairs_and, int_value, value_node}
+use Rattle.yaml_base.specs.values.TypedValues.{value_pairs_and, int_value, value_count, value_node}
+use Rattle.yaml_base.specs.Settings.{largest_usize}
 use Rattle.yaml_value.specs.SeenValues.{seen_value}
 use Rattle.yaml_value.specs.declared.value.Value.{Value}
 use Rattle.yaml_value.specs.declared.walk.Rest.{Rest}
@@ -56,6 +57,21 @@ stepped_by outer (Some parts) = (Some parts.0, outer ++ parts.1 ∷ entered part
 
 abbrev pub stepped : List Left → Left → Option TypedValue × List Left
 stepped outer left = stepped_by outer (split left)
+
+-- the number of values in some values
+abbrev pub count_all : List TypedValue → ℕ
+count_all [] = 0
+count_all (value ∷ values) = value_count value + count_all values
+
+-- the number of values that are left
+abbrev pub count_left : List Left → ℕ
+count_left [] = 0
+count_left (left ∷ inner) = count_all left.values + count_left inner
+
+-- what was counted, and what is left, are what was left before and a value
+abbrev pub CountsEntered : (before : List Left) → TypedValue → (count : ℕ) → (after : List Left) → Type 0
+CountsEntered before value count after =
+    ((count ≡ 1) × (after ≡ before ++ entered value)) ⊎ ((count ≡ min (value_count value) largest_usize) × (after ≡ before))
 
 -- the event with which a node begins
 abbrev pub first_event : Node → Event

@@ -2,7 +2,7 @@
 ghost use Rattle.std.specs.Prelude.{◌≡◌, ◌+◌, ◌++◌, ◌<◌, ◌≤◌, min, nat_le, map, true, false, length};
 ghost use Rattle.yaml_base.specs.values.TypedValues.{most_nested, nesting, value_count, value_pairs_count, values_count};
 ghost use Rattle.yaml_value.specs.SeenValues.{seen_value, seen_values, seen_pairs};
-ghost use Rattle.yaml_value.specs.Walk.{entered, seen_rest, stepped};
+ghost use Rattle.yaml_value.specs.Walk.{CountsEntered, entered, seen_rest, stepped};
 ghost use Rattle.yaml_base.specs.Settings.{largest_usize};
 
 use crate::value::Value;
@@ -13,9 +13,9 @@ use std::alloc::Allocator;
 /// The maximum nesting depth of lists and maps.
 const MOST_NESTED: usize = 1_000;
 
-/// The number of values in a value, itself included; `u64::MAX` where there are more.
-#[cycle(count_values)]
-pub(crate) fn count_values<A: Allocator>(value: &Value<A>) -> u64
+/// The number of values in a value, itself included, by recursion; `u64::MAX` where there are more.
+#[cycle(count_by_recursion)]
+fn count_by_recursion<A: Allocator>(value: &Value<A>) -> u64
     ensures { result ≡ min (value_count (seen_value value.now)) largest_usize }
 {
     match value {
@@ -26,29 +26,71 @@ pub(crate) fn count_values<A: Allocator>(value: &Value<A>) -> u64
 }
 
 /// A list of these items counts as one more.
-#[cycle(count_values)]
+#[cycle(count_by_recursion)]
 fn count_items<A: Allocator>(items: &Vec<Value<A>, A>) -> u64
     ensures { result ≡ min (1 + values_count (seen_values items.now.items)) largest_usize }
 {
     let mut count = 1u64;
     for item in items {
-        count = count.saturating_add(count_values(item));
+        count = count.saturating_add(count_by_recursion(item));
     }
     count
 }
 
 /// A map of these pairs counts as one more.
-#[cycle(count_values)]
+#[cycle(count_by_recursion)]
 fn count_pairs<A: Allocator>(pairs: &Vec<(Value<A>, Value<A>), A>) -> u64
     ensures { result ≡ min (1 + value_pairs_count (seen_pairs pairs.now.items)) largest_usize }
 {
     let mut count = 1u64;
     for (key, value) in pairs {
         count = count
-            .saturating_add(count_values(key))
-            .saturating_add(count_values(value));
+            .saturating_add(count_by_recursion(key))
+            .saturating_add(count_by_recursion(value));
     }
     count
+}
+
+/// Enters a value, and counts it. Where memory to enter it is refused, all in it is counted by recursion.
+fn count_entered<'a, A: Allocator, B: Allocator>(
+    levels: &mut Vec<Rest<'a, A>, B>,
+    value: &'a Value<A>,
+) -> u64
+    ensures { CountsEntered (map seen_rest levels.old.items) (seen_value value.now) result (map seen_rest levels.new.items) }
+{
+    let Some(rest) = Rest::of(value) else {
+        return 1;
+    };
+    match levels.push(rest) {
+        Ok(()) => 1,
+        Err(_) => count_by_recursion(value),
+    }
+}
+
+/// Counts the values in a value, itself included, by a list of what is left to count.
+fn count_by_list<A: Allocator, B: Allocator>(alloc: B, value: &Value<A>) -> u64
+    ensures { result ≡ min (value_count (seen_value value.now)) largest_usize }
+{
+    let mut levels = Vec::new(alloc);
+    let mut count = count_entered(&mut levels, value);
+    while let Some(rest) = levels.pop() {
+        if let Some((value, others)) = rest.split_first() {
+            levels.push_reserved(others);
+            count = count.saturating_add(count_entered(&mut levels, value));
+        }
+    }
+    count
+}
+
+/// The number of values in a value, itself included; `u64::MAX` where there are more.
+pub(crate) fn count_values<A: Allocator>(value: &Value<A>) -> u64
+    ensures { result ≡ min (value_count (seen_value value.now)) largest_usize }
+{
+    match value {
+        Value::List(items) => count_by_list(items.allocator(), value),
+        Value::Map(pairs) => count_by_list(pairs.allocator(), value),
+        _ => 1,
+    }
 }
 
 /// Enters a value, unless it lies too deep.

@@ -1,4 +1,4 @@
-use Rattle.yaml_value.proofs.Common.{◌<◌, ◌≡◌, length, map, nat_le, false, true, ap, subst, sym, ◌∙◌, arith, rules, most_nested, nesting, seen_value}
+use Rattle.yaml_value.proofs.Common.{◌≡◌, map, nat_le, false, true, ap, sym, ◌∙◌, arith, rules, most_nested, seen_value}
 use Rattle.std.proofs.lemmas.List.{length-map}
 use Rattle.yaml_value.proofs.WalkLemmas.{deepest_entered, deepest_left, first_level, popped, step_exceeds, step_fits, step_smaller}
 use Rattle.yaml_value.specs.Walk.{seen_rest}

@@ -26,10 +26,14 @@ fn drop_nested(value: Made<'_>) {
     drop(value);
 }
 
-fn counted(rt: &impl Abort, heap: Heap<'_>, example: &Example) -> u64 {
+/// Counts a value, with the growth of this number refused, which must come; with 0 none is.
+fn counted(rt: &impl Abort, heap: Heap<'_>, example: &Example, refused: usize) -> u64 {
     let value = made(rt, heap, example);
+    heap.refuse(refused);
     let count = value.count();
-    drop(value);
+    equal(rt, &heap.left(), &0);
+    heap.refuse(0);
+    drop_nested(value);
     count
 }
 
@@ -39,13 +43,27 @@ const COUNTS: &[(Example, u64)] = &[
     (Example::EmptyList, 1),
     (Example::Mixed, 6),
     (Example::Nested(1_000), 1_000),
+    (Example::Nested(DEEPEST), 100_000),
 ];
 
 #[test]
 fn a_value_counts_itself(rt: HostRuntime) {
     let heap = Refusing::new(rt.alloc());
     for (example, count) in COUNTS {
-        equal(&rt, &counted(&rt, &heap, example), count);
+        equal(&rt, &counted(&rt, &heap, example, 0), count);
+    }
+}
+
+/// The growths of the list by which 1,000 levels are counted.
+const LIST_GROWTHS: std::ops::RangeInclusive<usize> = 1..=9;
+
+// What finds no room in the list is counted all the same.
+#[test]
+fn a_value_is_counted_without_memory(rt: HostRuntime) {
+    let heap = Refusing::new(rt.alloc());
+    for refused in LIST_GROWTHS {
+        let count = counted(&rt, &heap, &Example::Nested(1_000), refused);
+        equal(&rt, &count, &1_000);
     }
 }
 

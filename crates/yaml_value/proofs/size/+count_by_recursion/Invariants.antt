@@ -1,5 +1,5 @@
 use Rattle.yaml_value.proofs.Common.{min, ◌+◌, take, ◌≡◌, largest_usize, values_count, value_pairs_count, seen_values, seen_pairs}
-use Rattle.yaml_value.proofs.size.+count_values.Given as goal
+use Rattle.yaml_value.proofs.size.+count_by_recursion.Given as goal
 
 abbrev pub invariant-count_items-loop-item : goal.invariant-count_items-loop-item
 invariant-count_items-loop-item g l =
