@@ -19,6 +19,7 @@ pub mod TidyBlocks
 pub mod Barred
 pub mod Choices
 pub mod ByteRuns
+pub mod CleanBytes
 pub mod FirstCharacters
 pub mod PlainStarts
 pub mod PlainReads

@@ -9,5 +9,6 @@ pub mod WholeRuns
 pub mod ShortRuns
 pub mod SimpleAsciiTexts
 pub mod ByteClasses
+pub mod CleanBytes
 pub mod EscapeBytes
 pub mod Batch

@@ -10,6 +10,7 @@ ghost use Rattle.yaml_scalar.specs.ByteClasses.{ImpliesTest};
 ghost use Rattle.yaml_scalar.specs.ScalarData.{ChooseAlike, is_flow, seen_charset, seen_data};
 
 use crate::classes::{BREAK, INDICATOR, UNPRINTABLE, WIDE, free_length, last_of};
+use crate::clean_ascii::is_clean_ascii;
 use yaml_base::{is_ascii, is_blank, is_break, is_printable, is_space};
 
 /// The styles that a scalar's value allows.
@@ -373,6 +374,9 @@ fn skip_unbroken(text: &str) -> &str
 pub fn holds_break(text: &str) -> bool
     ensures { result ≡ list_any class.is_break (chars text.now) }
 {
+    if is_clean_ascii(text) {
+        return false;
+    }
     let mut chars = skip_unbroken(text).chars();
     while let Some(c) = chars.next() {
         if is_break(c) {

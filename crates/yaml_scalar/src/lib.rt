@@ -6,6 +6,7 @@ mod batched;
 mod block_header;
 mod block_lines;
 mod classes;
+mod clean_ascii;
 mod double_quoted;
 mod escapes;
 mod folded;

@@ -1,6 +1,10 @@
 use Rattle.yaml_scalar.proofs.Common.{ℕ, IsUtf8, ◌||◌, List, ap, subst, sym, ◌∙◌, nil_from_length, chars-nil, chars_past_char, list_any, is_break}
 use Rattle.yaml_base.proofs.Common.{chars}
+use Rattle.yaml_scalar.proofs.CleanBytes.{clean_unbroken}
 use Rattle.yaml_scalar.proofs.analysis.holds_break.Goals as goal
+
+pub returns-then-is_clean_ascii : goal.returns-then-is_clean_ascii
+returns-then-is_clean_ascii c = sym (clean_unbroken c.utf8.text (c.is_clean_ascii.ensures c.if-is_clean_ascii.true))
 
 pub loop-c-preserved : goal.loop-c-preserved
 loop-c-preserved c =
