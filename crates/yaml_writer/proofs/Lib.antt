@@ -3,6 +3,7 @@ pub mod ReservedLemmas
 pub mod TextBytes
 pub mod ValidNumbers
 pub mod PartLemmas
+pub mod PlaceCuts
 pub mod SpellingLemmas
 pub mod UnchangedSpellings
 pub mod Overflow

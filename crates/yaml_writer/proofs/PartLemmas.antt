@@ -1,10 +1,10 @@
 -- A number of JSON has one text, and its text one number: how the parts that are cut out of a text come together.
-use Rattle.yaml_writer.proofs.Common.{suc, ℕ, ◌<◌, if◌then◌else◌, ◌==◌, option_map, Option, None, Some, codes, length, Bool, false, not, true, ◌||◌, List, []}
+use Rattle.yaml_writer.proofs.Common.{suc, ℕ, ◌<◌, if◌then◌else◌, ◌==◌, option_map, Option, None, Some, codes, length, Bool, false, not, true, ◌||◌, []}
 use Rattle.yaml_writer.proofs.Common.{◌++◌, ◌∷◌, refl, ◌≡◌, eqb-true, true≢false, append-nil, append_assoc, ap, sym, ◌∙◌, arith, and_parts, and_from, or_from}
 use Rattle.yaml_writer.proofs.Common.{not_from_false, not-true, list_all-append, list_all, digit_unlike, Text, is_word, JsonExponent, JsonNumber, is_whole}
 use Rattle.yaml_writer.proofs.Common.{is_json_number, minus, exponent_text, json_text, is_decimal, are_digits, IsNumber, IsNoNumber, is_fraction, is_exponent}
 use Rattle.yaml_base.proofs.Common.{⊤, slice_index_or as get_or, eq-eqb, ne_eqb, past_sign, is_negative}
-use Rattle.std.proofs.Common.{Bor, ◌≢◌, MatchOption}
+use Rattle.std.proofs.Common.{◌≢◌}
 use Rattle.yaml_base.proofs.NumberCuts.{minus_read}
 use Rattle.yaml_writer.proofs.ValidNumbers.{Valid, valid_parts}
 use Rattle.yaml_writer.specs.NumberParts.{cut_at, past_minus, sign_of, exponent_in, around, exponent_cut, around_point, fraction_cut, number_in}
@@ -307,14 +307,6 @@ text_is_none text number e h other is =
     true≢false (sym is.valid ∙ ap is_json_number (sym (number_found other is.valid) ∙ ap number_in (sym is.text_is) ∙ sym e) ∙ h)
 
 -- Code that cuts
-
--- what `split_once` gives
-pub cut_once : (sign : ℕ) (text : Text) (r : Option (Bor (List ℕ) × Bor (List ℕ)))
-    → MatchOption r ((i : ℕ) → i < length text → get_or text i 0 ≢ sign)
-    (λ x. (text ≡ x.0.now ++ (sign ∷ x.1.now)) × ((i : ℕ) → i < length x.0.now → get_or x.0.now i 0 ≢ sign))
-    → MatchOption r (cut_at sign text ≡ None) (λ x. cut_at sign text ≡ Some (x.0.now, x.1.now))
-cut_once sign text None h = cut_none sign text (lacks_each sign text h)
-cut_once sign text (Some x) h = ap (cut_at sign) h.0 ∙ cut_found sign x.0.now x.1.now (lacks_each sign x.0.now h.1)
 
 -- a text that doesn't begin with a sign
 first_unlike : (sign c : ℕ) (rest : Text) → ((more : Text) → (c ∷ rest) ≢ sign ∷ more) → (c == sign) ≡ false

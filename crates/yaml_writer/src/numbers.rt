@@ -1,6 +1,6 @@
 //! Numbers of JSON (RFC 8259, section 6), taken apart.
-ghost use Rattle.std.specs.Prelude.{◌≡◌, ◌<◌, ◌==◌, Some, None, MatchOption, chars, option_map};
-ghost use Rattle.std.specs.List.{list_all};
+ghost use Rattle.std.specs.Prelude.{◌≡◌, ◌<◌, ◌≤◌, ◌==◌, Some, None, MatchOption, chars, length, nat_lt, not, option_map};
+ghost use Rattle.std.specs.List.{list_all, prefix_len};
 ghost use Rattle.yaml_base.specs.values.JsonNumbers as json;
 ghost use Rattle.yaml_base.specs.values.Resolved as schema;
 ghost use Rattle.yaml_writer.specs.NumberParts as parts;
@@ -43,11 +43,34 @@ pub struct Parts<'a> {
     pub exponent: Option<Exponent<'a>>,
 }
 
-fn cut_at(sign: char, text: &str) -> Option<(&str, &str)>
+/// How many bytes stand before the first that is a sign. A number is short, so they are looked at one by one.
+fn length_before(sign: u8, text: &str) -> usize
+    ensures value { result ≡ prefix_len (λ c. not (c == sign)) text.now }
+    ensures few { result ≤ length text.now }
+{
+    text.as_bytes()
+        .iter()
+        .take_while(|byte| **byte != sign)
+        .count()
+}
+
+/// What stands before and after the first of a sign.
+fn cut_at(sign: u8, text: &str) -> Option<(&str, &str)>
     requires { sign < 128 }
     ensures { MatchOption result (parts.cut_at sign text.now ≡ None) (λ cut. parts.cut_at sign text.now ≡ Some (cut.0.now, cut.1.now)) }
 {
-    text.split_once(sign)
+    let length = length_before(sign, text);
+    if length == text.len() {
+        return None;
+    }
+    Some((&text[..length], &text[length + 1..]))
+}
+
+/// Whether a text holds no letter, as a number without an exponent.
+fn lacks_letters(text: &str) -> bool
+    ensures { result ≡ list_all (λ c. nat_lt c 0x41) text.now }
+{
+    text.as_bytes().iter().all(|byte| *byte < b'A')
 }
 
 fn sign_cut(text: &str) -> (Option<Sign>, &str)
@@ -79,12 +102,15 @@ fn exponent_in(letter: ExponentLetter, text: &str) -> Exponent<'_>
 fn exponent_cut(text: &str) -> (&str, Option<Exponent<'_>>)
     ensures { (result.0.now, option_map seen_exponent result.1) ≡ parts.exponent_cut text.now }
 {
-    match cut_at('e', text) {
+    if lacks_letters(text) {
+        return (text, None);
+    }
+    match cut_at(b'e', text) {
         Some((mantissa, exponent)) => (
             mantissa,
             Some(exponent_in(ExponentLetter::Small, exponent)),
         ),
-        None => match cut_at('E', text) {
+        None => match cut_at(b'E', text) {
             Some((mantissa, exponent)) => (
                 mantissa,
                 Some(exponent_in(ExponentLetter::Capital, exponent)),
@@ -98,7 +124,7 @@ fn exponent_cut(text: &str) -> (&str, Option<Exponent<'_>>)
 fn fraction_cut(text: &str) -> (&str, Option<&str>)
     ensures { (result.0.now, option_map (λ fraction. fraction.now) result.1) ≡ parts.fraction_cut text.now }
 {
-    match cut_at('.', text) {
+    match cut_at(b'.', text) {
         Some((whole, fraction)) => (whole, Some(fraction)),
         None => (text, None),
     }
@@ -158,7 +184,7 @@ fn begins_with_zero(text: &str) -> bool
 fn is_whole(text: &str) -> bool
     ensures { result ≡ json.is_whole text.now }
 {
-    is_digits(text) && (text == "0" || !begins_with_zero(text))
+    is_digits(text) && (!begins_with_zero(text) || text == "0")
 }
 
 fn is_fraction(fraction: Option<&str>) -> bool
