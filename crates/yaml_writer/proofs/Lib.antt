@@ -1,5 +1,6 @@
 pub mod Common
 pub mod ReservedLemmas
+pub mod DoubtfulStarts
 pub mod TextBytes
 pub mod ValidNumbers
 pub mod PartLemmas

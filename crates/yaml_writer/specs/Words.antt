@@ -12,6 +12,10 @@ is_one_of words text = list_any (is_word text) (slice_split is_space words)
 abbrev pub begins_reserved : ℕ → Bool
 begins_reserved c = is_among (codes "~ntfyo<=.i+-") c
 
+-- begins a reserved word, a symbol or a number
+abbrev pub begins_doubtful : ℕ → Bool
+begins_doubtful c = is_among (codes "~nNtTfFyYoOiI<=.+-_:eE0123456789") c
+
 -- words for nothing
 abbrev pub null_words : Text
 null_words = codes "~ null"

@@ -1,7 +1,6 @@
 //! Texts that are read as texts, whichever schema reads them. A text is looked at by its bytes: a character past ASCII has none
 //! that one of ASCII has.
 ghost use Rattle.std.specs.Prelude.{◌≡◌, ◌≤◌, ◌&&◌, ◌||◌, not, chars, length, take};
-ghost use Rattle.std.specs.Char.{to_ascii_lowercase};
 ghost use Rattle.std.specs.List.{list_all, list_any, prefix_len, take_while};
 ghost use Rattle.yaml_base.specs.Characters.{is_ascii};
 ghost use Rattle.yaml_base.specs.Words.{is_word};
@@ -11,16 +10,6 @@ ghost use Rattle.yaml_base.specs.values.SurelyText as surely;
 ghost use Rattle.yaml_writer.specs.Words as words;
 
 use crate::words::is_reserved_word;
-
-/// A reserved word may begin with it.
-fn begins_reserved(byte: u8) -> bool
-    ensures { result ≡ words.begins_reserved (to_ascii_lowercase byte) }
-{
-    matches!(
-        byte.to_ascii_lowercase(),
-        b'~' | b'n' | b't' | b'f' | b'y' | b'o' | b'<' | b'=' | b'.' | b'i' | b'+' | b'-'
-    )
-}
 
 /// One byte more than the longest reserved word has.
 const HEAD: usize = 10;
@@ -64,7 +53,7 @@ fn is_reserved(text: &[u8]) -> bool
 {
     match text.first() {
         None => true,
-        Some(first) => begins_reserved(*first) && begins_with_reserved_word(text),
+        Some(_) => begins_with_reserved_word(text),
     }
 }
 
@@ -183,8 +172,30 @@ fn is_numeric(text: &[u8]) -> bool
     begins_as_number(text) && are_of_number(text)
 }
 
-/// A text may be taken for another value, by its bytes.
+/// A reserved word, a symbol or a number may begin with it.
+#[rattlefmt::skip]
+fn begins_doubtful(byte: u8) -> bool
+    ensures { result ≡ words.begins_doubtful byte }
+{
+    matches!(
+        byte,
+        b'~' | b'n' | b'N' | b't' | b'T' | b'f' | b'F' | b'y' | b'Y' | b'o' | b'O' | b'i' | b'I'
+            | b'<' | b'=' | b'.' | b'+' | b'-' | b'_' | b':' | b'e' | b'E' | b'0'..=b'9'
+    )
+}
+
+/// A text may be taken for another value, by its bytes. The first of them tells it of most texts.
 fn is_doubtful(text: &[u8]) -> bool
+    ensures { result ≡ surely.is_doubtful text.now }
+{
+    match text.first() {
+        None => true,
+        Some(first) => begins_doubtful(*first) && is_of_doubtful_form(text),
+    }
+}
+
+/// A reserved word, a symbol or a number.
+fn is_of_doubtful_form(text: &[u8]) -> bool
     ensures { result ≡ surely.is_doubtful text.now }
 {
     is_reserved(text) || is_symbol(text) || is_based(text) || is_numeric(text)
