@@ -8,6 +8,7 @@ use Rattle.yaml_base.proofs.Common.{inl, ◌⊎◌}
 use Rattle.yaml_emitter.{proofs.Common.with_all_taken, proofs.Common.KeepsSet, specs.EmitsEvent.EmitsEvent, specs.EmitsEvent.CopyFailed}
 use Rattle.yaml_base.{proofs.Prefixes.prefix_same, specs.declared.errors.yaml_error_t.yaml_error_t}
 use Rattle.yaml_writer.specs.Writing.{Failed}
+use Rattle.std.proofs.lemmas.Bool.{cases_Bool}
 
 -- a call of the emitter keeps what was taken
 pub still_taken : (given : Settings) (all more : List Event) (sent : List ℕ) (before after : State) → StandsTaken given all sent before
@@ -140,6 +141,16 @@ gave_untaken inside before emitter event answer view either untaken =
           × IfErr r (λ error. Failed before event error (record inside { emitter = emitter })))
           (sym failed.memory) (tt, inr (refl, ap (λ (e : State). record inside { emitter = e }) failed.unchanged ∙ view))
     ]
+
+-- a scalar that the next node's properties say nothing of, where there are none: all of them stay none
+pub gave_bare : (inside before : WriterState) (emitter : State) (event : Event) (answer : Result (Unit {0}) yaml_error_t) → inside ≡ before
+    → EmitsEvent inside.emitter event answer emitter ⊎ CopyFailed inside.emitter answer emitter → inside.anchor ≡ None → inside.tag ≡ None
+    → OnOk answer (GaveEvent before event None (record inside { emitter = emitter }))
+    × IfErr answer (λ error. Failed before event error (record inside { emitter = emitter }))
+gave_bare inside before emitter event answer view either no_anchor no_tag = elim (cases_Bool (is_ok answer || is_some emitter.error)) [
+  | inl taken ↦ gave_taken inside before emitter inside.anchor inside.tag event answer view either taken no_anchor no_tag
+  | inr untaken ↦ gave_untaken inside before emitter event answer view either untaken
+]
 
 -- a call that gives the same event
 pub given_as : {given event : Event} (before after : WriterState) (answer : Result (Unit {0}) yaml_error_t) → given ≡ event

@@ -64,6 +64,33 @@ pub(crate) fn begin<A: Allocator + Copy>(alloc: A, emitter: &mut yaml_emitter_t<
     let _ = give(emitter, plain_start(alloc));
 }
 
+/// A scalar without an anchor, its texts borrowed: its own tag, its value. Where it has no tag, none need be written.
+pub(crate) fn bare_scalar<'a>(
+    own: Option<&'a str>,
+    value: &'a str,
+    style: yaml_scalar_style_t,
+) -> ScalarContent<'a>
+    ensures { seen_scalar result
+        ≡ record {
+          anchor = None;
+          tag = seen_name own.entry;
+          value = chars value.now;
+          plain_implicit = is_none (seen_name own.entry);
+          quoted_implicit = is_none (seen_name own.entry);
+          style = seen_scalar_style style;
+        } }
+{
+    let implicit = lacks_tag(own);
+    ScalarContent {
+        anchor: None,
+        tag: own,
+        value,
+        plain_implicit: implicit,
+        quoted_implicit: implicit,
+        style,
+    }
+}
+
 /// A scalar, its texts borrowed: its anchor, a tag that was given or else its own, its value. Where it has no tag, none need be
 /// written.
 pub(crate) fn scalar_content<'a, A: Allocator>(

@@ -11,7 +11,7 @@ ghost use Rattle.yaml_writer.specs.Unfinished.{IsUnfinished, IsUnfinishedBy};
 ghost use Rattle.yaml_writer.specs.Writing.{Failed, Finishes, FinishesBy, GaveEvent, StandsTaken, TakesBytes, awaits_node, is_implicit, opening, scalar_event};
 
 use crate::ends::DocumentEnd;
-use crate::giving::{begin, finished, scalar_content, took_event, use_up};
+use crate::giving::{bare_scalar, begin, finished, scalar_content, took_event, use_up};
 use std::alloc::Allocator;
 use std::io;
 use std::marker::Model;
@@ -70,6 +70,25 @@ impl<A: Allocator + Copy> Writer<A> {
     /// Gives a scalar to the emitter, with the properties of the next node, and this tag where none was given. Where it has to
     /// wait and there is no memory to copy it, nothing changes.
     pub(crate) fn scalar(
+        &mut self,
+        own: Option<&str>,
+        value: &str,
+        style: yaml_scalar_style_t,
+    ) -> Result<(), yaml_error_t>
+        ensures given { OnOk result (GaveEvent self.old (scalar_event self.old (option_or self.old.tag (seen_name own.entry)) (chars value.now)
+            (seen_scalar_style style)) None self.new) }
+        ensures failed { IfErr result (λ error. Failed self.old (scalar_event self.old (option_or self.old.tag (seen_name own.entry)) (chars value.now)
+            (seen_scalar_style style)) error self.new) }
+    {
+        if self.awaits_node() {
+            return self.scalar_with_properties(own, value, style);
+        }
+        yaml_emitter_emit_scalar(&mut self.emitter, &bare_scalar(own, value, style))
+    }
+
+    /// What `scalar` does where an anchor or a tag awaits its node. Out of line, so that `scalar` is inlined.
+    #[inline(never)]
+    fn scalar_with_properties(
         &mut self,
         own: Option<&str>,
         value: &str,

@@ -1,38 +1,49 @@
-use Rattle.yaml_writer.proofs.Common.{is_some, option_map, Option, chars, ◌||◌, ◌≡◌, ap, subst, sym, ◌∙◌, option_or, Event, scalar, seen_scalar_style}
-use Rattle.yaml_writer.proofs.Common.{seen_text, state_of, WriterState}
-use Rattle.std.specs.Prelude.{is_ok}
-use Rattle.yaml_base.proofs.Common.{◌⊎◌}
-use Rattle.yaml_base.specs.declared.errors.{yaml_error_t.yaml_error_t}
+use Rattle.yaml_writer.proofs.Common.{Option, None, chars, is_none, is_some, false, ◌||◌, ◌≡◌, refl, ap, ap₂, subst, sym, ◌∙◌, option_or, Event, Text, scalar}
+use Rattle.yaml_writer.proofs.Common.{seen_scalar_style, state_of, WriterState}
+use Rattle.yaml_base.proofs.Common.{Some, ◌⊎◌, false≢true, or_parts}
+use Rattle.yaml_base.specs.Event.{ScalarStyle}
 use Rattle.yaml_emitter.specs.{BorrowedTexts.seen_name, BorrowedTexts.seen_scalar, EmitsEvent.EmitsEvent, EmitsEvent.CopyFailed}
-use Rattle.yaml_writer.{proofs.Taken.gave_taken, proofs.Taken.gave_untaken, specs.Writing.scalar_event}
+use Rattle.yaml_writer.{proofs.Taken.gave_bare, specs.Writing.scalar_event}
 use Rattle.yaml_writer.proofs.writer.Writer.scalar.Goals as goal
 
-pub returns-then-took_event : goal.returns-then-took_event
-returns-then-took_event g c =
-    let before : WriterState = state_of c.self.inside in
-    let event = λ (w : WriterState). scalar_event w (option_or w.tag (seen_name c.args.own)) (chars c.args.value.now) (seen_scalar_style c.args.style) in
-    let answer = c.yaml_emitter_emit_scalar-answer.result in
-    let emitter = c.yaml_emitter_emit_scalar-answer.new.emitter in
-    let same : scalar (seen_scalar c.scalar_content-content.result) ≡ event c.args.self.now =
-    ap scalar c.scalar_content-content.ensures ∙ ap event c.self.view_is in
-    let emits = subst (λ (e : Event). EmitsEvent before.emitter e answer emitter ⊎ CopyFailed before.emitter answer emitter) same
-    c.yaml_emitter_emit_scalar-answer.ensures.emits in
-    let returned = ap (λ (o : Option yaml_error_t). is_ok answer || is_some o) (sym c.error.ensures) ∙ sym c.took_event.ensures ∙ c.if-took_event.true in
-    let both = gave_taken before c.args.self.now emitter (option_map seen_text c.use_up.new.anchor) (option_map seen_text c.use_up.new.tag)
-    (event c.args.self.now) answer c.self.view_is emits returned (ap (option_map seen_text) c.use_up.ensures.anchor)
-    (ap (option_map seen_text) c.use_up.ensures.tag) in
-    record { given = both.0; failed = both.1 }
+none_is : (text : Option Text) → is_some text ≡ false → text ≡ None
+none_is None h = refl
+none_is (Some text) h = absurd (false≢true (sym h))
 
-pub returns-else-took_event : goal.returns-else-took_event
-returns-else-took_event g c =
+-- the event of a scalar without properties
+bare_event : (writer : WriterState) (own : Option Text) (value : Text) (style : ScalarStyle) → writer.anchor ≡ None → writer.tag ≡ None
+    → scalar (record { anchor = None; tag = own; value = value; plain_implicit = is_none own; quoted_implicit = is_none own; style = style })
+    ≡ scalar_event writer (option_or writer.tag own) value style
+bare_event writer own value style no_anchor no_tag =
+    ap₂
+    (λ (anchor tag : Option Text).
+    scalar
+    (record {
+      anchor = anchor;
+      tag = option_or tag own;
+      value = value;
+      plain_implicit = is_none (option_or tag own);
+      quoted_implicit = is_none (option_or tag own);
+      style = style;
+    }))
+    (sym no_anchor) (sym no_tag)
+
+pub returns : goal.returns
+returns g c =
     let before : WriterState = state_of c.self.inside in
-    let event = λ (w : WriterState). scalar_event w (option_or w.tag (seen_name c.args.own)) (chars c.args.value.now) (seen_scalar_style c.args.style) in
-    let answer = c.yaml_emitter_emit_scalar-answer.result in
-    let emitter = c.yaml_emitter_emit_scalar-answer.new.emitter in
-    let same : scalar (seen_scalar c.scalar_content-content.result) ≡ event c.args.self.now =
-    ap scalar c.scalar_content-content.ensures ∙ ap event c.self.view_is in
+    let own = seen_name c.args.own in
+    let value = chars c.args.value.now in
+    let style = seen_scalar_style c.args.style in
+    let event = λ (w : WriterState). scalar_event w (option_or w.tag own) value style in
+    let answer = c.yaml_emitter_emit_scalar.result in
+    let emitter = c.yaml_emitter_emit_scalar.new.emitter in
+    let bare = or_parts (is_some before.anchor) (is_some before.tag)
+    (ap (λ (w : WriterState). is_some w.anchor || is_some w.tag) c.self.view_is ∙ sym c.awaits_node.ensures ∙ c.if-awaits_node.false) in
+    let no_anchor = none_is before.anchor bare.0 in
+    let no_tag = none_is before.tag bare.1 in
+    let same : scalar (seen_scalar c.bare_scalar.result) ≡ event c.args.self.now =
+    ap scalar c.bare_scalar.ensures ∙ bare_event before own value style no_anchor no_tag ∙ ap event c.self.view_is in
     let emits = subst (λ (e : Event). EmitsEvent before.emitter e answer emitter ⊎ CopyFailed before.emitter answer emitter) same
-    c.yaml_emitter_emit_scalar-answer.ensures.emits in
-    let returned = ap (λ (o : Option yaml_error_t). is_ok answer || is_some o) (sym c.error.ensures) ∙ sym c.took_event.ensures ∙ c.if-took_event.false in
-    let both = gave_untaken before c.args.self.now emitter (event c.args.self.now) answer c.self.view_is emits returned in
+    c.yaml_emitter_emit_scalar.ensures.emits in
+    let both = gave_bare before c.args.self.now emitter (event c.args.self.now) answer c.self.view_is emits no_anchor no_tag in
     record { given = both.0; failed = both.1 }
