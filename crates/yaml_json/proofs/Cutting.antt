@@ -1,11 +1,9 @@
 -- Where a text of several ends.
-use Rattle.yaml_json.proofs.Common.{false, suc, zero, ℕ, ◌+◌, ◌<◌, ◌≤◌, Option, None, Some, drop, length, slice_index_or as get_or, take, List, [], ◌++◌, ◌∷◌}
+use Rattle.yaml_json.proofs.Common.{suc, zero, ℕ, ◌+◌, ◌<◌, ◌≤◌, Option, None, Some, drop, length, slice_index_or as get_or, take, List, [], ◌++◌, ◌∷◌}
 use Rattle.yaml_json.proofs.Common.{refl, ◌≡◌, length-append, length-drop, take-append-drop, length-take-le, take_all, append-nil, append_assoc, inl, inr, ap}
 use Rattle.yaml_json.proofs.Common.{subst, sym, ◌∙◌, arith, HasScanned, CutsAt, after_byte, texts_in, CutsFirstText}
 use Rattle.std.proofs.{Common.drop-cons, lemmas.List.take-append-le, lemmas.List.take_more}
 use Rattle.yaml_json.specs.{Cuts.all_onto, Cuts.Scanned, declared.cuts.Cut.Cut, declared.cuts.Mode.Mode, declared.cuts.Scan.Scan}
-use Rattle.std.proofs.lemmas.Bool.{true≢false}
-use Rattle.yaml_json.specs.Lexemes.{is_stop}
 use Rattle.yaml_json.specs.Texts.{scan_first_byte, scan_within, scan_in_string, onto_first, cut_before, texts_after}
 use Rattle.yaml_json.specs.declared.cuts.Mode.TheVariants.{AfterBackslash, Before, Behind, InString, InWord, Within}
 
@@ -138,22 +136,6 @@ module _ (text : List ℕ) (cut : Cut) (has : HasScanned text cut) (less : cut.s
           cut = cut_here;
           outer = cut_outer cut.scan.mode cut.scan.levels (get_or text cut.scanned 0) is;
         }
-
--- over bytes of a string that stand for themselves
-pub string_over : (text : List ℕ) (cut : Cut) (n : ℕ) → cut.scan.mode ≡ InString → HasScanned text cut → cut.scanned + n ≤ length text
-    → ((k : ℕ) → cut.scanned ≤ k → k < cut.scanned + n → is_stop (get_or text k 0) ≡ false)
-    → HasScanned text (record { scan = cut.scan; scanned = cut.scanned + n })
-string_over text cut zero is has room each =
-    let none : cut.scanned ≡ cut.scanned + 0 = omega arith in
-    subst (λ (at : ℕ). HasScanned text (record { scan = cut.scan; scanned = at })) none has
-string_over text cut (suc n) is has room each =
-    let next : cut.scanned + n + 1 ≡ cut.scanned + suc n = omega arith in
-    let here = each (cut.scanned + n) (omega arith) (omega arith) in
-    let stays = string_stays cut.scan (get_or text (cut.scanned + n) 0) is
-    (λ e. true≢false (ap is_stop (sym e) ∙ here)) (λ e. true≢false (ap is_stop (sym e) ∙ here)) in
-    subst (λ (at : ℕ). HasScanned text (record { scan = cut.scan; scanned = at })) next
-    (one_scanned text (record { scan = cut.scan; scanned = cut.scanned + n })
-    (string_over text cut n is has (omega arith) (λ k low high. each k low (omega arith))) (omega arith) cut.scan stays)
 
 -- the first of some texts, and the others
 pub cuts_first : (text : List ℕ) (end : ℕ) → CutsAt text end → CutsFirstText text (take end text) (drop end text)

@@ -24,6 +24,8 @@ pub mod OnlyDepth
 pub mod Unfailed
 pub mod WhyFailed
 pub mod Cutting
+pub mod Marking
+pub mod MarkLanes
 pub mod Boundaries
 pub mod LexSteps
 pub mod ContentSteps

@@ -1,11 +1,13 @@
 //! Where a JSON text ends that others follow.
-ghost use Rattle.std.specs.Prelude.{◌≡◌, ℕ, List, ◌+◌, ◌<◌, ◌≤◌, ◌^◌, ◌++◌, ◌||◌, ◌==◌, true, length, MatchOption};
+ghost use Rattle.std.specs.Prelude.{◌≡◌, ◌↔◌, ℕ, List, ◌+◌, ◌<◌, ◌≤◌, ◌^◌, ◌++◌, ◌||◌, ◌==◌, IsTrue, length, MatchOption};
+ghost use Rattle.std.specs.Simd.Lanes.{chunk};
 ghost use Rattle.json.specs.Ascii as ascii;
 ghost use Rattle.yaml_json.specs.Texts.{CutsFirstText, after_byte, scan_first_byte, scan_in_string, is_closer, is_inner_byte, is_opener, scan_within};
 ghost use Rattle.yaml_json.specs.Cuts.{CutsAt, HasScanned};
+ghost use Rattle.yaml_json.specs.Marks.{IsInside, MayMark};
 
-use crate::lexemes::plain_end;
 use crate::words::{is_blank, is_operator};
+use std::simd::prelude::*;
 
 /// What a scan has before it.
 #[derive(Clone, Copy)]
@@ -144,6 +146,18 @@ fn in_string(levels: usize, byte: u8) -> Scan
     }
 }
 
+/// The scan after a byte of an array, an object or a string.
+fn inside(scan: Scan, byte: u8) -> Scan
+    requires inside { IsInside scan }
+    requires few { scan.levels + 1 < 2 ^ 64 }
+    ensures { after_byte scan byte ≡ Some result }
+{
+    match scan.mode {
+        Mode::InString => in_string(scan.levels, byte),
+        _ => within(scan.levels, byte),
+    }
+}
+
 /// The scan after a byte more of the same text; `None` where the byte begins the next text.
 fn step(scan: Scan, byte: u8) -> Option<Scan>
     requires { scan.levels + 1 < 2 ^ 64 }
@@ -151,8 +165,7 @@ fn step(scan: Scan, byte: u8) -> Option<Scan>
 {
     match scan.mode {
         Mode::Before => Some(begun(byte)),
-        Mode::Within => Some(within(scan.levels, byte)),
-        Mode::InString => Some(in_string(scan.levels, byte)),
+        Mode::Within | Mode::InString => Some(inside(scan, byte)),
         Mode::AfterBackslash => Some(Scan {
             mode: Mode::InString,
             levels: scan.levels,
@@ -200,48 +213,69 @@ pub(crate) fn new_cut() -> Cut
     }
 }
 
-/// Whether an array or an object goes on with this byte as before.
-fn is_plain_within(byte: u8) -> bool
-    ensures { (levels : ℕ) → result ≡ true → scan_within levels byte ≡ record { mode = Mode.Within; levels = levels } }
+/// Whether more of an array, an object or a string comes next.
+fn is_inside(scan: Scan) -> bool
+    ensures { IsTrue result ↔ IsInside scan }
 {
-    (byte != b'"') & (byte | 32 != b'{') & (byte | 32 != b'}')
-}
-
-/// Passes the bytes with which an array or an object goes on as before.
-fn pass_within(text: &[u8], cut: Cut) -> usize
-    requires within { cut.scan.mode ≡ Mode.Within }
-    requires scanned { HasScanned text.now cut }
-    ensures scanned { HasScanned text.now (record cut { scanned = result }) }
-    ensures further { cut.scanned ≤ result }
-{
-    let mut at = cut.scanned;
-    'bytes: while at < text.len() && is_plain_within(text[at]) {
-        at += 1;
+    match scan.mode {
+        Mode::Within | Mode::InString => true,
+        _ => false,
     }
-    at
 }
 
-/// Passes the bytes with which a string goes on as before.
-fn pass_in_string(text: &[u8], cut: Cut) -> usize
-    requires within { cut.scan.mode ≡ Mode.InString }
-    requires scanned { HasScanned text.now cut }
-    ensures scanned { HasScanned text.now (record cut { scanned = result }) }
-    ensures further { cut.scanned ≤ result }
+/// The bytes of a vector that may change a scan within an array, an object or a string: quotes, backslashes, brackets and braces.
+fn marks(bytes: u8x16) -> u64
+    ensures small { result < 2 ^ 16 }
+    ensures marks { MayMark bytes result }
 {
-    plain_end(text, cut.scanned)
+    // Bit 5 tells brackets from braces, and a backslash from the bar between the braces.
+    let folded = bytes | u8x16::splat(0x20);
+    let is_bracket = folded.simd_gt(u8x16::splat(b'z')) & folded.simd_lt(u8x16::splat(b'~'));
+    (bytes.simd_eq(u8x16::splat(b'"')) | is_bracket).to_bitmask()
 }
 
-/// Passes bytes with which a text goes on as before.
-fn pass(text: &[u8], cut: Cut) -> usize
+/// Scans sixteen bytes within an array, an object or a string, or as many as lead out of it.
+fn pass_vector(text: &[u8], cut: Cut, found: u64) -> Cut
+    requires inside { IsInside cut.scan }
+    requires scanned { HasScanned text.now cut }
+    requires room { cut.scanned + 16 ≤ length text.now }
+    requires small { found < 2 ^ 16 }
+    requires marks { MayMark (chunk cut.scanned 16 text.now) found }
+    ensures scanned { HasScanned text.now result }
+    ensures further { cut.scanned < result.scanned }
+{
+    let mut scan = cut.scan;
+    let mut left = found;
+    'marks: while left != 0 {
+        let place = left.trailing_zeros();
+        let at = cut.scanned + place as usize;
+        scan = inside(scan, text[at]);
+        if !is_inside(scan) {
+            return Cut {
+                scan,
+                scanned: at + 1,
+            };
+        }
+        left &= !(1u64 << place);
+    }
+    Cut {
+        scan,
+        scanned: cut.scanned + 16,
+    }
+}
+
+/// Scans an array, an object or a string, sixteen bytes at a time.
+fn pass(text: &[u8], cut: Cut) -> Cut
     requires { HasScanned text.now cut }
-    ensures scanned { HasScanned text.now (record cut { scanned = result }) }
-    ensures further { cut.scanned ≤ result }
+    ensures scanned { HasScanned text.now result }
+    ensures further { cut.scanned ≤ result.scanned }
 {
-    match cut.scan.mode {
-        Mode::Within => pass_within(text, cut),
-        Mode::InString => pass_in_string(text, cut),
-        _ => cut.scanned,
+    let mut next = cut;
+    'vectors: while is_inside(next.scan) && text.len() - next.scanned >= 16 {
+        let found = marks(u8x16::from_slice(&text[next.scanned..]));
+        next = pass_vector(text, next, found);
     }
+    next
 }
 
 /// Scans a text from where the scan stopped. Returns where the text after the first begins; where there is none, all is scanned.
@@ -251,7 +285,7 @@ pub(crate) fn find_end(text: &[u8], cut: &mut Cut) -> Option<usize>
 {
     let mut next = *cut;
     'bytes: while next.scanned < text.len() {
-        next.scanned = pass(text, next);
+        next = pass(text, next);
         if next.scanned == text.len() {
             break;
         }

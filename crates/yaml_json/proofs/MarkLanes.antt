@@ -1,0 +1,77 @@
+-- Bytes that may be marks, sixteen at a time.
+use Rattle.std.proofs.Common.{◌≡◌, ℕ, zero, ◌%◌, ◌^◌, ◌<◌, ltb, Bool, true, false, cond, eqb, ◌||◌, ◌&&◌, List, [], ◌∷◌, map, length, get_or, arith}
+use Rattle.std.proofs.Common.{replicate, refl, sym, ap, ap₂, ◌∙◌}
+use Rattle.std.proofs.lemmas.Bool.{true≢false, ne_eqb}
+use Rattle.std.proofs.lemmas.List.{length-map, get_or-map}
+use Rattle.std.proofs.lemmas.Simd.{zip2_splat, zip2_of_maps, splat_is_map, map-map, mask_l-mod, mask_l-lt, bit_mask_l}
+use Rattle.std.specs.Int.{bit_at}
+use lib.Bits.{bit_and, bit_or}
+use lib.Lanes.{zip2, mask_l, top}
+use Rattle.yaml_json.specs.Marks.{is_mark}
+
+abbrev equal : ℕ → ℕ → ℕ
+equal a b = cond (eqb a b) 255 0
+
+abbrev below : ℕ → ℕ → ℕ
+below a b = cond (ltb a b) 255 0
+
+abbrev lane : ℕ → ℕ
+lane byte = bit_or (equal byte 34) (bit_and (below 122 (bit_or byte 32)) (below (bit_or byte 32) 126))
+
+abbrev pub may_mark : ℕ → Bool
+may_mark byte = eqb byte 34 || (ltb 122 (bit_or byte 32) && ltb (bit_or byte 32) 126)
+
+one_lane : (q g l : Bool) → top 7 (bit_or (cond q 255 0) (bit_and (cond g 255 0) (cond l 255 0))) ≡ (q || (g && l))
+one_lane true true true = refl
+one_lane true true false = refl
+one_lane true false true = refl
+one_lane true false false = refl
+one_lane false true true = refl
+one_lane false true false = refl
+one_lane false false true = refl
+one_lane false false false = refl
+
+each_lane : (v : List ℕ) → map (λ x. top 7 (lane x)) v ≡ map may_mark v
+each_lane [] = refl
+each_lane (x ∷ xs) = ap₂ (λ b bs. b ∷ bs) (one_lane (eqb x 34) (ltb 122 (bit_or x 32)) (ltb (bit_or x 32) 126)) (each_lane xs)
+
+module _ (v : List ℕ) (long : length v ≡ 16) where
+  abbrev pub mask : ℕ
+  mask =
+      let folded = zip2 bit_or v (replicate 16 32) in
+      mask_l (map (top 7) (zip2 bit_or (zip2 equal v (replicate 16 34)) (zip2 bit_and (zip2 below (replicate 16 122) folded) (zip2 below folded (replicate 16 126)))))
+      % 2 ^ 64
+
+  marks_masked : mask ≡ mask_l (map may_mark v)
+  marks_masked =
+      let folded = zip2_splat bit_or v 16 32 long in
+      let above = zip2_of_maps below (λ x. 122) (λ x. bit_or x 32) v (splat_is_map v 16 122 long) folded in
+      let under = zip2_of_maps below (λ x. bit_or x 32) (λ x. 126) v folded (splat_is_map v 16 126 long) in
+      let both = zip2_of_maps bit_and (λ x. below 122 (bit_or x 32)) (λ x. below (bit_or x 32) 126) v above under in
+      let all = zip2_of_maps bit_or (λ x. equal x 34) (λ x. bit_and (below 122 (bit_or x 32)) (below (bit_or x 32) 126)) v (zip2_splat equal v 16 34 long) both in
+      ap (λ l. mask_l l % 2 ^ 64) (ap (map (top 7)) all ∙ map-map (top 7) lane v ∙ each_lane v)
+      ∙ mask_l-mod (map may_mark v) 64 (omega (arith, length-map v may_mark))
+
+  pub marks_small : mask < 2 ^ 16
+  marks_small =
+      let short : length (map may_mark v) ≡ 16 = length-map v may_mark ∙ long in
+      let power : 2 ^ length (map may_mark v) ≡ 2 ^ 16 = ap (λ n. 2 ^ n) short in
+      omega (arith, marks_masked, mask_l-lt (map may_mark v), power)
+
+-- every mark is among them
+other : (byte value : ℕ) → may_mark value ≡ true → may_mark byte ≡ false → eqb byte value ≡ false
+other byte value is none = ne_eqb byte value (λ e. true≢false (sym is ∙ ap may_mark (sym e) ∙ none))
+
+no_mark : (byte : ℕ) → may_mark byte ≡ false → is_mark byte ≡ false
+no_mark byte none =
+    rw (other byte 34 refl none, other byte 92 refl none, other byte 123 refl none, other byte 91 refl none, other byte 125 refl none, other byte 93 refl none)
+
+clear : (b : Bool) → cond b 1 0 ≡ zero → b ≡ false
+clear true none = let never : ⊥ = omega arith in absurd never
+clear false none = refl
+
+pub only_marks : (v : List ℕ) (long : length v ≡ 16) (k : ℕ) → k < 16 → bit_at (mask v long) k ≡ 0 → is_mark (get_or v k 0) ≡ false
+only_marks v long k small none =
+    let unset : cond (get_or (map may_mark v) k false) 1 0 ≡ zero =
+    sym (bit_mask_l (map may_mark v) k) ∙ ap (λ m. bit_at m k) (sym (marks_masked v long)) ∙ none in
+    no_mark (get_or v k 0) (sym (get_or-map may_mark v k 0 false (omega (arith, long))) ∙ clear (get_or (map may_mark v) k false) unset)
