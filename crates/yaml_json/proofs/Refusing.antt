@@ -117,22 +117,24 @@ opens_deep depth unique taken levels kind after place once full =
 token_refused : (depth : ℕ) (unique : Bool) (taken : List Token) (levels : List CollectionKind) (token : Token) (after : List Token) (stop : Stop)
     → Awaiting depth taken levels (token ∷ after) → (unique ≡ true → NamesOnce [] taken) → RefusesToken depth levels token stop
     → WhyStopped depth unique (taken ++ token ∷ after) stop
-token_refused depth unique taken levels token after (stops.NotJson spot) place once isn't =
+token_refused depth unique taken levels token after stops.NotJson place once isn't =
     token_breaks depth unique taken levels token after place once isn't
 token_refused depth unique taken levels token after stops.TooDeep place once ((kind, is), full) =
     subst (λ (t : Token). OpensTooDeep depth unique (taken ++ t ∷ after)) (sym is)
     (opens_deep depth unique taken levels kind after (subst (λ (t : Token). Awaiting depth taken levels (t ∷ after)) is place) once full)
-token_refused depth unique taken levels token after (stops.NameAgain offset) place once isn't = absurd isn't
-token_refused depth unique taken levels token after (stops.Failed error) place once isn't = tt
+token_refused depth unique taken levels token after stops.NameAgain place once isn't = absurd isn't
+token_refused depth unique taken levels token after stops.Memory place once isn't = tt
+token_refused depth unique taken levels token after stops.Failed place once isn't = tt
 
 -- the first token is refused, or there is none
 pub first_refused : (depth : ℕ) (unique : Bool) (taken : List Token) (levels : List CollectionKind) (ahead : List Token) (stop : Stop)
     → Awaiting depth taken levels ahead → (unique ≡ true → NamesOnce [] taken) → RefusesFirst depth levels ahead stop
     → WhyStopped depth unique (taken ++ ahead) stop
-first_refused depth unique taken levels [] (stops.NotJson spot) place once isn't = nothing_left depth unique taken levels place once
+first_refused depth unique taken levels [] stops.NotJson place once isn't = nothing_left depth unique taken levels place once
 first_refused depth unique taken levels [] stops.TooDeep place once isn't = absurd isn't
-first_refused depth unique taken levels [] (stops.NameAgain offset) place once isn't = absurd isn't
-first_refused depth unique taken levels [] (stops.Failed error) place once isn't = tt
+first_refused depth unique taken levels [] stops.NameAgain place once isn't = absurd isn't
+first_refused depth unique taken levels [] stops.Memory place once isn't = tt
+first_refused depth unique taken levels [] stops.Failed place once isn't = tt
 first_refused depth unique taken levels (token ∷ after) stop place once isn't = token_refused depth unique taken levels token after stop place once isn't
 
 -- ---- where a key is next
@@ -266,31 +268,37 @@ why_no_json depth unique text (errors.Emitter error) why is = absurd is
 
 pub why_returned : (depth : ℕ) (unique : Bool) (text : List ℕ) (stop : Stop) (error : JsonError) → MatchesStop text stop error
     → WhyStopped depth unique (tokens text) stop → ExplainsError depth unique text error
-why_returned depth unique text (stops.NotJson spot) (errors.NotJson line column) same why = (why, same)
-why_returned depth unique text (stops.NotJson spot) (errors.Marked line column) same why = (why, same)
-why_returned depth unique text (stops.NotJson spot) errors.TooDeep same why = absurd same
-why_returned depth unique text (stops.NotJson spot) (errors.DuplicateName line column) same why = absurd same
-why_returned depth unique text (stops.NotJson spot) (errors.Emitter returned) same why = absurd same
+why_returned depth unique text stops.NotJson (errors.NotJson line column) same why = (why, same)
+why_returned depth unique text stops.NotJson (errors.Marked line column) same why = (why, same)
+why_returned depth unique text stops.NotJson errors.TooDeep same why = absurd same
+why_returned depth unique text stops.NotJson (errors.DuplicateName line column) same why = absurd same
+why_returned depth unique text stops.NotJson (errors.Emitter returned) same why = absurd same
 why_returned depth unique text stops.TooDeep (errors.NotJson line column) same why = absurd same
 why_returned depth unique text stops.TooDeep (errors.Marked line column) same why = absurd same
 why_returned depth unique text stops.TooDeep errors.TooDeep same why = why
 why_returned depth unique text stops.TooDeep (errors.DuplicateName line column) same why = absurd same
 why_returned depth unique text stops.TooDeep (errors.Emitter returned) same why = absurd same
-why_returned depth unique text (stops.NameAgain offset) (errors.NotJson line column) same why = absurd same
-why_returned depth unique text (stops.NameAgain offset) (errors.Marked line column) same why = absurd same
-why_returned depth unique text (stops.NameAgain offset) errors.TooDeep same why = absurd same
-why_returned depth unique text (stops.NameAgain offset) (errors.DuplicateName line column) same why = why
-why_returned depth unique text (stops.NameAgain offset) (errors.Emitter returned) same why = absurd same
-why_returned depth unique text (stops.Failed error) (errors.NotJson line column) same why = absurd same
-why_returned depth unique text (stops.Failed error) (errors.Marked line column) same why = absurd same
-why_returned depth unique text (stops.Failed error) errors.TooDeep same why = absurd same
-why_returned depth unique text (stops.Failed error) (errors.DuplicateName line column) same why = absurd same
-why_returned depth unique text (stops.Failed error) (errors.Emitter returned) same why = tt
+why_returned depth unique text stops.NameAgain (errors.NotJson line column) same why = absurd same
+why_returned depth unique text stops.NameAgain (errors.Marked line column) same why = absurd same
+why_returned depth unique text stops.NameAgain errors.TooDeep same why = absurd same
+why_returned depth unique text stops.NameAgain (errors.DuplicateName line column) same why = why
+why_returned depth unique text stops.NameAgain (errors.Emitter returned) same why = absurd same
+why_returned depth unique text stops.Memory (errors.NotJson line column) same why = absurd same
+why_returned depth unique text stops.Memory (errors.Marked line column) same why = absurd same
+why_returned depth unique text stops.Memory errors.TooDeep same why = absurd same
+why_returned depth unique text stops.Memory (errors.DuplicateName line column) same why = absurd same
+why_returned depth unique text stops.Memory (errors.Emitter returned) same why = tt
+why_returned depth unique text stops.Failed (errors.NotJson line column) same why = absurd same
+why_returned depth unique text stops.Failed (errors.Marked line column) same why = absurd same
+why_returned depth unique text stops.Failed errors.TooDeep same why = absurd same
+why_returned depth unique text stops.Failed (errors.DuplicateName line column) same why = absurd same
+why_returned depth unique text stops.Failed (errors.Emitter returned) same why = tt
 
 -- a call that doesn't refuse the text says nothing of it
-pub unrefused : (answer : Result (Unit {0}) Stop) → (RefusesText answer → ⊥) → (P : Stop → Type 0) → ((error : _) → P (stops.Failed error)) → IfErr answer P
-unrefused (Ok done) never P held = tt
-unrefused (Err (stops.NotJson spot)) never P held = absurd (never tt)
-unrefused (Err stops.TooDeep) never P held = absurd (never tt)
-unrefused (Err (stops.NameAgain offset)) never P held = absurd (never tt)
-unrefused (Err (stops.Failed error)) never P held = held error
+pub unrefused : (answer : Result (Unit {0}) Stop) → (RefusesText answer → ⊥) → (P : Stop → Type 0) → P stops.Memory → P stops.Failed → IfErr answer P
+unrefused (Ok done) never P memory failed = tt
+unrefused (Err stops.NotJson) never P memory failed = absurd (never tt)
+unrefused (Err stops.TooDeep) never P memory failed = absurd (never tt)
+unrefused (Err stops.NameAgain) never P memory failed = absurd (never tt)
+unrefused (Err stops.Memory) never P memory failed = memory
+unrefused (Err stops.Failed) never P memory failed = failed

@@ -1,30 +1,32 @@
 -- The stops of the walk, turn by turn.
 use Rattle.yaml_json.proofs.Common.{ℕ, Bool, false, true, List, [], ◌++◌, ◌∷◌, ◌≡◌, append_assoc, ap, subst, sym, ◌∙◌, Token, HoldsNames, AddsName, FitsNames}
-use Rattle.yaml_json.proofs.Common.{IfSome, failure_of, RefusesToken, RefusesFirst, WhyStopped, Refuses}
+use Rattle.yaml_json.proofs.Common.{IfSome, failure_of, refl, WriterState, RefusesToken, RefusesFirst, WhyStopped, Refuses}
 use Rattle.yaml_json.proofs.KeepingNames.{keeps_name, name_again, names_once}
 use Rattle.yaml_json.proofs.Refusing.{first_refused, IsNoKey, no_member_left, key_refused, name_refused}
 use Rattle.yaml_json.proofs.Walking.{awaiting_item, awaiting_no_item, awaiting_named}
 use Rattle.yaml_base.specs.declared.errors.yaml_error_t.TheVariants.{Memory}
-use Rattle.yaml_json.specs.{Walk.ReadsNone, declared.names.Names.Names, declared.values.Spot.Spot, declared.values.Stop.Stop}
+use Rattle.yaml_json.specs.{Walk.ReadsNone, declared.names.Names.Names, declared.values.Stop.Stop}
 use Rattle.yaml_emitter.specs.declared.place.{CollectionKind.CollectionKind, CollectionKind.TheVariants.Mapping, CollectionKind.TheVariants.Sequence}
 use Rattle.yaml_json.specs.declared.values.Stop.TheVariants as stops
 
 -- no token is read
-pub unread_memory : (ahead : List Token) (stop : Stop) → ReadsNone ahead stop → IfSome (failure_of stop) (λ error. error ≡ Memory)
-unread_memory ahead (stops.NotJson spot) none = tt
-unread_memory ahead stops.TooDeep none = tt
-unread_memory ahead (stops.NameAgain offset) none = tt
-unread_memory ahead (stops.Failed error) memory = memory
+pub unread_memory : (ahead : List Token) (now : WriterState) (stop : Stop) → ReadsNone ahead stop → IfSome (failure_of now stop) (λ error. error ≡ Memory)
+unread_memory ahead now stops.NotJson none = tt
+unread_memory ahead now stops.TooDeep none = tt
+unread_memory ahead now stops.NameAgain none = tt
+unread_memory ahead now stops.Memory none = refl
+unread_memory ahead now stops.Failed none = absurd none
 
 -- ---- the first token of a value
 
 pub first_unread : (depth : ℕ) (levels : List CollectionKind) (ahead : List Token) (stop : Stop) → ReadsNone ahead stop
     → RefusesFirst depth levels ahead stop
-first_unread depth levels ahead (stops.NotJson spot) none = subst (λ (all : List Token). RefusesFirst depth levels all (stops.NotJson spot)) (sym none) tt
+first_unread depth levels ahead stops.NotJson none = subst (λ (all : List Token). RefusesFirst depth levels all stops.NotJson) (sym none) tt
 first_unread depth levels ahead stops.TooDeep none = absurd none
-first_unread depth levels ahead (stops.NameAgain offset) none = absurd none
-first_unread depth levels [] (stops.Failed error) memory = tt
-first_unread depth levels (token ∷ after) (stops.Failed error) memory = tt
+first_unread depth levels ahead stops.NameAgain none = absurd none
+first_unread depth levels [] stops.Memory none = tt
+first_unread depth levels (token ∷ after) stops.Memory none = tt
+first_unread depth levels ahead stops.Failed none = absurd none
 
 pub first_stopped : (depth : ℕ) (levels : List CollectionKind) (ahead : List Token) (token : Token) (after : List Token) → ahead ≡ token ∷ after
     → (stop : Stop) → RefusesToken depth levels token stop → RefusesFirst depth levels ahead stop
@@ -38,10 +40,10 @@ module _ {A : Type 0} (depth : ℕ) (unique : Bool) (levels outer : List Collect
   -- ---- within an array
 
   module _ (is : levels ≡ outer ++ Sequence ∷ []) where
-    item_none : (spot : Spot) → ahead ≡ [] → Refuses depth unique levels held ahead (stops.NotJson spot)
-    item_none spot none so stands kept =
-        subst (λ (all : List Token). Stopped (so ++ all) (stops.NotJson spot)) (sym none)
-        (first_refused depth unique so levels [] (stops.NotJson spot) (awaiting_no_item depth so levels outer is stands)
+    item_none : ahead ≡ [] → Refuses depth unique levels held ahead stops.NotJson
+    item_none none so stands kept =
+        subst (λ (all : List Token). Stopped (so ++ all) stops.NotJson) (sym none)
+        (first_refused depth unique so levels [] stops.NotJson (awaiting_no_item depth so levels outer is stands)
         (names_once unique levels held so fits kept) tt)
 
     pub item_stopped : (token : Token) (after : List Token) → ahead ≡ token ∷ after → (token ≡ Token.end_array → ⊥) → (stop : Stop)
@@ -54,25 +56,25 @@ module _ {A : Type 0} (depth : ℕ) (unique : Bool) (levels outer : List Collect
   -- ---- within an object
 
   module _ (is : levels ≡ outer ++ Mapping ∷ []) where
-    member_none : (spot : Spot) → ahead ≡ [] → Refuses depth unique levels held ahead (stops.NotJson spot)
-    member_none spot none so stands kept =
-        subst (λ (all : List Token). Stopped (so ++ all) (stops.NotJson spot)) (sym none)
+    member_none : ahead ≡ [] → Refuses depth unique levels held ahead stops.NotJson
+    member_none none so stands kept =
+        subst (λ (all : List Token). Stopped (so ++ all) stops.NotJson) (sym none)
         (no_member_left depth unique so levels outer is stands (names_once unique levels held so fits kept))
 
-    pub member_stopped : (spot : Spot) (token : Token) (after : List Token) → ahead ≡ token ∷ after → IsNoKey token
-        → Refuses depth unique levels held ahead (stops.NotJson spot)
-    member_stopped spot token after first isn't so stands kept =
-        subst (λ (all : List Token). Stopped (so ++ all) (stops.NotJson spot)) (sym first)
+    pub member_stopped : (token : Token) (after : List Token) → ahead ≡ token ∷ after → IsNoKey token
+        → Refuses depth unique levels held ahead stops.NotJson
+    member_stopped token after first isn't so stands kept =
+        subst (λ (all : List Token). Stopped (so ++ all) stops.NotJson) (sym first)
         (key_refused depth unique so levels outer is stands (names_once unique levels held so fits kept) token after isn't)
 
     module _ (name : List ℕ) (inner : List Token) (first : ahead ≡ Token.key name ∷ inner) (later : Names A)
         (same : later.are_kept ≡ held.are_kept) (new : Bool)
         (adds : (names : List (List ℕ)) → (more : List (List (List ℕ))) → HoldsNames (names ∷ more) held → AddsName names more name new later) where
       -- the name comes again
-      pub again_stopped : (offset : ℕ) → new ≡ false → Refuses depth unique levels held ahead (stops.NameAgain offset)
-      again_stopped offset old so stands kept =
+      pub again_stopped : new ≡ false → Refuses depth unique levels held ahead stops.NameAgain
+      again_stopped old so stands kept =
           let found = name_again levels outer Mapping is unique name held later fits same new adds old so kept in
-          subst (λ (all : List Token). Stopped (so ++ all) (stops.NameAgain offset)) (sym first)
+          subst (λ (all : List Token). Stopped (so ++ all) stops.NameAgain) (sym first)
           (name_refused depth unique so levels outer name inner is stands found.0 found.1 found.2)
 
       -- or what follows it is refused
@@ -88,8 +90,9 @@ module _ {A : Type 0} (depth : ℕ) (unique : Bool) (levels outer : List Collect
   -- no token is read
 
   pub unread : (kind : CollectionKind) → levels ≡ outer ++ kind ∷ [] → (stop : Stop) → ReadsNone ahead stop → Refuses depth unique levels held ahead stop
-  unread Sequence is (stops.NotJson spot) none = item_none is spot none
-  unread Mapping is (stops.NotJson spot) none = member_none is spot none
+  unread Sequence is stops.NotJson none = item_none is none
+  unread Mapping is stops.NotJson none = member_none is none
   unread kind is stops.TooDeep none = absurd none
-  unread kind is (stops.NameAgain offset) none = absurd none
-  unread kind is (stops.Failed error) memory = λ so stands kept. tt
+  unread kind is stops.NameAgain none = absurd none
+  unread kind is stops.Memory none = λ so stands kept. tt
+  unread kind is stops.Failed none = absurd none

@@ -1,14 +1,14 @@
 -- What the writer was given while the tokens of a value are walked over.
-use Rattle.yaml_json.proofs.Common.{ℕ, ◌-◌, ◌<◌, Err, length, take, Bool, List, [], ◌++◌, ◌∷◌, ◌⊎◌, refl, ◌≡◌, append-nil, append_assoc, inl, inr, ap, subst}
+use Rattle.yaml_json.proofs.Common.{ℕ, ◌-◌, ◌<◌, length, take, Bool, List, [], ◌++◌, ◌∷◌, ◌⊎◌, refl, ◌≡◌, append-nil, append_assoc, inl, inr, ap, subst}
 use Rattle.yaml_json.proofs.Common.{sym, ◌∙◌, arith, append_cancel_right, left_some, value, skip_value, Token, json_tokens, Event, BeginsValue, FailedWith}
 use Rattle.yaml_json.proofs.Common.{FailedAt, token_events, tokens_events, Stands, IsScalar, opener, closer, KeepsNames, BeganValue, BeginFailed}
 use Rattle.yaml_json.proofs.Common.{BeganFirstValue, FirstFailed, WhyStopped, Refuses, WalkProgress, IsBare, WroteEvent, start_event, StartsCollection, Ends}
-use Rattle.yaml_json.proofs.Common.{IfSome, failure_of, WriterState, end_event, StandsTaken, AddsEvents, EndsInnermost}
+use Rattle.yaml_json.proofs.Common.{IfSome, failure_of, WriterState, end_event, StandsTaken, AddsEvents}
 use Rattle.std.proofs.Math.Seq.{take-append_seam}
 use Rattle.yaml_base.specs.declared.errors.{yaml_error_t.yaml_error_t, yaml_error_t.TheVariants.Memory}
 use Rattle.yaml_json.{proofs.KeepingNames.NamesSoFar, proofs.Stopping.end_failed, proofs.Stopping.if_some, proofs.Stops.unread_memory}
 use Rattle.yaml_json.proofs.{TokenLemmas.value_spelled, TokenLemmas.some_then, TokenLemmas.value_given, WroteLemmas.adds_then, WroteLemmas.ended}
-use Rattle.yaml_json.specs.{Failing.FailedInValue, Wrote.WroteValue, declared.names.Names.Names, declared.values.Stop.Stop}
+use Rattle.yaml_json.specs.{Failing.FailedAtEnd, Failing.FailedInValue, Wrote.WroteValue, declared.names.Names.Names, declared.values.Stop.Stop}
 use Rattle.yaml_json.proofs.Walking.{longer, closed_stands, closes_value, value_begins, awaiting_whole, awaiting_item, awaiting_named, next_stands}
 use Rattle.yaml_json.specs.Walk.{ReadsNone, Stood, Gives, FailsGiving, Stepped, StepFailed}
 use Rattle.yaml_emitter.specs.declared.place.{CollectionKind.CollectionKind, CollectionKind.TheVariants.Mapping, CollectionKind.TheVariants.Sequence}
@@ -106,7 +106,7 @@ fails_start in_flow levels before after kind error (inr gave) =
     (opener_events kind was.canonical in_flow) gave)
 
 pub fails_end : (in_flow : Bool) (outer : List CollectionKind) (before after : WriterState) (kind : CollectionKind) (error : yaml_error_t)
-    → EndsInnermost before (Err error) after → FailsGiving in_flow (outer ++ kind ∷ []) before (closer kind ∷ []) error after
+    → FailedAtEnd before error after → FailsGiving in_flow (outer ++ kind ∷ []) before (closer kind ∷ []) error after
 fails_end in_flow outer before after kind error ends =
     inr
     (λ was so stood. failed_on in_flow was before after so (closer kind) (end_event kind) error stood.adds (closer_events kind was.canonical in_flow)
@@ -181,7 +181,7 @@ module _ (depth : ℕ) (in_flow : Bool) (ahead : List Token) (levels outer : Lis
       }
 
   pub step_unclosed : (after : List Token) (error : yaml_error_t) (now : WriterState) → ahead ≡ closer kind ∷ after
-      → EndsInnermost before (Err error) now → StepFailed depth in_flow ahead levels before error now
+      → FailedAtEnd before error now → StepFailed depth in_flow ahead levels before error now
   step_unclosed after error now first ends =
       record {
         taken = closer kind ∷ [];
@@ -207,12 +207,12 @@ step_without_memory depth in_flow ahead levels before now =
 
 -- or no token is read
 pub step_unread : (depth : ℕ) (in_flow : Bool) (ahead : List Token) (levels : List CollectionKind) (before now : WriterState) (stop : Stop)
-    → ReadsNone ahead stop → IfSome (failure_of stop) (λ error. StepFailed depth in_flow ahead levels before error now)
+    → ReadsNone ahead stop → IfSome (failure_of now stop) (λ error. StepFailed depth in_flow ahead levels before error now)
 step_unread depth in_flow ahead levels before now stop none =
-    if_some (failure_of stop)
+    if_some (failure_of now stop)
     (λ error memory. subst (λ (code : yaml_error_t). StepFailed depth in_flow ahead levels before code now) (sym memory)
     (step_without_memory depth in_flow ahead levels before now))
-    (unread_memory ahead stop none)
+    (unread_memory ahead now stop none)
 
 -- an item begins
 module _ (depth : ℕ) (in_flow : Bool) (levels outer : List CollectionKind) (is : levels ≡ outer ++ Sequence ∷ []) (token : Token)

@@ -1,5 +1,5 @@
 -- Why a writer fails that is given the events of a text, and what it was given until then.
-use Rattle.std.specs.Prelude.{◌≡◌, ◌⊎◌, ℕ, ◌<◌, ◌≤◌, Bool, true, Option, None, Some, Result, Ok, Err, List, [], ◌∷◌, ◌++◌, flat_map}
+use Rattle.std.specs.Prelude.{◌≡◌, ◌≢◌, ◌⊎◌, ℕ, ◌<◌, ◌≤◌, Bool, true, Option, None, Some, unwrap_or, Result, Ok, Err, List, [], ◌∷◌, ◌++◌, flat_map}
 use Rattle.json.specs.Token.{Token}
 use Rattle.json.specs.Lex.{tokens}
 use Rattle.json.specs.Json.{Json, value}
@@ -11,7 +11,7 @@ use Rattle.yaml_base.specs.declared.errors.yaml_error_t.{yaml_error_t}
 use Rattle.yaml_base.specs.declared.errors.yaml_error_t.TheVariants.{TooDeep, WriteError, Memory}
 use Rattle.yaml_emitter.specs.Uncut.{IsUncut}
 use Rattle.yaml_writer.specs.Unfinished.{PassesLimit}
-use Rattle.yaml_writer.specs.Writing.{AddsEvents, WriterState, closing, opening, plain_start}
+use Rattle.yaml_writer.specs.Writing.{AddsEvents, EndedCollection, WriterState, closing, opening, plain_start}
 use Rattle.yaml_json.specs.Begins.{BeginsValue}
 use Rattle.yaml_json.specs.JsonEvents.{json_events}
 use Rattle.yaml_json.specs.TokenEvents.{tokens_events}
@@ -23,15 +23,31 @@ use Rattle.yaml_json.specs.declared.values.Stop.TheVariants as stops
 
 -- ---- the error of the writer, where there is one
 
-abbrev pub failure_of : Stop → Option yaml_error_t
-failure_of (stops.NotJson spot) = None
-failure_of stops.TooDeep = None
-failure_of (stops.NameAgain offset) = None
-failure_of (stops.Failed error) = Some error
+abbrev pub failure_of : WriterState → Stop → Option yaml_error_t
+failure_of now stops.NotJson = None
+failure_of now stops.TooDeep = None
+failure_of now stops.NameAgain = None
+failure_of now stops.Memory = Some Memory
+failure_of now stops.Failed = Some (unwrap_or now.emitter.error Memory)
 
-abbrev pub emitter_error_of : Result (Unit {0}) Stop → Option yaml_error_t
-emitter_error_of (Ok done) = None
-emitter_error_of (Err stop) = failure_of stop
+abbrev pub emitter_error_of : WriterState → Result (Unit {0}) Stop → Option yaml_error_t
+emitter_error_of now (Ok done) = None
+emitter_error_of now (Err stop) = failure_of now stop
+
+-- the stop tells of this error of the writer
+abbrev pub TellsOf : yaml_error_t → Stop → Type 0
+TellsOf error stops.NotJson = ⊥
+TellsOf error stops.TooDeep = ⊥
+TellsOf error stops.NameAgain = ⊥
+TellsOf error stops.Memory = error ≡ Memory
+TellsOf error stops.Failed = error ≢ Memory
+
+-- the writer's answer, without its error
+abbrev pub IsAnswer : Result (Unit {0}) yaml_error_t → Result (Unit {0}) Stop → Type 0
+IsAnswer (Ok done) (Ok same) = Unit {0}
+IsAnswer (Ok done) (Err stop) = ⊥
+IsAnswer (Err error) (Ok done) = ⊥
+IsAnswer (Err error) (Err stop) = TellsOf error stop
 
 abbrev pub writers_error : JsonError → Option yaml_error_t
 writers_error (errors.NotJson line column) = None
@@ -50,6 +66,10 @@ pub record FailedWith (was : WriterState) (events : List Event) (error : yaml_er
 -- an allocation failed, or this event was given to the emitter, which has this error now
 abbrev pub FailedAt : WriterState → Event → yaml_error_t → WriterState → Type 0
 FailedAt was event error now = (error ≡ Memory) ⊎ FailedWith was (event ∷ []) error now
+
+-- the innermost collection was ended, and the emitter has this error now; or none was open, and nothing changed
+abbrev pub FailedAtEnd : WriterState → yaml_error_t → WriterState → Type 0
+FailedAtEnd was error now = ((was.levels ≡ []) × (now ≡ was)) ⊎ EndedCollection was (Err error) now
 
 -- the events of the first of some tokens were given
 pub record FailedAfter (in_flow : Bool) (taken ahead : List Token) (was : WriterState) (error : yaml_error_t) (now : WriterState) : Type 0 where

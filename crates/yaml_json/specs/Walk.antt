@@ -145,17 +145,19 @@ pub record BeginFailed (depth : ℕ) (in_flow : Bool) (token : Token) (levels : 
 
 -- no value begins with the token, or it opens one too many
 abbrev pub RefusesToken : (depth : ℕ) → List CollectionKind → Token → Stop → Type 0
-RefusesToken depth levels token (stops.NotJson spot) = BeginsNone token
+RefusesToken depth levels token stops.NotJson = BeginsNone token
 RefusesToken depth levels token stops.TooDeep = IsOpener token × (length levels ≡ depth)
-RefusesToken depth levels token (stops.NameAgain offset) = ⊥
-RefusesToken depth levels token (stops.Failed error) = Unit {0}
+RefusesToken depth levels token stops.NameAgain = ⊥
+RefusesToken depth levels token stops.Memory = Unit {0}
+RefusesToken depth levels token stops.Failed = Unit {0}
 
 -- no token is left, or an allocation failed
 abbrev pub ReadsNone : List Token → Stop → Type 0
-ReadsNone ahead (stops.NotJson spot) = ahead ≡ []
+ReadsNone ahead stops.NotJson = ahead ≡ []
 ReadsNone ahead stops.TooDeep = ⊥
-ReadsNone ahead (stops.NameAgain offset) = ⊥
-ReadsNone ahead (stops.Failed error) = error ≡ Memory
+ReadsNone ahead stops.NameAgain = ⊥
+ReadsNone ahead stops.Memory = Unit {0}
+ReadsNone ahead stops.Failed = ⊥
 
 -- ---- the first token of a value
 
@@ -180,10 +182,11 @@ FirstFailed depth in_flow ahead levels before error now = (error ≡ Memory) ⊎
 
 -- the text isn't said to nest too deep
 abbrev pub IsNotDeep : Stop → Type 0
-IsNotDeep (stops.NotJson spot) = Unit {0}
+IsNotDeep stops.NotJson = Unit {0}
 IsNotDeep stops.TooDeep = ⊥
-IsNotDeep (stops.NameAgain offset) = ⊥
-IsNotDeep (stops.Failed error) = Unit {0}
+IsNotDeep stops.NameAgain = ⊥
+IsNotDeep stops.Memory = Unit {0}
+IsNotDeep stops.Failed = Unit {0}
 
 -- no token is left, or the first is refused
 abbrev pub RefusesFirst : (depth : ℕ) → List CollectionKind → List Token → Stop → Type 0
@@ -217,10 +220,11 @@ pub record StepFailed (depth : ℕ) (in_flow : Bool) (ahead : List Token) (level
 
 -- why the text stops the writing
 abbrev pub WhyStopped : (depth : ℕ) → (unique : Bool) → List Token → Stop → Type 0
-WhyStopped depth unique all (stops.NotJson spot) = BreaksOff depth unique all
+WhyStopped depth unique all stops.NotJson = BreaksOff depth unique all
 WhyStopped depth unique all stops.TooDeep = OpensTooDeep depth unique all
-WhyStopped depth unique all (stops.NameAgain offset) = NamesTwice depth unique all
-WhyStopped depth unique all (stops.Failed error) = Unit {0}
+WhyStopped depth unique all stops.NameAgain = NamesTwice depth unique all
+WhyStopped depth unique all stops.Memory = Unit {0}
+WhyStopped depth unique all stops.Failed = Unit {0}
 
 -- wherever the walk stood with these collections open, these names taken and these tokens ahead, the text stops it
 abbrev pub Refuses : {A : Type 0} → (depth : ℕ) → (unique : Bool) → List CollectionKind → Names A → List Token → Stop → Type 0
@@ -241,9 +245,10 @@ pub record WalkProgress (depth : ℕ) (in_flow : Bool) (start : List Token) (was
 
 -- the error says what the stop does of the text
 abbrev pub MatchesStop : (text : List ℕ) → Stop → JsonError → Type 0
-MatchesStop text (stops.NotJson spot) (errors.NotJson line column) = is_marked text ≡ false
-MatchesStop text (stops.NotJson spot) (errors.Marked line column) = is_marked text ≡ true
+MatchesStop text stops.NotJson (errors.NotJson line column) = is_marked text ≡ false
+MatchesStop text stops.NotJson (errors.Marked line column) = is_marked text ≡ true
 MatchesStop text stops.TooDeep errors.TooDeep = Unit {0}
-MatchesStop text (stops.NameAgain offset) (errors.DuplicateName line column) = Unit {0}
-MatchesStop text (stops.Failed error) (errors.Emitter returned) = Unit {0}
+MatchesStop text stops.NameAgain (errors.DuplicateName line column) = Unit {0}
+MatchesStop text stops.Memory (errors.Emitter returned) = Unit {0}
+MatchesStop text stops.Failed (errors.Emitter returned) = Unit {0}
 MatchesStop _ _ _ = ⊥

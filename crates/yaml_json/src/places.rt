@@ -51,15 +51,13 @@ fn comma_before(bytes: &[u8], offset: usize) -> usize {
     comma
 }
 
-/// The offset of a spot in a text, which begins at `start`.
-pub(crate) fn offset_of(text: &str, start: usize, spot: Spot) -> usize {
+/// The offset of a spot in a text, by where the last token that was read begins.
+pub(crate) fn offset_of(text: &str, last: usize, spot: Spot) -> usize {
     let bytes = text.as_bytes();
     match spot {
-        Spot::At(offset) => start.saturating_add(offset),
-        Spot::PastString(offset) => {
-            skip_blanks(bytes, skip_string(bytes, start.saturating_add(offset)))
-        }
-        Spot::PastValue(offset) => comma_before(bytes, start.saturating_add(offset)),
+        Spot::At => last,
+        Spot::PastString => skip_blanks(bytes, skip_string(bytes, last)),
+        Spot::PastValue => comma_before(bytes, last),
     }
 }
 

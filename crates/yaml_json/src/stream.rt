@@ -131,7 +131,7 @@ fn write_bytes<'a, A: Allocator + Copy>(
     };
     match write_text_in(room, writer, text, settings) {
         Ok(()) => Ok(()),
-        Err(stop) => Err(StreamError::Refused(error_of(text, 0, text, stop))),
+        Err((stop, at)) => Err(StreamError::Refused(error_of(writer, text, at, text, stop))),
     }
 }
 

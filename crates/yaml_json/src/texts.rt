@@ -1,7 +1,7 @@
 //! JSON texts as YAML.
 ghost use Rattle.std.specs.Prelude.{◌≡◌, [], true, OnOk, IfOk, IfErr, IfSome};
 ghost use Rattle.yaml_emitter.specs.Given.{seen_settings};
-ghost use Rattle.yaml_json.specs.Failing.{FailedInText, FailsBy, emitter_error_of, failure_of, writers_error};
+ghost use Rattle.yaml_json.specs.Failing.{FailedInText, FailsBy, failure_of, writers_error};
 ghost use Rattle.json.specs.Lex.{tokens};
 ghost use Rattle.yaml_json.specs.Names.{NamesOnce};
 ghost use Rattle.yaml_json.specs.Nests.{AwaitsText};
@@ -28,14 +28,19 @@ fn is_marked(text: &str) -> bool
     text.as_bytes().starts_with(MARK)
 }
 
-/// The error that tells a caller of a stop in this part of a text. `offset` bytes of the text stand before the part.
-pub(crate) fn error_of(text: &str, offset: usize, part: &str, stop: Stop) -> JsonError
+/// The error that tells a caller of a stop in this part of a text, at this offset in the text.
+pub(crate) fn error_of<A: Allocator + Copy>(
+    writer: &Writer<A>,
+    text: &str,
+    at: usize,
+    part: &str,
+    stop: Stop,
+) -> JsonError
     ensures says { MatchesStop part.now stop result }
-    ensures by_writer { writers_error result ≡ failure_of stop }
+    ensures by_writer { writers_error result ≡ failure_of writer.now stop }
 {
     match stop {
-        Stop::NotJson(spot) => {
-            let at = offset_of(text, offset, spot);
+        Stop::NotJson => {
             let (line, column) = place_of(text.as_bytes(), at);
             if is_marked(part) {
                 JsonError::Marked { line, column }
@@ -44,11 +49,12 @@ pub(crate) fn error_of(text: &str, offset: usize, part: &str, stop: Stop) -> Jso
             }
         }
         Stop::TooDeep => JsonError::TooDeep,
-        Stop::NameAgain(at) => {
-            let (line, column) = place_of(text.as_bytes(), offset.saturating_add(at));
+        Stop::NameAgain => {
+            let (line, column) = place_of(text.as_bytes(), at);
             JsonError::DuplicateName { line, column }
         }
-        Stop::Failed(error) => JsonError::Emitter(error),
+        Stop::Memory => JsonError::Emitter(yaml_error_t::Memory),
+        Stop::Failed => JsonError::Emitter(writer.error().unwrap_or(yaml_error_t::Memory)),
     }
 }
 
@@ -80,17 +86,21 @@ pub(crate) fn write_text_in<'a, A: Allocator + Copy>(
     writer: &mut Writer<A>,
     text: &'a str,
     settings: &JsonSettings,
-) -> Result<(), Stop>
+) -> Result<(), (Stop, usize)>
     requires bare { IsBare writer.old }
     requires ready { AwaitsText settings.now.unique_names room.old }
     ensures ready { OnOk result (AwaitsText settings.now.unique_names room.new) }
     ensures names { OnOk result (settings.now.unique_names ≡ true → NamesOnce [] (tokens text.now)) }
     ensures written { OnOk result (WroteText settings.now.depth settings.now.flow text.now writer.old writer.new) }
-    ensures refused { IfErr result (WhyStopped settings.now.depth settings.now.unique_names (tokens text.now)) }
-    ensures stopped { IfSome (emitter_error_of result) (λ error. FailedInText settings.now.depth settings.now.flow text.now writer.old error writer.new) }
+    ensures refused { IfErr result (λ failed. WhyStopped settings.now.depth settings.now.unique_names (tokens text.now) failed.0) }
+    ensures stopped { IfErr result (λ failed. IfSome (failure_of writer.new failed.0)
+        (λ error. FailedInText settings.now.depth settings.now.flow text.now writer.old error writer.new)) }
 {
     let mut tokens = Tokens::new(room.alloc, room.arena, text);
-    write_only_value(&mut room.nest, writer, &mut tokens, settings)
+    match write_only_value(&mut room.nest, writer, &mut tokens, settings) {
+        Ok(()) => Ok(()),
+        Err(stop) => Err((stop, offset_of(text, tokens.last_offset(), room.nest.spot))),
+    }
 }
 
 /// Gives a writer the events of a JSON text.
@@ -99,12 +109,13 @@ pub(crate) fn write_text_by<A: Allocator + Copy>(
     writer: &mut Writer<A>,
     text: &str,
     settings: &JsonSettings,
-) -> Result<(), Stop>
+) -> Result<(), (Stop, usize)>
     requires { IsBare writer.old }
     ensures names { OnOk result (settings.now.unique_names ≡ true → NamesOnce [] (tokens text.now)) }
     ensures written { OnOk result (WroteText settings.now.depth settings.now.flow text.now writer.old writer.new) }
-    ensures refused { IfErr result (WhyStopped settings.now.depth settings.now.unique_names (tokens text.now)) }
-    ensures stopped { IfSome (emitter_error_of result) (λ error. FailedInText settings.now.depth settings.now.flow text.now writer.old error writer.new) }
+    ensures refused { IfErr result (λ failed. WhyStopped settings.now.depth settings.now.unique_names (tokens text.now) failed.0) }
+    ensures stopped { IfErr result (λ failed. IfSome (failure_of writer.new failed.0)
+        (λ error. FailedInText settings.now.depth settings.now.flow text.now writer.old error writer.new)) }
 {
     let arena = Bump::new(alloc);
     let mut room = Room::new(alloc, &arena, settings.unique_names);
@@ -140,7 +151,7 @@ pub fn write_json<A: Allocator + Copy>(
 {
     match write_text_by(alloc, writer, text, &settings) {
         Ok(()) => Ok(()),
-        Err(stop) => Err(error_of(text, 0, text, stop)),
+        Err((stop, at)) => Err(error_of(writer, text, at, text, stop)),
     }
 }
 

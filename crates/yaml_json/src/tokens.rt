@@ -60,6 +60,8 @@ pub(crate) struct Tokens<'a, A: Allocator> {
     size: usize,
     rest: &'a str,
     stage: Stage,
+    /// How many bytes were left when the last token was read.
+    left: usize,
 }
 
 impl<'a, A: Allocator> Model for Tokens<'a, A> {
@@ -281,12 +283,13 @@ impl<'a, A: Allocator + Copy> Tokens<'a, A> {
             size: text.len(),
             rest: skip_blanks(text),
             stage: Stage::Open,
+            left: text.len(),
         }
     }
 
-    /// Where the next token begins, by an offset in bytes; the text's end where there is none.
-    pub(crate) fn offset(&self) -> usize {
-        self.size.saturating_sub(self.rest.len())
+    /// Where the last token begins, by an offset in bytes; the text's end where there was none.
+    pub(crate) fn last_offset(&self) -> usize {
+        self.size.saturating_sub(self.left)
     }
 
     /// The next token; `None` where there is none.
@@ -299,6 +302,7 @@ impl<'a, A: Allocator + Copy> Tokens<'a, A> {
         ensures value { IfOk result (λ found. MatchOption found ((self.old ≡ []) × (self.new ≡ [])) (λ t. self.old ≡ token_of t ∷ self.new)) }
         ensures printable { IfOk result (λ found. IfSome found (λ t. t ≢ Token.Bad → IsPrintable (token_of t))) }
     {
+        self.left = self.rest.len();
         if let Stage::Over = self.stage {
             return Ok(None);
         }

@@ -2,8 +2,7 @@
 ghost use Rattle.std.specs.Prelude.{◌≡◌, ◌≢◌, [], ◌∷◌, ◌-◌, length, take, IfErr, IfOk, IfSome, MatchOption, OnOk, true};
 ghost use Rattle.json.specs.Print.{IsPrintable};
 ghost use Rattle.json.specs.Reads.{token_of};
-ghost use Rattle.yaml_writer.specs.Writing.{EndsInnermost};
-ghost use Rattle.yaml_json.specs.Failing.{FailedInValue, emitter_error_of};
+ghost use Rattle.yaml_json.specs.Failing.{FailedAtEnd, FailedInValue, emitter_error_of};
 ghost use Rattle.yaml_json.specs.Refused.{RefusesText};
 ghost use Rattle.yaml_json.specs.Walk.{BeganFirstValue, BeginFailed, BeganValue, FirstFailed, IsInnermost, Refuses, RefusesFirst, RefusesToken};
 ghost use Rattle.yaml_json.specs.Walk.{StepFailed, Stepped};
@@ -18,30 +17,32 @@ use crate::settings::JsonSettings;
 use crate::tokens::Tokens;
 use json::Token;
 use std::alloc::Allocator;
-use yaml_writer::{CollectionKind, Writer, yaml_error_t};
+use yaml_writer::{CollectionKind, Writer};
 
-/// Where a token is that can't stand there, by an offset in bytes.
+/// Where a token is that can't stand there, by where the last token that was read begins.
 #[derive(Clone, Copy)]
 pub(crate) enum Spot {
-    /// It begins here.
-    At(usize),
-    /// It follows the string that begins here.
-    PastString(usize),
-    /// It follows a value. What follows the value, and a comma if there is one, begins here.
-    PastValue(usize),
+    /// It is the last token, or the text ends there.
+    At,
+    /// It follows the last token, a string.
+    PastString,
+    /// It follows a value: it is the last token, or the comma before that.
+    PastValue,
 }
 
 /// Why a value isn't written.
 #[derive(Clone, Copy)]
 pub(crate) enum Stop {
     /// A token can't stand where it stands, or the text ends too early.
-    NotJson(Spot),
+    NotJson,
     /// An array or an object lies too deep.
     TooDeep,
-    /// The name at this offset, in bytes, is one that its object has.
-    NameAgain(usize),
-    /// The writer failed.
-    Failed(yaml_error_t),
+    /// The last token that was read is a name that its object has.
+    NameAgain,
+    /// An allocation failed.
+    Memory,
+    /// The writer failed: its emitter has the error.
+    Failed,
 }
 
 /// What is open. A value that is whole leaves the memory of these lists to the next.
@@ -50,6 +51,8 @@ pub(crate) struct Nesting<'a, A: Allocator> {
     /// The innermost last.
     kinds: Vec<CollectionKind, A>,
     names: Names<'a, A>,
+    /// Where the token is that can't stand there, once there is one.
+    pub(crate) spot: Spot,
 }
 
 impl<'a, A: Allocator + Copy> Nesting<'a, A> {
@@ -60,6 +63,7 @@ impl<'a, A: Allocator + Copy> Nesting<'a, A> {
         Nesting {
             kinds: Vec::new(alloc),
             names: Names::new(alloc, unique_names),
+            spot: Spot::At,
         }
     }
 }
@@ -78,27 +82,26 @@ fn begin<'a, A: Allocator + Copy>(
     ensures fits { OnOk result (IsNesting settings.now.depth settings.now.unique_names nest.new) }
     ensures names { OnOk result (Keeps nest.old.names (opener kind ∷ []) nest.new.names) }
     ensures refused { IfErr result (RefusesToken settings.now.depth nest.old.kinds.items (opener kind)) }
-    ensures stopped { IfSome (emitter_error_of result) (λ error. BeginFailed settings.now.depth settings.now.flow (opener kind) nest.old.kinds.items
+    ensures stopped { IfSome (emitter_error_of writer.new result) (λ error. BeginFailed settings.now.depth settings.now.flow (opener kind) nest.old.kinds.items
         writer.old error writer.new) }
 {
     if nest.kinds.len() == settings.depth {
         return Err(Stop::TooDeep);
     }
     if let Err(_) = nest.names.enter() {
-        return Err(Stop::Failed(yaml_error_t::Memory));
+        return Err(Stop::Memory);
     }
     match nest.kinds.push(kind) {
         Ok(()) => start(writer, kind, settings.flow),
-        Err(_) => Err(Stop::Failed(yaml_error_t::Memory)),
+        Err(_) => Err(Stop::Memory),
     }
 }
 
-/// A token at this offset, with which a value is to begin.
+/// A token with which a value is to begin.
 fn write_token<'a, A: Allocator + Copy>(
     writer: &mut Writer<A>,
     nest: &mut Nesting<'a, A>,
     token: Token<'a>,
-    offset: usize,
     settings: &JsonSettings,
 ) -> Result<(), Stop>
     requires bare { IsBare writer.old }
@@ -109,35 +112,35 @@ fn write_token<'a, A: Allocator + Copy>(
     ensures fits { OnOk result (IsNesting settings.now.depth settings.now.unique_names nest.new) }
     ensures names { OnOk result (Keeps nest.old.names (token_of token.entry ∷ []) nest.new.names) }
     ensures refused { IfErr result (RefusesToken settings.now.depth nest.old.kinds.items (token_of token.entry)) }
-    ensures stopped { IfSome (emitter_error_of result) (λ error. BeginFailed settings.now.depth settings.now.flow (token_of token.entry)
+    ensures stopped { IfSome (emitter_error_of writer.new result) (λ error. BeginFailed settings.now.depth settings.now.flow (token_of token.entry)
         nest.old.kinds.items writer.old error writer.new) }
 {
     match token {
         Token::Null => write_null(writer),
         Token::Bool(flag) => write_bool(writer, flag),
-        Token::Number(text) => write_number(writer, text, offset),
+        Token::Number(text) => write_number(writer, text),
         Token::String(text) => write_text(writer, text),
         Token::BeginArray => begin(writer, nest, CollectionKind::Sequence, settings),
         Token::BeginObject => begin(writer, nest, CollectionKind::Mapping, settings),
-        Token::Key(_) => Err(Stop::NotJson(Spot::PastString(offset))),
-        Token::EndObject | Token::EndArray | Token::Bad => Err(Stop::NotJson(Spot::At(offset))),
+        Token::Key(_) => {
+            nest.spot = Spot::PastString;
+            Err(Stop::NotJson)
+        }
+        Token::EndObject | Token::EndArray | Token::Bad => Err(Stop::NotJson),
     }
 }
 
-/// The next token, and where it begins.
+/// The next token.
 #[inline(always)]
-fn next_token<'a, A: Allocator + Copy>(
-    reader: &mut Tokens<'a, A>,
-) -> Result<(Token<'a>, usize), Stop>
-    ensures first { IfOk result (λ found. reader.old ≡ token_of found.0 ∷ reader.new) }
-    ensures printable { IfOk result (λ found. found.0 ≢ Token.Bad → IsPrintable (token_of found.0)) }
+fn next_token<'a, A: Allocator + Copy>(reader: &mut Tokens<'a, A>) -> Result<Token<'a>, Stop>
+    ensures first { IfOk result (λ token. reader.old ≡ token_of token ∷ reader.new) }
+    ensures printable { IfOk result (λ token. token ≢ Token.Bad → IsPrintable (token_of token)) }
     ensures refused { IfErr result (ReadsNone reader.old) }
 {
-    let offset = reader.offset();
     match reader.next() {
-        Ok(Some(token)) => Ok((token, offset)),
-        Ok(None) => Err(Stop::NotJson(Spot::At(offset))),
-        Err(_) => Err(Stop::Failed(yaml_error_t::Memory)),
+        Ok(Some(token)) => Ok(token),
+        Ok(None) => Err(Stop::NotJson),
+        Err(_) => Err(Stop::Memory),
     }
 }
 
@@ -155,14 +158,14 @@ fn write_first<'a, A: Allocator + Copy>(
     ensures fits { OnOk result (IsNesting settings.now.depth settings.now.unique_names nest.new) }
     ensures names { OnOk result (KeepsTo nest.old.names reader.old reader.new nest.new.names) }
     ensures refused { IfErr result (RefusesFirst settings.now.depth nest.old.kinds.items reader.old) }
-    ensures stopped { IfSome (emitter_error_of result) (λ error. FirstFailed settings.now.depth settings.now.flow reader.old
+    ensures stopped { IfSome (emitter_error_of writer.new result) (λ error. FirstFailed settings.now.depth settings.now.flow reader.old
         nest.old.kinds.items writer.old error writer.new) }
 {
-    let (token, offset) = match next_token(reader) {
-        Ok(found) => found,
+    let token = match next_token(reader) {
+        Ok(token) => token,
         Err(stop) => return Err(stop),
     };
-    write_token(writer, nest, token, offset, settings)
+    write_token(writer, nest, token, settings)
 }
 
 /// Ends the innermost collection, of this kind.
@@ -175,7 +178,7 @@ fn leave<'a, A: Allocator + Copy>(
     ensures names { LeavesNames nest.old.names nest.new.names }
     ensures ended { OnOk result (Ends writer.old writer.new) }
     ensures failed { RefusesText result → ⊥ }
-    ensures stopped { IfSome (emitter_error_of result) (λ error. EndsInnermost writer.old (Err error) writer.new) }
+    ensures stopped { IfSome (emitter_error_of writer.new result) (λ error. FailedAtEnd writer.old error writer.new) }
 {
     nest.names.leave();
     let _ = nest.kinds.pop();
@@ -198,25 +201,25 @@ fn write_next<'a, A: Allocator + Copy>(
     ensures fits { OnOk result (IsNesting settings.now.depth settings.now.unique_names nest.new) }
     ensures names { OnOk result (KeepsTo nest.old.names reader.old reader.new nest.new.names) }
     ensures refused { IfErr result (Refuses settings.now.depth settings.now.unique_names nest.old.kinds.items nest.old.names reader.old) }
-    ensures stopped { IfSome (emitter_error_of result) (λ error. StepFailed settings.now.depth settings.now.flow reader.old
+    ensures stopped { IfSome (emitter_error_of writer.new result) (λ error. StepFailed settings.now.depth settings.now.flow reader.old
         nest.old.kinds.items writer.old error writer.new) }
 {
-    let (token, offset) = match next_token(reader) {
-        Ok(found) => found,
+    let token = match next_token(reader) {
+        Ok(token) => token,
         Err(stop) => return Err(stop),
     };
     match kind {
         CollectionKind::Sequence => match token {
             Token::EndArray => leave(writer, nest),
-            _ => write_token(writer, nest, token, offset, settings),
+            _ => write_token(writer, nest, token, settings),
         },
         CollectionKind::Mapping => match token {
             Token::EndObject => leave(writer, nest),
             Token::Key(key) => match nest.names.add(key) {
-                Err(_) => Err(Stop::Failed(yaml_error_t::Memory)),
+                Err(_) => Err(Stop::Memory),
                 Ok(new) => {
                     if !new {
-                        return Err(Stop::NameAgain(offset));
+                        return Err(Stop::NameAgain);
                     }
                     if let Err(stop) = write_text(writer, key) {
                         return Err(stop);
@@ -224,8 +227,11 @@ fn write_next<'a, A: Allocator + Copy>(
                     write_first(writer, reader, nest, settings)
                 }
             },
-            Token::String(_) => Err(Stop::NotJson(Spot::PastString(offset))),
-            _ => Err(Stop::NotJson(Spot::At(offset))),
+            Token::String(_) => {
+                nest.spot = Spot::PastString;
+                Err(Stop::NotJson)
+            }
+            _ => Err(Stop::NotJson),
         },
     }
 }
@@ -250,7 +256,8 @@ fn write_value<'a, A: Allocator + Copy>(
     ensures written { OnOk result (WroteValue settings.now.depth settings.now.flow reader.old writer.old reader.new writer.new) }
     ensures names { OnOk result (HasUniqueNames settings.now.unique_names reader.old reader.new) }
     ensures refused { IfErr result (WhyStopped settings.now.depth settings.now.unique_names reader.old) }
-    ensures stopped { IfSome (emitter_error_of result) (λ error. FailedInValue settings.now.depth settings.now.flow reader.old writer.old error writer.new) }
+    ensures stopped { IfSome (emitter_error_of writer.new result) (λ error. FailedInValue settings.now.depth settings.now.flow reader.old writer.old error
+        writer.new) }
 {
     if let Err(stop) = write_first(writer, reader, nest, settings) {
         return Err(stop);
@@ -276,15 +283,18 @@ pub(crate) fn write_only_value<'a, A: Allocator + Copy>(
     ensures written { OnOk result (WroteDocument settings.now.depth settings.now.flow reader.old writer.old writer.new) }
     ensures names { OnOk result (settings.now.unique_names ≡ true → NamesOnce [] reader.old) }
     ensures refused { IfErr result (WhyStopped settings.now.depth settings.now.unique_names reader.old) }
-    ensures stopped { IfSome (emitter_error_of result) (λ error. FailedInValue settings.now.depth settings.now.flow reader.old writer.old error writer.new) }
+    ensures stopped { IfSome (emitter_error_of writer.new result) (λ error. FailedInValue settings.now.depth settings.now.flow reader.old writer.old error
+        writer.new) }
 {
     if let Err(stop) = write_value(nest, writer, reader, settings) {
         return Err(stop);
     }
-    let offset = reader.offset();
     match reader.next() {
         Ok(None) => Ok(()),
-        Ok(Some(_token)) => Err(Stop::NotJson(Spot::PastValue(offset))),
-        Err(_) => Err(Stop::Failed(yaml_error_t::Memory)),
+        Ok(Some(_token)) => {
+            nest.spot = Spot::PastValue;
+            Err(Stop::NotJson)
+        }
+        Err(_) => Err(Stop::Memory),
     }
 }

@@ -1,8 +1,9 @@
-use Rattle.yaml_json.proofs.WroteLemmas.{bare_awaits_none}
+use Rattle.yaml_json.proofs.{Stopping.answered_end, WroteLemmas.bare_awaits_none}
 use Rattle.yaml_json.proofs.scalars.end.Goals as goal
 
-pub returns-in-Ok-clause-ended : goal.returns-in-Ok-clause-ended
-returns-in-Ok-clause-ended g c = c.in-Ok.ensures.ended (bare_awaits_none c.args.writer.now c.requires)
-
-pub returns-in-Err-clause-stopped : goal.returns-in-Err-clause-stopped
-returns-in-Err-clause-stopped g c = c.in-Err.ensures.ended (bare_awaits_none c.args.writer.now c.requires)
+pub returns : goal.returns
+returns g c =
+    let writer = c.args.writer.now in
+    let all = answered_end writer c.end.new.self c.end.result c.answer_of.result c.answer_of.ensures
+    (c.end.ensures.ended (bare_awaits_none writer c.requires)) in
+    record { ended = all.0; failed = all.1; stopped = all.2 }

@@ -1,22 +1,34 @@
-use Rattle.yaml_json.proofs.Common.{subst, sym, FailedAt, start_event, mapping_event, sequence_event}
+use Rattle.yaml_json.proofs.Common.{start_event, mapping_event, sequence_event}
 use Rattle.yaml_base.specs.Seen.{seen_sequence_style, seen_mapping_style}
-use Rattle.yaml_json.proofs.{Stopping.start_failed, WroteLemmas.sequence_is, WroteLemmas.mapping_is}
-use Rattle.yaml_emitter.specs.declared.place.{CollectionKind.CollectionKind, CollectionKind.TheVariants.Mapping, CollectionKind.TheVariants.Sequence}
+use Rattle.yaml_json.proofs.{Stopping.answered_at, Stopping.start_failed, WroteLemmas.on_ok, WroteLemmas.on_err, WroteLemmas.starts_with}
+use Rattle.yaml_json.proofs.WroteLemmas.{sequence_is, mapping_is}
+use Rattle.yaml_emitter.specs.declared.place.{CollectionKind.TheVariants.Mapping, CollectionKind.TheVariants.Sequence}
 use Rattle.yaml_json.proofs.scalars.start.Goals as goal
 
-pub returns-in-Err-clause-stopped : goal.returns-in-Err-clause-stopped
-returns-in-Err-clause-stopped g c =
+pub returns-in-Sequence : goal.returns-in-Sequence
+returns-in-Sequence g c =
     let writer = c.args.writer.now in
+    let after = c.begin_sequence.new.self in
     let style = seen_sequence_style c.sequence_style.result in
-    subst (λ (kind : CollectionKind). FailedAt writer (start_event c.args.in_flow kind) c.in-Err.error c.begin_sequence.new.self) (sym c.in-Sequence.is)
-    (start_failed Sequence writer c.begin_sequence.new.self (sequence_event writer style) (start_event c.args.in_flow Sequence) c.in-Err.error
-    (sequence_is writer c.args.in_flow style c.sequence_style.ensures c.requires) c.in-Err.ensures.failed)
+    let given = sequence_event writer style in
+    let event = start_event c.args.in_flow Sequence in
+    let is = sequence_is writer c.args.in_flow style c.sequence_style.ensures c.requires in
+    let answer = c.begin_sequence.result in
+    let all = answered_at _ writer after event answer c.answer_of.result c.answer_of.ensures
+    (on_ok answer (starts_with c.args.in_flow Sequence writer after given is) c.begin_sequence.ensures.given)
+    (on_err answer (λ error. start_failed Sequence writer after given event error is) c.begin_sequence.ensures.failed) in
+    rw c.in-Sequence.is (record { started = all.0; failed = all.1; stopped = all.2 })
 
-pub returns-in-Err-begin_mapping-clause-stopped : goal.returns-in-Err-begin_mapping-clause-stopped
-returns-in-Err-begin_mapping-clause-stopped g c =
+pub returns-in-Mapping : goal.returns-in-Mapping
+returns-in-Mapping g c =
     let writer = c.args.writer.now in
+    let after = c.begin_mapping.new.self in
     let style = seen_mapping_style c.mapping_style.result in
-    subst (λ (kind : CollectionKind). FailedAt writer (start_event c.args.in_flow kind) c.in-Err-begin_mapping.error c.begin_mapping.new.self)
-    (sym c.in-Mapping.is)
-    (start_failed Mapping writer c.begin_mapping.new.self (mapping_event writer style) (start_event c.args.in_flow Mapping)
-    c.in-Err-begin_mapping.error (mapping_is writer c.args.in_flow style c.mapping_style.ensures c.requires) c.in-Err-begin_mapping.ensures.failed)
+    let given = mapping_event writer style in
+    let event = start_event c.args.in_flow Mapping in
+    let is = mapping_is writer c.args.in_flow style c.mapping_style.ensures c.requires in
+    let answer = c.begin_mapping.result in
+    let all = answered_at _ writer after event answer c.answer_of-in-Mapping.result c.answer_of-in-Mapping.ensures
+    (on_ok answer (starts_with c.args.in_flow Mapping writer after given is) c.begin_mapping.ensures.given)
+    (on_err answer (λ error. start_failed Mapping writer after given event error is) c.begin_mapping.ensures.failed) in
+    rw c.in-Mapping.is (record { started = all.0; failed = all.1; stopped = all.2 })

@@ -1,16 +1,18 @@
 use Rattle.yaml_json.proofs.Common.{scalar, bool_tag, bool_text, bool_content}
-use Rattle.yaml_json.proofs.{Stopping.event_failed, WroteLemmas.wrote_event, WroteLemmas.word_is}
+use Rattle.yaml_json.proofs.{Stopping.answered_at, Stopping.event_failed, WroteLemmas.on_ok, WroteLemmas.on_err, WroteLemmas.wrote_event}
+use Rattle.yaml_json.proofs.WroteLemmas.{word_is}
 use Rattle.yaml_writer.specs.Writing.{bool_event}
 use Rattle.yaml_json.proofs.scalars.write_bool.Goals as goal
 
-pub returns-in-Ok-clause-written : goal.returns-in-Ok-clause-written
-returns-in-Ok-clause-written g c =
+pub returns : goal.returns
+returns g c =
     let writer = c.args.writer.now in
-    wrote_event writer c.bool.new.self (bool_event writer c.args.flag) (scalar (bool_content writer.canonical c.args.flag))
-    (word_is writer bool_tag (bool_text c.args.flag) c.requires) c.in-Ok.ensures.given
-
-pub returns-in-Err-clause-stopped : goal.returns-in-Err-clause-stopped
-returns-in-Err-clause-stopped g c =
-    let writer = c.args.writer.now in
-    event_failed writer c.bool.new.self (bool_event writer c.args.flag) (scalar (bool_content writer.canonical c.args.flag)) c.in-Err.error
-    (word_is writer bool_tag (bool_text c.args.flag) c.requires) c.in-Err.ensures.failed
+    let after = c.bool.new.self in
+    let given = bool_event writer c.args.flag in
+    let event = scalar (bool_content writer.canonical c.args.flag) in
+    let is = word_is writer bool_tag (bool_text c.args.flag) c.requires in
+    let answer = c.bool.result in
+    let all = answered_at _ writer after event answer c.answer_of.result c.answer_of.ensures
+    (on_ok answer (wrote_event writer after given event is) c.bool.ensures.given)
+    (on_err answer (λ error. event_failed writer after given event error is) c.bool.ensures.failed) in
+    record { written = all.0; failed = all.1; stopped = all.2 }

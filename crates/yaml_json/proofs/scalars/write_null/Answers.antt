@@ -1,16 +1,17 @@
 use Rattle.yaml_json.proofs.Common.{codes, scalar, null_tag, null_content}
-use Rattle.yaml_json.proofs.{Stopping.event_failed, WroteLemmas.wrote_event, WroteLemmas.word_is}
+use Rattle.yaml_json.proofs.{Stopping.answered_at, Stopping.event_failed, WroteLemmas.on_ok, WroteLemmas.on_err, WroteLemmas.wrote_event}
+use Rattle.yaml_json.proofs.WroteLemmas.{word_is}
 use Rattle.yaml_writer.specs.Writing.{null_event}
 use Rattle.yaml_json.proofs.scalars.write_null.Goals as goal
 
-pub returns-in-Ok-clause-written : goal.returns-in-Ok-clause-written
-returns-in-Ok-clause-written g c =
+pub returns : goal.returns
+returns g c =
     let writer = c.args.writer.now in
-    wrote_event writer c.null.new.self (null_event writer) (scalar (null_content writer.canonical)) (word_is writer null_tag (codes "null") c.requires)
-    c.in-Ok.ensures.given
-
-pub returns-in-Err-clause-stopped : goal.returns-in-Err-clause-stopped
-returns-in-Err-clause-stopped g c =
-    let writer = c.args.writer.now in
-    event_failed writer c.null.new.self (null_event writer) (scalar (null_content writer.canonical)) c.in-Err.error
-    (word_is writer null_tag (codes "null") c.requires) c.in-Err.ensures.failed
+    let after = c.null.new.self in
+    let event = scalar (null_content writer.canonical) in
+    let is = word_is writer null_tag (codes "null") c.requires in
+    let answer = c.null.result in
+    let all = answered_at _ writer after event answer c.answer_of.result c.answer_of.ensures
+    (on_ok answer (wrote_event writer after (null_event writer) event is) c.null.ensures.given)
+    (on_err answer (λ error. event_failed writer after (null_event writer) event error is) c.null.ensures.failed) in
+    record { written = all.0; failed = all.1; stopped = all.2 }

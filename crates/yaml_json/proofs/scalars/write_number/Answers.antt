@@ -1,19 +1,18 @@
 use Rattle.yaml_json.proofs.Common.{scalar, number_content, number_in, number_event}
-use Rattle.yaml_json.proofs.{Stopping.event_failed, WroteLemmas.wrote_event, WroteLemmas.number_event_is}
+use Rattle.yaml_json.proofs.{Stopping.answered_at, Stopping.event_failed, WroteLemmas.on_ok, WroteLemmas.on_err, WroteLemmas.wrote_event}
+use Rattle.yaml_json.proofs.WroteLemmas.{number_event_is}
 use Rattle.yaml_json.proofs.scalars.write_number.Goals as goal
 
-pub returns-in-Ok-clause-written : goal.returns-in-Ok-clause-written
-returns-in-Ok-clause-written g c =
+pub returns : goal.returns
+returns g c =
     let writer = c.args.writer.now in
+    let after = c.number.new.self in
     let text = c.args.text.now in
-    let parts = c.in-Some.number in
-    wrote_event writer c.number.new.self (number_event writer parts) (scalar (number_content writer.canonical (number_in text)))
-    (number_event_is writer text parts c.in-Some.ensures.bytes c.requires) c.in-Ok.ensures.given
-
-pub returns-in-Err-clause-stopped : goal.returns-in-Err-clause-stopped
-returns-in-Err-clause-stopped g c =
-    let writer = c.args.writer.now in
-    let text = c.args.text.now in
-    let parts = c.in-Some.number in
-    event_failed writer c.number.new.self (number_event writer parts) (scalar (number_content writer.canonical (number_in text))) c.in-Err.error
-    (number_event_is writer text parts c.in-Some.ensures.bytes c.requires) c.in-Err.ensures.failed
+    let given = number_event writer c.in-Some.number in
+    let event = scalar (number_content writer.canonical (number_in text)) in
+    let is = number_event_is writer text c.in-Some.number c.in-Some.ensures.bytes c.requires in
+    let answer = c.number.result in
+    let all = answered_at _ writer after event answer c.answer_of.result c.answer_of.ensures
+    (on_ok answer (wrote_event writer after given event is) c.number.ensures.given)
+    (on_err answer (λ error. event_failed writer after given event error is) c.number.ensures.failed) in
+    record { written = all.0; refused = λ refused. absurd (all.1 refused); stopped = all.2 }

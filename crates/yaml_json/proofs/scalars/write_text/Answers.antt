@@ -1,16 +1,16 @@
 use Rattle.yaml_json.proofs.Common.{chars, scalar, text_content, text_event}
-use Rattle.yaml_json.proofs.{Stopping.event_failed, WroteLemmas.wrote_event, WroteLemmas.text_is}
+use Rattle.yaml_json.proofs.{Stopping.answered_at, Stopping.event_failed, WroteLemmas.on_ok, WroteLemmas.on_err, WroteLemmas.wrote_event}
+use Rattle.yaml_json.proofs.WroteLemmas.{text_is}
 use Rattle.yaml_json.proofs.scalars.write_text.Goals as goal
 
-pub returns-in-Ok-clause-written : goal.returns-in-Ok-clause-written
-returns-in-Ok-clause-written g c =
+pub returns : goal.returns
+returns g c =
     let writer = c.args.writer.now in
+    let after = c.text.new.self in
     let text = chars c.args.text.now in
-    wrote_event writer c.text.new.self (text_event writer text) (scalar (text_content text)) (text_is writer text c.requires) c.in-Ok.ensures.given
-
-pub returns-in-Err-clause-stopped : goal.returns-in-Err-clause-stopped
-returns-in-Err-clause-stopped g c =
-    let writer = c.args.writer.now in
-    let text = chars c.args.text.now in
-    event_failed writer c.text.new.self (text_event writer text) (scalar (text_content text)) c.in-Err.error (text_is writer text c.requires)
-    c.in-Err.ensures.failed
+    let is = text_is writer text c.requires in
+    let answer = c.text.result in
+    let all = answered_at _ writer after (scalar (text_content text)) answer c.answer_of.result c.answer_of.ensures
+    (on_ok answer (wrote_event writer after (text_event writer text) (scalar (text_content text)) is) c.text.ensures.given)
+    (on_err answer (λ error. event_failed writer after (text_event writer text) (scalar (text_content text)) error is) c.text.ensures.failed) in
+    record { written = all.0; failed = all.1; stopped = all.2 }

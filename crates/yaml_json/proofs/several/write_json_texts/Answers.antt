@@ -48,7 +48,7 @@ returns-in-Err-clause-failed g c =
     (λ (found : Option yaml_error_t). IfSome found (λ code.
     FailedInTexts c.args.settings.depth c.args.settings.flow c.args.text.now c.args.writer.now code c.write_text_by.new.writer))
     (sym c.error_of.ensures.by_writer)
-    (if_some (failure_of c.in-Err.stop)
+    (if_some (failure_of c.write_text_by.new.writer c.in-Err.stop)
     (texts_failed c.args.settings.depth c.args.settings.flow c.args.settings.unique_names c.args.text.now c.args.writer.now c.texts.rest.now
     c.first_cut.result.0.now c.first_cut.result.1.now
     c.texts.writer c.write_text_by.new.writer c.first_cut.ensures c.texts.invariant.1)

@@ -33,7 +33,7 @@ pub returns-in-Ok-clause-stopped : goal.returns-in-Ok-clause-stopped
 returns-in-Ok-clause-stopped g c =
     let a = c.args in
     let fits : length a.nest.now.kinds.items < a.settings.now.depth = grind (arith, c.requires.fits.0) in
-    if_some (emitter_error_of c.start.result)
+    if_some (emitter_error_of c.start.new.writer c.start.result)
     (opener_failed a.settings.now.depth a.settings.now.flow a.nest.now.kinds.items a.writer.now c.start.new.writer a.kind fits)
     c.start.ensures.stopped
 

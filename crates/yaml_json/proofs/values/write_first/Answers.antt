@@ -8,19 +8,20 @@ returns-in-Err-clause-refused g c =
 
 pub returns-in-Err-clause-stopped : goal.returns-in-Err-clause-stopped
 returns-in-Err-clause-stopped g c =
-    if_some (failure_of c.in-Err.stop) (λ error memory. inl memory) (unread_memory c.args.reader.now c.in-Err.stop c.in-Err.ensures.refused)
+    if_some (failure_of c.args.writer.now c.in-Err.stop) (λ error memory. inl memory)
+    (unread_memory c.args.reader.now c.args.writer.now c.in-Err.stop c.in-Err.ensures.refused)
 
 pub returns-clause-names : goal.returns-clause-names
 returns-clause-names g c =
     on_ok c.write_token.result
-    (λ keeps. record { taken = token_of c.in-Ok.found.0 ∷ []; parts = c.in-Ok.ensures.first; keeps = keeps })
+    (λ keeps. record { taken = token_of c.in-Ok.token ∷ []; parts = c.in-Ok.ensures.first; keeps = keeps })
     c.write_token.ensures.names
 
 pub returns-clause-stopped : goal.returns-clause-stopped
 returns-clause-stopped g c =
-    if_some (emitter_error_of c.write_token.result)
+    if_some (emitter_error_of c.write_token.new.writer c.write_token.result)
     (λ error failed. inr (record {
-      token = token_of c.in-Ok.found.0;
+      token = token_of c.in-Ok.token;
       after = c.next_token.new.reader;
       first = c.in-Ok.ensures.first;
       failed = failed;

@@ -6,7 +6,6 @@ use Rattle.yaml_json.proofs.{Stopping.if_some, WroteLemmas.on_ok, WroteLemmas.al
 use Rattle.yaml_json.proofs.Stops.{unread, item_stopped, member_stopped, again_stopped, named_stopped}
 use Rattle.yaml_json.proofs.Taking.{gives_scalar, fails_scalar, step_closes, step_unclosed, step_without_memory, step_unread, step_unnamed, step_member}
 use Rattle.yaml_json.proofs.Taking.{step_no_member, step_item, step_no_item}
-use Rattle.yaml_json.specs.declared.values.Spot.TheVariants.{At, PastString}
 use Rattle.yaml_emitter.specs.declared.place.CollectionKind.{CollectionKind}
 use Rattle.yaml_emitter.specs.declared.place.CollectionKind.TheVariants.{Mapping, Sequence}
 use Rattle.json.specs.Token as tokens
@@ -67,7 +66,7 @@ pub returns-in-EndArray-clause-stepped : goal.returns-in-EndArray-clause-stepped
 returns-in-EndArray-clause-stepped g c =
     let a = c.args in
     let inner = c.requires.innermost in
-    let first = array_first a.kind c.in-Ok.found.0 a.reader.now c.next_token.new.reader c.in-Sequence.is c.in-EndArray.is c.in-Ok.ensures.first in
+    let first = array_first a.kind c.in-Ok.token a.reader.now c.next_token.new.reader c.in-Sequence.is c.in-EndArray.is c.in-Ok.ensures.first in
     on_ok c.leave.result
     (step_closes a.settings.now.depth a.settings.now.flow a.reader.now a.nest.now.kinds.items inner.outer a.kind inner.is a.writer.now
     c.next_token.new.reader c.leave.new.nest.kinds.items c.leave.new.writer first c.leave.ensures.left)
@@ -76,7 +75,7 @@ returns-in-EndArray-clause-stepped g c =
 pub returns-in-EndArray-clause-names : goal.returns-in-EndArray-clause-names
 returns-in-EndArray-clause-names g c =
     let a = c.args in
-    let first = array_first a.kind c.in-Ok.found.0 a.reader.now c.next_token.new.reader c.in-Sequence.is c.in-EndArray.is c.in-Ok.ensures.first in
+    let first = array_first a.kind c.in-Ok.token a.reader.now c.next_token.new.reader c.in-Sequence.is c.in-EndArray.is c.in-Ok.ensures.first in
     always c.leave.result
     (record {
       taken = closer a.kind ∷ [];
@@ -88,14 +87,15 @@ pub returns-in-EndArray-clause-refused : goal.returns-in-EndArray-clause-refused
 returns-in-EndArray-clause-refused g c =
     let a = c.args in
     unrefused c.leave.result c.leave.ensures.failed
-    (Refuses a.settings.now.depth a.settings.now.unique_names a.nest.now.kinds.items a.nest.now.names a.reader.now) (λ error so stands kept. tt)
+    (Refuses a.settings.now.depth a.settings.now.unique_names a.nest.now.kinds.items a.nest.now.names a.reader.now)
+    (λ so stands kept. tt) (λ so stands kept. tt)
 
 pub returns-in-EndArray-clause-stopped : goal.returns-in-EndArray-clause-stopped
 returns-in-EndArray-clause-stopped g c =
     let a = c.args in
     let inner = c.requires.innermost in
-    let first = array_first a.kind c.in-Ok.found.0 a.reader.now c.next_token.new.reader c.in-Sequence.is c.in-EndArray.is c.in-Ok.ensures.first in
-    if_some (emitter_error_of c.leave.result)
+    let first = array_first a.kind c.in-Ok.token a.reader.now c.next_token.new.reader c.in-Sequence.is c.in-EndArray.is c.in-Ok.ensures.first in
+    if_some (emitter_error_of c.leave.new.writer c.leave.result)
     (λ error. step_unclosed a.settings.now.depth a.settings.now.flow a.reader.now a.nest.now.kinds.items inner.outer a.kind inner.is a.writer.now
     c.next_token.new.reader error c.leave.new.writer first)
     c.leave.ensures.stopped
@@ -104,7 +104,7 @@ pub returns-in-EndObject-clause-stepped : goal.returns-in-EndObject-clause-stepp
 returns-in-EndObject-clause-stepped g c =
     let a = c.args in
     let inner = c.requires.innermost in
-    let first = object_first a.kind c.in-Ok.found.0 a.reader.now c.next_token.new.reader c.in-Mapping.is c.in-EndObject.is c.in-Ok.ensures.first in
+    let first = object_first a.kind c.in-Ok.token a.reader.now c.next_token.new.reader c.in-Mapping.is c.in-EndObject.is c.in-Ok.ensures.first in
     on_ok c.leave-in-EndObject.result
     (step_closes a.settings.now.depth a.settings.now.flow a.reader.now a.nest.now.kinds.items inner.outer a.kind inner.is a.writer.now
     c.next_token.new.reader c.leave-in-EndObject.new.nest.kinds.items c.leave-in-EndObject.new.writer first c.leave-in-EndObject.ensures.left)
@@ -113,7 +113,7 @@ returns-in-EndObject-clause-stepped g c =
 pub returns-in-EndObject-clause-names : goal.returns-in-EndObject-clause-names
 returns-in-EndObject-clause-names g c =
     let a = c.args in
-    let first = object_first a.kind c.in-Ok.found.0 a.reader.now c.next_token.new.reader c.in-Mapping.is c.in-EndObject.is c.in-Ok.ensures.first in
+    let first = object_first a.kind c.in-Ok.token a.reader.now c.next_token.new.reader c.in-Mapping.is c.in-EndObject.is c.in-Ok.ensures.first in
     always c.leave-in-EndObject.result
     (record {
       taken = closer a.kind ∷ [];
@@ -125,14 +125,15 @@ pub returns-in-EndObject-clause-refused : goal.returns-in-EndObject-clause-refus
 returns-in-EndObject-clause-refused g c =
     let a = c.args in
     unrefused c.leave-in-EndObject.result c.leave-in-EndObject.ensures.failed
-    (Refuses a.settings.now.depth a.settings.now.unique_names a.nest.now.kinds.items a.nest.now.names a.reader.now) (λ error so stands kept. tt)
+    (Refuses a.settings.now.depth a.settings.now.unique_names a.nest.now.kinds.items a.nest.now.names a.reader.now)
+    (λ so stands kept. tt) (λ so stands kept. tt)
 
 pub returns-in-EndObject-clause-stopped : goal.returns-in-EndObject-clause-stopped
 returns-in-EndObject-clause-stopped g c =
     let a = c.args in
     let inner = c.requires.innermost in
-    let first = object_first a.kind c.in-Ok.found.0 a.reader.now c.next_token.new.reader c.in-Mapping.is c.in-EndObject.is c.in-Ok.ensures.first in
-    if_some (emitter_error_of c.leave-in-EndObject.result)
+    let first = object_first a.kind c.in-Ok.token a.reader.now c.next_token.new.reader c.in-Mapping.is c.in-EndObject.is c.in-Ok.ensures.first in
+    if_some (emitter_error_of c.leave-in-EndObject.new.writer c.leave-in-EndObject.result)
     (λ error. step_unclosed a.settings.now.depth a.settings.now.flow a.reader.now a.nest.now.kinds.items inner.outer a.kind inner.is a.writer.now
     c.next_token.new.reader error c.leave-in-EndObject.new.writer first)
     c.leave-in-EndObject.ensures.stopped
@@ -144,8 +145,8 @@ returns-in_default g c =
     let a = c.args in
     let inner = c.requires.innermost in
     let is : a.nest.now.kinds.items ≡ inner.outer ++ Sequence ∷ [] = inner.is ∙ ap (λ kind. inner.outer ++ kind ∷ []) c.in-Sequence.is in
-    let token = token_of c.in-Ok.found.0 in
-    let isn't = no_end c.in-Ok.found.0 c.in_default.not-EndArray in
+    let token = token_of c.in-Ok.token in
+    let isn't = no_end c.in-Ok.token c.in_default.not-EndArray in
     let first : a.reader.now ≡ token ∷ c.next_token.new.reader = c.in-Ok.ensures.first in
     record {
       stepped = on_ok c.write_token.result
@@ -158,7 +159,7 @@ returns-in_default g c =
           (item_stopped a.settings.now.depth a.settings.now.unique_names a.nest.now.kinds.items inner.outer a.nest.now.names c.requires.fits.1
           a.reader.now is token c.next_token.new.reader first isn't)
           c.write_token.ensures.refused;
-      stopped = if_some (emitter_error_of c.write_token.result)
+      stopped = if_some (emitter_error_of c.write_token.new.writer c.write_token.result)
           (λ error. step_no_item a.settings.now.depth a.settings.now.flow a.nest.now.kinds.items inner.outer is token isn't a.writer.now
           a.reader.now c.next_token.new.reader first error c.write_token.new.writer)
           c.write_token.ensures.stopped;
@@ -180,7 +181,7 @@ returns-then-not-new-clause-refused g c =
     c.in-Ok.ensures.first ∙ ap (λ (t : Token). token_of t ∷ c.next_token.new.reader) c.in-Key.is in
     let old : c.in-Ok-add.new ≡ false = grind arith in
     again_stopped a.settings.now.depth a.settings.now.unique_names a.nest.now.kinds.items inner.outer a.nest.now.names c.requires.fits.1 a.reader.now
-    is c.in-Key.key.now c.next_token.new.reader first c.add.new.self c.in-Ok-add.ensures.kept c.in-Ok-add.new c.in-Ok-add.ensures.adds c.in-Ok.found.1 old
+    is c.in-Key.key.now c.next_token.new.reader first c.add.new.self c.in-Ok-add.ensures.kept c.in-Ok-add.new c.in-Ok-add.ensures.adds old
 
 pub returns-in-Err-write_text-clause-stopped : goal.returns-in-Err-write_text-clause-stopped
 returns-in-Err-write_text-clause-stopped g c =
@@ -190,7 +191,7 @@ returns-in-Err-write_text-clause-stopped g c =
     let key = c.in-Key.key.now in
     let first : a.reader.now ≡ tokens.key key ∷ c.next_token.new.reader =
     c.in-Ok.ensures.first ∙ ap (λ (t : Token). token_of t ∷ c.next_token.new.reader) c.in-Key.is in
-    if_some (failure_of c.in-Err-write_text.stop)
+    if_some (failure_of c.write_text.new.writer c.in-Err-write_text.stop)
     (λ error failed. step_unnamed a.settings.now.depth a.settings.now.flow a.nest.now.kinds.items inner.outer is key a.writer.now a.reader.now
     c.next_token.new.reader first error c.write_text.new.writer
     (fails_scalar a.settings.now.flow a.nest.now.kinds.items a.writer.now c.write_text.new.writer (tokens.key key)
@@ -255,7 +256,7 @@ returns-in_default-write_text-clause-stopped g c =
     c.in-Ok.ensures.first ∙ ap (λ (t : Token). token_of t ∷ c.next_token.new.reader) c.in-Key.is in
     let gave = gives_scalar a.settings.now.flow a.nest.now.kinds.items a.writer.now c.write_text.new.writer (tokens.key key)
     (λ k. scalar (text_content (chars key))) (λ k. refl) c.in_default-write_text.ensures.written in
-    if_some (emitter_error_of c.write_first.result)
+    if_some (emitter_error_of c.write_first.new.writer c.write_first.result)
     (λ error. step_no_member a.settings.now.depth a.settings.now.flow a.nest.now.kinds.items inner.outer is key a.writer.now a.reader.now
     c.next_token.new.reader first c.write_text.new.writer gave error c.write_first.new.writer)
     c.write_first.ensures.stopped
@@ -271,7 +272,7 @@ returns-in-String-clause-refused g c =
     let first : a.reader.now ≡ tokens.string text ∷ c.next_token.new.reader =
     c.in-Ok.ensures.first ∙ ap (λ (t : Token). token_of t ∷ c.next_token.new.reader) c.in-String.is in
     member_stopped a.settings.now.depth a.settings.now.unique_names a.nest.now.kinds.items inner.outer a.nest.now.names c.requires.fits.1 a.reader.now
-    is (PastString c.in-Ok.found.1) (tokens.string text) c.next_token.new.reader first ((λ key is. cc), (λ is. cc))
+    is (tokens.string text) c.next_token.new.reader first ((λ key is. cc), (λ is. cc))
 
 pub returns-in_default-token : goal.returns-in_default-token
 returns-in_default-token g c =
@@ -283,8 +284,8 @@ returns-in_default-token g c =
       fits = tt;
       names = tt;
       refused = member_stopped a.settings.now.depth a.settings.now.unique_names a.nest.now.kinds.items inner.outer a.nest.now.names
-          c.requires.fits.1 a.reader.now is (At c.in-Ok.found.1) (token_of c.in-Ok.found.0) c.next_token.new.reader c.in-Ok.ensures.first
-          (no_key c.in-Ok.found.0 c.in_default-token.not-Key c.in_default-token.not-EndObject);
+          c.requires.fits.1 a.reader.now is (token_of c.in-Ok.token) c.next_token.new.reader c.in-Ok.ensures.first
+          (no_key c.in-Ok.token c.in_default-token.not-Key c.in_default-token.not-EndObject);
       stopped = tt;
     }
 

@@ -27,10 +27,10 @@ returns-in-Null-clause-began g c =
 pub returns-in-Null-clause-stopped : goal.returns-in-Null-clause-stopped
 returns-in-Null-clause-stopped g c =
     let a = c.args in
-    subst (λ (t : Token). IfSome (emitter_error_of c.write_null.result)
+    subst (λ (t : Token). IfSome (emitter_error_of c.write_null.new.writer c.write_null.result)
     (λ error. BeginFailed a.settings.now.depth a.settings.now.flow (token_of t) a.nest.now.kinds.items a.writer.now error c.write_null.new.writer))
     (sym c.in-Null.is)
-    (if_some (emitter_error_of c.write_null.result)
+    (if_some (emitter_error_of c.write_null.new.writer c.write_null.result)
     (scalar_failed a.settings.now.depth a.settings.now.flow a.nest.now.kinds.items a.writer.now c.write_null.new.writer tokens.null
     (λ k. scalar (null_content k)) tt (λ k. refl))
     c.write_null.ensures.stopped)
@@ -38,7 +38,7 @@ returns-in-Null-clause-stopped g c =
 pub returns-in-Null-clause-refused : goal.returns-in-Null-clause-refused
 returns-in-Null-clause-refused g c =
     unrefused c.write_null.result c.write_null.ensures.failed
-    (RefusesToken c.args.settings.now.depth c.args.nest.now.kinds.items (token_of c.args.token)) (λ error. tt)
+    (RefusesToken c.args.settings.now.depth c.args.nest.now.kinds.items (token_of c.args.token)) tt tt
 
 -- Booleans
 
@@ -56,10 +56,10 @@ returns-in-Bool-clause-began g c =
 pub returns-in-Bool-clause-stopped : goal.returns-in-Bool-clause-stopped
 returns-in-Bool-clause-stopped g c =
     let a = c.args in
-    subst (λ (t : Token). IfSome (emitter_error_of c.write_bool.result)
+    subst (λ (t : Token). IfSome (emitter_error_of c.write_bool.new.writer c.write_bool.result)
     (λ error. BeginFailed a.settings.now.depth a.settings.now.flow (token_of t) a.nest.now.kinds.items a.writer.now error c.write_bool.new.writer))
     (sym c.in-Bool.is)
-    (if_some (emitter_error_of c.write_bool.result)
+    (if_some (emitter_error_of c.write_bool.new.writer c.write_bool.result)
     (scalar_failed a.settings.now.depth a.settings.now.flow a.nest.now.kinds.items a.writer.now c.write_bool.new.writer (tokens.boolean c.in-Bool.flag)
     (λ k. scalar (bool_content k c.in-Bool.flag)) tt (λ k. refl))
     c.write_bool.ensures.stopped)
@@ -67,7 +67,7 @@ returns-in-Bool-clause-stopped g c =
 pub returns-in-Bool-clause-refused : goal.returns-in-Bool-clause-refused
 returns-in-Bool-clause-refused g c =
     unrefused c.write_bool.result c.write_bool.ensures.failed
-    (RefusesToken c.args.settings.now.depth c.args.nest.now.kinds.items (token_of c.args.token)) (λ error. tt)
+    (RefusesToken c.args.settings.now.depth c.args.nest.now.kinds.items (token_of c.args.token)) tt tt
 
 -- Numbers
 
@@ -87,10 +87,10 @@ pub returns-in-Number-clause-stopped : goal.returns-in-Number-clause-stopped
 returns-in-Number-clause-stopped g c =
     let a = c.args in
     let text = c.in-Number.text.now in
-    subst (λ (t : Token). IfSome (emitter_error_of c.write_number.result)
+    subst (λ (t : Token). IfSome (emitter_error_of c.write_number.new.writer c.write_number.result)
     (λ error. BeginFailed a.settings.now.depth a.settings.now.flow (token_of t) a.nest.now.kinds.items a.writer.now error c.write_number.new.writer))
     (sym c.in-Number.is)
-    (if_some (emitter_error_of c.write_number.result)
+    (if_some (emitter_error_of c.write_number.new.writer c.write_number.result)
     (scalar_failed a.settings.now.depth a.settings.now.flow a.nest.now.kinds.items a.writer.now c.write_number.new.writer (tokens.number text)
     (λ k. scalar (number_content k (number_in text))) tt (λ k. refl))
     c.write_number.ensures.stopped)
@@ -103,7 +103,7 @@ returns-in-Number-clause-refused g c =
     let never : RefusesText c.write_number.result → ⊥ =
     λ refused. c.write_number.ensures.refused refused (number_in text.now) (number_is text.now good) in
     unrefused c.write_number.result never
-    (RefusesToken c.args.settings.now.depth c.args.nest.now.kinds.items (token_of c.args.token)) (λ error. tt)
+    (RefusesToken c.args.settings.now.depth c.args.nest.now.kinds.items (token_of c.args.token)) tt tt
 
 -- Strings
 
@@ -123,10 +123,10 @@ pub returns-in-String-clause-stopped : goal.returns-in-String-clause-stopped
 returns-in-String-clause-stopped g c =
     let a = c.args in
     let text = c.in-String.text.now in
-    subst (λ (t : Token). IfSome (emitter_error_of c.write_text.result)
+    subst (λ (t : Token). IfSome (emitter_error_of c.write_text.new.writer c.write_text.result)
     (λ error. BeginFailed a.settings.now.depth a.settings.now.flow (token_of t) a.nest.now.kinds.items a.writer.now error c.write_text.new.writer))
     (sym c.in-String.is)
-    (if_some (emitter_error_of c.write_text.result)
+    (if_some (emitter_error_of c.write_text.new.writer c.write_text.result)
     (scalar_failed a.settings.now.depth a.settings.now.flow a.nest.now.kinds.items a.writer.now c.write_text.new.writer (tokens.string text)
     (λ k. scalar (text_content (chars text))) tt (λ k. refl))
     c.write_text.ensures.stopped)
@@ -134,7 +134,7 @@ returns-in-String-clause-stopped g c =
 pub returns-in-String-clause-refused : goal.returns-in-String-clause-refused
 returns-in-String-clause-refused g c =
     unrefused c.write_text.result c.write_text.ensures.failed
-    (RefusesToken c.args.settings.now.depth c.args.nest.now.kinds.items (token_of c.args.token)) (λ error. tt)
+    (RefusesToken c.args.settings.now.depth c.args.nest.now.kinds.items (token_of c.args.token)) tt tt
 
 pub returns-in-Null-clause-names : goal.returns-in-Null-clause-names
 returns-in-Null-clause-names g c =

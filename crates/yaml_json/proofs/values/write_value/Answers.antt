@@ -16,9 +16,9 @@ returns-in-Err-clause-refused g c =
 pub returns-in-Err-clause-stopped : goal.returns-in-Err-clause-stopped
 returns-in-Err-clause-stopped g c =
     let a = c.args in
-    if_some (failure_of c.in-Err.stop)
+    if_some (failure_of c.write_first.new.writer c.in-Err.stop)
     (λ error. first_failed a.settings.now.depth a.settings.now.flow a.reader.now a.writer.now error c.write_first.new.writer c.requires.bare)
-    (subst (λ (levels : List CollectionKind). IfSome (failure_of c.in-Err.stop)
+    (subst (λ (levels : List CollectionKind). IfSome (failure_of c.write_first.new.writer c.in-Err.stop)
     (λ error. FirstFailed a.settings.now.depth a.settings.now.flow a.reader.now levels a.writer.now error c.write_first.new.writer))
     c.requires.none.0 c.in-Err.ensures.stopped)
 
@@ -56,7 +56,7 @@ pub returns-in-Err-write_next-clause-stopped : goal.returns-in-Err-write_next-cl
 returns-in-Err-write_next-clause-stopped g c =
     let a = c.args in
     let l = c.each_token in
-    if_some (failure_of c.in-Err-write_next.stop)
+    if_some (failure_of c.write_next.new.writer c.in-Err-write_next.stop)
     (λ error. step_failed a.settings.now.depth a.settings.now.flow a.reader.now a.writer.now l.reader l.nest.kinds.items l.writer l.invariant.0 error
     c.write_next.new.writer)
     c.in-Err-write_next.ensures.stopped
