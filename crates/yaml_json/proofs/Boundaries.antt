@@ -1,14 +1,10 @@
 -- Where a text may be cut, at a byte of ASCII.
-use Rattle.std.proofs.Common.{◌≡◌, ℕ, ◌<◌, List, [], ◌∷◌, drop, get_or, length, inl, inr, refl, sym, ap, ◌∙◌, arith}
+use Rattle.std.proofs.Common.{◌≡◌, ℕ, ◌<◌, List, [], ◌∷◌, drop, get_or, length, inl, inr, sym, ap, ◌∙◌, arith}
 use Rattle.std.proofs.lemmas.Bool.{cases_lt}
 use Rattle.std.proofs.lemmas.List.{drop_all, drop_more}
 use Rattle.std.proofs.lemmas.Str.{IsCharBoundary-after_ascii}
 use Rattle.std.specs.Str.{IsCharBoundary, IsUtf8}
-use Rattle.json.specs.Reads.{token_of}
-use Rattle.json.specs.Token.{bad}
 use Rattle.json.specs.Word.{head}
-use Rattle.json.specs.declared.token.Token.{Token}
-use Rattle.json.specs.declared.token.Token.TheVariants.{BeginObject, EndObject, BeginArray, EndArray, Key, String, Number, Bool, Null, Bad}
 
 pub after_first : (d : List ℕ) (v : ℕ) → IsUtf8 d → head d ≡ v → v < 128 → (32 ≡ v → ⊥) → IsCharBoundary d 1
 after_first [] v u e small apart = absurd (apart e)
@@ -21,15 +17,3 @@ found_at d i v e apart =
       | inl within ↦ (within, sym (ap head (drop_more d i 0 within)) ∙ e)
       | inr past ↦ absurd (apart (sym (ap head (drop_all i d past)) ∙ e))
     ]
-
-pub bad_apart : (t : Token) → (t ≡ Bad → ⊥) → token_of t ≡ bad → ⊥
-bad_apart BeginObject isn't is = cc
-bad_apart EndObject isn't is = cc
-bad_apart BeginArray isn't is = cc
-bad_apart EndArray isn't is = cc
-bad_apart (Key text) isn't is = cc
-bad_apart (String text) isn't is = cc
-bad_apart (Number text) isn't is = cc
-bad_apart (Bool flag) isn't is = cc
-bad_apart Null isn't is = cc
-bad_apart Bad isn't is = isn't refl

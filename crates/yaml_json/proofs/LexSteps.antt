@@ -2,7 +2,7 @@
 use Rattle.std.proofs.Common.{◌≡◌, ℕ, zero, suc, ◌+◌, ◌<◌, ◌≤◌, Bool, true, false, cond, ◌||◌, ◌==◌, List, [], ◌∷◌, drop, get_or, length, refl, sym, ap, ◌∙◌}
 use Rattle.std.proofs.Common.{subst, arith}
 use Rattle.std.proofs.lemmas.Bool.{true≢false, eqb-true, or_parts}
-use Rattle.std.proofs.lemmas.List.{drop_more, drop_all, drop-drop}
+use Rattle.std.proofs.lemmas.List.{drop_more, drop-drop}
 use Rattle.json.specs.Ascii as ascii
 use Rattle.json.specs.Word.{is_operator, is_space}
 use Rattle.json.specs.Lex.{Class, quote, backslash, operator, space, other, class, Lexeme, Mode, between, in_word, in_string, in_escape, lex_byte, lex}
@@ -12,7 +12,7 @@ or_elim : {C : Type 0} (a b : Bool) → (a ≡ true → C) → (b ≡ true → C
 or_elim true b f g e = f refl
 or_elim false b f g e = g e
 
-value_is : (P : ℕ → Type 0) (x v : ℕ) → P v → (x == v) ≡ true → P x
+pub value_is : (P : ℕ → Type 0) (x v : ℕ) → P v → (x == v) ≡ true → P x
 value_is P x v p e = subst P (sym (eqb-true x v e)) p
 
 -- what holds of each blank
@@ -94,19 +94,6 @@ lex-delimiter x xs e =
 
 pub blank_at : (d : List ℕ) (i : ℕ) → i < length d → is_space (get_or d i 0) ≡ true → lex between (drop (i + 1) d) ≡ lex between (drop i d)
 blank_at d i h e = sym (ap (lex between) (drop_more d i 0 h) ∙ lex-blank (get_or d i 0) (drop (i + 1) d) e)
-
-pub word_at : (d : List ℕ) (i : ℕ) → i < length d → (is_operator (get_or d i 0) || is_space (get_or d i 0)) ≡ false
-    → lex in_word (drop (i + 1) d) ≡ lex in_word (drop i d)
-word_at d i h e = sym (ap (lex in_word) (drop_more d i 0 h) ∙ lex-in_word (get_or d i 0) (drop (i + 1) d) e)
-
-pub delimiter_at : (d : List ℕ) (i : ℕ) → i < length d → (is_operator (get_or d i 0) || is_space (get_or d i 0)) ≡ true
-    → lex between (drop i d) ≡ lex in_word (drop i d)
-delimiter_at d i h e =
-    let is = drop_more d i 0 h in
-    sym (ap (lex in_word) is ∙ lex-delimiter (get_or d i 0) (drop (i + 1) d) e ∙ ap (lex between) (sym is))
-
-pub end_at : (mode : Mode) (d : List ℕ) (i : ℕ) → length d ≤ i → lex between (drop i d) ≡ lex mode (drop i d)
-end_at mode d i h = ap (lex between) (drop_all i d h) ∙ lex-none between ∙ sym (ap (lex mode) (drop_all i d h) ∙ lex-none mode)
 
 pub string_at : (d : List ℕ) (i : ℕ) → i < length d → (get_or d i 0 == 34) ≡ false → (get_or d i 0 == 92) ≡ false
     → lex in_string (drop (i + 1) d) ≡ lex in_string (drop i d)

@@ -28,6 +28,7 @@ pub mod Marking
 pub mod MarkLanes
 pub mod Boundaries
 pub mod LexSteps
+pub mod WordSteps
 pub mod ContentSteps
 pub mod PunctuateSteps
 pub mod Lanes

@@ -1,9 +1,16 @@
 -- Where parts of a JSON text end.
 use Rattle.std.specs.Prelude.{◌≡◌, ℕ, ◌-◌, ◌<◌, ◌≤◌, Bool, true, false, ◌||◌, ◌==◌, nat_lt, Option, option_map, IfSome, MatchOption, None, List, drop, get_or}
-use Rattle.std.specs.Prelude.{length}
+use Rattle.std.specs.Prelude.{◌≢◌, length}
+use Rattle.std.specs.Borrow.{Bor}
 use Rattle.std.specs.Char.{encode_utf8}
+use Rattle.std.specs.List.{list_any}
 use Rattle.json.specs.Ascii as ascii
+use Rattle.json.specs.Lex.{between, in_word, lex}
+use Rattle.json.specs.Reads.{token_of}
 use Rattle.json.specs.Text.{Within, content, plain, prepend}
+use Rattle.json.specs.Token.{Token, bad}
+use Rattle.json.specs.Word.{is_operator, is_space}
+use Rattle.json.specs.declared.token.Token as declared
 
 -- a byte of a string's content that doesn't stand for itself, or none of it
 abbrev pub is_stop : ℕ → Bool
@@ -19,6 +26,16 @@ pub record ArePlain (text : List ℕ) (from to : ℕ) : Type 0 where
 -- what is left begins at this place
 abbrev pub LeavesAt : (text : List ℕ) → Option ℕ → (rest : Option (List ℕ)) → Type 0
 LeavesAt text place rest = (option_map (λ at. drop at text) place ≡ rest) × IfSome place (λ at. at ≤ length text)
+
+-- a word goes on over these bytes
+abbrev pub IsInWord : (bytes : List ℕ) → Type 0
+IsInWord bytes = list_any (λ byte. is_operator byte || is_space byte) bytes ≡ false
+
+-- the word that a text begins with has this token, and ends before what is left; where nothing is found, the token is bad
+abbrev pub ReadsWord : (text : List ℕ) → Token → Option (declared.Token × Bor (List ℕ)) → Type 0
+ReadsWord text token found =
+    MatchOption found (token ≡ bad)
+    (λ part. (token_of part.0 ≡ token) × (token ≢ bad) × (lex between part.1.now ≡ lex in_word text))
 
 -- an escape is read from this place on: its character, and the place after it, which follows an ASCII byte
 abbrev pub Unescapes : (text : List ℕ) → Within → ℕ → Option (ℕ × ℕ) → Type 0

@@ -1,12 +1,12 @@
-//! Where the parts of a JSON text end: blanks, words and strings.
+//! Where the parts of a JSON text end: blanks and strings.
 ghost use Rattle.std.specs.Prelude.{◌≡◌, ℕ, ◌+◌, ◌<◌, ◌≤◌, [], Bool, drop, false, get_or, length, map, true};
 ghost use Rattle.std.specs.Str.{IsCharBoundary};
 ghost use Rattle.std.specs.Simd.Lanes.{mask_l};
-ghost use Rattle.json.specs.Lex.{between, in_string, in_word, lex};
+ghost use Rattle.json.specs.Lex.{between, in_string, lex};
 ghost use Rattle.json.specs.Word.{head, is_space};
 ghost use Rattle.yaml_json.specs.Lexemes.{ArePlain, is_stop};
 
-use crate::words::{is_blank, is_delimiter};
+use crate::words::is_blank;
 use std::simd::prelude::*;
 
 /// What follows the blanks that a text begins with.
@@ -18,19 +18,6 @@ pub(crate) fn skip_blanks(text: &str) -> &str
     let bytes = text.as_bytes();
     let mut at: usize = 0;
     'blanks: while at < bytes.len() && is_blank(bytes[at]) {
-        at += 1;
-    }
-    &text[at..]
-}
-
-/// What follows the word that a text begins with.
-pub(crate) fn after_word(text: &str) -> &str
-    requires { 0 < length text.now }
-    ensures { lex between result.now ≡ lex in_word (drop 1 text.now) }
-{
-    let bytes = text.as_bytes();
-    let mut at: usize = 1;
-    'bytes: while at < bytes.len() && !is_delimiter(bytes[at]) {
         at += 1;
     }
     &text[at..]

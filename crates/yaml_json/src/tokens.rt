@@ -8,7 +8,7 @@ ghost use Rattle.json.specs.Word.{head};
 ghost use Rattle.yaml_json.specs.Ahead.{Ends, IsTidy, IsTrimmed, Opens, Reads, StepsFrom, ahead, begins_here, closes_here};
 
 use crate::escapes::unescape;
-use crate::lexemes::{after_string, after_word, plain_end, skip_blanks};
+use crate::lexemes::{after_string, plain_end, skip_blanks};
 use crate::words::{byte_at, word};
 use bumpalo::Bump;
 use json::Token;
@@ -188,8 +188,8 @@ fn word_step<'a>(text: &'a str) -> Step<'a>
     ensures { StepsFrom may_begin (lex between text.now) result }
 {
     match word(text) {
-        Token::Bad => bad(text),
-        token => ending(token, skip_blanks(after_word(text))),
+        None => bad(text),
+        Some((token, after)) => ending(token, skip_blanks(after)),
     }
 }
 

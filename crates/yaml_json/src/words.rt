@@ -1,10 +1,11 @@
 //! Words of a JSON text: numbers, and the names of three values. Each part of a number is taken by a text and a place in it, and
 //! returns where what follows begins.
-ghost use Rattle.std.specs.Prelude.{◌≡◌, ℕ, ◌<◌, ◌≤◌, ◌||◌, Bool, drop, length};
+ghost use Rattle.std.specs.Prelude.{◌≡◌, ◌≢◌, ℕ, ◌<◌, ◌≤◌, ◌||◌, Bool, drop, length};
 ghost use Rattle.json.specs.Reads.{token_of};
 ghost use Rattle.json.specs.Word.{after_digits, after_exponent, after_fraction, after_minus, after_number, after_sign, after_whole, ends_word, head};
 ghost use Rattle.json.specs.Word.{is_operator, is_space, literal, number_before, word};
-ghost use Rattle.yaml_json.specs.Lexemes.{LeavesAt};
+ghost use Rattle.json.specs.Token.{bad};
+ghost use Rattle.yaml_json.specs.Lexemes.{IsInWord, LeavesAt, ReadsWord};
 
 use json::Token;
 
@@ -113,44 +114,48 @@ fn number_end(text: &[u8]) -> Option<usize>
     exponent_end(text, power)
 }
 
+/// The number that a text begins with, and what follows it.
 #[inline(always)]
-fn number<'a>(text: &'a str) -> Token<'a>
-    ensures { token_of result ≡ number_before text.now (after_number text.now) }
+fn number<'a>(text: &'a str) -> Option<(Token<'a>, &'a str)>
+    ensures { ReadsWord text.now (number_before text.now (after_number text.now)) result }
 {
     let bytes = text.as_bytes();
     match number_end(bytes) {
         Some(end) => {
             if is_delimiter(byte_at(bytes, end)) {
-                Token::Number(&text[..end])
+                Some((Token::Number(&text[..end]), &text[end..]))
             } else {
-                Token::Bad
+                None
             }
         }
-        None => Token::Bad,
+        None => None,
     }
 }
 
+/// This token where a text begins with its name, and what follows it.
 #[inline(always)]
-fn literal<'a>(text: &[u8], name: &[u8], token: Token<'a>) -> Token<'a>
-    ensures { token_of result ≡ literal name.now (token_of token.entry) text.now }
-{
-    if text.starts_with(name) && is_delimiter(byte_at(text, name.len())) {
-        token
-    } else {
-        Token::Bad
-    }
-}
-
-/// The token of the word that a text begins with.
-#[inline(always)]
-pub(crate) fn word<'a>(text: &'a str) -> Token<'a>
-    ensures { token_of result ≡ word text.now }
+fn literal<'a>(text: &'a str, name: &[u8], token: Token<'a>) -> Option<(Token<'a>, &'a str)>
+    requires name { IsInWord name.now }
+    requires good { token_of token ≢ bad }
+    ensures { ReadsWord text.now (literal name.now (token_of token.entry) text.now) result }
 {
     let bytes = text.as_bytes();
-    match byte_at(bytes, 0) {
-        b't' => literal(bytes, b"true", Token::Bool(true)),
-        b'f' => literal(bytes, b"false", Token::Bool(false)),
-        b'n' => literal(bytes, b"null", Token::Null),
+    if bytes.starts_with(name) && is_delimiter(byte_at(bytes, name.len())) {
+        Some((token, &text[name.len()..]))
+    } else {
+        None
+    }
+}
+
+/// The token of the word that a text begins with, and what follows the word; `None` where the word is no token.
+#[inline(always)]
+pub(crate) fn word<'a>(text: &'a str) -> Option<(Token<'a>, &'a str)>
+    ensures { ReadsWord text.now (word text.now) result }
+{
+    match byte_at(text.as_bytes(), 0) {
+        b't' => literal(text, b"true", Token::Bool(true)),
+        b'f' => literal(text, b"false", Token::Bool(false)),
+        b'n' => literal(text, b"null", Token::Null),
         _ => number(text),
     }
 }

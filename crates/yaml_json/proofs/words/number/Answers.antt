@@ -1,0 +1,16 @@
+use Rattle.std.proofs.Common.{List, ℕ, Some, ◌≡◌, ◌-◌, arith, drop, take, subst, sym, ap, ◌∙◌, ◌||◌}
+use Rattle.json.specs.Word.{after_number, ends_word, is_operator, is_space}
+use Rattle.yaml_json.specs.Lexemes.{LeavesAt}
+use Rattle.yaml_json.proofs.WordSteps.{number_read}
+use Rattle.yaml_json.proofs.words.number.Goals as goal
+
+pub returns-then-is_delimiter : goal.returns-then-is_delimiter
+returns-then-is_delimiter c =
+    let end = c.in-Some.end in
+    let whole : end - 0 ≡ end = omega arith in
+    let same = c.as_bytes-bytes.ensures.value in
+    number_read c.args.text.now c.range.result.now c.range_from.result.now end
+    (subst (λ (t : List ℕ). LeavesAt t (Some end) (after_number t)) same c.in-Some.ensures)
+    (ap (λ t. ends_word (drop end t)) (sym same) ∙ ap (λ byte. is_operator byte || is_space byte) (sym c.byte_at.ensures)
+    ∙ sym c.is_delimiter.ensures ∙ c.if-is_delimiter.true)
+    (c.range.ensures.value ∙ ap (λ n. take n c.args.text.now) whole) c.range_from.ensures.value
