@@ -16,7 +16,7 @@ use crate::emitter::yaml_emitter_t;
 use crate::machine::Machine;
 use crate::queue::{are_ready_by_one_more, nothing_waits};
 use crate::stage::Stage;
-use crate::writing::ScalarContent;
+use crate::writing::{ScalarContent, stands_plain};
 use std::alloc::Allocator;
 use yaml_base::{YAML_SCALAR_EVENT, yaml_error_t, yaml_event_t};
 
@@ -99,13 +99,26 @@ impl<A: Allocator + Copy> Machine<A> {
         self.keep_error(answer)
     }
 
-    /// A scalar: its anchor and tag are looked at before its place.
+    /// A scalar. One that stands plain as it is has no anchor, and no tag is written: nothing of it can be refused.
     fn process_scalar(&mut self, content: &ScalarContent) -> Result<(), yaml_error_t>
+        ensures { Processed (scalar (seen_scalar content.now)) false self.old self.new result }
+    {
+        match self.stage {
+            Stage::Node if stands_plain(&self.settings, content) => self.put_simple_ascii(
+                content.value,
+            ),
+            _ => self.process_chosen(content),
+        }
+    }
+
+    /// Any other scalar: its anchor and tag are looked at before its place.
+    #[inline(never)]
+    fn process_chosen(&mut self, content: &ScalarContent) -> Result<(), yaml_error_t>
         ensures { Processed (scalar (seen_scalar content.now)) false self.old self.new result }
     {
         check_scalar_names(self.given.canonical, content)?;
         match self.stage {
-            Stage::Node => self.put_scalar(content),
+            Stage::Node => self.put_chosen(content),
             Stage::Stream => Err(yaml_error_t::ExpectedStreamStart),
             Stage::Document { .. } => Err(yaml_error_t::ExpectedDocumentStart),
             Stage::DocumentEnd => Err(yaml_error_t::ExpectedDocumentEnd),

@@ -14,7 +14,7 @@ ghost use Rattle.yaml_pen.specs.Wrote.{Wrote};
 ghost use Rattle.yaml_scalar.specs.SimpleAsciiTexts.{IsSimpleAscii};
 ghost use Rattle.yaml_emitter.specs.BorrowedTexts.{seen_collection, seen_scalar};
 ghost use Rattle.yaml_emitter.specs.Given.{seen_effective};
-ghost use Rattle.yaml_emitter.specs.NodeEvents.{brackets_of, end_event, first_entry, is_at_node, start_event, starts_undented};
+ghost use Rattle.yaml_emitter.specs.NodeEvents.{brackets_of, end_event, first_entry, is_at_node, is_leaf, start_event, starts_undented};
 ghost use Rattle.yaml_emitter.specs.Places.{is_mapping, seen_frame, seen_place, seen_role};
 ghost use Rattle.yaml_emitter.specs.Processing.{Processed};
 ghost use Rattle.yaml_emitter.specs.Reach.{most_column};
@@ -67,6 +67,22 @@ impl<A: Allocator + Copy> Machine<A> {
                 (*plain_implicit, *quoted_implicit),
                 *style,
             )),
+            _ => self.expect_collection(event, empty),
+        }
+    }
+
+    /// Where the start of a collection may stand, or the end of the innermost one.
+    pub(crate) fn expect_collection(
+        &mut self,
+        event: &yaml_event_t<A>,
+        empty: bool,
+    ) -> Result<(), yaml_error_t>
+        requires stage { is_at_node self.old.stage ≡ true }
+        requires names { name_or_tag_fault self.old.given.canonical (seen_event event.now) ≡ None }
+        requires no_leaf { is_leaf (seen_event event.now) ≡ false }
+        ensures { Processed (seen_event event.now) empty self.old self.new result }
+    {
+        match event {
             YAML_SEQUENCE_START_EVENT {
                 anchor,
                 tag,
@@ -123,7 +139,7 @@ impl<A: Allocator + Copy> Machine<A> {
     }
 
     /// A scalar that stands plain as it is, by its value: what it calls then has one copy, which can be inlined here.
-    fn put_simple_ascii(&mut self, value: &str) -> Result<(), yaml_error_t>
+    pub(crate) fn put_simple_ascii(&mut self, value: &str) -> Result<(), yaml_error_t>
         requires stage { is_at_node self.old.stage ≡ true }
         requires simple_ascii { IsSimpleAscii value.now }
         ensures { (content : ScalarContent) → StandsPlain self.old.settings.canonical content → content.value.now ≡ value.now
@@ -144,7 +160,7 @@ impl<A: Allocator + Copy> Machine<A> {
 
     /// Any other scalar.
     #[inline(always)]
-    fn put_chosen(&mut self, content: &ScalarContent) -> Result<(), yaml_error_t>
+    pub(crate) fn put_chosen(&mut self, content: &ScalarContent) -> Result<(), yaml_error_t>
         requires stage { is_at_node self.old.stage ≡ true }
         requires names { name_or_tag_fault self.old.given.canonical (scalar (seen_scalar content.now)) ≡ None }
         ensures { (empty : Bool) → Processed (scalar (seen_scalar content.now)) empty self.old self.new result }

@@ -25,16 +25,18 @@ use crate::writing::{
 use std::alloc::Allocator;
 use std::mem;
 use yaml_base::{
-    YAML_DOCUMENT_END_EVENT, YAML_DOCUMENT_START_EVENT, YAML_SCALAR_EVENT, YAML_STREAM_END_EVENT,
-    YAML_STREAM_START_EVENT, yaml_break_t, yaml_encoding_t, yaml_error_t, yaml_event_t,
-    yaml_tag_directive_t, yaml_version_directive_t,
+    YAML_DOCUMENT_END_EVENT, YAML_DOCUMENT_START_EVENT, YAML_MAPPING_END_EVENT,
+    YAML_MAPPING_START_EVENT, YAML_SCALAR_EVENT, YAML_SEQUENCE_END_EVENT,
+    YAML_SEQUENCE_START_EVENT, YAML_STREAM_END_EVENT, YAML_STREAM_START_EVENT, yaml_break_t,
+    yaml_encoding_t, yaml_error_t, yaml_event_t, yaml_tag_directive_t, yaml_version_directive_t,
 };
 use yaml_mark::Directives;
 use yaml_pen::Pen;
 
 impl<A: Allocator + Copy> Machine<A> {
     /// Processes one event. In a collection, a scalar without anchor and tag that needs no tag in any style takes an
-    /// inlined copy, in which the tests of names and flags fold away.
+    /// inlined copy, in which the tests of names and flags fold away. Starts and ends of collections without anchor and
+    /// tag have no names to look at.
     #[inline(always)]
     pub(crate) fn process(
         &mut self,
@@ -43,11 +45,12 @@ impl<A: Allocator + Copy> Machine<A> {
     ) -> Result<(), yaml_error_t>
         ensures { Processed (seen_event event.now) empty self.old self.new result }
     {
-        let within = matches!(self.stage, Stage::Node) && self.frames.is_open();
-        if within && needs_no_properties(event) {
-            self.process_at_stage(event, empty)
-        } else {
-            self.process_other(event, empty)
+        match self.stage {
+            Stage::Node if self.frames.is_open() && needs_no_properties(event) => {
+                self.process_at_stage(event, empty)
+            }
+            Stage::Node if is_bare_collection(event) => self.expect_collection(event, empty),
+            _ => self.process_other(event, empty),
         }
     }
 
@@ -206,6 +209,25 @@ impl<A: Allocator + Copy> Machine<A> {
         self.stage = Stage::Nothing;
         Ok(())
     }
+}
+
+/// Whether an event ends a collection, or starts one without anchor and tag.
+fn is_bare_collection<A: Allocator>(event: &yaml_event_t<A>) -> bool
+    ensures { result ≡ node_events.is_bare_collection (seen_event event.now) }
+{
+    matches!(
+        event,
+        YAML_SEQUENCE_START_EVENT {
+            anchor: None,
+            tag: None,
+            ..
+        } | YAML_MAPPING_START_EVENT {
+            anchor: None,
+            tag: None,
+            ..
+        } | YAML_SEQUENCE_END_EVENT
+            | YAML_MAPPING_END_EVENT
+    )
 }
 
 /// Whether an event is a scalar without anchor and tag that needs no tag in any style.

@@ -1,6 +1,6 @@
 //! Atoms: what stands before and around the texts of nodes, and in the lines of documents.
 
-ghost use Rattle.std.specs.Prelude.{◌≡◌, ◌≤ℤ◌, pos, false, ◌||◌};
+ghost use Rattle.std.specs.Prelude.{◌≡◌, ◌≤◌, ◌≤ℤ◌, pos, false, ◌||◌};
 ghost use Rattle.yaml_base.specs.Cursor as layout;
 ghost use Rattle.yaml_base.specs.Cursor.{new_line};
 ghost use Rattle.yaml_base.specs.Layout.{flow_break, line_column};
@@ -8,6 +8,7 @@ ghost use Rattle.yaml_pen.specs.Page.{IsReady};
 ghost use Rattle.yaml_pen.specs.Wrote.{Wrote};
 ghost use Rattle.yaml_emitter.specs.Given.{seen_effective, seen_width};
 ghost use Rattle.yaml_emitter.specs.Places.{seen_place};
+ghost use Rattle.yaml_emitter.specs.Reach.{most_column};
 ghost use Rattle.yaml_emitter.specs.WrittenAtoms.{render_atom, render_atoms, atom_breaks, some_atom_breaks};
 
 use crate::effective::EffectiveSettings;
@@ -69,7 +70,7 @@ fn write_atom<A: Allocator>(pen: &mut Pen<A>, site: &Site, atom: Atom) -> Result
     match atom {
         Atom::Nothing => pen.write_nothing(),
         Atom::Fixed(indicator) => write_indicator(pen, indicator),
-        Atom::Line => write_rare_new_line(pen, &site.place),
+        Atom::Line => write_rare_new_line(pen, site.place.line_column()),
         Atom::FlowLine => write_flow_line(pen, site.settings, &site.place),
         Atom::Space => pen.put(b' '),
         Atom::Name(name) => write_anchor(pen, name),
@@ -83,23 +84,25 @@ fn write_atom<A: Allocator>(pen: &mut Pen<A>, site: &Site, atom: Atom) -> Result
     }
 }
 
-/// A new line at the column of the entries around a place.
+/// A new line at a column.
 pub(crate) fn write_new_line<A: Allocator>(
     pen: &mut Pen<A>,
-    place: &Place,
+    column: u32,
 ) -> Result<(), yaml_error_t>
-    requires { IsReady pen.old }
-    ensures { Wrote (new_line (line_column place.now.column)) pen.old pen.new result }
+    requires ready { IsReady pen.old }
+    requires reach { column ≤ most_column }
+    ensures { Wrote (new_line column) pen.old pen.new result }
 {
-    pen.write_indent(place.line_column() as i32)
+    pen.write_indent(column as i32)
 }
 
-/// Begins a new line at the place's column.
-fn write_rare_new_line<A: Allocator>(pen: &mut Pen<A>, place: &Place) -> Result<(), yaml_error_t>
-    requires { IsReady pen.old }
-    ensures { Wrote (new_line (line_column place.now.column)) pen.old pen.new result }
+/// Begins a new line at a column.
+fn write_rare_new_line<A: Allocator>(pen: &mut Pen<A>, column: u32) -> Result<(), yaml_error_t>
+    requires ready { IsReady pen.old }
+    requires reach { column ≤ most_column }
+    ensures { Wrote (new_line column) pen.old pen.new result }
 {
-    write_new_line(pen, place)
+    write_new_line(pen, column)
 }
 
 pub(crate) fn write_flow_line<A: Allocator>(
@@ -111,7 +114,7 @@ pub(crate) fn write_flow_line<A: Allocator>(
     ensures { Wrote (flow_break (seen_effective settings.now) place.now.column) pen.old pen.new result }
 {
     if needs_flow_line(pen, settings) {
-        write_rare_new_line(pen, place)
+        write_rare_new_line(pen, place.line_column())
     } else {
         pen.write_nothing()
     }

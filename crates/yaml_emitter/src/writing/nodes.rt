@@ -49,7 +49,8 @@ pub(crate) fn write_alias<A: Allocator>(
     write_atoms(pen, site, alias_atoms(name, site.simple))
 }
 
-/// Writes what stands before a node, its anchor and its tag.
+/// Writes what stands before a node, its anchor and its tag. What is rarely called is given a copy of the site, so that
+/// the site itself needn't lie in memory.
 #[inline(always)]
 pub(crate) fn write_lead<A: Allocator>(
     pen: &mut Pen<A>,
@@ -69,7 +70,8 @@ pub(crate) fn write_lead<A: Allocator>(
 {
     write_place(pen, site)?;
     if has_properties(anchor, tag, bare) {
-        write_properties(pen, site, anchor, tag, bare)
+        let apart = *site;
+        write_properties(pen, &apart, anchor, tag, bare)
     } else {
         Ok(())
     }
@@ -138,9 +140,10 @@ pub(crate) fn write_collection_end<A: Allocator>(
 {
     let empty = frame.place.role.is_first();
     if frame.place.in_flow {
+        let apart = *outer;
         write_atoms(
             pen,
-            outer,
+            &apart,
             flow_end_atoms(kind, empty, outer.settings.canonical),
         )
     } else {

@@ -1,16 +1,17 @@
 //! What a place puts before its node, and what a collection's end writes.
 
-ghost use Rattle.std.specs.Prelude.{◌≡◌, true, false};
+ghost use Rattle.std.specs.Prelude.{◌≡◌, ◌≤◌, true, false};
 ghost use Rattle.yaml_base.specs.Cursor.{Cursor, render_nothing, new_line, render_then};
 ghost use Rattle.yaml_base.specs.Indicators.{flow_key, flow_value, render_indicator};
 ghost use Rattle.yaml_base.specs.Layout as layout;
-ghost use Rattle.yaml_base.specs.Layout.{render_end, flow_break, render_flow_place, render_block_place, line_column, render_place};
+ghost use Rattle.yaml_base.specs.Layout.{render_end, flow_break, render_flow_place, render_block_place, render_place};
 ghost use Rattle.yaml_base.specs.Settings.{Effective};
 ghost use Rattle.yaml_pen.specs.Page.{IsReady};
 ghost use Rattle.yaml_pen.specs.Wrote.{Wrote};
 ghost use Rattle.yaml_emitter.specs.Given.{seen_effective};
 ghost use Rattle.yaml_emitter.specs.NodeEvents.{brackets_of};
 ghost use Rattle.yaml_emitter.specs.Places.{is_mapping, seen_role, seen_place};
+ghost use Rattle.yaml_emitter.specs.Reach.{most_column};
 ghost use Rattle.yaml_emitter.specs.WrittenAtoms.{seen_indicator, render_atoms, some_atom_breaks};
 
 use crate::effective::EffectiveSettings;
@@ -145,37 +146,39 @@ fn write_block_place<A: Allocator>(
     use IndicatorKind::*;
     match (place.role, simple) {
         (Role::Root, _) => pen.write_nothing(),
-        (Role::Item { .. }, _) => write_line_and_indicator(pen, place.at_line(), BlockEntry),
-        (Role::Key { .. }, true) => write_line_alone(pen, place),
-        (Role::Key { .. }, false) => write_line_and_indicator(pen, place.at_line(), BlockKey),
+        (Role::Item { .. }, _) => write_line_and_indicator(pen, place.line_column(), BlockEntry),
+        (Role::Key { .. }, true) => write_line_alone(pen, place.line_column()),
+        (Role::Key { .. }, false) => write_line_and_indicator(pen, place.line_column(), BlockKey),
         (Role::Value { simple: true }, _) => write_indicator(pen, SimpleValue),
         (Role::Value { simple: false }, _) => write_line_and_indicator(
             pen,
-            place.at_line(),
+            place.line_column(),
             BlockValue,
         ),
     }
 }
 
-/// A new line, and an atom on it.
+/// A new line at a column, and an atom on it.
 fn write_line_and_indicator<A: Allocator>(
     pen: &mut Pen<A>,
-    place: Place,
+    column: u32,
     atom: IndicatorKind,
 ) -> Result<(), yaml_error_t>
-    requires { IsReady pen.old }
-    ensures { Wrote (λ cursor. render_then (new_line (line_column place.column) cursor) (render_indicator (seen_indicator atom))) pen.old pen.new result }
+    requires ready { IsReady pen.old }
+    requires reach { column ≤ most_column }
+    ensures { Wrote (λ cursor. render_then (new_line column cursor) (render_indicator (seen_indicator atom))) pen.old pen.new result }
 {
-    write_new_line(pen, &place)?;
+    write_new_line(pen, column)?;
     write_indicator(pen, atom)
 }
 
-/// A new line without an atom.
-fn write_line_alone<A: Allocator>(pen: &mut Pen<A>, place: &Place) -> Result<(), yaml_error_t>
-    requires { IsReady pen.old }
-    ensures { Wrote (λ cursor. render_then (new_line (line_column place.now.column) cursor) render_nothing) pen.old pen.new result }
+/// A new line at a column, without an atom.
+fn write_line_alone<A: Allocator>(pen: &mut Pen<A>, column: u32) -> Result<(), yaml_error_t>
+    requires ready { IsReady pen.old }
+    requires reach { column ≤ most_column }
+    ensures { Wrote (λ cursor. render_then (new_line column cursor) render_nothing) pen.old pen.new result }
 {
-    write_new_line(pen, place)
+    write_new_line(pen, column)
 }
 
 /// The atoms of the end of a collection in flow: where nothing stands between the brackets, the opening one comes

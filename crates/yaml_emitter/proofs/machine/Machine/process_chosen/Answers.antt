@@ -1,6 +1,6 @@
 use Rattle.yaml_emitter.proofs.Common.{arith, common_steps, false, scalar, seen_scalar, machine_state}
 use Rattle.yaml_emitter.proofs.events_done.{DocumentsDone.names_refused, ProcessedBy.processed_exit}
-use Rattle.yaml_emitter.proofs.machine.Machine.process_scalar.Goals as goal
+use Rattle.yaml_emitter.proofs.machine.Machine.process_chosen.Goals as goal
 
 pub returns-in_err-check_scalar_names : goal.returns-in_err-check_scalar_names
 returns-in_err-check_scalar_names g c =
@@ -11,7 +11,7 @@ returns-in_err-check_scalar_names g c =
     c.in_err-check_scalar_names.ensures))
 
 pub returns-in-Node : goal.returns-in-Node
-returns-in-Node g c = c.put_scalar.ensures false
+returns-in-Node g c = c.put_chosen.ensures false
 
-pub put_scalar-requires-clause-names : goal.put_scalar-requires-clause-names
-put_scalar-requires-clause-names g c = grind (arith, common_steps) steps 2000000
+pub put_chosen-requires-clause-names : goal.put_chosen-requires-clause-names
+put_chosen-requires-clause-names g c = grind (arith, common_steps) steps 2000000
