@@ -14,7 +14,7 @@ use crate::check::check_scalar_names;
 use crate::emit::{write_all, yaml_emitter_emit};
 use crate::emitter::yaml_emitter_t;
 use crate::machine::Machine;
-use crate::queue::{are_ready_by_one_more, nothing_waits};
+use crate::queue::{are_ready_by_one_more, nothing_waits, waits_past_scalar};
 use crate::stage::Stage;
 use crate::writing::{ScalarContent, stands_plain};
 use std::alloc::Allocator;
@@ -65,6 +65,11 @@ fn emit_behind<A: Allocator + Copy>(
         return answer;
     }
     let event = copied_scalar(emitter.machine.allocator(), content)?;
+    if waits_past_scalar(emitter.queue.as_slice()) {
+        emitter.started = true;
+        emitter.queue.push_reserved(event);
+        return Ok(());
+    }
     yaml_emitter_emit(emitter, event)
 }
 

@@ -1,7 +1,8 @@
 //! Which events can be written: the head of the queue waits for those that decide how it is written.
 
-ghost use Rattle.std.specs.Prelude.{◌≡◌, ◌<◌, ◌≤◌, ◌==◌, ◌∷◌, [], true, drop, length, vec_len, vec_capacity, if◌then◌else◌};
+ghost use Rattle.std.specs.Prelude.{◌≡◌, ◌<◌, ◌≤◌, ◌==◌, ◌∷◌, ◌++◌, [], false, true, drop, length, vec_len, vec_capacity, if◌then◌else◌};
 ghost use Rattle.std.specs.List.{list_any};
+ghost use Rattle.yaml_base.specs.Event.{Scalar, scalar};
 ghost use Rattle.yaml_base.specs.Ready.{is_start, is_end, awaited, is_balanced, nonempty_prefixes, is_ready};
 ghost use Rattle.yaml_base.specs.Seen.{seen_event, seen_events};
 ghost use Rattle.yaml_emitter.specs.Processing as processing;
@@ -124,6 +125,17 @@ pub(crate) fn are_ready_by_one_more<A: Allocator>(waiting: &[yaml_event_t<A>]) -
         left -= 1;
     }
     true
+}
+
+/// Whether the first of the events that wait goes on waiting when a scalar is put behind them.
+pub(crate) fn waits_past_scalar<A: Allocator>(waiting: &[yaml_event_t<A>]) -> bool
+    ensures { result ≡ true → is_head_ready (seen_events waiting.now) ≡ false → (next : Scalar)
+        → is_head_ready (seen_events waiting.now ++ scalar next ∷ []) ≡ false }
+{
+    if waiting.len() == 0 {
+        return false;
+    }
+    followers(&waiting[0]) > waiting.len()
 }
 
 /// Whether an event starts a collection that the next event ends.

@@ -1,6 +1,6 @@
 -- What an emitter keeps true.
 use Rattle.yaml_emitter.proofs.Common.{ℕ, ◌<◌, ◌≤◌, vec_len, vec_capacity, length, false, true, List, [], map, ◌++◌, ◌∷◌, refl, ◌≡◌, ap, sym}
-use Rattle.yaml_emitter.proofs.Common.{◌∙◌, arith, length-map, map-append, Event, seen_event, seen_events, Settings, state_of, IsEmitter}
+use Rattle.yaml_emitter.proofs.Common.{◌∙◌, arith, length-map, map-append, Event, Scalar, scalar, seen_event, seen_events, Settings, state_of, IsEmitter}
 use Rattle.yaml_emitter.proofs.Common.{is_head_ready, State, MachineState}
 use Rattle.yaml_emitter.proofs.standing.StandingPromises.{held_few, most_few}
 use Rattle.yaml_emitter.specs.declared.emitter.yaml_emitter_t.TheInside.{Inside}
@@ -21,6 +21,17 @@ room_left e kept =
 pub seen_more : {E : Type 0} (seen : E → Event) (items pushed slice : List E) (x : E) → slice ≡ pushed → pushed ≡ items ++ x ∷ []
     → map seen slice ≡ map seen items ++ seen x ∷ []
 seen_more seen items pushed slice x is grown = ap (map seen) (is ∙ grown) ∙ map-append seen items (x ∷ [])
+
+-- The first that waits goes on waiting past a scalar that is put behind.
+pub waits_pushed : {E : Type 0} (seen : E → Event) (items pushed slice : List E) (x : E) (next : Scalar) → slice ≡ items → pushed ≡ items ++ x ∷ []
+    → seen x ≡ scalar next → is_head_ready (map seen items) ≡ false
+    → (is_head_ready (map seen slice) ≡ false → (next : Scalar) → is_head_ready (map seen slice ++ scalar next ∷ []) ≡ false)
+    → is_head_ready (map seen pushed) ≡ false
+waits_pushed seen items pushed slice x next is grown x_is waits past =
+    ap is_head_ready (seen_more seen items pushed pushed x refl grown)
+    ∙ ap (λ (event : Event). is_head_ready (map seen items ++ event ∷ [])) x_is
+    ∙ ap (λ l. is_head_ready (map seen l ++ scalar next ∷ [])) (sym is)
+    ∙ past (ap (λ l. is_head_ready (map seen l)) is ∙ waits) next
 
 pub within_count : {E : Type 0} (seen : E → Event) (xs : List E) (count len : ℕ) → count ≤ length (map seen xs) → length xs ≡ len → count ≤ len
 within_count seen xs count len within is = omega (arith, within, is, length-map xs seen)

@@ -1,11 +1,12 @@
 -- A call that gives an event, from what its steps did.
 use Rattle.yaml_emitter.proofs.Common.{IsSome, Option, None, Some, Result, Err, Ok, take, false, true, List, [], ◌++◌, ◌∷◌, refl, ◌≡◌, ap, subst, sym, ◌∙◌}
-use Rattle.yaml_emitter.proofs.Common.{false≢true, Event, has_scalar_texts, written, Settings, is_head_ready, Processed, MachineStands, StateStands}
+use Rattle.yaml_emitter.proofs.Common.{false≢true, Event, has_scalar_texts, written, Settings, is_head_ready, Processed, MachineStands, Reached, StateStands}
 use Rattle.yaml_emitter.proofs.Common.{StandsAfter, State, MachineState, machine_of, KeepsSet, result_of_error, Grows}
 use Rattle.std.specs.Prelude.{IsOk}
 use Rattle.yaml_base.specs.declared.errors.{yaml_error_t.yaml_error_t}
 use Rattle.yaml_emitter.proofs.events_done.{SeenTexts.texts_more}
-use Rattle.yaml_emitter.proofs.standing.{Growing.grows_page, Growing.processed_grows, KeepsSet.emitting_keeps, KeepsSet.processed_keeps_given}
+use Rattle.yaml_emitter.proofs.standing.{Growing.grows_page, Growing.processed_grows, KeepsSet.emitting_keeps, KeepsSet.keeps_given_same}
+use Rattle.yaml_emitter.proofs.standing.KeepsSet.{processed_keeps_given}
 use Rattle.yaml_emitter.proofs.standing.{Promising.promised, PromisingRoom.memory_only, StandingMore.failed_more}
 use Rattle.yaml_emitter.proofs.standing.Emitting.{none_became_ready, processed_error, reached_taken, stands_on_end, took_alone, took_failed, took_next}
 use Rattle.yaml_emitter.specs.EmitsEvent.{EmitsEvent, WroteAlone, WroteBehind, kept_error}
@@ -109,6 +110,20 @@ emits_behind event before held machine answer text none empty output ready wrote
     (λ given all h none same. absurd (false≢true (sym (none_became_ready given all event before h none same) ∙ ready)))
     (λ some. absurd (some_error before.error none some))
     (emitting_keeps before held machine wrote.set) wrote.answered output
+
+-- An event was put behind those that wait, and the first of them goes on waiting.
+pub emits_waiting : (event : Event) (before : State) (held : List Event) → has_scalar_texts event ≡ true → before.error ≡ None
+    → held ≡ before.held ++ event ∷ [] → before.has_output ≡ true → is_head_ready held ≡ false
+    → EmitsEvent before event (Ok tt) (with_machine before held (machine_of before))
+emits_waiting event before held text none is output unready =
+    emits_by event before (with_machine before held (machine_of before)) (Ok tt) text
+    (λ given all h.
+    stands_on_end given (all ++ event ∷ []) (take (written all) all) held (machine_of before)
+    (subst (λ (l : List Event). Reached given (all ++ event ∷ []) (take (written all) all) l (machine_of before)) (sym is)
+    (reached_taken given all event before h none)) none unready)
+    (grows_page before.page before.page refl) (λ given all h none same. refl)
+    (λ some. absurd (some_error before.error none some))
+    (emitting_keeps before held (machine_of before) (keeps_given_same (machine_of before))) (sym (ap result_of_error none)) output
 
 -- Where none waits, an event that needn't wait is written.
 pub emits_alone : (event : Event) (before : State) (machine : MachineState) (answer : Result (Unit {0}) yaml_error_t) → has_scalar_texts event ≡ true

@@ -4,10 +4,13 @@ use Rattle.yaml_emitter.proofs.Common.{Bool, Result, Err, Ok, false, true, List,
 use Rattle.yaml_emitter.proofs.Common.{drop-drop, length-append, and_parts, ap, subst, sym, ◌∙◌, list_any, Event, Scalar, scalar, stream_start, stream_end}
 use Rattle.yaml_emitter.proofs.Common.{document_start, document_end, alias, sequence_start, sequence_end, mapping_start, mapping_end, awaited, is_balanced}
 use Rattle.yaml_emitter.proofs.Common.{nonempty_prefixes, closes_at_once, Processed, is_head_ready, failed_by, ReachedOn, ProcessedFirst}
-use Rattle.yaml_emitter.proofs.Common.{MachineState, KeepsGiven, Grows}
+use Rattle.yaml_emitter.proofs.Common.{MachineState, KeepsGiven, Grows, arith, le-ltb, or_parts}
+use Rattle.std.proofs.Common.{add-zero}
+use Rattle.yaml_base.specs.Ready.{is_start, is_end}
 use Rattle.yaml_base.specs.declared.errors.{yaml_error_t.yaml_error_t}
 use Rattle.yaml_emitter.proofs.standing.{Emitting.closes_none, Emitting.reached_on, Emitting.took_failed, Emitting.took_next, KeepsSet.keeps_given_then}
-use Rattle.yaml_emitter.proofs.standing.{StandingMore.closes_one, WrittenPrefixes.seen_from}
+use Rattle.yaml_emitter.proofs.standing.{StandingMore.closes_one, WrittenPrefixes.seen_from, WrittenPrefixes.closes_after}
+use Rattle.yaml_emitter.proofs.standing.WrittenPrefixes.{closes_after-none, one_if}
 use Rattle.yaml_emitter.specs.EmitsEvent.{WroteAlone, WroteBehind}
 use Rattle.yaml_emitter.specs.Queue.{are_ready_by_one_more}
 use Rattle.yaml_emitter.specs.StandsAfter.{FailedReady}
@@ -132,3 +135,34 @@ ready_from seen xs i x within at =
     let long : length (seen x ∷ map seen (drop (i + 1) xs)) ≡ length (drop i xs) = sym (ap length is) ∙ length-map (drop i xs) seen in
     ap are_ready_by_one_more is
     ∙ ap (λ (n : ℕ). nat_lt (awaited (seen x)) (n + 1) && are_ready_by_one_more (map seen (drop (i + 1) xs))) long
+
+-- A scalar behind events closes nothing that is open.
+open_past_scalar : (starts ends : ℕ) (events : List Event) (next : Scalar) → (starts == ends) ≡ false → closes_after starts ends events ≡ false
+    → closes_after starts ends (events ++ scalar next ∷ []) ≡ false
+open_past_scalar starts ends [] next apart h =
+    ap (λ (b : Bool). b || false) (ap (λ (n : ℕ). n == (ends + 0)) (add-zero starts) ∙ ap (λ (n : ℕ). starts == n) (add-zero ends) ∙ apart)
+open_past_scalar starts ends (event ∷ rest) next apart h =
+    let s = starts + one_if (is_start event) in
+    let e = ends + one_if (is_end event) in
+    let parts = or_parts (s == e) (closes_after s e rest) h in
+    ap (λ (b : Bool). b || closes_after s e (rest ++ scalar next ∷ [])) parts.0 ∙ open_past_scalar s e rest next parts.0 parts.1
+
+-- The first event goes on waiting past a scalar, where it awaits more.
+pub waits_past : (first : Event) (rest : List Event) (next : Scalar) → length (first ∷ rest) < awaited first → is_head_ready (first ∷ rest) ≡ false
+    → is_head_ready (first ∷ rest ++ scalar next ∷ []) ≡ false
+waits_past first rest next more h =
+    let behind = scalar next ∷ [] in
+    let all = first ∷ (rest ++ behind) in
+    let long : length all ≡ length (first ∷ rest) + 1 = length-append (first ∷ rest) behind in
+    let few = nat_lt (awaited first) (length (first ∷ rest)) in
+    let unready = or_parts (awaited first == 0 || few) (list_any is_balanced (nonempty_prefixes (first ∷ rest))) h in
+    let awaits = or_parts (awaited first == 0) few unready.0 in
+    let s = 0 + one_if (is_start first) in
+    let e = 0 + one_if (is_end first) in
+    let parts = or_parts (s == e) (closes_after s e rest) (sym (closes_after-none (first ∷ rest)) ∙ unready.1) in
+    let unclosed : list_any is_balanced (nonempty_prefixes all) ≡ false =
+    closes_after-none all ∙ ap (λ (b : Bool). b || closes_after s e (rest ++ behind)) parts.0 ∙ open_past_scalar s e rest next parts.0 parts.1 in
+    ap (λ (b : Bool). b || nat_lt (awaited first) (length all) || list_any is_balanced (nonempty_prefixes all)) awaits.0
+    ∙ ap (λ (b : Bool). b || list_any is_balanced (nonempty_prefixes all))
+    (le-ltb (awaited first) (length all) (omega (arith, long, more)))
+    ∙ unclosed

@@ -1,8 +1,10 @@
-use Rattle.yaml_emitter.proofs.Common.{◌≤◌, Result, Err, true, List, inl, inr, refl, ◌≡◌, ap, subst, sym, ◌∙◌, err_from_is_err_and, Event, scalar}
+use Rattle.yaml_emitter.proofs.Common.{◌≤◌, Result, Err, Ok, true, List, [], ◌++◌, ◌∷◌, inl, inr, refl, ◌≡◌, ap, subst, sym, ◌∙◌, err_from_is_err_and}
+use Rattle.yaml_emitter.proofs.Common.{Event, scalar, seen_event}
 use Rattle.yaml_emitter.proofs.Common.{seen_events, seen_scalar, state_of, is_head_ready, State, machine_of}
 use Rattle.yaml_base.specs.declared.errors.{yaml_error_t.yaml_error_t}
 use Rattle.yaml_emitter.proofs.{events_done.ProcessedBy.exit_by_memory, standing.EmitterKept.has_output_inside, standing.EmitterKept.kept_emitting}
-use Rattle.yaml_emitter.proofs.standing.{EmittingEvents.with_machine, EmittingEvents.emits_behind, WritingAll.head_becomes_ready}
+use Rattle.yaml_emitter.proofs.standing.EmitterKept.{room_left, seen_more, waits_pushed}
+use Rattle.yaml_emitter.proofs.standing.{EmittingEvents.with_machine, EmittingEvents.emits_behind, EmittingEvents.emits_waiting, WritingAll.head_becomes_ready}
 use Rattle.yaml_emitter.specs.{EmitsEvent.EmitsEvent, EmitsEvent.WroteBehind, Queue.are_ready_by_one_more}
 use Rattle.yaml_emitter.proofs.borrowed.emit_behind.Goals as goal
 
@@ -70,3 +72,31 @@ returns-clause-emits g c =
       answered = given.answered;
       output = given.output;
     }))
+
+pub push_reserved-requires : goal.push_reserved-requires
+push_reserved-requires g c = room_left c.emitter.inside c.emitter.invariant
+
+pub invariant_of-emitter-then-waits_past_scalar : goal.invariant_of-emitter-then-waits_past_scalar
+invariant_of-emitter-then-waits_past_scalar g c =
+    kept_emitting c.emitter.inside _ (has_output_inside c.emitter.inside c.emitter.view_is c.requires.output) refl
+    (subst (λ n. 4 ≤ n) (sym c.push_reserved.ensures.capacity) c.emitter.invariant.room)
+    (waits_pushed seen_event c.emitter.inside.queue.items c.push_reserved.new.self.items c.as_slice-2.result.now c.in_ok-event.event
+    (seen_scalar c.args.content.now) c.as_slice-2.ensures.value c.push_reserved.ensures.items c.in_ok-event.ensures.event c.emitter.invariant.waits
+    (c.waits_past_scalar.ensures c.if-waits_past_scalar.true))
+
+pub returns-then-waits_past_scalar-clause-emits : goal.returns-then-waits_past_scalar-clause-emits
+returns-then-waits_past_scalar-clause-emits g c =
+    let before : State = state_of c.emitter.inside in
+    let next = seen_scalar c.args.content.now in
+    let items = c.emitter.inside.queue.items in
+    let pushed = c.push_reserved.new.self.items in
+    let held = seen_events pushed in
+    inl
+    (subst (λ (s : State). EmitsEvent s (scalar next) (Ok tt) (with_machine before held (machine_of before))) c.emitter.view_is
+    (emits_waiting (scalar next) before held c.requires.texts
+    (ap (λ (s : State). s.error) c.emitter.view_is ∙ c.requires.no_error)
+    (seen_more seen_event items pushed pushed c.in_ok-event.event refl c.push_reserved.ensures.items
+    ∙ ap (λ (event : Event). seen_events items ++ event ∷ []) c.in_ok-event.ensures.event)
+    (has_output_inside c.emitter.inside c.emitter.view_is c.requires.output)
+    (waits_pushed seen_event items pushed c.as_slice-2.result.now c.in_ok-event.event next c.as_slice-2.ensures.value c.push_reserved.ensures.items
+    c.in_ok-event.ensures.event c.emitter.invariant.waits (c.waits_past_scalar.ensures c.if-waits_past_scalar.true))))
