@@ -26,6 +26,7 @@ pub mod WhyFailed
 pub mod Cutting
 pub mod Marking
 pub mod MarkLanes
+pub mod LowestBit
 pub mod Boundaries
 pub mod LexSteps
 pub mod WordSteps

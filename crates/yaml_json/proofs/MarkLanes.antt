@@ -1,4 +1,4 @@
--- Bytes that may be marks, sixteen at a time.
+-- Bytes that may be marks, 32 at a time.
 use Rattle.std.proofs.Common.{◌≡◌, ℕ, zero, ◌%◌, ◌^◌, ◌<◌, ltb, Bool, true, false, cond, eqb, ◌||◌, ◌&&◌, List, [], ◌∷◌, map, length, get_or, arith}
 use Rattle.std.proofs.Common.{replicate, refl, sym, ap, ap₂, ◌∙◌}
 use Rattle.std.proofs.lemmas.Bool.{true≢false, ne_eqb}
@@ -35,27 +35,27 @@ each_lane : (v : List ℕ) → map (λ x. top 7 (lane x)) v ≡ map may_mark v
 each_lane [] = refl
 each_lane (x ∷ xs) = ap₂ (λ b bs. b ∷ bs) (one_lane (eqb x 34) (ltb 122 (bit_or x 32)) (ltb (bit_or x 32) 126)) (each_lane xs)
 
-module _ (v : List ℕ) (long : length v ≡ 16) where
+module _ (v : List ℕ) (long : length v ≡ 32) where
   abbrev pub mask : ℕ
   mask =
-      let folded = zip2 bit_or v (replicate 16 32) in
-      mask_l (map (top 7) (zip2 bit_or (zip2 equal v (replicate 16 34)) (zip2 bit_and (zip2 below (replicate 16 122) folded) (zip2 below folded (replicate 16 126)))))
+      let folded = zip2 bit_or v (replicate 32 32) in
+      mask_l (map (top 7) (zip2 bit_or (zip2 equal v (replicate 32 34)) (zip2 bit_and (zip2 below (replicate 32 122) folded) (zip2 below folded (replicate 32 126)))))
       % 2 ^ 64
 
   marks_masked : mask ≡ mask_l (map may_mark v)
   marks_masked =
-      let folded = zip2_splat bit_or v 16 32 long in
-      let above = zip2_of_maps below (λ x. 122) (λ x. bit_or x 32) v (splat_is_map v 16 122 long) folded in
-      let under = zip2_of_maps below (λ x. bit_or x 32) (λ x. 126) v folded (splat_is_map v 16 126 long) in
+      let folded = zip2_splat bit_or v 32 32 long in
+      let above = zip2_of_maps below (λ x. 122) (λ x. bit_or x 32) v (splat_is_map v 32 122 long) folded in
+      let under = zip2_of_maps below (λ x. bit_or x 32) (λ x. 126) v folded (splat_is_map v 32 126 long) in
       let both = zip2_of_maps bit_and (λ x. below 122 (bit_or x 32)) (λ x. below (bit_or x 32) 126) v above under in
-      let all = zip2_of_maps bit_or (λ x. equal x 34) (λ x. bit_and (below 122 (bit_or x 32)) (below (bit_or x 32) 126)) v (zip2_splat equal v 16 34 long) both in
+      let all = zip2_of_maps bit_or (λ x. equal x 34) (λ x. bit_and (below 122 (bit_or x 32)) (below (bit_or x 32) 126)) v (zip2_splat equal v 32 34 long) both in
       ap (λ l. mask_l l % 2 ^ 64) (ap (map (top 7)) all ∙ map-map (top 7) lane v ∙ each_lane v)
       ∙ mask_l-mod (map may_mark v) 64 (omega (arith, length-map v may_mark))
 
-  pub marks_small : mask < 2 ^ 16
+  pub marks_small : mask < 2 ^ 32
   marks_small =
-      let short : length (map may_mark v) ≡ 16 = length-map v may_mark ∙ long in
-      let power : 2 ^ length (map may_mark v) ≡ 2 ^ 16 = ap (λ n. 2 ^ n) short in
+      let short : length (map may_mark v) ≡ 32 = length-map v may_mark ∙ long in
+      let power : 2 ^ length (map may_mark v) ≡ 2 ^ 32 = ap (λ n. 2 ^ n) short in
       omega (arith, marks_masked, mask_l-lt (map may_mark v), power)
 
 -- every mark is among them
@@ -70,7 +70,7 @@ clear : (b : Bool) → cond b 1 0 ≡ zero → b ≡ false
 clear true none = let never : ⊥ = omega arith in absurd never
 clear false none = refl
 
-pub only_marks : (v : List ℕ) (long : length v ≡ 16) (k : ℕ) → k < 16 → bit_at (mask v long) k ≡ 0 → is_mark (get_or v k 0) ≡ false
+pub only_marks : (v : List ℕ) (long : length v ≡ 32) (k : ℕ) → k < 32 → bit_at (mask v long) k ≡ 0 → is_mark (get_or v k 0) ≡ false
 only_marks v long k small none =
     let unset : cond (get_or (map may_mark v) k false) 1 0 ≡ zero =
     sym (bit_mask_l (map may_mark v) k) ∙ ap (λ m. bit_at m k) (sym (marks_masked v long)) ∙ none in

@@ -1,15 +1,16 @@
 -- A scan passes the bytes within an array, an object or a string that are no marks.
 use Rattle.yaml_json.proofs.Common.{false, suc, zero, ℕ, ◌+◌, ◌-◌, ◌<◌, ◌≤◌, Some, length, slice_index_or as get_or, List, ◌≡◌, inl, inr, ap}
 use Rattle.yaml_json.proofs.Common.{subst, sym, ◌∙◌, arith, HasScanned, after_byte, cases_lt}
-use Rattle.std.proofs.Common.{◌^◌, ◌%◌, ◌*◌, w64, bit_and}
-use Rattle.std.proofs.lemmas.Bool.{true≢false, cases_eq}
-use Rattle.std.proofs.lemmas.Nat.{and_le_l}
-use Rattle.std.proofs.lemmas.Nat.Bits.{bit_at-trailing_zeros, bit_at_above, bit_at_clear_same, bit_at_clear_other, bit_at-zero}
+use Rattle.std.proofs.Common.{◌^◌, w64, bit_and}
+use Rattle.std.proofs.lemmas.Bool.{true≢false}
+use Rattle.std.proofs.lemmas.Nat.{and_le_r}
+use Rattle.std.proofs.lemmas.Nat.Bits.{bit_at-trailing_zeros, bit_at_above, bit_at-zero}
 use Rattle.std.proofs.lemmas.Simd.{get_or-chunk}
 use lib.Lanes.{chunk}
-use Rattle.std.specs.Int.{bit_at, bit_not, trailing_zeros}
+use Rattle.std.specs.Int.{bit_at, trailing_zeros}
 use Rattle.yaml_json.specs.declared.{cuts.Cut.Cut, cuts.Scan.Scan}
 use Rattle.yaml_json.specs.Marks.{IsInside, MayMark, is_mark}
+use Rattle.yaml_json.proofs.LowestBit.{lowest_cleared}
 use Rattle.yaml_json.proofs.Cutting.{within_stays, string_stays, one_scanned}
 
 mark_stays : (scan : Scan) (byte : ℕ) → IsInside scan → is_mark byte ≡ false → after_byte scan byte ≡ Some scan
@@ -33,18 +34,18 @@ passes text cut (suc n) inside has room each =
     (one_scanned text (record { scan = cut.scan; scanned = cut.scanned + n })
     (passes text cut n inside has (omega arith) (λ k low. each k (omega arith))) (omega arith) cut.scan stays)
 
--- so many of sixteen bytes are scanned, and the bits that are left may stand for marks among the others
+-- so many of 32 bytes are scanned, and the bits that are left may stand for marks among the others
 pub record Left (text : List ℕ) (from : ℕ) (scan : Scan) (left : ℕ) : Type 0 where
   pub count : ℕ
-  pub within : count ≤ 16
+  pub within : count ≤ 32
   pub inside : IsInside scan
   pub scanned : HasScanned text (record { scan = scan; scanned = from + count })
-  pub small : left < 2 ^ 16
+  pub small : left < 2 ^ 32
   pub clear : (k : ℕ) → k < count → bit_at left k ≡ 0
-  pub marks : (k : ℕ) → count ≤ k → k < 16 → bit_at left k ≡ 0 → is_mark (get_or text (from + k) 0) ≡ false
+  pub marks : (k : ℕ) → count ≤ k → k < 32 → bit_at left k ≡ 0 → is_mark (get_or text (from + k) 0) ≡ false
 
-pub left_first : (text : List ℕ) (cut : Cut) (found : ℕ) → IsInside cut.scan → HasScanned text cut → found < 2 ^ 16
-    → cut.scanned + 16 ≤ length text → MayMark (chunk cut.scanned 16 text) found
+pub left_first : (text : List ℕ) (cut : Cut) (found : ℕ) → IsInside cut.scan → HasScanned text cut → found < 2 ^ 32
+    → cut.scanned + 32 ≤ length text → MayMark (chunk cut.scanned 32 text) found
     → Left text cut.scanned cut.scan found
 left_first text cut found inside has small room marks =
     let none : cut.scanned ≡ cut.scanned + 0 = omega arith in
@@ -55,12 +56,12 @@ left_first text cut found inside has small room marks =
       scanned = subst (λ (at : ℕ). HasScanned text (record { scan = cut.scan; scanned = at })) none has;
       small = small;
       clear = λ k low. let never : ⊥ = omega arith in absurd never;
-      marks = λ k low high none. ap is_mark (sym (get_or-chunk cut.scanned 16 text k 0 high)) ∙ marks k high none;
+      marks = λ k low high none. ap is_mark (sym (get_or-chunk cut.scanned 32 text k 0 high)) ∙ marks k high none;
     }
 
-module _ (text : List ℕ) (from : ℕ) (scan : Scan) (left : ℕ) (held : Left text from scan left) (room : from + 16 ≤ length text) where
+module _ (text : List ℕ) (from : ℕ) (scan : Scan) (left : ℕ) (held : Left text from scan left) (room : from + 32 ≤ length text) where
   -- as far as no bit is set
-  up_to : (end : ℕ) → held.count ≤ end → end ≤ 16 → ((k : ℕ) → k < end → bit_at left k ≡ 0)
+  up_to : (end : ℕ) → held.count ≤ end → end ≤ 32 → ((k : ℕ) → k < end → bit_at left k ≡ 0)
       → HasScanned text (record { scan = scan; scanned = from + end })
   up_to end further within none =
       let count = held.count in
@@ -71,8 +72,8 @@ module _ (text : List ℕ) (from : ℕ) (scan : Scan) (left : ℕ) (held : Left 
       ap (λ (at : ℕ). is_mark (get_or text at 0)) same
       ∙ held.marks (count + k) (omega arith) (omega (arith, low, further, within)) (none (count + k) (omega (arith, low, further, within)))))
 
-  pub left_none : left ≡ 0 → HasScanned text (record { scan = scan; scanned = from + 16 })
-  left_none empty = up_to 16 held.within (omega arith) (λ k low. ap (λ m. bit_at m k) empty ∙ bit_at-zero k)
+  pub left_none : left ≡ 0 → HasScanned text (record { scan = scan; scanned = from + 32 })
+  left_none empty = up_to 32 held.within (omega arith) (λ k low. ap (λ m. bit_at m k) empty ∙ bit_at-zero k)
 
   module _ (some : 0 < left) where
     abbrev place : ℕ
@@ -81,11 +82,11 @@ module _ (text : List ℕ) (from : ℕ) (scan : Scan) (left : ℕ) (held : Left 
     lowest : (place < 64) × (bit_at left place ≡ 1) × ((k : ℕ) → k < place → bit_at left k ≡ 0)
     lowest = let small = held.small in bit_at-trailing_zeros w64 left some (omega (arith, small))
 
-    pub place_within : place < 16
+    pub place_within : place < 32
     place_within =
-        elim (cases_lt place 16) [
+        elim (cases_lt place 32) [
           | inl low ↦ low
-          | inr high ↦ let set = lowest.1 in let unset = bit_at_above left 16 place held.small high in
+          | inr high ↦ let set = lowest.1 in let unset = bit_at_above left 32 place held.small high in
               let never : ⊥ = omega (arith, set, unset) in absurd never
         ]
 
@@ -102,18 +103,10 @@ module _ (text : List ℕ) (from : ℕ) (scan : Scan) (left : ℕ) (held : Left 
     mark_reached = let high = place_within in up_to place further (omega (arith, high)) lowest.2
 
     abbrev others : ℕ
-    others = bit_and left (bit_not w64 (1 * 2 ^ place % 2 ^ 64))
-
-    gone : bit_at others place ≡ 0
-    gone = bit_at_clear_same w64 left place lowest.0
+    others = bit_and left (left - 1)
 
     pub others_fewer : others < left
-    others_fewer =
-        elim (cases_eq others left) [
-          | inl same ↦ let set = lowest.1 in let both : bit_at others place ≡ bit_at left place = ap (λ n. bit_at n place) same in
-              let never : ⊥ = omega (arith, set, gone, both) in absurd never
-          | inr other ↦ omega (arith, other, and_le_l left (bit_not w64 (1 * 2 ^ place % 2 ^ 64)))
-        ]
+    others_fewer = omega (arith, and_le_r left (left - 1))
 
     module _ (next : Scan) (is : after_byte scan (get_or text (from + place) 0) ≡ Some next) where
       pub mark_passed : HasScanned text (record { scan = next; scanned = from + place + 1 })
@@ -131,11 +124,8 @@ module _ (text : List ℕ) (from : ℕ) (scan : Scan) (left : ℕ) (held : Left 
             within = omega (arith, high);
             inside = inside;
             scanned = subst (λ (at : ℕ). HasScanned text (record { scan = next; scanned = at })) one_more mark_passed;
-            small = omega (arith, small, and_le_l left (bit_not w64 (1 * 2 ^ place % 2 ^ 64)));
-            clear = λ k low. elim (cases_eq k place) [
-              | inl same ↦ ap (bit_at others) same ∙ gone
-              | inr other ↦ bit_at_clear_other w64 left place lowest.0 k (omega (arith, low, high)) other ∙ lowest.2 k (omega (arith, low, other))
-            ];
+            small = omega (arith, small, others_fewer);
+            clear = λ k low. (lowest_cleared place left lowest.1 lowest.2 k).0 (omega arith);
             marks = λ k low below none. held.marks k (omega (arith, low, further)) below
-                (sym (bit_at_clear_other w64 left place lowest.0 k (omega (arith, below)) (λ e. let never : ⊥ = omega (arith, e, low) in absurd never)) ∙ none);
+                (sym ((lowest_cleared place left lowest.1 lowest.2 k).1 (omega arith)) ∙ none);
           }

@@ -13,6 +13,6 @@ IsInside scan = (scan.mode ≡ Within) ⊎ (scan.mode ≡ InString)
 abbrev pub is_mark : ℕ → Bool
 is_mark byte = (byte == ascii.quote) || (byte == ascii.backslash) || is_opener byte || is_closer byte
 
--- of sixteen bytes, only those whose bits are set may be marks
+-- of 32 bytes, only those whose bits are set may be marks
 abbrev pub MayMark : (bytes : List ℕ) (bits : ℕ) → Type 0
-MayMark bytes bits = (k : ℕ) → k < 16 → bit_at bits k ≡ 0 → is_mark (get_or bytes k 0) ≡ false
+MayMark bytes bits = (k : ℕ) → k < 32 → bit_at bits k ≡ 0 → is_mark (get_or bytes k 0) ≡ false

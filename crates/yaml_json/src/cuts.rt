@@ -224,31 +224,30 @@ fn is_inside(scan: Scan) -> bool
 }
 
 /// The bytes of a vector that may change a scan within an array, an object or a string: quotes, backslashes, brackets and braces.
-fn marks(bytes: u8x16) -> u64
-    ensures small { result < 2 ^ 16 }
+fn marks(bytes: u8x32) -> u64
+    ensures small { result < 2 ^ 32 }
     ensures marks { MayMark bytes result }
 {
     // Bit 5 tells brackets from braces, and a backslash from the bar between the braces.
-    let folded = bytes | u8x16::splat(0x20);
-    let is_bracket = folded.simd_gt(u8x16::splat(b'z')) & folded.simd_lt(u8x16::splat(b'~'));
-    (bytes.simd_eq(u8x16::splat(b'"')) | is_bracket).to_bitmask()
+    let folded = bytes | u8x32::splat(0x20);
+    let is_bracket = folded.simd_gt(u8x32::splat(b'z')) & folded.simd_lt(u8x32::splat(b'~'));
+    (bytes.simd_eq(u8x32::splat(b'"')) | is_bracket).to_bitmask()
 }
 
-/// Scans sixteen bytes within an array, an object or a string, or as many as lead out of it.
+/// Scans 32 bytes within an array, an object or a string, or as many as lead out of it.
 fn pass_vector(text: &[u8], cut: Cut, found: u64) -> Cut
     requires inside { IsInside cut.scan }
     requires scanned { HasScanned text.now cut }
-    requires room { cut.scanned + 16 ≤ length text.now }
-    requires small { found < 2 ^ 16 }
-    requires marks { MayMark (chunk cut.scanned 16 text.now) found }
+    requires room { cut.scanned + 32 ≤ length text.now }
+    requires small { found < 2 ^ 32 }
+    requires marks { MayMark (chunk cut.scanned 32 text.now) found }
     ensures scanned { HasScanned text.now result }
     ensures further { cut.scanned < result.scanned }
 {
     let mut scan = cut.scan;
     let mut left = found;
     'marks: while left != 0 {
-        let place = left.trailing_zeros();
-        let at = cut.scanned + place as usize;
+        let at = cut.scanned + left.trailing_zeros() as usize;
         scan = inside(scan, text[at]);
         if !is_inside(scan) {
             return Cut {
@@ -256,24 +255,38 @@ fn pass_vector(text: &[u8], cut: Cut, found: u64) -> Cut
                 scanned: at + 1,
             };
         }
-        left &= !(1u64 << place);
+        left &= left - 1;
     }
     Cut {
         scan,
-        scanned: cut.scanned + 16,
+        scanned: cut.scanned + 32,
     }
 }
 
-/// Scans an array, an object or a string, sixteen bytes at a time.
-fn pass(text: &[u8], cut: Cut) -> Cut
+/// Scans an array, an object or a string, 32 bytes at a time.
+fn pass_vectors(text: &[u8], cut: Cut) -> Cut
     requires { HasScanned text.now cut }
     ensures scanned { HasScanned text.now result }
     ensures further { cut.scanned ≤ result.scanned }
 {
     let mut next = cut;
-    'vectors: while is_inside(next.scan) && text.len() - next.scanned >= 16 {
-        let found = marks(u8x16::from_slice(&text[next.scanned..]));
+    'vectors: while is_inside(next.scan) && text.len() - next.scanned >= 32 {
+        let found = marks(u8x32::from_slice(&text[next.scanned..]));
         next = pass_vector(text, next, found);
+    }
+    next
+}
+
+/// Scans an array, an object or a string, byte by byte.
+fn pass_bytes(text: &[u8], cut: Cut) -> Cut
+    requires { HasScanned text.now cut }
+    ensures scanned { HasScanned text.now result }
+    ensures further { cut.scanned ≤ result.scanned }
+{
+    let mut next = cut;
+    'bytes: while is_inside(next.scan) && next.scanned < text.len() {
+        next.scan = inside(next.scan, text[next.scanned]);
+        next.scanned += 1;
     }
     next
 }
@@ -285,7 +298,7 @@ pub(crate) fn find_end(text: &[u8], cut: &mut Cut) -> Option<usize>
 {
     let mut next = *cut;
     'bytes: while next.scanned < text.len() {
-        next = pass(text, next);
+        next = pass_bytes(text, pass_vectors(text, next));
         if next.scanned == text.len() {
             break;
         }

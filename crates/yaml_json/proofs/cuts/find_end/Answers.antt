@@ -5,18 +5,19 @@ use Rattle.yaml_json.proofs.cuts.find_end.Goals as goal
 pub returns-in-None : goal.returns-in-None
 returns-in-None c =
     let text = c.args.text.now in
-    let less : c.pass-next.result.scanned < length text = grind arith in
-    one_cut text c.pass-next.result c.pass-next.ensures.scanned less (grind arith)
+    let less : c.pass_bytes-next.result.scanned < length text = grind arith in
+    one_cut text c.pass_bytes-next.result c.pass_bytes-next.ensures.scanned less (grind arith)
 
 pub bytes-smaller : goal.bytes-smaller
 bytes-smaller c =
     let text = c.args.text.now in
-    let less : c.pass-next.result.scanned < length text = grind arith in
-    let further = c.pass-next.ensures.further in
-    omega (arith, less, further)
+    let less : c.pass_bytes-next.result.scanned < length text = grind arith in
+    let vectors = c.pass_vectors.ensures.further in
+    let further = c.pass_bytes-next.ensures.further in
+    omega (arith, less, vectors, further)
 
 pub bytes-preserved : goal.bytes-preserved
 bytes-preserved c =
     let text = c.args.text.now in
-    let less : c.pass-next.result.scanned < length text = grind arith in
-    one_scanned text c.pass-next.result c.pass-next.ensures.scanned less c.in-Some.scan (grind arith)
+    let less : c.pass_bytes-next.result.scanned < length text = grind arith in
+    one_scanned text c.pass_bytes-next.result c.pass_bytes-next.ensures.scanned less c.in-Some.scan (grind arith)

@@ -1,5 +1,5 @@
 use Rattle.yaml_json.proofs.Common.{◌-◌, ◌≤◌, length, HasScanned}
-use Rattle.yaml_json.proofs.cuts.pass.Given as goal
+use Rattle.yaml_json.proofs.cuts.pass_vectors.Given as goal
 
 abbrev pub invariant-vectors : goal.invariant-vectors
 invariant-vectors l = HasScanned l.text l.next × (l.fn.cut.scanned ≤ l.next.scanned)
