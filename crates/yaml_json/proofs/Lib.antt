@@ -24,8 +24,8 @@ pub mod OnlyDepth
 pub mod Unfailed
 pub mod WhyFailed
 pub mod Cutting
-pub mod Marking
-pub mod MarkLanes
+pub mod PassingSpecials
+pub mod SpecialLanes
 pub mod LowestBit
 pub mod Boundaries
 pub mod LexSteps

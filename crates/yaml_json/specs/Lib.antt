@@ -3,7 +3,7 @@ pub mod TokenEvents
 pub mod Means
 pub mod Texts
 pub mod Cuts
-pub mod Marks
+pub mod Specials
 pub mod Lexemes
 pub mod Ahead
 pub mod Wrote

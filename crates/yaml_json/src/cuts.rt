@@ -4,7 +4,7 @@ ghost use Rattle.std.specs.Simd.Lanes.{chunk};
 ghost use Rattle.json.specs.Ascii as ascii;
 ghost use Rattle.yaml_json.specs.Texts.{CutsFirstText, after_byte, scan_first_byte, scan_in_string, is_closer, is_inner_byte, is_opener, scan_within};
 ghost use Rattle.yaml_json.specs.Cuts.{CutsAt, HasScanned};
-ghost use Rattle.yaml_json.specs.Marks.{IsInside, MayMark};
+ghost use Rattle.yaml_json.specs.Specials.{IsInside, MayBeSpecial};
 
 use crate::words::{is_blank, is_operator};
 use std::simd::prelude::*;
@@ -224,11 +224,11 @@ fn is_inside(scan: Scan) -> bool
 }
 
 /// The bytes of a vector that may change a scan within an array, an object or a string: quotes, backslashes, brackets and braces.
-fn marks(bytes: u8x32) -> u64
+fn specials(bytes: u8x32) -> u64
     ensures small { result < 2 ^ 32 }
-    ensures marks { MayMark bytes result }
+    ensures specials { MayBeSpecial bytes result }
 {
-    // Bit 5 tells brackets from braces, and a backslash from the bar between the braces.
+    // With bit 5 set, brackets are braces, and a backslash is the bar between them. A bar that is found changes no scan.
     let folded = bytes | u8x32::splat(0x20);
     let is_bracket = folded.simd_gt(u8x32::splat(b'z')) & folded.simd_lt(u8x32::splat(b'~'));
     (bytes.simd_eq(u8x32::splat(b'"')) | is_bracket).to_bitmask()
@@ -240,13 +240,13 @@ fn pass_vector(text: &[u8], cut: Cut, found: u64) -> Cut
     requires scanned { HasScanned text.now cut }
     requires room { cut.scanned + 32 ≤ length text.now }
     requires small { found < 2 ^ 32 }
-    requires marks { MayMark (chunk cut.scanned 32 text.now) found }
+    requires specials { MayBeSpecial (chunk cut.scanned 32 text.now) found }
     ensures scanned { HasScanned text.now result }
     ensures further { cut.scanned < result.scanned }
 {
     let mut scan = cut.scan;
     let mut left = found;
-    'marks: while left != 0 {
+    'specials: while left != 0 {
         let at = cut.scanned + left.trailing_zeros() as usize;
         scan = inside(scan, text[at]);
         if !is_inside(scan) {
@@ -271,7 +271,7 @@ fn pass_vectors(text: &[u8], cut: Cut) -> Cut
 {
     let mut next = cut;
     'vectors: while is_inside(next.scan) && text.len() - next.scanned >= 32 {
-        let found = marks(u8x32::from_slice(&text[next.scanned..]));
+        let found = specials(u8x32::from_slice(&text[next.scanned..]));
         next = pass_vector(text, next, found);
     }
     next

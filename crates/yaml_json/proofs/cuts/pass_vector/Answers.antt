@@ -1,31 +1,32 @@
 use Rattle.yaml_json.proofs.Common.{◌<◌, arith}
-use Rattle.yaml_json.proofs.Marking.{left_first, left_none, left_others, others_fewer, place_within, mark_passed}
+use Rattle.yaml_json.proofs.PassingSpecials.{left_first, left_none, left_others, others_fewer, place_within, special_passed}
 use Rattle.yaml_json.proofs.cuts.pass_vector.Goals as goal
 
-pub marks-init : goal.marks-init
-marks-init c = left_first c.args.text.now c.args.cut c.args.found c.requires.inside c.requires.scanned c.requires.small c.requires.room c.requires.marks
+pub specials-init : goal.specials-init
+specials-init c = left_first c.args.text.now c.args.cut c.args.found c.requires.inside c.requires.scanned c.requires.small c.requires.room c.requires.specials
 
 pub bounds-text-at : goal.bounds-text-at
 bounds-text-at c =
-    let some : 0 < c.marks.left = omega arith in
-    omega (arith, place_within c.args.text.now c.args.cut.scanned c.marks.scan c.marks.left c.marks.invariant c.requires.room some)
+    let some : 0 < c.specials.left = omega arith in
+    omega (arith, place_within c.args.text.now c.args.cut.scanned c.specials.scan c.specials.left c.specials.invariant c.requires.room some)
 
 pub returns-then-not-is_inside-clause-scanned : goal.returns-then-not-is_inside-clause-scanned
 returns-then-not-is_inside-clause-scanned c =
-    let some : 0 < c.marks.left = omega arith in
-    mark_passed c.args.text.now c.args.cut.scanned c.marks.scan c.marks.left c.marks.invariant c.requires.room some c.inside-scan.result c.inside-scan.ensures
+    let some : 0 < c.specials.left = omega arith in
+    special_passed c.args.text.now c.args.cut.scanned c.specials.scan c.specials.left c.specials.invariant c.requires.room some
+    c.inside-scan.result c.inside-scan.ensures
 
-pub marks-smaller : goal.marks-smaller
-marks-smaller c =
-    let some : 0 < c.marks.left = omega arith in
-    others_fewer c.args.text.now c.args.cut.scanned c.marks.scan c.marks.left c.marks.invariant c.requires.room some
+pub specials-smaller : goal.specials-smaller
+specials-smaller c =
+    let some : 0 < c.specials.left = omega arith in
+    others_fewer c.args.text.now c.args.cut.scanned c.specials.scan c.specials.left c.specials.invariant c.requires.room some
 
-pub marks-preserved : goal.marks-preserved
-marks-preserved c =
-    let some : 0 < c.marks.left = omega arith in
-    left_others c.args.text.now c.args.cut.scanned c.marks.scan c.marks.left c.marks.invariant c.requires.room some c.inside-scan.result c.inside-scan.ensures
-    (c.is_inside.ensures.0 c.if-not-is_inside.false)
+pub specials-preserved : goal.specials-preserved
+specials-preserved c =
+    let some : 0 < c.specials.left = omega arith in
+    left_others c.args.text.now c.args.cut.scanned c.specials.scan c.specials.left c.specials.invariant c.requires.room some
+    c.inside-scan.result c.inside-scan.ensures (c.is_inside.ensures.0 c.if-not-is_inside.false)
 
 pub returns-clause-scanned : goal.returns-clause-scanned
 returns-clause-scanned c =
-    left_none c.args.text.now c.args.cut.scanned c.marks.scan c.marks.left c.marks.invariant c.requires.room (omega arith)
+    left_none c.args.text.now c.args.cut.scanned c.specials.scan c.specials.left c.specials.invariant c.requires.room (omega arith)

@@ -1,4 +1,4 @@
--- A scan passes the bytes within an array, an object or a string that are no marks.
+-- A scan passes the bytes within an array, an object or a string that aren't special.
 use Rattle.yaml_json.proofs.Common.{false, suc, zero, ℕ, ◌+◌, ◌-◌, ◌<◌, ◌≤◌, Some, length, slice_index_or as get_or, List, ◌≡◌, inl, inr, ap}
 use Rattle.yaml_json.proofs.Common.{subst, sym, ◌∙◌, arith, HasScanned, after_byte, cases_lt}
 use Rattle.std.proofs.Common.{◌^◌, w64, bit_and}
@@ -9,32 +9,32 @@ use Rattle.std.proofs.lemmas.Simd.{get_or-chunk}
 use lib.Lanes.{chunk}
 use Rattle.std.specs.Int.{bit_at, trailing_zeros}
 use Rattle.yaml_json.specs.declared.{cuts.Cut.Cut, cuts.Scan.Scan}
-use Rattle.yaml_json.specs.Marks.{IsInside, MayMark, is_mark}
+use Rattle.yaml_json.specs.Specials.{IsInside, MayBeSpecial, is_special}
 use Rattle.yaml_json.proofs.LowestBit.{lowest_cleared}
 use Rattle.yaml_json.proofs.Cutting.{within_stays, string_stays, one_scanned}
 
-mark_stays : (scan : Scan) (byte : ℕ) → IsInside scan → is_mark byte ≡ false → after_byte scan byte ≡ Some scan
-mark_stays scan byte inside none =
+plain_stays : (scan : Scan) (byte : ℕ) → IsInside scan → is_special byte ≡ false → after_byte scan byte ≡ Some scan
+plain_stays scan byte inside none =
     elim inside [
       | inl within ↦ within_stays scan byte within (grind arith)
-      | inr string ↦ string_stays scan byte string (λ e. true≢false (ap is_mark (sym e) ∙ none)) (λ e. true≢false (ap is_mark (sym e) ∙ none))
+      | inr string ↦ string_stays scan byte string (λ e. true≢false (ap is_special (sym e) ∙ none)) (λ e. true≢false (ap is_special (sym e) ∙ none))
     ]
 
--- over bytes that are no marks
+-- over bytes that aren't special
 passes : (text : List ℕ) (cut : Cut) (n : ℕ) → IsInside cut.scan → HasScanned text cut → cut.scanned + n ≤ length text
-    → ((k : ℕ) → k < n → is_mark (get_or text (cut.scanned + k) 0) ≡ false)
+    → ((k : ℕ) → k < n → is_special (get_or text (cut.scanned + k) 0) ≡ false)
     → HasScanned text (record { scan = cut.scan; scanned = cut.scanned + n })
 passes text cut zero inside has room each =
     let none : cut.scanned ≡ cut.scanned + 0 = omega arith in
     subst (λ (at : ℕ). HasScanned text (record { scan = cut.scan; scanned = at })) none has
 passes text cut (suc n) inside has room each =
     let next : cut.scanned + n + 1 ≡ cut.scanned + suc n = omega arith in
-    let stays = mark_stays cut.scan (get_or text (cut.scanned + n) 0) inside (each n (omega arith)) in
+    let stays = plain_stays cut.scan (get_or text (cut.scanned + n) 0) inside (each n (omega arith)) in
     subst (λ (at : ℕ). HasScanned text (record { scan = cut.scan; scanned = at })) next
     (one_scanned text (record { scan = cut.scan; scanned = cut.scanned + n })
     (passes text cut n inside has (omega arith) (λ k low. each k (omega arith))) (omega arith) cut.scan stays)
 
--- so many of 32 bytes are scanned, and the bits that are left may stand for marks among the others
+-- so many of 32 bytes are scanned, and the bits that are left may stand for special bytes among the others
 pub record Left (text : List ℕ) (from : ℕ) (scan : Scan) (left : ℕ) : Type 0 where
   pub count : ℕ
   pub within : count ≤ 32
@@ -42,12 +42,12 @@ pub record Left (text : List ℕ) (from : ℕ) (scan : Scan) (left : ℕ) : Type
   pub scanned : HasScanned text (record { scan = scan; scanned = from + count })
   pub small : left < 2 ^ 32
   pub clear : (k : ℕ) → k < count → bit_at left k ≡ 0
-  pub marks : (k : ℕ) → count ≤ k → k < 32 → bit_at left k ≡ 0 → is_mark (get_or text (from + k) 0) ≡ false
+  pub specials : (k : ℕ) → count ≤ k → k < 32 → bit_at left k ≡ 0 → is_special (get_or text (from + k) 0) ≡ false
 
 pub left_first : (text : List ℕ) (cut : Cut) (found : ℕ) → IsInside cut.scan → HasScanned text cut → found < 2 ^ 32
-    → cut.scanned + 32 ≤ length text → MayMark (chunk cut.scanned 32 text) found
+    → cut.scanned + 32 ≤ length text → MayBeSpecial (chunk cut.scanned 32 text) found
     → Left text cut.scanned cut.scan found
-left_first text cut found inside has small room marks =
+left_first text cut found inside has small room specials =
     let none : cut.scanned ≡ cut.scanned + 0 = omega arith in
     record {
       count = 0;
@@ -56,7 +56,7 @@ left_first text cut found inside has small room marks =
       scanned = subst (λ (at : ℕ). HasScanned text (record { scan = cut.scan; scanned = at })) none has;
       small = small;
       clear = λ k low. let never : ⊥ = omega arith in absurd never;
-      marks = λ k low high none. ap is_mark (sym (get_or-chunk cut.scanned 32 text k 0 high)) ∙ marks k high none;
+      specials = λ k low high none. ap is_special (sym (get_or-chunk cut.scanned 32 text k 0 high)) ∙ specials k high none;
     }
 
 module _ (text : List ℕ) (from : ℕ) (scan : Scan) (left : ℕ) (held : Left text from scan left) (room : from + 32 ≤ length text) where
@@ -69,8 +69,8 @@ module _ (text : List ℕ) (from : ℕ) (scan : Scan) (left : ℕ) (held : Left 
       subst (λ (at : ℕ). HasScanned text (record { scan = scan; scanned = at })) back
       (passes text (record { scan = scan; scanned = from + count }) (end - count) held.inside held.scanned (omega (arith, further, within, room))
       (λ k low. let same : from + count + k ≡ from + (count + k) = omega arith in
-      ap (λ (at : ℕ). is_mark (get_or text at 0)) same
-      ∙ held.marks (count + k) (omega arith) (omega (arith, low, further, within)) (none (count + k) (omega (arith, low, further, within)))))
+      ap (λ (at : ℕ). is_special (get_or text at 0)) same
+      ∙ held.specials (count + k) (omega arith) (omega (arith, low, further, within)) (none (count + k) (omega (arith, low, further, within)))))
 
   pub left_none : left ≡ 0 → HasScanned text (record { scan = scan; scanned = from + 32 })
   left_none empty = up_to 32 held.within (omega arith) (λ k low. ap (λ m. bit_at m k) empty ∙ bit_at-zero k)
@@ -98,9 +98,9 @@ module _ (text : List ℕ) (from : ℕ) (scan : Scan) (left : ℕ) (held : Left 
           | inr high ↦ high
         ]
 
-    -- up to the next mark
-    pub mark_reached : HasScanned text (record { scan = scan; scanned = from + place })
-    mark_reached = let high = place_within in up_to place further (omega (arith, high)) lowest.2
+    -- up to the next special byte
+    pub special_reached : HasScanned text (record { scan = scan; scanned = from + place })
+    special_reached = let high = place_within in up_to place further (omega (arith, high)) lowest.2
 
     abbrev others : ℕ
     others = bit_and left (left - 1)
@@ -109,10 +109,10 @@ module _ (text : List ℕ) (from : ℕ) (scan : Scan) (left : ℕ) (held : Left 
     others_fewer = omega (arith, and_le_r left (left - 1))
 
     module _ (next : Scan) (is : after_byte scan (get_or text (from + place) 0) ≡ Some next) where
-      pub mark_passed : HasScanned text (record { scan = next; scanned = from + place + 1 })
-      mark_passed =
+      pub special_passed : HasScanned text (record { scan = next; scanned = from + place + 1 })
+      special_passed =
           let high = place_within in
-          one_scanned text (record { scan = scan; scanned = from + place }) mark_reached (omega (arith, high, room)) next is
+          one_scanned text (record { scan = scan; scanned = from + place }) special_reached (omega (arith, high, room)) next is
 
       pub left_others : IsInside next → Left text from next others
       left_others inside =
@@ -123,9 +123,9 @@ module _ (text : List ℕ) (from : ℕ) (scan : Scan) (left : ℕ) (held : Left 
             count = place + 1;
             within = omega (arith, high);
             inside = inside;
-            scanned = subst (λ (at : ℕ). HasScanned text (record { scan = next; scanned = at })) one_more mark_passed;
+            scanned = subst (λ (at : ℕ). HasScanned text (record { scan = next; scanned = at })) one_more special_passed;
             small = omega (arith, small, others_fewer);
             clear = λ k low. (lowest_cleared place left lowest.1 lowest.2 k).0 (omega arith);
-            marks = λ k low below none. held.marks k (omega (arith, low, further)) below
+            specials = λ k low below none. held.specials k (omega (arith, low, further)) below
                 (sym ((lowest_cleared place left lowest.1 lowest.2 k).1 (omega arith)) ∙ none);
           }

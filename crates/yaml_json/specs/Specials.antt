@@ -10,9 +10,10 @@ use Rattle.yaml_json.specs.Texts.{is_closer, is_opener}
 abbrev pub IsInside : Scan → Type 0
 IsInside scan = (scan.mode ≡ Within) ⊎ (scan.mode ≡ InString)
 
-abbrev pub is_mark : ℕ → Bool
-is_mark byte = (byte == ascii.quote) || (byte == ascii.backslash) || is_opener byte || is_closer byte
+-- it may change such a scan
+abbrev pub is_special : ℕ → Bool
+is_special byte = (byte == ascii.quote) || (byte == ascii.backslash) || is_opener byte || is_closer byte
 
--- of 32 bytes, only those whose bits are set may be marks
-abbrev pub MayMark : (bytes : List ℕ) (bits : ℕ) → Type 0
-MayMark bytes bits = (k : ℕ) → k < 32 → bit_at bits k ≡ 0 → is_mark (get_or bytes k 0) ≡ false
+-- of 32 bytes, only those whose bits are set may be special
+abbrev pub MayBeSpecial : (bytes : List ℕ) (bits : ℕ) → Type 0
+MayBeSpecial bytes bits = (k : ℕ) → k < 32 → bit_at bits k ≡ 0 → is_special (get_or bytes k 0) ≡ false
