@@ -98,6 +98,7 @@ fn begin<'a, A: Allocator + Copy>(
 }
 
 /// A token with which a value is to begin.
+#[inline(always)]
 fn write_token<'a, A: Allocator + Copy>(
     writer: &mut Writer<A>,
     nest: &mut Nesting<'a, A>,
@@ -145,6 +146,7 @@ fn next_token<'a, A: Allocator + Copy>(reader: &mut Tokens<'a, A>) -> Result<Tok
 }
 
 /// The first token of a value.
+#[inline(always)]
 fn write_first<'a, A: Allocator + Copy>(
     writer: &mut Writer<A>,
     reader: &mut Tokens<'a, A>,
