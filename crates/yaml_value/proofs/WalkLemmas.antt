@@ -9,7 +9,8 @@ use Rattle.yaml_base.proofs.Common.{append-nil, length-append, Option, false}
 use Rattle.yaml_base.specs.Event.{sequence_end, mapping_end}
 use Rattle.yaml_base.specs.values.TypedValues.{value_count}
 use Rattle.yaml_value.specs.{declared.value.Value.Value, declared.walk.Rest.Rest}
-use Rattle.yaml_value.specs.Walk.{items_in, values_in, count_all, count_left, Left, seen_flat, seen_rest, entered, stepped, opening, HasOwn64Bits, step_event, StepHas64Bits}
+use Rattle.yaml_value.specs.Walk.{items_in, values_in, count_all, count_left, Left, seen_flat, seen_rest, entered, stepped, opening, HasOwn64Bits}
+use Rattle.yaml_value.specs.Walk.{step_event, StepHas64Bits}
 
 -- ---- what lies in a value
 

@@ -5,7 +5,8 @@ use Rattle.yaml_value.proofs.size.+count_by_recursion.Goals as goal
 pub count_items-loop-item-preserved : goal.count_items-loop-item-preserved
 count_items-loop-item-preserved g t c =
     let sum : c.saturating_add-count.result ≡ min (c.loop-item.count + c.count_by_recursion.result) most_counted = search rules in
-    items_counted c.deref-item-items.result.now c.loop-item.item-index c.item-item.result c.loop-item.count c.count_by_recursion.result c.saturating_add-count.result
+    items_counted c.deref-item-items.result.now c.loop-item.item-index c.item-item.result c.loop-item.count c.count_by_recursion.result
+    c.saturating_add-count.result
     (omega arith) c.item-item.is c.loop-item.invariant
     c.count_by_recursion.ensures sum
 
