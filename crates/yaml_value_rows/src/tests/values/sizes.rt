@@ -54,14 +54,14 @@ fn a_value_counts_itself(rt: HostRuntime) {
     }
 }
 
-/// The growths of the list by which 1,000 levels are counted.
-const LIST_GROWTHS: std::ops::RangeInclusive<usize> = 1..=9;
+/// How often the list grows by which 1,000 levels are counted.
+const LIST_GROWTHS: usize = 9;
 
 // What finds no room in the list is counted all the same.
 #[test]
 fn a_value_is_counted_without_memory(rt: HostRuntime) {
     let heap = Refusing::new(rt.alloc());
-    for refused in LIST_GROWTHS {
+    for refused in 1..=LIST_GROWTHS {
         let count = counted(&rt, &heap, &Example::Nested(1_000), refused);
         equal(&rt, &count, &1_000);
     }
