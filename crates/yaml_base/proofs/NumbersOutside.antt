@@ -1,12 +1,66 @@
 -- The numbers that name no node are sought node by node.
-use Rattle.yaml_base.proofs.Common.{arith, nat_tests, suc, ℕ, ◌+◌, ◌<◌, is_some, is_none, Option, None, Some, nat_le, negsuc, pos, ℤ, drop, length}
+use Rattle.yaml_base.proofs.Common.{arith, nat_tests, suc, ℕ, ◌+◌, ◌<◌, ◌≤◌, is_some, is_none, Option, None, Some, nat_le, negsuc, pos, ℤ, drop, length}
 use Rattle.yaml_base.proofs.Common.{slice_index_or as get_or, Bool, cond, false, not, true, ◌&&◌, List, [], map, ◌∷◌, refl, ◌≡◌, ap, sym, ◌∙◌, length-map}
 use Rattle.yaml_base.proofs.Common.{flat_map, list_all, option_or, numbers_held, is_whole, numbers_of_pairs, all_numbers, first_outside}
 use Rattle.std.proofs.{Common.add-one, Common.drop-cons, Common.IsTrue, lemmas.List.Folds.find-append}
+use Rattle.std.proofs.lemmas.List.{drop_all}
+use Rattle.std.specs.List.{find}
 use Rattle.yaml_base.specs.declared.{directives.yaml_tag_directive_t.yaml_tag_directive_t, directives.yaml_version_directive_t.yaml_version_directive_t}
 use Rattle.yaml_base.specs.declared.{nodes.yaml_node_data_t.yaml_node_data_t, nodes.yaml_node_pair_t.yaml_node_pair_t, nodes.yaml_node_t.yaml_node_t}
 use Rattle.yaml_base.specs.declared.nodes.yaml_node_data_t.TheVariants.{Mapping, Scalar, Sequence}
 use Rattle.yaml_base.specs.graphs.SeenNodes.{seen_number, seen_pair, seen_held, seen_node, seen_document, names_node, numbers_of}
+
+-- a search from a place on finds what stands there
+pub found_at : {X : Type 0} (test : X → Bool) (items : List X) (i : ℕ) (d : X) → i < length items → test (get_or items i d) ≡ true
+    → find test (drop i items) ≡ Some (get_or items i d)
+found_at test items i d within passes =
+    ap (find test) (drop-cons items i d within)
+    ∙ ap (λ (b : Bool). cond b (Some (get_or items i d)) (find test (drop (suc i) items))) passes
+
+-- or goes on behind it
+pub passed_at : {X : Type 0} (test : X → Bool) (items : List X) (i : ℕ) (d : X) → i < length items → test (get_or items i d) ≡ false
+    → find test (drop i items) ≡ find test (drop (i + 1) items)
+passed_at test items i d within fails =
+    ap (find test) (drop-cons items i d within)
+    ∙ ap (λ (b : Bool). cond b (Some (get_or items i d)) (find test (drop (suc i) items))) fails
+    ∙ ap (λ (n : ℕ). find test (drop n items)) (sym (add-one i))
+
+-- or finds nothing at the end
+pub none_left : {X : Type 0} (test : X → Bool) (items : List X) (i : ℕ) → length items ≤ i → find test (drop i items) ≡ None
+none_left test items i end = ap (find test) (drop_all i items end)
+
+-- the same of pairs, a key before its value
+pair_at : (pairs : List yaml_node_pair_t) (i : ℕ) (d : yaml_node_pair_t) → i < length pairs
+    → numbers_of_pairs (drop i pairs) ≡ (get_or pairs i d).key ∷ (get_or pairs i d).value ∷ numbers_of_pairs (drop (i + 1) pairs)
+pair_at pairs i d within =
+    ap numbers_of_pairs (drop-cons pairs i d within)
+    ∙ ap (λ (n : ℕ). (get_or pairs i d).key ∷ (get_or pairs i d).value ∷ numbers_of_pairs (drop n pairs)) (sym (add-one i))
+
+pub key_outside : (count i : ℕ) (pairs : List yaml_node_pair_t) (d : yaml_node_pair_t) → i < length pairs → names_node count (get_or pairs i d).key ≡ false
+    → first_outside count (numbers_of_pairs (drop i pairs)) ≡ Some (get_or pairs i d).key
+key_outside count i pairs d within outside =
+    let pair = get_or pairs i d in
+    ap (first_outside count) (pair_at pairs i d within)
+    ∙ ap (λ (b : Bool). cond (not b) (Some pair.key) (first_outside count (pair.value ∷ numbers_of_pairs (drop (i + 1) pairs)))) outside
+
+pub value_outside : (count i : ℕ) (pairs : List yaml_node_pair_t) (d : yaml_node_pair_t) → i < length pairs → names_node count (get_or pairs i d).key ≡ true
+    → names_node count (get_or pairs i d).value ≡ false → first_outside count (numbers_of_pairs (drop i pairs)) ≡ Some (get_or pairs i d).value
+value_outside count i pairs d within key outside =
+    let pair = get_or pairs i d in
+    let rest = numbers_of_pairs (drop (i + 1) pairs) in
+    ap (first_outside count) (pair_at pairs i d within)
+    ∙ ap (λ (b : Bool). cond (not b) (Some pair.key) (first_outside count (pair.value ∷ rest))) key
+    ∙ ap (λ (b : Bool). cond (not b) (Some pair.value) (first_outside count rest)) outside
+
+pub pair_within : (count i : ℕ) (pairs : List yaml_node_pair_t) (d : yaml_node_pair_t) → i < length pairs → names_node count (get_or pairs i d).key ≡ true
+    → names_node count (get_or pairs i d).value ≡ true
+    → first_outside count (numbers_of_pairs (drop i pairs)) ≡ first_outside count (numbers_of_pairs (drop (i + 1) pairs))
+pair_within count i pairs d within key value =
+    let pair = get_or pairs i d in
+    let rest = numbers_of_pairs (drop (i + 1) pairs) in
+    ap (first_outside count) (pair_at pairs i d within)
+    ∙ ap (λ (b : Bool). cond (not b) (Some pair.key) (first_outside count (pair.value ∷ rest))) key
+    ∙ ap (λ (b : Bool). cond (not b) (Some pair.value) (first_outside count rest)) value
 
 -- at a place of the list: the node's numbers, and then those behind it
 at_place : {A : Type 0} (count i : ℕ) (nodes : List (yaml_node_t A)) (node : yaml_node_t A) → i < length nodes → node ≡ get_or nodes i node

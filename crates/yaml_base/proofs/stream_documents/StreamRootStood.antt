@@ -142,7 +142,9 @@ nothing_stands : (n : Node) (given : List TagDirective) (s : Effective) (directi
     → Leaves n (record { breaks12 = s.breaks12; directives = given }) s directives root_place marker_cursor
     → FirstStands true (lines_of s.breaks12 (closed (node_own n s directives root_place marker_cursor)))
 nothing_stands (alias_node name) given s directives h leaves = absurd (false≢true h)
-nothing_stands (scalar_node content) given s directives h leaves = grind (arith, scalar_stands, node_own)
+nothing_stands (scalar_node content) given s directives h leaves =
+    scalar_stands (record { breaks12 = s.breaks12; directives = given }) 1 (node_own (scalar_node content) s directives root_place marker_cursor) _ _ _
+    leaves
 nothing_stands (sequence_node start items) given s directives h leaves = absurd (false≢true h)
 nothing_stands (mapping_node start pairs) given s directives h leaves = absurd (false≢true h)
 
