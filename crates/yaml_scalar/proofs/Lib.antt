@@ -34,3 +34,5 @@ pub mod QuotedSteps
 pub mod ShortRuns
 pub mod SimpleAsciiTexts
 pub mod LastCharacters
+pub mod Shorter
+pub mod LineCharacters

@@ -4,14 +4,15 @@ ghost use Rattle.std.specs.Prelude.{◌≡◌, ◌≤◌, ◌==◌, ◌||◌, �
 ghost use Rattle.std.specs.Str.{IsUtf8, chars};
 ghost use Rattle.yaml_base.specs.scalars.Analysis as spec;
 ghost use Rattle.yaml_base.specs.Characters as class;
-ghost use Rattle.yaml_scalar.specs.Barred.{all_styles, allowed_by, barred_by, barred_by_space, barred_in, either, is_ordinary, is_quiet};
+ghost use Rattle.yaml_scalar.specs.Barred.{all_styles, allowed_by, barred_by, barred_by_space, barred_in, either, is_quiet};
 ghost use Rattle.yaml_scalar.specs.Barred.{seen_barred, with_indicator};
 ghost use Rattle.yaml_scalar.specs.ByteClasses.{ImpliesTest};
 ghost use Rattle.yaml_scalar.specs.ScalarData.{ChooseAlike, is_flow, seen_charset, seen_data};
 
+use crate::characters::{is_flow_indicator, is_gap, is_indicator, is_open_ended, is_ordinary};
 use crate::classes::{BREAK, INDICATOR, UNPRINTABLE, WIDE, free_length, last_of};
 use crate::clean_ascii::is_clean_ascii;
-use yaml_base::{is_ascii, is_blank, is_break, is_printable, is_space};
+use yaml_base::{is_ascii, is_break, is_printable, is_space};
 
 /// The styles that a scalar's value allows.
 #[derive(Clone, Copy, PartialEq, Eq, Debug)]
@@ -95,13 +96,6 @@ fn data_of(value: &str, barred: BarredStyles) -> scalar_data_t
     }
 }
 
-/// Whether a character is a blank, a break or NUL.
-fn is_gap(c: char) -> bool
-    ensures { result ≡ spec.is_gap c }
-{
-    is_blank(c) || is_break(c) || c == '\0'
-}
-
 /// Whether a gap or the end comes next.
 fn ends_word(rest: &str) -> bool
     ensures { result ≡ spec.ends_word (chars rest.now) }
@@ -135,37 +129,6 @@ pub(crate) fn is_at_end(rest: &str) -> bool
     rest.chars().next().is_none()
 }
 
-/// Whether a first character means something else than plain text.
-fn is_indicator(c: char) -> bool
-    ensures { result ≡ spec.is_indicator c }
-{
-    matches!(
-        c,
-        '#' | ','
-            | '['
-            | ']'
-            | '{'
-            | '}'
-            | '&'
-            | '*'
-            | '!'
-            | '|'
-            | '>'
-            | '\''
-            | '"'
-            | '%'
-            | '@'
-            | '`'
-    )
-}
-
-/// Whether three characters are `---` or `...`.
-fn is_open_ended(a: char, b: char, c: char) -> bool
-    ensures { result ≡ (a == 45 || a == 46) && b == a && c == a }
-{
-    (a == '-' || a == '.') && b == a && c == a
-}
-
 /// Whether a text begins with `---` or `...`.
 fn begins_like_marker(value: &str) -> bool
     ensures { result ≡ spec.begins_like_marker (chars value.now) }
@@ -177,19 +140,15 @@ fn begins_like_marker(value: &str) -> bool
     }
 }
 
-/// Whether `?`, `:` or `-` stands before a gap or the end.
-fn stands_alone(c: char, rest: &str) -> bool
-    ensures { result ≡ class.is_among (codes "?:-") c && spec.ends_word (chars rest.now) }
-{
-    matches!(c, '?' | ':' | '-') && ends_word(rest)
-}
-
 /// Whether a value, which begins with `c` before `rest`, begins as no plain text may.
 fn first_bars_plain(value: &str, c: char, rest: &str) -> bool
     ensures { result ≡ (class.is_space c || spec.begins_like_marker (chars value.now) || spec.is_indicator c
         || (class.is_among (codes "?:-") c && spec.ends_word (chars rest.now))) }
 {
-    is_space(c) || begins_like_marker(value) || is_indicator(c) || stands_alone(c, rest)
+    is_space(c)
+        || begins_like_marker(value)
+        || is_indicator(c)
+        || (matches!(c, '?' | ':' | '-') && ends_word(rest))
 }
 
 /// Whether a value begins as no plain text may.
@@ -238,13 +197,6 @@ pub(crate) fn begins_with_space(rest: &str) -> bool
     }
 }
 
-/// Whether a character is one of those that no plain text in flow holds.
-fn is_flow_indicator(c: char) -> bool
-    ensures { result ≡ class.is_among (codes ",?:[]{}") c }
-{
-    matches!(c, ',' | '?' | ':' | '[' | ']' | '{' | '}')
-}
-
 /// Whether no plain text holds this character before what follows it.
 fn bars_plain(c: char, rest: &str, charset: CharacterSet, context: Context) -> bool
     ensures { result ≡ spec.bars_plain (seen_charset charset) (is_flow context) c (chars rest.now) }
@@ -275,13 +227,6 @@ fn bars_block(c: char, rest: &str, charset: CharacterSet) -> bool
     ensures { result ≡ spec.bars_block (seen_charset charset) c (chars rest.now) }
 {
     is_special(c, charset) || is_trailing_space(c, rest) || (is_space(c) && is_at_end(rest))
-}
-
-/// Whether a character is a letter or a digit, which every text may hold.
-fn is_ordinary(c: char) -> bool
-    ensures { result ≡ is_ordinary c }
-{
-    matches!(c, 'a'..='z' | 'A'..='Z' | '0'..='9')
 }
 
 /// What was read, and an indicator of flow collections, which only plain text may not hold.

@@ -72,7 +72,10 @@ pub(crate) fn write_header<A: Allocator>(
 pub(crate) fn open_ended(value: &str) -> i32
     ensures { result ≡ pos (layout.header_open_ended (chars value.now)) }
 {
-    open_ended_of(value_ending(value))
+    match value_ending(value) {
+        Ending::MoreBreaks => 2,
+        _ => 0,
+    }
 }
 
 fn block_indicator(style: BlockStyle) -> &'static str
@@ -155,15 +158,6 @@ fn begins_blank(value: &str) -> bool
     match value.chars().next() {
         Some(c) => is_space(c) || is_break(c),
         None => false,
-    }
-}
-
-fn open_ended_of(ending: Ending) -> i32
-    ensures { result ≡ pos (layout.ending_open_ended (seen_ending ending)) }
-{
-    match ending {
-        Ending::MoreBreaks => 2,
-        _ => 0,
     }
 }
 

@@ -98,8 +98,11 @@ fn write_inner<A: Allocator>(
     match place {
         Place::LineStart => write_first(pen, character, lines.indent),
         Place::Folding => {
-            let fold = folds(pen, lines.width, character, rest);
-            write_folding(pen, fold, character, lines.indent)
+            if folds(pen, lines.width, character, rest) {
+                write_fold(pen, lines.indent)
+            } else {
+                write_content(pen, character)
+            }
         }
         Place::Fixed => write_content(pen, character),
     }
@@ -120,24 +123,6 @@ fn write_first<A: Allocator>(
     write_content(pen, character)
 }
 
-fn write_folding<A: Allocator>(
-    pen: &mut Pen<A>,
-    fold: bool,
-    character: char,
-    indent: i32,
-) -> Result<(), yaml_error_t>
-    requires ready { IsReady pen.old }
-    requires not_negative { pos 0 ≤ℤ indent }
-    requires no_break { class.is_break character ≡ false }
-    ensures { Wrote (step.render_folded fold (natural indent) character) pen.old pen.new result }
-{
-    if fold {
-        write_fold(pen, indent)
-    } else {
-        write_content(pen, character)
-    }
-}
-
 fn write_fold<A: Allocator>(pen: &mut Pen<A>, indent: i32) -> Result<(), yaml_error_t>
     requires ready { IsReady pen.old }
     requires not_negative { pos 0 ≤ℤ indent }
@@ -153,15 +138,8 @@ fn place_after(style: BlockStyle, place: Place, character: char) -> Place
     ensures { result ≡ step.place_after (is_folded style) place character }
 {
     if is_break(character) {
-        Place::LineStart
-    } else {
-        within(style, place, character)
+        return Place::LineStart;
     }
-}
-
-fn within(style: BlockStyle, place: Place, character: char) -> Place
-    ensures { result ≡ step.within (is_folded style) place character }
-{
     match place {
         Place::LineStart => place_in_line(style, character),
         Place::Folding => Place::Folding,

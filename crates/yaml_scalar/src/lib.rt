@@ -5,6 +5,7 @@ mod analysis;
 mod batched;
 mod block_header;
 mod block_lines;
+mod characters;
 mod classes;
 mod clean_ascii;
 mod double_quoted;

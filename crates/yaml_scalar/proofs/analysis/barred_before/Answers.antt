@@ -1,6 +1,7 @@
 use Rattle.yaml_scalar.proofs.Common.{ℕ, chars, IsUtf8, Bool, ◌&&◌, ◌||◌, List, ap, subst, sym, ◌∙◌, and_parts, chars-nil, list_any, is_break, Barred}
 use Rattle.yaml_scalar.proofs.Common.{seen_barred, barred_in, either, seen_charset}
 use Rattle.yaml_scalar.proofs.Barred.{or_none, barred_more, barred_whole, all_barred}
+use Rattle.yaml_scalar.proofs.Shorter.{shorter_left}
 use Rattle.yaml_scalar.proofs.analysis.barred_before.Goals as goal
 
 pub loop-c-preserved : goal.loop-c-preserved
@@ -43,3 +44,7 @@ returns-clause-same c =
 
 pub returns-clause-rest : goal.returns-clause-rest
 returns-clause-rest c some = chars-nil
+
+pub loop-c-smaller : goal.loop-c-smaller
+loop-c-smaller c =
+    shorter_left _ _ _ _ _ c.in-Some.c c.in-Some.ensures.steps.0 c.as_str-rest.ensures c.skip_quiet-in-Some.ensures.shorter c.chars-chars-in-Some.ensures.rest

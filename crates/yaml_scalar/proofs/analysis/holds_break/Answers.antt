@@ -1,6 +1,7 @@
 use Rattle.yaml_scalar.proofs.Common.{ℕ, IsUtf8, ◌||◌, List, ap, subst, sym, ◌∙◌, nil_from_length, chars-nil, chars_past_char, list_any, is_break}
 use Rattle.yaml_base.proofs.Common.{chars}
 use Rattle.yaml_scalar.proofs.CleanBytes.{clean_unbroken}
+use Rattle.yaml_scalar.proofs.Shorter.{shorter_left}
 use Rattle.yaml_scalar.proofs.analysis.holds_break.Goals as goal
 
 pub returns-then-is_clean_ascii : goal.returns-then-is_clean_ascii
@@ -27,3 +28,7 @@ returns-then-is_break c =
 
 pub returns : goal.returns
 returns c = sym (c.loop-c.invariant.same ∙ ap (list_any is_break) (ap chars (nil_from_length _ c.in_default.ensures.steps.0.0) ∙ chars-nil))
+
+pub loop-c-smaller : goal.loop-c-smaller
+loop-c-smaller c =
+    shorter_left _ _ _ _ _ c.in-Some.c c.in-Some.ensures.steps.0 c.as_str.ensures c.skip_unbroken-in-Some.ensures.shorter c.chars-chars-in-Some.ensures.rest

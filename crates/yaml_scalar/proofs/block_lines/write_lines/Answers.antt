@@ -5,6 +5,8 @@ use Rattle.yaml_scalar.proofs.{blocks.BlockStays.block_alone, blocks.BlockWrites
 use Rattle.yaml_pen.proofs.StillToWrite.{still_rest, still_failed, end_still}
 use Rattle.yaml_scalar.proofs.RunsWritten.{character_still, run_more, run_failed}
 use Rattle.yaml_scalar.specs.declared.block_lines.Place.{Place}
+use Rattle.std.proofs.Common.{drop}
+use Rattle.yaml_scalar.proofs.Shorter.{shorter_left, shorter_dropped}
 use Rattle.yaml_scalar.proofs.block_lines.write_lines.Goals as goal
 
 pub split_at-requires : goal.split_at-requires
@@ -68,3 +70,10 @@ returns g c =
     let lines = c.args.lines in
     (end_still (lines_from (is_folded lines.style) (limit_of lines.width) (natural lines.indent) c.loop-character.place) _
     c.in_default.ensures.steps.0.0 c.loop-character.invariant.0).writes _ _ c.write_nothing.ensures
+
+pub loop-character-smaller : goal.loop-character-smaller
+loop-character-smaller g c =
+    let rest = c.as_str-rest.result.now in
+    let place = c.run_after-run.result.length in
+    shorter_left _ _ rest (drop place rest) _ c.in-Some.character c.in-Some.ensures.steps.0 c.as_str-rest.ensures (shorter_dropped place rest)
+    (c.chars-characters-in-Some.ensures.rest ∙ c.split_at.ensures.back)

@@ -3,6 +3,7 @@ use Rattle.yaml_scalar.proofs.{BatchTexts.batched_left, BatchTexts.batched_faile
 use Rattle.yaml_pen.proofs.StillToWrite.{still_rest, still_failed, still_same, end_still}
 use Rattle.yaml_scalar.proofs.{InsideSteps.inside_alone, WholeRuns.run_unbroken}
 use Rattle.yaml_scalar.proofs.RunsWritten.{character_still, run_more, run_failed}
+use Rattle.yaml_scalar.proofs.Shorter.{shorter_left, shorter_after_run}
 use Rattle.yaml_scalar.proofs.double_quoted.write_inside.Goals as goal
 
 pub split_at-requires : goal.split_at-requires
@@ -80,3 +81,9 @@ returns g c =
     let quoting = c.args.quoting in
     (end_still (double_inside quoting.unicode (limit_where quoting.allow_breaks quoting.width) (natural quoting.indent) c.loop-c.before) _
     c.in_default.ensures.steps.0.0 c.loop-c.invariant.still).writes _ _ c.write_nothing.ensures
+
+pub loop-c-smaller : goal.loop-c-smaller
+loop-c-smaller g c =
+    let rest = c.as_str-rest.result.now in
+    let few = shorter_after_run c.run_after-run.result.length rest _ _ c.split_at.ensures.back c.in_ok-last.ensures.shorter in
+    shorter_left _ _ rest _ _ c.in-Some.c c.in-Some.ensures.steps.0 c.as_str-rest.ensures few c.chars-chars-in-Some.ensures.rest

@@ -3,6 +3,8 @@ use Rattle.yaml_scalar.proofs.Common.{seen_kind, written_as, render_steps, limit
 use Rattle.yaml_scalar.proofs.{LinesWritten.LinesLeft, StaysInLine.stays_unbroken, StaysInLine.lines_after, StaysInLine.line_stands, WholeRuns.run_unbroken}
 use Rattle.yaml_pen.proofs.StillToWrite.{still_rest, still_failed, end_still}
 use Rattle.yaml_scalar.proofs.RunsWritten.{character_still, standing_more, standing_failed}
+use Rattle.std.proofs.Common.{drop}
+use Rattle.yaml_scalar.proofs.Shorter.{shorter_left, shorter_dropped}
 use Rattle.yaml_scalar.proofs.lines.write_from.Goals as goal
 
 pub split_at-requires : goal.split_at-requires
@@ -68,3 +70,10 @@ returns g c =
     let limit = limit_where lines.allow_breaks lines.width in
     (end_still (render_steps (written_as lines.quoted) limit lines.indent (seen_kind c.loop-character.before)) _
     c.in_default.ensures.steps.0.0 c.loop-character.invariant.still).writes _ _ c.write_nothing.ensures
+
+pub loop-character-smaller : goal.loop-character-smaller
+loop-character-smaller g c =
+    let rest = c.as_str-rest.result.now in
+    let place = c.run_after-run.result.length in
+    shorter_left _ _ rest (drop place rest) _ c.in-Some.character c.in-Some.ensures.steps.0 c.as_str-rest.ensures (shorter_dropped place rest)
+    (c.chars-characters-in-Some.ensures.rest ∙ c.split_at.ensures.back)

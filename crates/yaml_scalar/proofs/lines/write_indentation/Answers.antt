@@ -1,8 +1,12 @@
-use Rattle.yaml_scalar.proofs.Common.{ℕ, ◌+◌, ◌-◌, Ok, List, [], ◌++◌, ◌∷◌, ◌≡◌, ap, subst, sym, ◌∙◌, arith, space, render_text, indentation, wrote_text_then}
+use Rattle.yaml_scalar.proofs.Common.{refl, ℕ, ◌+◌, ◌-◌, Ok, List, [], ◌++◌, ◌∷◌, ◌≡◌, ap, subst, sym, ◌∙◌, arith, space, render_text, indentation, wrote_text_then}
 use Rattle.yaml_scalar.proofs.Common.{wrote_exit, Wrote}
 use Rattle.std.proofs.lemmas.List.{replicate-append-replicate, replicate_more}
 use Rattle.yaml_pen.proofs.Composing.{wrote_cut}
 use Rattle.yaml_scalar.proofs.lines.write_indentation.Goals as goal
+
+pub returns-in_err-write_nothing : goal.returns-in_err-write_nothing
+returns-in_err-write_nothing g c =
+    wrote_exit c.from_residual.ensures (wrote_cut (render_text (indentation c.args.indent)) (indentation c.args.indent) refl c.in_err-write_nothing.ensures)
 
 pub returns-in_err-put : goal.returns-in_err-put
 returns-in_err-put g c =
@@ -19,3 +23,7 @@ pub loop-written-preserved : goal.loop-written-preserved
 loop-written-preserved g c =
     subst (λ (l : List ℕ). Wrote (render_text l) c.args.pen.now c.put.new.self (Ok tt)) (replicate_more c.loop-written.written space)
     (wrote_text_then c.loop-written.invariant c.in_ok-put.ensures.written)
+
+pub returns : goal.returns
+returns g c =
+    subst (λ (n : ℕ). Wrote (render_text (indentation n)) c.args.pen.now c.loop-written.pen (Ok tt)) (omega arith) c.loop-written.invariant

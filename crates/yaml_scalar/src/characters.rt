@@ -1,0 +1,59 @@
+//! The characters that plain text may not hold, or not everywhere, and those that every text may.
+ghost use Rattle.std.specs.Prelude.{◌≡◌, ◌==◌, ◌||◌, ◌&&◌, codes};
+ghost use Rattle.yaml_base.specs.scalars.Analysis as spec;
+ghost use Rattle.yaml_base.specs.Characters as class;
+ghost use Rattle.yaml_scalar.specs.Barred.{is_ordinary};
+
+use yaml_base::{is_blank, is_break};
+
+/// Whether a character is a blank, a break or NUL.
+pub(crate) fn is_gap(c: char) -> bool
+    ensures { result ≡ spec.is_gap c }
+{
+    is_blank(c) || is_break(c) || c == '\0'
+}
+
+/// Whether a first character means something else than plain text.
+pub(crate) fn is_indicator(c: char) -> bool
+    ensures { result ≡ spec.is_indicator c }
+{
+    matches!(
+        c,
+        '#' | ','
+            | '['
+            | ']'
+            | '{'
+            | '}'
+            | '&'
+            | '*'
+            | '!'
+            | '|'
+            | '>'
+            | '\''
+            | '"'
+            | '%'
+            | '@'
+            | '`'
+    )
+}
+
+/// Whether three characters are `---` or `...`.
+pub(crate) fn is_open_ended(a: char, b: char, c: char) -> bool
+    ensures { result ≡ (a == 45 || a == 46) && b == a && c == a }
+{
+    (a == '-' || a == '.') && b == a && c == a
+}
+
+/// Whether a character is one of those that no plain text in flow holds.
+pub(crate) fn is_flow_indicator(c: char) -> bool
+    ensures { result ≡ class.is_among (codes ",?:[]{}") c }
+{
+    matches!(c, ',' | '?' | ':' | '[' | ']' | '{' | '}')
+}
+
+/// Whether a character is a letter or a digit, which every text may hold.
+pub(crate) fn is_ordinary(c: char) -> bool
+    ensures { result ≡ is_ordinary c }
+{
+    matches!(c, 'a'..='z' | 'A'..='Z' | '0'..='9')
+}
