@@ -5,6 +5,7 @@ use Rattle.yaml_scalar.proofs.Common.{chars_past_char, encode_utf8, list_all, Te
 use Rattle.yaml_scalar.proofs.Common.{is_space, is_break, is_printable, Charset, begins_with, is_empty, is_gap, ends_word, is_special, is_trailing_space}
 use Rattle.yaml_scalar.proofs.Common.{Barred, barred_by, barred_in, none_barred, either, is_quiet, barred_by_space, last_from}
 use Rattle.yaml_base.proofs.Common.{and_left}
+use Rattle.yaml_scalar.proofs.Common.{◌≤◌, nat_tests, and_from, or_left, le-leb, false_from_ne_true, false≢true, line_feed, carriage_return, next_line, is_ordinary}
 use Rattle.yaml_base.specs.scalars.Analysis.{is_key_or_comment}
 use Rattle.yaml_scalar.specs.Barred.{with_indicator}
 
@@ -115,6 +116,42 @@ each_member (k ∷ set) test c all is = by (c == k) refl (λ rest. each_member s
 or_last : (a b : Bool) → b ≡ true → (a || b) ≡ true
 or_last true b h = refl
 or_last false b h = h
+
+-- A letter or a digit bars nothing.
+apart : (c : ℕ) → is_ordinary c ≡ true → (k : ℕ) → is_ordinary k ≡ false → (c == k) ≡ false
+apart c h k e = false_from_ne_true (c == k) (λ same. false≢true (sym e ∙ sym (ap is_ordinary (eqb-true c k same)) ∙ h))
+
+ordinary_range : (c : ℕ) → is_ordinary c ≡ true → (48 ≤ c) × (c ≤ 122)
+ordinary_range c h = grind (arith, nat_tests)
+
+ordinary_quiet : (charset : Charset) (c : ℕ) → is_ordinary c ≡ true → Quiet charset c
+ordinary_quiet charset c h =
+    let other : (k : ℕ) → is_ordinary k ≡ false → (c == k) ≡ false = apart c h in
+    let range = ordinary_range c h in
+    let low : 0x20 ≤ c = omega (arith, range.0) in
+    let high : c ≤ 0x7E = omega (arith, range.1) in
+    let printable : is_printable c ≡ true =
+    or_left _ _ (or_left _ _ (or_left _ _ (or_last (c == line_feed) _ (and_from _ _ (le-leb 0x20 c low) (le-leb c 0x7E high))))) in
+    let ascii : is_ascii c ≡ true = le-leb c 0x7F (omega (arith, high)) in
+    let separated : (c == line_separator || c == paragraph_separator) ≡ false = or_from _ _ (other line_separator refl) (other paragraph_separator refl) in
+    record {
+      special = or_from _ _ (or_from _ _ (ap not printable) (and_right (not charset.unicode) (not (is_ascii c)) (ap not ascii)))
+          (and_right charset.breaks12 (c == line_separator || c == paragraph_separator) separated);
+      broken = or_from _ _ (or_from _ _ (or_from _ _ (or_from _ _ (other line_feed refl) (other carriage_return refl)) (other next_line refl))
+          (other line_separator refl))
+          (other paragraph_separator refl);
+      tabbed = other tab refl;
+      nul = other 0 refl;
+      hash = other 35 refl;
+      symbol = or_from _ _ (other 44 refl) (or_from _ _ (other 63 refl) (or_from _ _ (other 58 refl) (or_from _ _ (other 91 refl)
+          (or_from _ _ (other 93 refl) (or_from _ _ (other 123 refl) (or_from _ _ (other 125 refl) refl))))));
+    }
+
+pub ordinary_seen : (charset : Charset) (found : Barred) (c : ℕ) (rest : Text) → is_ordinary c ≡ true → found ≡ either found (barred_by charset c rest)
+ordinary_seen charset found c rest h =
+    let spaced : is_space c ≡ false = apart c h space refl in
+    sym (either_none found) ∙ ap (either found) (sym (quiet_bars charset c rest (ordinary_quiet charset c h) (and_left _ (is_empty rest) spaced)
+    (and_left _ (begins_with (λ d. d == 35) rest) spaced) (and_left _ (begins_with is_break rest) spaced)))
 
 indicator_bars : (charset : Charset) (c : ℕ) (rest : Text) → is_among (codes ",?:[]{}") c ≡ true
     → barred_by charset c rest ≡ with_indicator none_barred c rest

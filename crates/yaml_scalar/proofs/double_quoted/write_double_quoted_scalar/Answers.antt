@@ -10,3 +10,6 @@ returns-clause-reads g c breaks12 =
     (two_or_more c.args.indent c.requires.indented)
     (scalars-chars c.args.value.now c.utf8.value)
     (rw (to_z-of_z w32 c.args.indent c.ranges.indent, to_z-of_z w32 c.args.width c.ranges.width) at c.write_quoted.ensures)
+
+pub returns-clause-written : goal.returns-clause-written
+returns-clause-written g c = rw (to_z-of_z w32 c.args.indent c.ranges.indent, to_z-of_z w32 c.args.width c.ranges.width) at c.write_quoted.ensures
