@@ -52,7 +52,9 @@ impl<A: Allocator> Pen<A> {
         ensures made { IfOk result (λ pen. pen ≡ new_page usize.MAX) }
         ensures refused { IfErr result (λ error. error ≡ yaml_error_t.Memory) }
     {
-        let outlet = Outlet::new(alloc).map_err(|_| yaml_error_t::Memory)?;
+        let Ok(outlet) = Outlet::new(alloc) else {
+            return Err(yaml_error_t::Memory);
+        };
         Ok(Pen {
             outlet,
             encoding: yaml_encoding_t::YAML_ANY_ENCODING,

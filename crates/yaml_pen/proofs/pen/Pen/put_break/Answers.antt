@@ -2,6 +2,7 @@ use Rattle.yaml_pen.proofs.Common.{min, [], ◌∷◌, ap, subst, sym, ◌∙◌
 use Rattle.yaml_pen.proofs.Writing.{Names, AddsEvent-appended, IsPen-added, Wrote-added, known_encoding, line_break_of, break_of, scalar-break, break-column}
 use Rattle.yaml_pen.proofs.Writing.{Names-break}
 use Rattle.yaml_pen.proofs.{Composing.wrote_exit, Refused.Wrote-refused}
+use Rattle.yaml_pen.proofs.Refused.{refused_stays}
 use Rattle.yaml_pen.proofs.pen.Pen.put_break.Goals as goal
 
 pub invariant_of-self-2 : goal.invariant_of-self-2
@@ -33,3 +34,6 @@ returns-clause-written g c =
     c.self.inside.bom_due c.self.inside.column c.args.self.now (render_text (line_feed ∷ [])) c.self.invariant e.1
     (scalar-break (line_break_of c.self.inside.line_break)) adds c.self.view_is
     c.requires.ready (subst (λ (p : Page). Names (break_of c.self.inside.line_break) (render_text (line_feed ∷ [])) p) c.self.view_is (Names-break _))
+
+pub returns-in_err-append-clause-stays : goal.returns-in_err-append-clause-stays
+returns-in_err-append-clause-stays g c some = refused_stays _ _ _ _ _ c.self.view_is c.in_err-append.ensures.stopped some

@@ -1,6 +1,7 @@
 use Rattle.yaml_pen.proofs.Common.{[], ◌∷◌, subst, sym, ◌∙◌, render_text, IsReady}
 use Rattle.yaml_pen.proofs.Writing.{AddsEvent-appended, IsPen-added, Wrote-added, known_encoding, character_bytes-text, scalar-text, Names-character}
 use Rattle.yaml_pen.proofs.{Composing.wrote_exit, Refused.Wrote-refused}
+use Rattle.yaml_pen.proofs.Refused.{refused_stays}
 use Rattle.yaml_pen.proofs.pen.Pen.write_character.Goals as goal
 
 pub invariant_of-self-2 : goal.invariant_of-self-2
@@ -32,3 +33,6 @@ returns-clause-written g c =
     c.self.inside.bom_due c.self.inside.column c.args.self.now (render_text (c.args.character ∷ [])) c.self.invariant e.1
     (scalar-text c.args.character c.ranges.character.0) adds c.self.view_is
     c.requires.ready (Names-character c.args.character c.args.self.now c.requires.not_line_feed)
+
+pub returns-in_err-append-clause-stays : goal.returns-in_err-append-clause-stays
+returns-in_err-append-clause-stays g c some = refused_stays _ _ _ _ _ c.self.view_is c.in_err-append.ensures.stopped some

@@ -3,7 +3,18 @@ use Rattle.std.proofs.lemmas.Str.{IsUtf8-past_char, chars_past_char}
 use Rattle.yaml_pen.{proofs.Composing.wrote_exit, proofs.Writing.line_feed-break}
 use Rattle.yaml_pen.proofs.StillToWrite.{still_rest, still_failed, still_part, end_still, unfailed_after}
 use Rattle.yaml_pen.proofs.Composing.{wrote_cut}
+use Rattle.yaml_pen.proofs.Common.{ℕ, ◌<◌, length, List, ◌++◌, ◌≡◌, length-append, arith}
+use Rattle.std.specs.Char.{encode_utf8}
+use Rattle.std.proofs.lemmas.Str.{len_utf8_bounds, length-encode}
 use Rattle.yaml_pen.proofs.pen.Pen.write_characters.Goals as goal
+
+behind_less : (old behind : List ℕ) (c : ℕ) → old ≡ encode_utf8 c ++ behind → length behind < length old
+behind_less old behind c is =
+    let bounds = len_utf8_bounds c in
+    omega (arith, ap (λ (l : List ℕ). length l) is, length-append (encode_utf8 c) behind, length-encode c, bounds.0)
+
+pub loop-character-smaller : goal.loop-character-smaller
+loop-character-smaller g c = behind_less _ _ c.in-Some.character c.in-Some.ensures.steps.0
 
 pub write_character-requires-clause-not_line_feed : goal.write_character-requires-clause-not_line_feed
 write_character-requires-clause-not_line_feed g c =

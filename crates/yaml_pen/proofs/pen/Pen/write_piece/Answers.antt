@@ -1,6 +1,7 @@
 use Rattle.yaml_pen.proofs.Common.{ap, subst, sym, ◌∙◌, scalars-chars, chars, render_text, utf8, Page, has_bom, IsReady}
 use Rattle.yaml_pen.proofs.Writing.{AddsEvent-appended, IsPen-added, Wrote-added, no_bom, utf8-bytes, Names-run, piece-column}
 use Rattle.yaml_pen.proofs.{Composing.wrote_exit, Refused.Wrote-refused}
+use Rattle.yaml_pen.proofs.Refused.{refused_stays}
 use Rattle.yaml_pen.proofs.pen.Pen.write_piece.Goals as goal
 
 pub invariant_of-self-2 : goal.invariant_of-self-2
@@ -35,3 +36,6 @@ returns-clause-written g c =
     c.self.inside.bom_due c.self.inside.column c.args.self.now (render_text text) c.self.invariant is_utf8
     (scalars-chars c.args.text.now c.utf8.text) adds c.self.view_is
     c.requires.ready (Names-run text c.args.self.now c.requires.no_break)
+
+pub returns-in_err-append-clause-stays : goal.returns-in_err-append-clause-stays
+returns-in_err-append-clause-stays g c some = refused_stays _ _ _ _ _ c.self.view_is c.in_err-append.ensures.stopped some
