@@ -1,4 +1,4 @@
-use Rattle.yaml_pen.proofs.Common.{ℕ, ◌+◌, ◌-◌, Ok, replicate, List, [], ◌++◌, ◌∷◌, ◌≡◌, ap, subst, sym, ◌∙◌, arith, space, render_text, Wrote}
+use Rattle.yaml_pen.proofs.Common.{refl, ℕ, ◌+◌, ◌-◌, Ok, replicate, List, [], ◌++◌, ◌∷◌, ◌≡◌, ap, subst, sym, ◌∙◌, arith, space, render_text, Wrote}
 use Rattle.std.proofs.lemmas.List.{replicate-append-replicate, replicate_more}
 use Rattle.yaml_pen.proofs.Composing.{wrote_text_then, wrote_exit, wrote_cut}
 use Rattle.yaml_pen.proofs.pen.Pen.write_many_spaces.Goals as goal
@@ -18,3 +18,12 @@ pub loop-written-preserved : goal.loop-written-preserved
 loop-written-preserved g c =
     subst (λ (l : List ℕ). Wrote (render_text l) c.args.self.now c.write_character.new.self (Ok tt)) (replicate_more c.loop-written.written space)
     (wrote_text_then c.loop-written.invariant c.in_ok-write_character.ensures.written)
+
+pub returns-in_err-write_nothing-clause-written : goal.returns-in_err-write_nothing-clause-written
+returns-in_err-write_nothing-clause-written g c =
+    let text = replicate c.args.count space in
+    wrote_exit c.from_residual.ensures (wrote_cut (render_text text) text refl c.in_err-write_nothing.ensures)
+
+pub returns-clause-written : goal.returns-clause-written
+returns-clause-written g c =
+    subst (λ (n : ℕ). Wrote (render_text (replicate n space)) c.args.self.now c.loop-written.self (Ok tt)) (omega arith) c.loop-written.invariant
