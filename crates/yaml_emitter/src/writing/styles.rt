@@ -1,8 +1,12 @@
 //! A scalar's text in its style (YAML 1.1, sections 9.1 and 9.3).
 
-ghost use Rattle.std.specs.Prelude.{◌≡◌, ◌+◌, ◌≤ℤ◌, pos, true, IfOk, chars};
+ghost use Rattle.std.specs.Prelude.{◌≡◌, ◌≢◌, ◌+◌, ◌≤ℤ◌, pos, false, true, IfOk, chars};
+ghost use Rattle.yaml_base.specs.Event.{folded, literal};
 ghost use Rattle.yaml_base.specs.Layout.{deeper, open_ended_after};
 ghost use Rattle.yaml_base.specs.Seen.{seen_scalar_style};
+ghost use Rattle.yaml_base.specs.declared.styles.yaml_scalar_style_t.TheVariants.{YAML_FOLDED_SCALAR_STYLE, YAML_LITERAL_SCALAR_STYLE};
+ghost use Rattle.yaml_base.specs.scalars.Analysis.{is_empty};
+ghost use Rattle.yaml_base.specs.scalars.BlockHeader.{header_open_ended};
 ghost use Rattle.yaml_pen.specs.Page.{IsReady};
 ghost use Rattle.yaml_pen.specs.Wrote.{Wrote};
 ghost use Rattle.yaml_emitter.specs.Given.{seen_effective};
@@ -42,27 +46,83 @@ pub(crate) fn write_text<A: Allocator>(
     ensures open_ended { IfOk result (λ after.
         seen_open_ended after ≡ open_ended_after (seen_scalar_style style) (chars value.now) (seen_open_ended open_ended)) }
 {
+    match style {
+        YAML_LITERAL_SCALAR_STYLE => write_literal_text(pen, site, value),
+        YAML_FOLDED_SCALAR_STYLE => write_folded_text(pen, site, value),
+        _ => {
+            write_flow_text(pen, site, style, value)?;
+            Ok(open_ended)
+        }
+    }
+}
+
+/// In a style that stands in flow, too.
+#[inline(always)]
+fn write_flow_text<A: Allocator>(
+    pen: &mut Pen<A>,
+    site: &Site,
+    style: yaml_scalar_style_t,
+    value: &str,
+) -> Result<(), yaml_error_t>
+    requires ready { IsReady pen.old }
+    requires not_literal { style ≢ YAML_LITERAL_SCALAR_STYLE }
+    requires not_folded { style ≢ YAML_FOLDED_SCALAR_STYLE }
+    ensures { Wrote
+        (text_at (seen_scalar_style style) (seen_effective site.now.settings.now) (seen_place site.now.place) site.now.simple (chars value.now))
+        pen.old pen.new result }
+{
     let settings = site.settings;
     let indent = line_indent(settings, &site.place);
     let (width, breaks) = (settings.width, !site.simple);
     match style {
         YAML_PLAIN_SCALAR_STYLE => {
-            write_plain_scalar(pen, value, breaks, site.place.in_flow, indent, width)?
+            write_plain_scalar(pen, value, breaks, site.place.in_flow, indent, width)
         }
         YAML_SINGLE_QUOTED_SCALAR_STYLE => {
-            write_single_quoted_scalar(pen, value, breaks, indent, width)?
+            write_single_quoted_scalar(pen, value, breaks, indent, width)
         }
-        YAML_LITERAL_SCALAR_STYLE => {
-            let header = write_literal_scalar(pen, value, indent, settings.indent as i32)?;
-            return Ok(OpenEnded::after_header(header));
-        }
-        YAML_FOLDED_SCALAR_STYLE => {
-            let header = write_folded_scalar(pen, value, indent, settings.indent as i32, width)?;
-            return Ok(OpenEnded::after_header(header));
-        }
-        _ => write_double_quoted_scalar(pen, value, breaks, settings.unicode, indent, width)?,
+        _ => write_double_quoted_scalar(pen, value, breaks, settings.unicode, indent, width),
     }
-    Ok(open_ended)
+}
+
+/// In literal style, behind its header.
+#[inline(always)]
+fn write_literal_text<A: Allocator>(
+    pen: &mut Pen<A>,
+    site: &Site,
+    value: &str,
+) -> Result<OpenEnded, yaml_error_t>
+    requires ready { IsReady pen.old }
+    requires some { is_empty (chars value.now) ≡ false }
+    ensures written { Wrote
+        (text_at literal (seen_effective site.now.settings.now) (seen_place site.now.place) site.now.simple (chars value.now))
+        pen.old pen.new (without_answer result) }
+    ensures open_ended { IfOk result (λ after. seen_open_ended after ≡ header_open_ended (chars value.now)) }
+{
+    let settings = site.settings;
+    let indent = line_indent(settings, &site.place);
+    let header = write_literal_scalar(pen, value, indent, settings.indent as i32)?;
+    Ok(OpenEnded::after_header(header))
+}
+
+/// In folded style, behind its header.
+#[inline(always)]
+fn write_folded_text<A: Allocator>(
+    pen: &mut Pen<A>,
+    site: &Site,
+    value: &str,
+) -> Result<OpenEnded, yaml_error_t>
+    requires ready { IsReady pen.old }
+    requires fits { style_fits folded (chars value.now) site.now.simple ≡ true }
+    ensures written { Wrote
+        (text_at folded (seen_effective site.now.settings.now) (seen_place site.now.place) site.now.simple (chars value.now))
+        pen.old pen.new (without_answer result) }
+    ensures open_ended { IfOk result (λ after. seen_open_ended after ≡ header_open_ended (chars value.now)) }
+{
+    let settings = site.settings;
+    let indent = line_indent(settings, &site.place);
+    let header = write_folded_scalar(pen, value, indent, settings.indent as i32, settings.width)?;
+    Ok(OpenEnded::after_header(header))
 }
 
 /// Where a scalar's further lines begin, in columns.
