@@ -26,7 +26,7 @@ use yaml_base::{yaml_error_t, yaml_tag_directive_t, yaml_version_directive_t};
 use yaml_pen::Pen;
 
 /// What a document's start holds.
-#[derive(Clone, Copy)]
+#[derive(Drop)]
 pub(crate) struct StartContent<'a, A: Allocator> {
     pub version: Option<yaml_version_directive_t>,
     pub directives: &'a [yaml_tag_directive_t<A>],
