@@ -114,14 +114,13 @@ impl<A: Allocator + Copy> Machine<A> {
     {
         let place = self.frames.next_place();
         let simple = is_simple_alias_key(&self.settings, &place, name);
+        self.stage = self.frames.advance(simple);
         let site = Site {
             settings: &self.settings,
             place,
             simple,
         };
-        write_alias(&mut self.pen, &site, name)?;
-        self.stage = self.frames.advance(simple);
-        Ok(())
+        write_alias(&mut self.pen, &site, name)
     }
 
     /// A scalar, where a node may stand.
@@ -226,8 +225,7 @@ impl<A: Allocator + Copy> Machine<A> {
         write_collection_start(&mut self.pen, &site, content, tag)?;
         let in_flow = is_written_in_flow(&site, flow_asked, empty);
         let frame = opened_frame(&self.pen, &site, kind, in_flow);
-        self.frames.push(frame)?;
-        Ok(())
+        self.frames.push(frame)
     }
 
     fn end_collection(&mut self, kind: CollectionKind) -> Result<(), yaml_error_t>
@@ -241,14 +239,13 @@ impl<A: Allocator + Copy> Machine<A> {
             None => Err(yaml_error_t::ExpectedNode),
             Some(frame) => {
                 let around = self.frames.next_place();
+                self.stage = self.frames.advance(frame.simple);
                 let outer = Site {
                     settings: &self.settings,
                     place: around,
                     simple: frame.simple,
                 };
-                write_collection_end(&mut self.pen, &outer, &frame, kind)?;
-                self.stage = self.frames.advance(frame.simple);
-                Ok(())
+                write_collection_end(&mut self.pen, &outer, &frame, kind)
             }
         }
     }

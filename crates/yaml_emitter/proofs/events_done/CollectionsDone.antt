@@ -3,7 +3,8 @@ use Rattle.yaml_emitter.proofs.Common.{ℕ, Option, None, Some, Result, Err, Ok,
 use Rattle.yaml_emitter.proofs.Common.{sym, ◌∙◌, option_or, Cursor, TagDirective, Collection, start_piece, is_written_in_flow, end_piece, entry_place, Place}
 use Rattle.yaml_emitter.proofs.Common.{is_key, flushes, some_if, name_or_tag_fault, most_open, Effective, Frame, Stage, at_node, next_place, stage_after}
 use Rattle.yaml_emitter.proofs.Common.{is_first, step, stage_refusal, start_event, end_event, brackets_of, Processed, MachineState, piece_at, Page, encoded}
-use Rattle.yaml_emitter.proofs.Common.{result_of_error, Wrote}
+use Rattle.yaml_emitter.proofs.Common.{result_of_error, Wrote, OnOk}
+use Rattle.std.specs.Result.{IfErr}
 use Rattle.yaml_base.specs.{Event.CollectionStyle, Layout.entries_column, Layout.is_simple_collection, Steps.node_allowed}
 use Rattle.yaml_base.specs.{declared.errors.yaml_error_t.yaml_error_t, declared.errors.yaml_error_t.TheVariants.ExpectedNode}
 use Rattle.yaml_base.specs.{declared.errors.yaml_error_t.TheVariants.Memory, declared.errors.yaml_error_t.TheVariants.TooDeep}
@@ -88,7 +89,7 @@ stated_well None is = refl
 stated_well (Some other) is = cc
 
 -- want of memory for what is open, after the start was written
-pub start_unkept : (before : MachineState) (directives : List TagDirective) (frames : List Frame) (mapping : Bool) (start : Collection) (empty simple : Bool)
+start_unkept : (before : MachineState) (directives : List TagDirective) (frames : List Frame) (mapping : Bool) (start : Collection) (empty simple : Bool)
     (place : Place) (after : Stage) (page : Page)
     → before.stage ≡ at_node directives frames → name_or_tag_fault before.given.canonical (start_event mapping start) ≡ None
     → nat_lt (length frames) most_open ≡ true
@@ -108,7 +109,7 @@ opened s mapping in_flow simple place cursor =
       simple = simple;
     }
 
-pub start_written : (before : MachineState) (directives : List TagDirective) (frames : List Frame) (mapping : Bool) (start : Collection)
+start_written : (before : MachineState) (directives : List TagDirective) (frames : List Frame) (mapping : Bool) (start : Collection)
     (empty simple in_flow : Bool)
     (place : Place) (frame : Frame) (after : Stage) (page : Page)
     → before.stage ≡ at_node directives frames → name_or_tag_fault before.given.canonical (start_event mapping start) ≡ None
@@ -158,6 +159,27 @@ start_written before directives frames mapping start empty simple in_flow place 
     stage_by true = refl
     stage_by false = refl
 
+-- what a start leaves, whether or not there was memory for what is open
+pub start_left : (before : MachineState) (directives : List TagDirective) (frames : List Frame) (mapping : Bool) (start : Collection)
+    (empty simple in_flow : Bool)
+    (place : Place) (frame : Frame) (after : Stage) (page : Page) (result : Result (Unit {0}) yaml_error_t)
+    → before.stage ≡ at_node directives frames → name_or_tag_fault before.given.canonical (start_event mapping start) ≡ None
+    → nat_lt (length frames) most_open ≡ true
+    → place ≡ next_place frames → simple ≡ start_simple before.settings directives start empty place
+    → in_flow ≡ is_written_in_flow before.settings place start empty
+    → frame ≡ opened before.settings mapping in_flow simple place page.cursor
+    → OnOk result (after ≡ at_node directives (frame ∷ frames)) → IfErr result (λ e. e ≡ Memory)
+    → Wrote (piece_at (start_piece before.settings directives place simple start) before.open_ended) before.page page (Ok tt)
+    → Processed (start_event mapping start) empty before (record before { stage = after; page = page }) result
+start_left before directives frames mapping start empty simple in_flow place frame after page (Ok done) at none room place_is simple_is in_flow_is frame_is
+    pushed memory wrote =
+    start_written before directives frames mapping start empty simple in_flow place frame after page at none room place_is simple_is in_flow_is frame_is
+    pushed wrote
+start_left before directives frames mapping start empty simple in_flow place frame after page (Err error) at none room place_is simple_is in_flow_is frame_is
+    pushed memory wrote =
+    subst (λ (e : yaml_error_t). Processed (start_event mapping start) empty before (record before { stage = after; page = page }) (Err e)) (sym memory)
+    (start_unkept before directives frames mapping start empty simple place after page at none room place_is simple_is wrote)
+
 -- Ends of collections
 
 pub may_end_here : (frames : List Frame) (frame : Frame) (outer : List Frame) (mapping may : Bool) → frames ≡ frame ∷ outer
@@ -196,20 +218,14 @@ end_wrote_at before directives frame outer mapping empty column page answer colu
     by true w = w
     by false w = w
 
-pub end_cut : (before : MachineState) (directives : List TagDirective) (frame : Frame) (outer : List Frame) (mapping empty : Bool) (column : Option ℕ)
-    (after : Stage)
-    (page : Page) (error : yaml_error_t)
-    → before.stage ≡ at_node directives (frame ∷ outer) → node_allowed (frame ∷ outer) (end_event mapping) ≡ true → column ≡ (next_place outer).column
-    → Wrote (piece_at (end_piece before.settings (brackets_of mapping) frame.place.in_flow
-    (is_first frame.place.role) column) before.open_ended) before.page page
-    (Err error)
-    → Processed (end_event mapping) empty before (record before { stage = after; page = page }) (Err error)
-end_cut before directives frame outer mapping empty column after page error at allowed column_is wrote =
-    processed_cut_at (end_event mapping) empty before (record before { stage = after; page = page }) (at_node directives (frame ∷ outer)) error at refl refl
-    (end_refusal before.given.canonical directives (frame ∷ outer) mapping true allowed)
-    (end_wrote_at before directives frame outer mapping empty column page (Err error) column_is wrote)
+pub end_refused : (before : MachineState) (directives : List TagDirective) (frames : List Frame) (mapping empty : Bool)
+    → before.stage ≡ at_node directives frames → node_allowed frames (end_event mapping) ≡ false
+    → Processed (end_event mapping) empty before before (Err ExpectedNode)
+end_refused before directives frames mapping empty at refused =
+    processed_refused_at (end_event mapping) empty before (at_node directives frames) ExpectedNode at tt
+    (end_refusal before.given.canonical directives frames mapping false refused)
 
-pub end_written : (before : MachineState) (directives : List TagDirective) (frame : Frame) (outer : List Frame) (mapping empty : Bool) (column : Option ℕ)
+end_written : (before : MachineState) (directives : List TagDirective) (frame : Frame) (outer : List Frame) (mapping empty : Bool) (column : Option ℕ)
     (after : Stage) (page : Page)
     → before.stage ≡ at_node directives (frame ∷ outer) → node_allowed (frame ∷ outer) (end_event mapping) ≡ true → column ≡ (next_place outer).column
     → after ≡ stage_after directives outer frame.simple
@@ -242,3 +258,19 @@ end_written before directives frame outer mapping empty column after page at all
         (record { cursor = before.page.cursor; open_ended = before.open_ended })).stage
     stage_by true = refl
     stage_by false = refl
+
+-- what a collection's end leaves, whether or not it was written whole
+pub end_done : (before : MachineState) (directives : List TagDirective) (frame : Frame) (outer : List Frame) (mapping empty : Bool) (column : Option ℕ)
+    (after : Stage) (page : Page) (answer : Result (Unit {0}) yaml_error_t)
+    → before.stage ≡ at_node directives (frame ∷ outer) → node_allowed (frame ∷ outer) (end_event mapping) ≡ true → column ≡ (next_place outer).column
+    → after ≡ stage_after directives outer frame.simple
+    → Wrote (piece_at (end_piece before.settings (brackets_of mapping) frame.place.in_flow
+    (is_first frame.place.role) column) before.open_ended) before.page page
+    answer
+    → Processed (end_event mapping) empty before (record before { stage = after; page = page }) answer
+end_done before directives frame outer mapping empty column after page (Ok done) at allowed column_is after_is wrote =
+    end_written before directives frame outer mapping empty column after page at allowed column_is after_is wrote
+end_done before directives frame outer mapping empty column after page (Err error) at allowed column_is after_is wrote =
+    processed_cut_at (end_event mapping) empty before (record before { stage = after; page = page }) (at_node directives (frame ∷ outer)) error at refl refl
+    (end_refusal before.given.canonical directives (frame ∷ outer) mapping true allowed)
+    (end_wrote_at before directives frame outer mapping empty column page (Err error) column_is wrote)

@@ -79,18 +79,7 @@ alias_wrote before frames name simple place page answer place_is simple_is wrote
     (alias_piece before.settings p (is_key p.role && (not before.settings.canonical && is_simple_alias name)) name) before.open_ended) before.page page answer)
     place_is at_place
 
-pub alias_cut : (before : MachineState) (directives : List TagDirective) (frames : List Frame) (name : Text) (empty simple : Bool) (place : Place) (page : Page)
-    (error : yaml_error_t)
-    → before.stage ≡ at_node directives frames → alias_fault name ≡ None
-    → place ≡ next_place frames → simple ≡ (is_key place.role && (not before.settings.canonical && is_simple_alias name))
-    → Wrote (piece_at (alias_piece before.settings place simple name) before.open_ended) before.page page (Err error)
-    → Processed (alias name) empty before (record before { page = page }) (Err error)
-alias_cut before directives frames name empty simple place page error at none place_is simple_is wrote =
-    processed_cut_at (alias name) empty before (record before { page = page }) (at_node directives frames) error at refl refl
-    (alias_accepted before.given.canonical directives frames name none)
-    (alias_wrote before frames name simple place page (Err error) place_is simple_is wrote)
-
-pub alias_written : (before : MachineState) (directives : List TagDirective) (frames : List Frame) (name : Text) (empty simple : Bool) (place : Place)
+alias_written : (before : MachineState) (directives : List TagDirective) (frames : List Frame) (name : Text) (empty simple : Bool) (place : Place)
     (after : Stage)
     (page : Page)
     → before.stage ≡ at_node directives frames → alias_fault name ≡ None
@@ -104,6 +93,22 @@ alias_written before directives frames name empty simple place after page at non
     (alias_accepted before.given.canonical directives frames name none) refl
     (after_is ∙ ap (λ (b : Bool). stage_after directives frames b) here) refl
     (alias_wrote before frames name simple place page (Ok tt) place_is simple_is wrote) (λ hands. cc)
+
+-- what an alias leaves, whether or not it was written whole
+pub alias_done : (before : MachineState) (directives : List TagDirective) (frames : List Frame) (name : Text) (empty simple : Bool) (place : Place)
+    (after : Stage)
+    (page : Page) (answer : Result (Unit {0}) yaml_error_t)
+    → before.stage ≡ at_node directives frames → alias_fault name ≡ None
+    → place ≡ next_place frames → simple ≡ (is_key place.role && (not before.settings.canonical && is_simple_alias name))
+    → after ≡ stage_after directives frames simple
+    → Wrote (piece_at (alias_piece before.settings place simple name) before.open_ended) before.page page answer
+    → Processed (alias name) empty before (record before { stage = after; page = page }) answer
+alias_done before directives frames name empty simple place after page (Ok done) at none place_is simple_is after_is wrote =
+    alias_written before directives frames name empty simple place after page at none place_is simple_is after_is wrote
+alias_done before directives frames name empty simple place after page (Err error) at none place_is simple_is after_is wrote =
+    processed_cut_at (alias name) empty before (record before { stage = after; page = page }) (at_node directives frames) error at refl refl
+    (alias_accepted before.given.canonical directives frames name none)
+    (alias_wrote before frames name simple place page (Err error) place_is simple_is wrote)
 
 -- Scalars
 

@@ -1,8 +1,8 @@
-use Rattle.yaml_emitter.proofs.Common.{option_map, nat_lt, length, ap, ◌∙◌, arith, common_steps, any_layout, collection_tag, most_open, spelling}
+use Rattle.yaml_emitter.proofs.Common.{option_map, nat_lt, length, ap, ◌∙◌, arith, any_layout, collection_tag, most_open, spelling}
 use Rattle.yaml_emitter.proofs.Common.{seen_collection, machine_state, start_event, is_mapping, seen_place, seen_frame, seen_stage, seen_tag}
-use Rattle.yaml_base.specs.declared.errors.yaml_error_t.TheVariants.{Memory}
-use Rattle.yaml_emitter.proofs.{events_done.ProcessedBy.processed_exit, events_done.ProcessedBy.exit_by_memory, pieces.WritingTags.spelled_handle}
-use Rattle.yaml_emitter.proofs.events_done.CollectionsDone.{room_here, full_here, of_any_style, start_refused, start_cut, start_unkept, start_written}
+use Rattle.std.proofs.lemmas.{Bool.ltb-true, Result.on_ok_weaker}
+use Rattle.yaml_emitter.proofs.{events_done.ProcessedBy.processed_exit, pieces.WritingTags.spelled_handle}
+use Rattle.yaml_emitter.proofs.events_done.CollectionsDone.{room_here, full_here, of_any_style, start_refused, start_cut, start_left}
 use Rattle.yaml_emitter.proofs.events_done.NodesDone.{at_node_inside, seen_at_node, ready_inside, names_inside, pushed_at_node, kept_at_node}
 use Rattle.yaml_emitter.proofs.events_done.NodesDone.{collection_anchor}
 use Rattle.yaml_emitter.proofs.machine.Machine.open_collection.Goals as goal
@@ -54,30 +54,6 @@ returns-in_err-write_collection_start g c = λ style asked.
     (c.in_err-write_collection_start.ensures.written c.self.inside.directives style (machine_state c.self.inside).open_ended
     (c.spell-tag.ensures ∙ ap (option_map (spelling c.self.inside.directives)) (c.written_collection_tag-written.ensures style)))))
 
-pub invariant_of-self-in_err-push : goal.invariant_of-self-in_err-push
-invariant_of-self-in_err-push g c =
-    kept_at_node c.self.inside c.write_collection_start.new.pen c.push.new.self c.self.inside.open_ended c.self.invariant
-    (at_node_inside c.self.inside c.self.view_is c.requires.stage) c.write_collection_start.ensures.ready
-
-pub returns-in_err-push : goal.returns-in_err-push
-returns-in_err-push g c = λ style asked.
-    rw (← c.self.view_is)
-    (processed_exit (start_event (is_mapping c.args.kind) (seen_collection c.args.content.now style)) c.args.empty
-    (machine_state c.self.inside) _ Memory c.from_residual-in_err-push.result
-    (exit_by_memory c.in_err-push.field-0.0 c.from_residual-in_err-push.result c.in_err-push.ensures.memory c.from_residual-in_err-push.ensures)
-    (start_unkept (machine_state c.self.inside) c.self.inside.directives c.self.inside.frames (is_mapping c.args.kind)
-    (seen_collection c.args.content.now style) c.args.empty c.is_simple_collection_key-simple.result (seen_place c.next_place-place.result)
-    (seen_stage c.self.inside.stage c.self.inside.directives c.push.new.self) c.write_collection_start.new.pen
-    (seen_at_node c.self.inside (at_node_inside c.self.inside c.self.view_is c.requires.stage))
-    (of_any_style c.self.inside.given.canonical (is_mapping c.args.kind) (seen_collection c.args.content.now any_layout) style
-    (names_inside c.self.inside c.self.view_is (start_event (is_mapping c.args.kind) (seen_collection c.args.content.now any_layout)) c.requires.names))
-    (room_here (nat_lt (length c.self.inside.frames) most_open) c.is_full.result c.is_full.ensures c.if-is_full.false)
-    c.next_place-place.ensures.place
-    (c.is_simple_collection_key-simple.ensures c.self.inside.directives style
-    (c.spell-tag.ensures ∙ ap (option_map (spelling c.self.inside.directives)) (c.written_collection_tag-written.ensures style)))
-    (c.in_ok-write_collection_start.ensures.written c.self.inside.directives style (machine_state c.self.inside).open_ended
-    (c.spell-tag.ensures ∙ ap (option_map (spelling c.self.inside.directives)) (c.written_collection_tag-written.ensures style)))))
-
 pub invariant_of-self-2 : goal.invariant_of-self-2
 invariant_of-self-2 g c =
     kept_at_node c.self.inside c.write_collection_start.new.pen c.push.new.self c.self.inside.open_ended c.self.invariant
@@ -86,9 +62,10 @@ invariant_of-self-2 g c =
 pub returns : goal.returns
 returns g c = λ style asked.
     rw (← c.self.view_is)
-    (start_written (machine_state c.self.inside) c.self.inside.directives c.self.inside.frames (is_mapping c.args.kind)
+    (start_left (machine_state c.self.inside) c.self.inside.directives c.self.inside.frames (is_mapping c.args.kind)
     (seen_collection c.args.content.now style) c.args.empty c.is_simple_collection_key-simple.result c.is_written_in_flow-in_flow.result
-    (seen_place c.next_place-place.result) (seen_frame c.opened_frame-frame.result) _ c.write_collection_start.new.pen
+    (seen_place c.next_place-place.result) (seen_frame c.opened_frame-frame.result)
+    (seen_stage c.self.inside.stage c.self.inside.directives c.push.new.self) c.write_collection_start.new.pen c.push.result
     (seen_at_node c.self.inside (at_node_inside c.self.inside c.self.view_is c.requires.stage))
     (of_any_style c.self.inside.given.canonical (is_mapping c.args.kind) (seen_collection c.args.content.now any_layout) style
     (names_inside c.self.inside c.self.view_is (start_event (is_mapping c.args.kind) (seen_collection c.args.content.now any_layout)) c.requires.names))
@@ -98,13 +75,26 @@ returns g c = λ style asked.
     (c.spell-tag.ensures ∙ ap (option_map (spelling c.self.inside.directives)) (c.written_collection_tag-written.ensures style)))
     (c.is_written_in_flow-in_flow.ensures (seen_collection c.args.content.now style) asked)
     c.opened_frame-frame.ensures.frame
+    (on_ok_weaker c.push.result
     (pushed_at_node c.self.inside c.push.new.self (seen_frame c.opened_frame-frame.result)
-    (at_node_inside c.self.inside c.self.view_is c.requires.stage) c.in_ok-push.ensures.ok)
+    (at_node_inside c.self.inside c.self.view_is c.requires.stage)) c.push.ensures.ok)
+    c.push.ensures.memory
     (c.in_ok-write_collection_start.ensures.written c.self.inside.directives style (machine_state c.self.inside).open_ended
     (c.spell-tag.ensures ∙ ap (option_map (spelling c.self.inside.directives)) (c.written_collection_tag-written.ensures style))))
 
 pub opened_frame-frame-requires : goal.opened_frame-frame-requires
-opened_frame-frame-requires g c = grind (arith, common_steps) steps 4000000
+opened_frame-frame-requires g c =
+    omega (
+      arith,
+      c.next_place-place.ensures.nested,
+      ltb-true (length c.self.inside.frames) most_open
+          (room_here (nat_lt (length c.self.inside.frames) most_open) c.is_full.result c.is_full.ensures c.if-is_full.false),
+    )
+
+pub push-requires-clause-column : goal.push-requires-clause-column
+push-requires-clause-column g c = omega (arith, c.next_place-place.ensures.nested, c.opened_frame-frame.ensures.nested)
 
 pub push-requires-clause-room : goal.push-requires-clause-room
-push-requires-clause-room g c = grind (arith, common_steps) steps 4000000
+push-requires-clause-room g c =
+    ltb-true (length c.self.inside.frames) most_open
+    (room_here (nat_lt (length c.self.inside.frames) most_open) c.is_full.result c.is_full.ensures c.if-is_full.false)

@@ -1,7 +1,7 @@
 use Rattle.yaml_emitter.proofs.Common.{alias, machine_state}
 use Rattle.std.specs.Prelude.{chars}
-use Rattle.yaml_emitter.proofs.{events_done.ProcessedBy.processed_exit, pieces.WritingNames.sound_alias}
-use Rattle.yaml_emitter.proofs.events_done.NodesDone.{at_node_inside, seen_at_node, ready_inside, kept_at_node, kept_advancing, alias_cut, alias_written}
+use Rattle.yaml_emitter.proofs.{pieces.WritingNames.sound_alias}
+use Rattle.yaml_emitter.proofs.events_done.NodesDone.{at_node_inside, seen_at_node, ready_inside, kept_advancing, alias_done}
 use Rattle.yaml_emitter.proofs.machine.Machine.put_alias.Goals as goal
 
 pub write_alias-requires-clause-ready : goal.write_alias-requires-clause-ready
@@ -13,32 +13,16 @@ write_alias-requires-clause-name g c = sound_alias (chars c.args.name.now) c.req
 
 pub invariant_of-self : goal.invariant_of-self
 invariant_of-self g c =
-    kept_at_node c.self.inside c.write_alias.new.pen c.self.inside.frames c.self.inside.open_ended c.self.invariant
-    (at_node_inside c.self.inside c.self.view_is c.requires.stage) (c.write_alias.ensures 0).ready
-
-pub returns-in_err-write_alias : goal.returns-in_err-write_alias
-returns-in_err-write_alias g c = λ empty.
-    rw (← c.self.view_is)
-    (processed_exit (alias (chars c.args.name.now)) empty
-    (machine_state c.self.inside) _ c.in_err-write_alias.field-0.0 c.from_residual.result c.from_residual.ensures
-    (alias_cut (machine_state c.self.inside) c.self.inside.directives c.self.inside.frames
-    (chars c.args.name.now) empty c.is_simple_alias_key-simple.result _ c.write_alias.new.pen c.in_err-write_alias.field-0.0
-    (seen_at_node c.self.inside (at_node_inside c.self.inside c.self.view_is c.requires.stage)) c.requires.names c.next_place-place.ensures.place
-    c.is_simple_alias_key-simple.ensures
-    (c.in_err-write_alias.ensures (machine_state c.self.inside).open_ended)))
-
-pub invariant_of-self-2 : goal.invariant_of-self-2
-invariant_of-self-2 g c =
     kept_advancing c.self.inside c.write_alias.new.pen c.advance-self-inside.result c.advance-self-inside.new.self c.self.inside.frames
     c.is_simple_alias_key-simple.result c.self.inside.open_ended c.self.invariant
-    (c.advance-self-inside.ensures.stage c.self.inside.directives) (c.in_ok-write_alias.ensures 0).ready
+    (c.advance-self-inside.ensures.stage c.self.inside.directives) (c.write_alias.ensures 0).ready
 
 pub returns : goal.returns
 returns g c = λ empty.
     rw (← c.self.view_is)
-    (alias_written (machine_state c.self.inside) c.self.inside.directives c.self.inside.frames
-    (chars c.args.name.now) empty c.is_simple_alias_key-simple.result _ _ c.write_alias.new.pen
+    (alias_done (machine_state c.self.inside) c.self.inside.directives c.self.inside.frames
+    (chars c.args.name.now) empty c.is_simple_alias_key-simple.result _ _ c.write_alias.new.pen c.write_alias.result
     (seen_at_node c.self.inside (at_node_inside c.self.inside c.self.view_is c.requires.stage)) c.requires.names c.next_place-place.ensures.place
     c.is_simple_alias_key-simple.ensures
     (c.advance-self-inside.ensures.stage c.self.inside.directives)
-    (c.in_ok-write_alias.ensures (machine_state c.self.inside).open_ended))
+    (c.write_alias.ensures (machine_state c.self.inside).open_ended))
