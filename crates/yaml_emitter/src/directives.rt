@@ -144,9 +144,12 @@ fn gives<A: Allocator>(
 ) -> bool
     ensures { result ≡ true → option_map (λ d. seen_directive d.now) directive.entry ≡ Some (record { handle = chars handle.now; prefix = chars prefix.now }) }
 {
-    directive.is_some_and(|directive| {
-        directive.handle.as_str() == handle && directive.prefix.as_str() == prefix
-    })
+    match directive {
+        Some(directive) => {
+            directive.handle.as_str() == handle && directive.prefix.as_str() == prefix
+        }
+        None => false,
+    }
 }
 
 fn check_version(version: Option<yaml_version_directive_t>) -> Result<(), yaml_error_t>

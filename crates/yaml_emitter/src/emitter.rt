@@ -101,6 +101,8 @@ fn room_for_four<A: Allocator + Copy>(alloc: A) -> Result<WaitingEvents<A>, yaml
     ensures memory { IfErr result (λ error. error ≡ yaml_error_t.Memory) }
 {
     let mut queue = Vec::new(alloc);
-    queue.reserve(4).map_err(|_| yaml_error_t::Memory)?;
-    Ok(queue)
+    match queue.reserve(4) {
+        Ok(()) => Ok(queue),
+        Err(_) => Err(yaml_error_t::Memory),
+    }
 }
