@@ -72,6 +72,17 @@ stage_inside e is stage = ap (λ (s : MachineState). s.stage) is ∙ stage
 pub behind_start : {st at : Stage} → st ≡ at → is_at_stream at ≡ false → is_at_stream st ≡ false
 behind_start is behind = ap is_at_stream is ∙ behind
 
+-- what is kept where the start of a document is cut off: the directives before it are given up
+pub kept_cut : {A : Type 0} (e : Inside A) (directives : List TagDirective) (pen : Page) (first : Bool) → directives ≡ []
+    → (machine_state e).stage ≡ at_document first → IsMachine e → IsReady pen → IsMachine (record e { directives = directives; pen = pen })
+kept_cut e directives pen first none at kept ready =
+    record {
+      handles = ap some_handle_breaks none;
+      canonical = kept.canonical;
+      page = fits_ready (seen_stage e.stage directives e.frames) pen
+          (behind_start (unseen e.stage e.directives directives e.frames first at ∙ at) refl) ready;
+    }
+
 -- a flush keeps a page that fits: of an untouched one it changes nothing
 unwritten : (page : Page) → IsUntouched page → page.bom_due ≡ false → page.output ≡ [] → page.output ≡ encoded page
 unwritten page untouched due output = output ∙ sym untouched.no_bytes ∙ ap (λ b. if b then [] else encoded page) due

@@ -1,13 +1,12 @@
 //! Indicators: punctuation and words of lines of their own (YAML 1.1, section 5.3).
 
-ghost use Rattle.std.specs.Prelude.{◌≡◌, false, true};
+ghost use Rattle.std.specs.Prelude.{◌≡◌, false};
 ghost use Rattle.std.specs.List.{list_any};
 ghost use Rattle.yaml_base.specs.Characters.{is_break};
 ghost use Rattle.yaml_base.specs.Indicators.{render_indicator};
 ghost use Rattle.yaml_pen.specs.Indicators as pens;
 ghost use Rattle.yaml_pen.specs.Page.{IsReady};
 ghost use Rattle.yaml_pen.specs.Wrote.{Wrote};
-ghost use Rattle.yaml_emitter.specs.Atoms.{is_visible_ascii};
 ghost use Rattle.yaml_emitter.specs.WrittenAtoms.{seen_indicator};
 
 use std::alloc::Allocator;
@@ -43,8 +42,7 @@ pub(crate) enum IndicatorKind {
 
 impl IndicatorKind {
     fn text(self) -> &'static str
-        ensures value { result.now ≡ (seen_indicator self).text }
-        ensures symbol { is_visible_ascii result.now ≡ true }
+        ensures { result.now ≡ (seen_indicator self).text }
     {
         use IndicatorKind::*;
         match self {

@@ -1,10 +1,18 @@
-use Rattle.yaml_emitter.proofs.Common.{◌+◌, Err, Ok, drop, true, refl, ◌≡◌, ap, sym, ◌∙◌, arith, false≢true, common_steps, length-map, seen_event}
-use Rattle.yaml_emitter.proofs.Common.{seen_events, is_head_ready, ProcessedFirst}
+use Rattle.yaml_emitter.proofs.Common.{◌+◌, ◌<◌, Err, Ok, Event, List, [], ◌∷◌, drop, length, map, true, refl, ◌≡◌, ap, sym, ◌∙◌, arith, false≢true}
+use Rattle.yaml_emitter.proofs.Common.{common_steps, length-map, seen_event, seen_events, is_head_ready, ProcessedFirst}
 use Rattle.yaml_emitter.proofs.standing.Emitting.{took_error, took_next, took_failed, reached_on, seen_behind, took_behind, next_behind, took_within}
 use Rattle.yaml_emitter.proofs.standing.Growing.{grows_page, took_grows}
 use Rattle.yaml_emitter.proofs.standing.KeepsSet.{keeps_given_same, keeps_given_then, took_keeps_given}
 use Rattle.yaml_pen.proofs.Composing.{grows_then}
 use Rattle.yaml_emitter.proofs.emit.write_ready.Goals as goal
+
+-- there is an event where the first is ready
+some_ready : {E : Type 0} (seen : E → Event) (xs : List E) → is_head_ready (map seen xs) ≡ true → 0 < length xs
+some_ready seen [] ready = absurd (false≢true ready)
+some_ready seen (x ∷ xs) ready = omega arith
+
+pub write_next-requires : goal.write_next-requires
+write_next-requires g c = some_ready seen_event _ (sym c.is_next_ready.ensures ∙ c.events-test.true)
 
 pub events-init : goal.events-init
 events-init g c =

@@ -25,8 +25,12 @@ returns-else-events-gt1 g c =
     ∙ le-ltb c.followers-awaits.result (length c.args.events.now) (omega (arith, c.if-awaits-events.false)))
     c.if-events-eq0.false (omega (arith, c.if-events-gt1.false))
 
+none_ready : {E : Type 0} (seen : E → Event) (xs : List E) → length xs ≡ 0 → false ≡ is_head_ready (map seen xs)
+none_ready seen [] none = refl
+none_ready seen (x ∷ xs) none = cc
+
 pub returns-then-events-eq0 : goal.returns-then-events-eq0
-returns-then-events-eq0 g c = grind (arith, common_steps) steps 2000000
+returns-then-events-eq0 g c = none_ready seen_event c.args.events.now c.if-events-eq0.true
 
 pub returns-then-events-gt1 : goal.returns-then-events-gt1
 returns-then-events-gt1 g c = grind (arith, common_steps) steps 2000000

@@ -1,4 +1,4 @@
-use Rattle.yaml_emitter.proofs.Common.{arith, common_steps, seen_event, machine_state}
+use Rattle.yaml_emitter.proofs.Common.{sym, seen_event, machine_state}
 use Rattle.yaml_emitter.proofs.events_done.{DocumentsDone.names_refused, ProcessedBy.processed_exit}
 use Rattle.yaml_emitter.proofs.machine.Machine.process_at_stage.Goals as goal
 
@@ -25,16 +25,16 @@ pub returns-in-Node : goal.returns-in-Node
 returns-in-Node g c = c.expect_node.ensures
 
 pub expect_stream_start-requires-clause-names : goal.expect_stream_start-requires-clause-names
-expect_stream_start-requires-clause-names g c = grind (arith, common_steps) steps 2000000
+expect_stream_start-requires-clause-names g c = rw (← c.self.view_is) (sym c.in_ok-check_names.ensures)
 
 pub expect_document-requires-clause-names : goal.expect_document-requires-clause-names
-expect_document-requires-clause-names g c = grind (arith, common_steps) steps 2000000
+expect_document-requires-clause-names g c = rw (← c.self.view_is) (sym c.in_ok-check_names.ensures)
 
 pub expect_node-requires-clause-names : goal.expect_node-requires-clause-names
-expect_node-requires-clause-names g c = grind (arith, common_steps) steps 2000000
+expect_node-requires-clause-names g c = rw (← c.self.view_is) (sym c.in_ok-check_names.ensures)
 
 pub expect_document_end-requires-clause-names : goal.expect_document_end-requires-clause-names
-expect_document_end-requires-clause-names g c = grind (arith, common_steps) steps 2000000
+expect_document_end-requires-clause-names g c = rw (← c.self.view_is) (sym c.in_ok-check_names.ensures)
 
 pub expect_nothing-requires-clause-names : goal.expect_nothing-requires-clause-names
-expect_nothing-requires-clause-names g c = grind (arith, common_steps) steps 2000000
+expect_nothing-requires-clause-names g c = rw (← c.self.view_is) (sym c.in_ok-check_names.ensures)

@@ -1,8 +1,8 @@
-use Rattle.yaml_emitter.proofs.Common.{Ok, at_node, option_map, option_and_then, map, refl, ap, subst, sym, ◌∙◌, DocumentStart, document_start, seen_version}
+use Rattle.yaml_emitter.proofs.Common.{Ok, at_node, option_map, option_and_then, map, ap, subst, sym, ◌∙◌, DocumentStart, document_start, seen_version}
 use Rattle.yaml_emitter.proofs.Common.{seen_directive, version_fault, directives_fault, some_handle_breaks, machine_state, Processed, MachineState}
 use Rattle.yaml_emitter.proofs.{events_done.ProcessedBy.processed_exit, pieces.WritingNames.sound_handles, pieces.WritingNames.sound_in_force}
 use Rattle.yaml_emitter.proofs.events_done.DocumentsDone.{document_refused, document_start_cut, document_begun, none_behind}
-use Rattle.yaml_emitter.proofs.events_done.KeptInside.{fits_ready, kept_writing, kept_prefix, seen_without, kept_without, stage_inside, behind_start}
+use Rattle.yaml_emitter.proofs.events_done.KeptInside.{kept_cut, kept_prefix, seen_without, kept_without, stage_inside}
 use Rattle.yaml_emitter.proofs.machine.Machine.start_document.Goals as goal
 
 pub invariant_of-self : goal.invariant_of-self
@@ -31,13 +31,8 @@ write_document_start-requires-clause-handles g c =
 
 pub invariant_of-self-in_err-write_document_start : goal.invariant_of-self-in_err-write_document_start
 invariant_of-self-in_err-write_document_start g c =
-    let emptied = record c.self.inside { directives = c.replace-before.new.dest } in
-    let at = stage_inside c.self.inside c.self.view_is c.requires.stage in
-    kept_writing emptied c.write_document_start.new.pen c.self.inside.stage c.self.inside.frames c.self.inside.open_ended
-    (kept_without c.self.inside c.replace-before.new.dest c.args.first (c.replace-before.ensures.after ∙ c.new.ensures) at c.self.invariant)
-    (fits_ready (machine_state emptied).stage c.write_document_start.new.pen
-    (behind_start (ap (λ (s : MachineState). s.stage) (seen_without c.self.inside c.replace-before.new.dest c.args.first at) ∙ at) refl)
-    c.write_document_start.ensures.ready)
+    kept_cut c.self.inside c.replace-before.new.dest c.write_document_start.new.pen c.args.first (c.replace-before.ensures.after ∙ c.new.ensures)
+    (stage_inside c.self.inside c.self.view_is c.requires.stage) c.self.invariant c.write_document_start.ensures.ready
 
 pub returns-in_err-write_document_start : goal.returns-in_err-write_document_start
 returns-in_err-write_document_start g c = λ empty.

@@ -1,7 +1,38 @@
 use Rattle.yaml_emitter.proofs.Common.{ap, ◌∙◌, deeper, seen_scalar_style, Choice, seen_scalar, seen_effective, seen_place, render_scalar_text, style_fits}
-use Rattle.yaml_emitter.proofs.Common.{seen_open_ended, wrote_then, wrote_failed}
+use Rattle.yaml_emitter.proofs.Common.{◌≡◌, chars, false≢true, subst, seen_open_ended, wrote_then, wrote_failed}
+use Rattle.std.{proofs.lemmas.Result.IfOk-from_err, specs.Result.IfOk}
+use Rattle.yaml_base.specs.Layout.{open_ended_after}
+use Rattle.yaml_emitter.specs.declared.writing.open_ended.OpenEnded.{OpenEnded}
 use Rattle.yaml_emitter.proofs.pieces.WritingScalars.{wrote_exit_from, chosen_fits, wrote_scalar}
 use Rattle.yaml_emitter.proofs.writing.scalars.write_scalar.Goals as goal
+
+pub returns-in_err-style-clause-written : goal.returns-in_err-style-clause-written
+returns-in_err-style-clause-written g c = absurd (false≢true c.in_err-style.ensures.ok)
+
+pub returns-in_err-style-clause-ready : goal.returns-in_err-style-clause-ready
+returns-in_err-style-clause-ready g c = absurd (false≢true c.in_err-style.ensures.ok)
+
+pub returns-in_err-style-clause-open_ended : goal.returns-in_err-style-clause-open_ended
+returns-in_err-style-clause-open_ended g c = absurd (false≢true c.in_err-style.ensures.ok)
+
+pub returns-in_err-write_lead-clause-ready : goal.returns-in_err-write_lead-clause-ready
+returns-in_err-write_lead-clause-ready g c = c.in_err-write_lead.ensures.ready
+
+pub returns-in_err-write_lead-clause-open_ended : goal.returns-in_err-write_lead-clause-open_ended
+returns-in_err-write_lead-clause-open_ended g c =
+    IfOk-from_err c.from_residual-in_err-write_lead.result _ c.from_residual-in_err-write_lead.ensures.0
+
+pub write_text-requires-clause-ready : goal.write_text-requires-clause-ready
+write_text-requires-clause-ready g c = c.in_ok-write_lead.ensures.ready
+
+pub returns-clause-ready : goal.returns-clause-ready
+returns-clause-ready g c = c.write_text.ensures.written.ready
+
+pub returns-clause-open_ended : goal.returns-clause-open_ended
+returns-clause-open_ended g c =
+    subst (λ (choice : Choice). IfOk c.write_text.result (λ (after : OpenEnded).
+    seen_open_ended after ≡ open_ended_after choice.style (chars c.args.content.now.value.now) (seen_open_ended c.args.open_ended)))
+    c.in_ok-style.ensures.choice c.write_text.ensures.open_ended
 
 pub returns-in_err-write_lead-clause-written : goal.returns-in_err-write_lead-clause-written
 returns-in_err-write_lead-clause-written g c = λ directives spelled.

@@ -1,8 +1,40 @@
 use Rattle.yaml_emitter.proofs.Common.{rules, refl, List, ℕ, true, false, ◌≡◌, ap, ◌∙◌, chars, list_any, is_break}
 use Rattle.yaml_base.specs.Indicators.{Indicator, opening, tight, indented, spaced}
-use Rattle.yaml_emitter.specs.Atoms.{is_visible_ascii}
+use Rattle.yaml_emitter.specs.{Atoms.is_visible_ascii, WrittenAtoms.seen_indicator, declared.writing.indicators.IndicatorKind.IndicatorKind}
+use Rattle.yaml_emitter.specs.declared.writing.indicators.IndicatorKind.TheVariants.{DocumentStart, DocumentEnd, YamlDirective, Version11, Version12}
+use Rattle.yaml_emitter.specs.declared.writing.indicators.IndicatorKind.TheVariants.{TagDirective, FlowSequenceStart, FlowSequenceEnd}
+use Rattle.yaml_emitter.specs.declared.writing.indicators.IndicatorKind.TheVariants.{FlowMappingStart, FlowMappingEnd, FlowEntry, FlowKey, FlowValue}
+use Rattle.yaml_emitter.specs.declared.writing.indicators.IndicatorKind.TheVariants.{BlockEntry, BlockKey, BlockValue, SimpleValue, Anchor, Alias}
+use Rattle.yaml_emitter.specs.declared.writing.indicators.IndicatorKind.TheVariants.{VerbatimStart, VerbatimEnd}
 use Rattle.yaml_emitter.proofs.pieces.Atoms.{symbol-chars, symbol-no_break}
 use Rattle.yaml_emitter.proofs.writing.indicators.IndicatorKind.indicator.Goals as goal
+
+-- an indicator is of characters that stand for themselves
+visible : (kind : IndicatorKind) → is_visible_ascii (seen_indicator kind).text ≡ true
+visible DocumentStart = refl
+visible DocumentEnd = refl
+visible YamlDirective = refl
+visible Version11 = refl
+visible Version12 = refl
+visible TagDirective = refl
+visible FlowSequenceStart = refl
+visible FlowSequenceEnd = refl
+visible FlowMappingStart = refl
+visible FlowMappingEnd = refl
+visible FlowEntry = refl
+visible FlowKey = refl
+visible FlowValue = refl
+visible BlockEntry = refl
+visible BlockKey = refl
+visible BlockValue = refl
+visible SimpleValue = refl
+visible Anchor = refl
+visible Alias = refl
+visible VerbatimStart = refl
+visible VerbatimEnd = refl
+
+visible_text : (kind : IndicatorKind) {bytes : List ℕ} → bytes ≡ (seen_indicator kind).text → is_visible_ascii bytes ≡ true
+visible_text kind is = ap is_visible_ascii is ∙ visible kind
 
 -- bytes that stand for themselves are the text of what is made of them
 made_of : (form : List ℕ → Indicator) {made : Indicator} (bytes : List ℕ) → made ≡ form (chars bytes) → is_visible_ascii bytes ≡ true → made ≡ form bytes
@@ -15,28 +47,28 @@ no_break form bytes holds is symbol =
 
 pub returns-in-FlowSequenceStart-clause-made : goal.returns-in-FlowSequenceStart-clause-made
 returns-in-FlowSequenceStart-clause-made c =
-    made_of opening c.text-text.result.now c.opening.ensures c.text-text.ensures.symbol ∙ ap opening c.text-text.ensures.value ∙ search rules
+    made_of opening c.text-text.result.now c.opening.ensures (visible_text c.args.self c.text-text.ensures) ∙ ap opening c.text-text.ensures ∙ search rules
 
 pub returns-in-FlowSequenceStart-clause-no_break : goal.returns-in-FlowSequenceStart-clause-no_break
-returns-in-FlowSequenceStart-clause-no_break c = no_break opening c.text-text.result.now (λ text. refl) c.opening.ensures c.text-text.ensures.symbol
+returns-in-FlowSequenceStart-clause-no_break c = no_break opening c.text-text.result.now (λ text. refl) c.opening.ensures (visible_text c.args.self c.text-text.ensures)
 
 pub returns-in-FlowSequenceEnd-clause-made : goal.returns-in-FlowSequenceEnd-clause-made
 returns-in-FlowSequenceEnd-clause-made c =
-    made_of tight c.text-text.result.now c.tight.ensures c.text-text.ensures.symbol ∙ ap tight c.text-text.ensures.value ∙ search rules
+    made_of tight c.text-text.result.now c.tight.ensures (visible_text c.args.self c.text-text.ensures) ∙ ap tight c.text-text.ensures ∙ search rules
 
 pub returns-in-FlowSequenceEnd-clause-no_break : goal.returns-in-FlowSequenceEnd-clause-no_break
-returns-in-FlowSequenceEnd-clause-no_break c = no_break tight c.text-text.result.now (λ text. refl) c.tight.ensures c.text-text.ensures.symbol
+returns-in-FlowSequenceEnd-clause-no_break c = no_break tight c.text-text.result.now (λ text. refl) c.tight.ensures (visible_text c.args.self c.text-text.ensures)
 
 pub returns-in-BlockEntry-clause-made : goal.returns-in-BlockEntry-clause-made
 returns-in-BlockEntry-clause-made c =
-    made_of indented c.text-text.result.now c.indented.ensures c.text-text.ensures.symbol ∙ ap indented c.text-text.ensures.value ∙ search rules
+    made_of indented c.text-text.result.now c.indented.ensures (visible_text c.args.self c.text-text.ensures) ∙ ap indented c.text-text.ensures ∙ search rules
 
 pub returns-in-BlockEntry-clause-no_break : goal.returns-in-BlockEntry-clause-no_break
-returns-in-BlockEntry-clause-no_break c = no_break indented c.text-text.result.now (λ text. refl) c.indented.ensures c.text-text.ensures.symbol
+returns-in-BlockEntry-clause-no_break c = no_break indented c.text-text.result.now (λ text. refl) c.indented.ensures (visible_text c.args.self c.text-text.ensures)
 
 pub returns-in-DocumentStart-clause-made : goal.returns-in-DocumentStart-clause-made
 returns-in-DocumentStart-clause-made c =
-    made_of spaced c.text-text.result.now c.spaced.ensures c.text-text.ensures.symbol ∙ ap spaced c.text-text.ensures.value ∙ search rules
+    made_of spaced c.text-text.result.now c.spaced.ensures (visible_text c.args.self c.text-text.ensures) ∙ ap spaced c.text-text.ensures ∙ search rules
 
 pub returns-in-DocumentStart-clause-no_break : goal.returns-in-DocumentStart-clause-no_break
-returns-in-DocumentStart-clause-no_break c = no_break spaced c.text-text.result.now (λ text. refl) c.spaced.ensures c.text-text.ensures.symbol
+returns-in-DocumentStart-clause-no_break c = no_break spaced c.text-text.result.now (λ text. refl) c.spaced.ensures (visible_text c.args.self c.text-text.ensures)
