@@ -1,12 +1,11 @@
 -- A scalar's text after its lead.
-use Rattle.std.specs.Prelude.{ℕ, Bool, true, ◌&&◌, not, Result, Ok, Err, None, if◌then◌else◌}
+use Rattle.std.specs.Prelude.{ℕ, Bool, true, ◌&&◌, not, None, if◌then◌else◌}
 use Rattle.yaml_base.specs.scalars.Analysis.{is_empty}
 use Rattle.yaml_base.specs.Characters.{Text}
 use Rattle.yaml_base.specs.Cursor.{Cursor, Rendered, render_then}
 use Rattle.yaml_base.specs.Event.{ScalarStyle, literal, folded}
 use Rattle.yaml_base.specs.Layout.{Place, render_body, deeper, render_separation}
 use Rattle.yaml_base.specs.Settings.{Effective}
-use Rattle.yaml_base.specs.declared.errors.yaml_error_t.{yaml_error_t}
 
 -- the separating space and the body; a simple key has no fold
 abbrev pub render_scalar_text : ScalarStyle → Effective → (in_flow simple : Bool) → (indent : ℕ) → Text → Cursor → Rendered
@@ -23,8 +22,3 @@ abbrev pub style_fits : ScalarStyle → Text → (simple : Bool) → Bool
 style_fits literal value simple = not (is_empty value) && not simple
 style_fits folded value simple = not (is_empty value) && not simple
 style_fits _ value simple = true
-
--- whether a call failed, and how
-abbrev pub without_answer : {T : Type 0} → Result T yaml_error_t → Result (Unit {0}) yaml_error_t
-without_answer (Ok _) = Ok tt
-without_answer (Err error) = Err error

@@ -171,14 +171,13 @@ impl<A: Allocator + Copy> Machine<A> {
         let written = written_scalar_tag(content, self.settings.canonical);
         let tag = spell(written, &self.directives);
         let simple = is_simple_scalar_key(&self.settings, &place, content, tag);
+        self.stage = self.frames.advance(simple);
         let site = Site {
             settings: &self.settings,
             place,
             simple,
         };
-        self.open_ended = write_scalar(&mut self.pen, &site, content, tag, self.open_ended)?;
-        self.stage = self.frames.advance(simple);
-        Ok(())
+        write_scalar(&mut self.pen, &mut self.open_ended, &site, content, tag)
     }
 
     /// Memory for what is open is asked for first: where it is refused, nothing of the start is written.

@@ -4,7 +4,7 @@ use Rattle.yaml_emitter.proofs.Common.{◌≡◌, ap, subst, sym, ◌∙◌, opt
 use Rattle.yaml_emitter.proofs.Common.{collection_tag, scalar_piece, alias_piece, Place, is_key, is_simple_alias, is_simple_scalar, some_if}
 use Rattle.yaml_emitter.proofs.Common.{name_or_tag_fault, Effective, Frame, Stage, at_node, next_place, stage_after, stage_refusal, anchor_fault, alias_fault}
 use Rattle.yaml_emitter.proofs.Common.{tag_fault, lacks_tag_and_flags, name_breaks, machine_state, IsMachine, start_event, Processed, seen_stage}
-use Rattle.yaml_emitter.proofs.Common.{MachineState, FitsPage, is_at_stream, piece_at, Page, IsReady, Wrote}
+use Rattle.yaml_emitter.proofs.Common.{MachineState, FitsPage, is_at_stream, piece_at, Page, IsReady, OnOk, Wrote}
 use Rattle.yaml_base.specs.declared.errors.{yaml_error_t.yaml_error_t, yaml_error_t.TheVariants.NoTagNorImplicit}
 use Rattle.yaml_emitter.proofs.{events_done.KeptInside.fits_ready, events_done.KeptInside.kept_writing, events_done.ProcessedBy.processed_refused_at}
 use Rattle.yaml_emitter.proofs.{events_done.ProcessedBy.processed_written_at, events_done.ProcessedBy.processed_cut_at, pieces.WritingNames.sound_anchor}
@@ -188,6 +188,25 @@ scalar_written before directives frames content empty simple place after open_en
     (open_ended_is ∙ ap (λ (b : Bool). bom_written place b) simple_is
     ∙ ap (λ (p : Place). bom_written p (scalar_simple before.settings directives content p)) place_is)
     (scalar_wrote before directives frames content simple place page (Ok tt) place_is simple_is wrote) (λ hands. cc)
+
+-- what a scalar leaves, whether or not it was written whole
+pub scalar_done : (before : MachineState) (directives : List TagDirective) (frames : List Frame) (content : Scalar) (empty simple : Bool) (place : Place)
+    (after : Stage) (open_ended : ℕ) (page : Page) (answer : Result (Unit {0}) yaml_error_t)
+    → before.stage ≡ at_node directives frames → name_or_tag_fault before.given.canonical (scalar content) ≡ None
+    → lacks_tag_and_flags (is_some (scalar_tag before.given.canonical content)) content.plain_implicit content.quoted_implicit ≡ false
+    → place ≡ next_place frames → simple ≡ scalar_simple before.settings directives content place
+    → after ≡ stage_after directives frames simple
+    → OnOk answer (open_ended ≡ (scalar_piece before.settings directives place simple content
+    (record { cursor = before.page.cursor; open_ended = before.open_ended })).standing.open_ended)
+    → Wrote (piece_at (scalar_piece before.settings directives place simple content) before.open_ended) before.page page answer
+    → Processed (scalar content) empty before (record before { stage = after; open_ended = open_ended; page = page }) answer
+scalar_done before directives frames content empty simple place after open_ended page (Ok _) at none lacks place_is simple_is after_is open_ended_is wrote =
+    scalar_written before directives frames content empty simple place after open_ended page at none lacks place_is simple_is after_is open_ended_is wrote
+scalar_done before directives frames content empty simple place after open_ended page (Err error) at none lacks place_is simple_is after_is open_ended_is wrote =
+    processed_cut_at (scalar content) empty before (record before { stage = after; open_ended = open_ended; page = page }) (at_node directives frames) error
+    at refl refl
+    (scalar_refusal before.given.canonical directives frames content false none lacks)
+    (scalar_wrote before directives frames content simple place page (Err error) place_is simple_is wrote)
 
 first_none : (a b : Option yaml_error_t) → option_or a b ≡ None → a ≡ None
 first_none None b none = refl

@@ -1,8 +1,8 @@
 -- Scalars: what the writers of the styles write is the text that the layout puts there, and with what stands before it
 -- the scalar's piece.
-use Rattle.yaml_emitter.proofs.Common.{ℕ, if◌then◌else◌, ◌==◌, option_map, IsErrAnd, IsErr, Option, None, Result, Err, Ok, negsuc, pos, ℤ, length, Bool}
+use Rattle.yaml_emitter.proofs.Common.{ℕ, if◌then◌else◌, ◌==◌, option_map, Option, None, Result, Err, Ok, negsuc, pos, ℤ, length, Bool}
 use Rattle.yaml_emitter.proofs.Common.{false, not, true, ◌&&◌, ◌||◌, List, refl, ◌≡◌, append_assoc, inl, inr, ap, subst, sym, ◌∙◌, arith, and_parts, ints}
-use Rattle.yaml_emitter.proofs.Common.{err_from_is_err_and, chars, Text, Cursor, Rendered, render_then, ScalarStyle, any_style, plain, single_quoted}
+use Rattle.yaml_emitter.proofs.Common.{chars, Text, Cursor, Rendered, render_then, ScalarStyle, any_style, plain, single_quoted}
 use Rattle.yaml_emitter.proofs.Common.{double_quoted, literal, folded, TagDirective, Scalar, scalar_tag, render_anchor, render_properties, render_separation}
 use Rattle.yaml_emitter.proofs.Common.{render_body, charset_of, choice_of, scalar_piece, Place, deeper, render_place, Effective, Spelling, spelling, Charset}
 use Rattle.yaml_emitter.proofs.Common.{Allowances, is_empty, allowances, Choice, is_plain, requested_style, quoted_style, fitting_style, fits_plain, chosen}
@@ -18,17 +18,9 @@ use Rattle.yaml_base.specs.declared.styles.yaml_scalar_style_t.TheVariants.{YAML
 use Rattle.yaml_base.specs.declared.styles.yaml_scalar_style_t.TheVariants.{YAML_SINGLE_QUOTED_SCALAR_STYLE, YAML_DOUBLE_QUOTED_SCALAR_STYLE}
 use Rattle.yaml_base.specs.declared.styles.yaml_scalar_style_t.TheVariants.{YAML_LITERAL_SCALAR_STYLE, YAML_FOLDED_SCALAR_STYLE}
 use Rattle.yaml_emitter.proofs.pieces.AtomsWritten.{lead-spelled}
-use Rattle.yaml_emitter.specs.{Given.seen_width, ScalarTexts.without_answer, declared.effective.EffectiveSettings.EffectiveSettings}
+use Rattle.yaml_emitter.specs.{Given.seen_width, declared.effective.EffectiveSettings.EffectiveSettings}
 use Rattle.yaml_mark.proofs.HandleLemmas.{no_characters, characters_begin}
 use Rattle.yaml_pen.specs.Page.{natural}
-
--- the exit of a `?` tells the error of the call that failed
-pub wrote_exit_from : {T : Type 0} {render : Cursor → Rendered} {before after : Page} {error : yaml_error_t} (answer : Result T yaml_error_t)
-    → IsErr answer × IsErrAnd answer (λ returned. returned ≡ error) → Wrote render before after (Err error) → Wrote render before after (without_answer answer)
-wrote_exit_from {T} {render} {before} {after} {error} answer is wrote =
-    let p = err_from_is_err_and answer is.1 in
-    subst (λ (r : Result T yaml_error_t). Wrote render before after (without_answer r))
-    (sym (p.1 ∙ ap (λ (e : yaml_error_t). let r : Result T yaml_error_t = Err e in r) p.2)) wrote
 
 -- a width that isn't negative limits lines as the settings say
 width_limit : (width : ℤ) → pos 0 ≤ℤ width → limit_of width ≡ seen_width width

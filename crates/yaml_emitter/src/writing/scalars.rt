@@ -1,6 +1,6 @@
 //! Scalars: their style, what stands before them, and their text (YAML 1.1, chapter 9).
 
-ghost use Rattle.std.specs.Prelude.{◌≡◌, ◌&&◌, List, false, true, not, IfOk, IsOk, chars, is_some, option_map};
+ghost use Rattle.std.specs.Prelude.{◌≡◌, ◌&&◌, List, false, true, not, IfOk, IsOk, OnOk, chars, is_some, option_map};
 ghost use Rattle.yaml_base.specs.scalars.Analysis.{is_empty};
 ghost use Rattle.yaml_base.specs.Event.{TagDirective, double_quoted};
 ghost use Rattle.yaml_base.specs.Layout.{choice_of, open_ended_after, scalar_piece};
@@ -15,7 +15,6 @@ ghost use Rattle.yaml_scalar.specs.ScalarData.{seen_choice};
 ghost use Rattle.yaml_emitter.specs.BorrowedTexts.{seen_name, seen_scalar};
 ghost use Rattle.yaml_emitter.specs.Given.{seen_effective};
 ghost use Rattle.yaml_emitter.specs.Places.{seen_place};
-ghost use Rattle.yaml_emitter.specs.ScalarTexts.{without_answer};
 ghost use Rattle.yaml_emitter.specs.Atoms.{name_breaks};
 ghost use Rattle.yaml_emitter.specs.WrittenPieces.{piece_at, seen_open_ended};
 ghost use Rattle.yaml_emitter.specs.WrittenAtoms.{seen_tag, spelling_breaks};
@@ -32,15 +31,15 @@ use yaml_base::{YAML_DOUBLE_QUOTED_SCALAR_STYLE, yaml_error_t, yaml_scalar_style
 use yaml_pen::Pen;
 use yaml_scalar::{analyze_for_style, select_scalar_style};
 
-/// Writes a scalar at its place, its tag spelled so, and returns the open-ended state that it leaves.
+/// Writes a scalar at its place, its tag spelled so, and notes the open-ended state that it leaves.
 #[inline(always)]
 pub(crate) fn write_scalar<A: Allocator>(
     pen: &mut Pen<A>,
+    open_ended: &mut OpenEnded,
     site: &Site,
     content: &ScalarContent,
     tag: Option<SpelledTag>,
-    open_ended: OpenEnded,
-) -> Result<OpenEnded, yaml_error_t>
+) -> Result<(), yaml_error_t>
     requires ready { IsReady pen.old }
     requires anchor { name_breaks (seen_name content.now.anchor) ≡ false }
     requires handle { spelling_breaks (seen_tag tag) ≡ false }
@@ -53,17 +52,17 @@ pub(crate) fn write_scalar<A: Allocator>(
         → Wrote
         (piece_at
         (scalar_piece (seen_effective site.now.settings.now) directives (seen_place site.now.place) site.now.simple (seen_scalar content.now))
-        (seen_open_ended open_ended))
-        pen.old pen.new (without_answer result) }
+        (seen_open_ended open_ended.old))
+        pen.old pen.new result }
     ensures ready { IsReady pen.new }
-    ensures open_ended { IfOk result (λ after.
-        seen_open_ended after
+    ensures open_ended { OnOk result
+        (seen_open_ended open_ended.new
         ≡ open_ended_after (choice_of (seen_effective site.now.settings.now) (seen_place site.now.place) site.now.simple (seen_scalar content.now)).style
-        (chars content.now.value.now) (seen_open_ended open_ended)) }
+        (chars content.now.value.now) (seen_open_ended open_ended.old)) }
 {
     let (style, bare) = choose(site, content, tag.is_some())?;
     write_lead(pen, site, content.anchor, tag, bare)?;
-    write_text(pen, site, style, content.value, open_ended)
+    write_text(pen, open_ended, site, style, content.value)
 }
 
 /// The style that a scalar is written in, and whether the bare tag stands before it.

@@ -1,6 +1,6 @@
 //! A scalar's text in its style (YAML 1.1, sections 9.1 and 9.3).
 
-ghost use Rattle.std.specs.Prelude.{◌≡◌, ◌≢◌, ◌+◌, ◌≤ℤ◌, pos, false, true, IfOk, chars};
+ghost use Rattle.std.specs.Prelude.{◌≡◌, ◌≢◌, ◌+◌, ◌≤ℤ◌, pos, false, true, OnOk, chars};
 ghost use Rattle.yaml_base.specs.Event.{folded, literal};
 ghost use Rattle.yaml_base.specs.Layout.{deeper, open_ended_after};
 ghost use Rattle.yaml_base.specs.Seen.{seen_scalar_style};
@@ -12,7 +12,7 @@ ghost use Rattle.yaml_pen.specs.Wrote.{Wrote};
 ghost use Rattle.yaml_emitter.specs.Given.{seen_effective};
 ghost use Rattle.yaml_emitter.specs.Places.{seen_place};
 ghost use Rattle.yaml_emitter.specs.Reach.{most_column};
-ghost use Rattle.yaml_emitter.specs.ScalarTexts.{text_at, style_fits, without_answer};
+ghost use Rattle.yaml_emitter.specs.ScalarTexts.{text_at, style_fits};
 ghost use Rattle.yaml_emitter.specs.WrittenPieces.{seen_open_ended};
 
 use crate::effective::EffectiveSettings;
@@ -30,29 +30,26 @@ use yaml_scalar::{
     write_single_quoted_scalar,
 };
 
-/// Writes a scalar's text in a style, and returns the open-ended state that it leaves.
+/// Writes a scalar's text in a style, and notes the open-ended state that it leaves.
 pub(crate) fn write_text<A: Allocator>(
     pen: &mut Pen<A>,
+    open_ended: &mut OpenEnded,
     site: &Site,
     style: yaml_scalar_style_t,
     value: &str,
-    open_ended: OpenEnded,
-) -> Result<OpenEnded, yaml_error_t>
+) -> Result<(), yaml_error_t>
     requires ready { IsReady pen.old }
     requires fits { style_fits (seen_scalar_style style) (chars value.now) site.now.simple ≡ true }
     ensures written { Wrote
         (text_at (seen_scalar_style style) (seen_effective site.now.settings.now) (seen_place site.now.place) site.now.simple (chars value.now))
-        pen.old pen.new (without_answer result) }
-    ensures open_ended { IfOk result (λ after.
-        seen_open_ended after ≡ open_ended_after (seen_scalar_style style) (chars value.now) (seen_open_ended open_ended)) }
+        pen.old pen.new result }
+    ensures open_ended { OnOk result
+        (seen_open_ended open_ended.new ≡ open_ended_after (seen_scalar_style style) (chars value.now) (seen_open_ended open_ended.old)) }
 {
     match style {
-        YAML_LITERAL_SCALAR_STYLE => write_literal_text(pen, site, value),
-        YAML_FOLDED_SCALAR_STYLE => write_folded_text(pen, site, value),
-        _ => {
-            write_flow_text(pen, site, style, value)?;
-            Ok(open_ended)
-        }
+        YAML_LITERAL_SCALAR_STYLE => write_literal_text(pen, open_ended, site, value),
+        YAML_FOLDED_SCALAR_STYLE => write_folded_text(pen, open_ended, site, value),
+        _ => write_flow_text(pen, site, style, value),
     }
 }
 
@@ -89,40 +86,44 @@ fn write_flow_text<A: Allocator>(
 #[inline(always)]
 fn write_literal_text<A: Allocator>(
     pen: &mut Pen<A>,
+    open_ended: &mut OpenEnded,
     site: &Site,
     value: &str,
-) -> Result<OpenEnded, yaml_error_t>
+) -> Result<(), yaml_error_t>
     requires ready { IsReady pen.old }
     requires some { is_empty (chars value.now) ≡ false }
     ensures written { Wrote
         (text_at literal (seen_effective site.now.settings.now) (seen_place site.now.place) site.now.simple (chars value.now))
-        pen.old pen.new (without_answer result) }
-    ensures open_ended { IfOk result (λ after. seen_open_ended after ≡ header_open_ended (chars value.now)) }
+        pen.old pen.new result }
+    ensures open_ended { OnOk result (seen_open_ended open_ended.new ≡ header_open_ended (chars value.now)) }
 {
     let settings = site.settings;
     let indent = line_indent(settings, &site.place);
     let header = write_literal_scalar(pen, value, indent, settings.indent as i32)?;
-    Ok(OpenEnded::after_header(header))
+    *open_ended = OpenEnded::after_header(header);
+    Ok(())
 }
 
 /// In folded style, behind its header.
 #[inline(always)]
 fn write_folded_text<A: Allocator>(
     pen: &mut Pen<A>,
+    open_ended: &mut OpenEnded,
     site: &Site,
     value: &str,
-) -> Result<OpenEnded, yaml_error_t>
+) -> Result<(), yaml_error_t>
     requires ready { IsReady pen.old }
     requires fits { style_fits folded (chars value.now) site.now.simple ≡ true }
     ensures written { Wrote
         (text_at folded (seen_effective site.now.settings.now) (seen_place site.now.place) site.now.simple (chars value.now))
-        pen.old pen.new (without_answer result) }
-    ensures open_ended { IfOk result (λ after. seen_open_ended after ≡ header_open_ended (chars value.now)) }
+        pen.old pen.new result }
+    ensures open_ended { OnOk result (seen_open_ended open_ended.new ≡ header_open_ended (chars value.now)) }
 {
     let settings = site.settings;
     let indent = line_indent(settings, &site.place);
     let header = write_folded_scalar(pen, value, indent, settings.indent as i32, settings.width)?;
-    Ok(OpenEnded::after_header(header))
+    *open_ended = OpenEnded::after_header(header);
+    Ok(())
 }
 
 /// Where a scalar's further lines begin, in columns.

@@ -1,7 +1,7 @@
-use Rattle.yaml_emitter.proofs.Common.{option_map, false, true, ap, ◌∙◌, scalar, scalar_tag, spelling, seen_scalar, machine_state, seen_place, seen_tag}
-use Rattle.yaml_emitter.proofs.{events_done.ProcessedBy.processed_exit, pieces.AtomsWritten.written_is_some, pieces.WritingTags.spelled_handle}
-use Rattle.yaml_emitter.proofs.events_done.NodesDone.{at_node_inside, seen_at_node, ready_inside, names_inside, kept_at_node, kept_advancing, lacks_given}
-use Rattle.yaml_emitter.proofs.events_done.NodesDone.{scalar_refused, scalar_cut, scalar_written, scalar_anchor}
+use Rattle.yaml_emitter.proofs.Common.{option_map, false, true, ap, ◌∙◌, scalar, scalar_tag, spelling, seen_scalar, machine_state, seen_open_ended, seen_place, seen_tag}
+use Rattle.yaml_emitter.proofs.{pieces.AtomsWritten.written_is_some, pieces.WritingTags.spelled_handle}
+use Rattle.yaml_emitter.proofs.events_done.NodesDone.{at_node_inside, seen_at_node, ready_inside, names_inside, kept_advancing, lacks_given}
+use Rattle.yaml_emitter.proofs.events_done.NodesDone.{scalar_refused, scalar_done, scalar_anchor}
 use Rattle.yaml_emitter.proofs.machine.Machine.put_chosen.Goals as goal
 
 pub returns-then-lacks_flag : goal.returns-then-lacks_flag
@@ -33,48 +33,24 @@ write_scalar-requires-clause-anchor g c = scalar_anchor c.args.self.now.given.ca
 
 pub invariant_of-self : goal.invariant_of-self
 invariant_of-self g c =
-    kept_at_node c.self.inside c.write_scalar.new.pen c.self.inside.frames c.self.inside.open_ended c.self.invariant
-    (at_node_inside c.self.inside c.self.view_is c.requires.stage) c.in_err-self-inside.ensures.ready
-
-pub returns-in_err-self-inside : goal.returns-in_err-self-inside
-returns-in_err-self-inside g c = λ empty.
-    rw (← c.self.view_is)
-    (processed_exit (scalar (seen_scalar c.args.content.now)) empty
-    (machine_state c.self.inside) _ c.in_err-self-inside.field-0.0 c.from_residual.result c.from_residual.ensures
-    (scalar_cut (machine_state c.self.inside) c.self.inside.directives c.self.inside.frames
-    (seen_scalar c.args.content.now) empty c.is_simple_scalar_key-simple.result
-    (seen_place c.next_place-place.result) c.write_scalar.new.pen c.in_err-self-inside.field-0.0
-    (seen_at_node c.self.inside (at_node_inside c.self.inside c.self.view_is c.requires.stage))
-    (names_inside c.self.inside c.self.view_is (scalar (seen_scalar c.args.content.now)) c.requires.names)
-    (lacks_given (seen_scalar c.args.content.now) c.lacks_flag.result c.self.inside.settings.canonical c.self.inside.given.canonical false
-    c.self.invariant.canonical
-    c.if-lacks_flag.false c.lacks_flag.ensures)
-    c.next_place-place.ensures.place
-    (c.is_simple_scalar_key-simple.ensures c.self.inside.directives
-    (c.spell-tag.ensures ∙ ap (option_map (spelling c.self.inside.directives)) c.written_scalar_tag-written.ensures))
-    (c.in_err-self-inside.ensures.written c.self.inside.directives
-    (c.spell-tag.ensures ∙ ap (option_map (spelling c.self.inside.directives)) c.written_scalar_tag-written.ensures))))
-
-pub invariant_of-self-2 : goal.invariant_of-self-2
-invariant_of-self-2 g c =
     kept_advancing c.self.inside c.write_scalar.new.pen c.advance-self-inside.result c.advance-self-inside.new.self c.self.inside.frames
-    c.is_simple_scalar_key-simple.result c.in_ok-self-inside.field-0 c.self.invariant
-    (c.advance-self-inside.ensures.stage c.self.inside.directives) c.in_ok-self-inside.ensures.ready
+    c.is_simple_scalar_key-simple.result c.write_scalar.new.open_ended c.self.invariant
+    (c.advance-self-inside.ensures.stage c.self.inside.directives) c.write_scalar.ensures.ready
 
 pub returns : goal.returns
 returns g c = λ empty.
+    let spelled = c.spell-tag.ensures ∙ ap (option_map (spelling c.self.inside.directives)) c.written_scalar_tag-written.ensures in
     rw (← c.self.view_is)
-    (scalar_written (machine_state c.self.inside) c.self.inside.directives c.self.inside.frames
-    (seen_scalar c.args.content.now) empty c.is_simple_scalar_key-simple.result (seen_place c.next_place-place.result) _ _ c.write_scalar.new.pen
+    (scalar_done (machine_state c.self.inside) c.self.inside.directives c.self.inside.frames
+    (seen_scalar c.args.content.now) empty c.is_simple_scalar_key-simple.result (seen_place c.next_place-place.result) _
+    (seen_open_ended c.write_scalar.new.open_ended) c.write_scalar.new.pen c.write_scalar.result
     (seen_at_node c.self.inside (at_node_inside c.self.inside c.self.view_is c.requires.stage))
     (names_inside c.self.inside c.self.view_is (scalar (seen_scalar c.args.content.now)) c.requires.names)
     (lacks_given (seen_scalar c.args.content.now) c.lacks_flag.result c.self.inside.settings.canonical c.self.inside.given.canonical false
     c.self.invariant.canonical
     c.if-lacks_flag.false c.lacks_flag.ensures)
     c.next_place-place.ensures.place
-    (c.is_simple_scalar_key-simple.ensures c.self.inside.directives
-    (c.spell-tag.ensures ∙ ap (option_map (spelling c.self.inside.directives)) c.written_scalar_tag-written.ensures))
+    (c.is_simple_scalar_key-simple.ensures c.self.inside.directives spelled)
     (c.advance-self-inside.ensures.stage c.self.inside.directives)
-    c.in_ok-self-inside.ensures.open_ended
-    (c.in_ok-self-inside.ensures.written c.self.inside.directives
-    (c.spell-tag.ensures ∙ ap (option_map (spelling c.self.inside.directives)) c.written_scalar_tag-written.ensures)))
+    c.write_scalar.ensures.open_ended
+    (c.write_scalar.ensures.written c.self.inside.directives spelled))

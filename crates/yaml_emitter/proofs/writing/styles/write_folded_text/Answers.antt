@@ -1,7 +1,7 @@
-use Rattle.yaml_emitter.proofs.Common.{pos, ◌≡◌, FitsSigned as SFits, refl, rules, ◌∙◌, w32, to_z, arith, ints, to_z-of_z, chars, Ok}
+use Rattle.yaml_emitter.proofs.Common.{pos, ◌≡◌, FitsSigned as SFits, refl, rules, ◌∙◌, w32, to_z, arith, ints, to_z-of_z, chars, Ok, wrote_exit}
 use Rattle.yaml_base.specs.declared.styles.yaml_scalar_style_t.TheVariants.{YAML_FOLDED_SCALAR_STYLE}
 use Rattle.yaml_base.specs.scalars.BlockHeader.{ending}
-use Rattle.yaml_emitter.proofs.pieces.WritingScalars.{wrote_exit_from, wrote_folded, block_some}
+use Rattle.yaml_emitter.proofs.pieces.WritingScalars.{wrote_folded, block_some}
 use Rattle.yaml_emitter.proofs.writing.styles.write_folded_text.Goals as goal
 
 pub returns-in_err-header-clause-written : goal.returns-in_err-header-clause-written
@@ -10,7 +10,7 @@ returns-in_err-header-clause-written g c =
     let fits : SFits w32 settings.width = search rules in
     let indent_fits : SFits w32 c.line_indent-indent.result = search rules in
     let best : to_z w32 settings.indent ≡ pos settings.indent = omega (arith, ints, settings.indents_within) in
-    wrote_exit_from c.from_residual.result c.from_residual.ensures
+    wrote_exit c.from_residual.ensures
     (wrote_folded settings c.args.site.now.place.in_flow c.args.site.now.simple (chars c.args.value.now)
     (to_z-of_z w32 c.line_indent-indent.result indent_fits ∙ c.line_indent-indent.ensures.value) (to_z-of_z w32 settings.width fits) settings.counts
     {style = YAML_FOLDED_SCALAR_STYLE} best refl c.requires.fits c.in_err-header.ensures.written)
