@@ -15,6 +15,7 @@ use crate::emit::{write_all, yaml_emitter_emit};
 use crate::emitter::yaml_emitter_t;
 use crate::machine::Machine;
 use crate::queue::{are_ready_by_one_more, nothing_waits, waits_past_scalar};
+use crate::spares::SpareTexts;
 use crate::stage::Stage;
 use crate::writing::{ScalarContent, stands_plain};
 use std::alloc::Allocator;
@@ -46,6 +47,7 @@ pub fn yaml_emitter_emit_scalar<A: Allocator + Copy>(
 }
 
 /// Takes a scalar where events may wait.
+#[inline(never)]
 fn emit_behind<A: Allocator + Copy>(
     emitter: &mut yaml_emitter_t<A>,
     content: &ScalarContent<'_>,
@@ -57,14 +59,46 @@ fn emit_behind<A: Allocator + Copy>(
     ensures output { emitter.new.has_output ≡ true }
 {
     if are_ready_by_one_more(emitter.queue.as_slice()) {
-        emitter.started = true;
-        let answer = emitter
-            .machine
-            .write_scalar_behind(emitter.queue.as_slice(), content);
-        emitter.queue.clear();
-        return answer;
+        write_behind(emitter, content)
+    } else {
+        wait_behind(emitter, content)
     }
-    let event = copied_scalar(emitter.machine.allocator(), content)?;
+}
+
+/// Takes a scalar with which all events that wait are ready.
+#[inline(never)]
+fn write_behind<A: Allocator + Copy>(
+    emitter: &mut yaml_emitter_t<A>,
+    content: &ScalarContent<'_>,
+) -> Result<(), yaml_error_t>
+    requires ready { are_ready_by_one_more emitter.old.held ≡ true }
+    requires no_error { emitter.old.error ≡ None }
+    requires output { emitter.old.has_output ≡ true }
+    requires texts { has_scalar_texts (scalar (seen_scalar content.now)) ≡ true }
+    ensures { EmitsEvent emitter.old (scalar (seen_scalar content.now)) result emitter.new }
+{
+    emitter.started = true;
+    let answer = emitter
+        .machine
+        .write_scalar_behind(emitter.queue.as_slice(), content);
+    emitter.spares.keep_texts(&mut emitter.queue);
+    answer
+}
+
+/// Takes a scalar with which not all events that wait are ready.
+#[inline(never)]
+fn wait_behind<A: Allocator + Copy>(
+    emitter: &mut yaml_emitter_t<A>,
+    content: &ScalarContent<'_>,
+) -> Result<(), yaml_error_t>
+    requires waits { are_ready_by_one_more emitter.old.held ≡ false }
+    requires no_error { emitter.old.error ≡ None }
+    requires output { emitter.old.has_output ≡ true }
+    requires texts { has_scalar_texts (scalar (seen_scalar content.now)) ≡ true }
+    ensures { EmitsEvent emitter.old (scalar (seen_scalar content.now)) result emitter.new ⊎ CopyFailed emitter.old result emitter.new }
+{
+    let alloc = emitter.machine.allocator();
+    let event = copied_scalar(&mut emitter.spares, alloc, content)?;
     if waits_past_scalar(emitter.queue.as_slice()) {
         emitter.started = true;
         emitter.queue.push_reserved(event);
@@ -148,6 +182,7 @@ fn text_is_scalars(text: &str)
 
 /// An event of its own, with a copy of each text.
 fn copied_scalar<A: Allocator + Copy>(
+    spares: &mut SpareTexts<A>,
     alloc: A,
     content: &ScalarContent,
 ) -> Result<yaml_event_t<A>, yaml_error_t>
@@ -157,7 +192,7 @@ fn copied_scalar<A: Allocator + Copy>(
     Ok(YAML_SCALAR_EVENT {
         anchor: copied_choice(alloc, content.anchor)?,
         tag: copied_choice(alloc, content.tag)?,
-        value: copied_text(alloc, content.value)?,
+        value: spares.copied(alloc, content.value)?,
         plain_implicit: content.plain_implicit,
         quoted_implicit: content.quoted_implicit,
         style: content.style,

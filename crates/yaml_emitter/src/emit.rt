@@ -15,7 +15,9 @@ ghost use Rattle.yaml_emitter.specs.StandsAfter.{FailedReady, StandsAfter, Proce
 
 use crate::emitter::yaml_emitter_t;
 use crate::machine::Machine;
-use crate::queue::{closes_at_once, drop_written, first_and_rest, is_next_ready, is_ready_alone};
+use crate::queue::{
+    closes_at_once, drop_written, first_and_rest, is_next_ready, is_ready_alone, waits_alone,
+};
 use std::alloc::Allocator;
 use yaml_base::{yaml_error_t, yaml_event_t};
 
@@ -49,6 +51,10 @@ pub fn yaml_emitter_emit<A: Allocator + Copy>(
     }
     if is_ready_alone(&emitter.queue, &event) {
         return emitter.machine.write_alone(&event);
+    }
+    if waits_alone(&emitter.queue, &event) {
+        emitter.queue.push_reserved(event);
+        return Ok(());
     }
     emitter.queue.push_reserved(event);
     match write_ready(&mut emitter.machine, emitter.queue.as_slice()) {

@@ -8,6 +8,7 @@ ghost use Rattle.yaml_emitter.specs.State.{State, new_state, new_state_with};
 
 use crate::machine::Machine;
 use crate::settings::Settings;
+use crate::spares::SpareTexts;
 use std::alloc::Allocator;
 use std::marker::Model;
 use yaml_base::{yaml_error_t, yaml_event_t};
@@ -24,6 +25,7 @@ pub struct yaml_emitter_t<A: Allocator> {
     pub(crate) opened: bool,
     pub(crate) closed: bool,
     pub(crate) queue: WaitingEvents<A>,
+    pub(crate) spares: SpareTexts<A>,
     pub(crate) machine: Machine<A>,
 }
 
@@ -56,6 +58,7 @@ pub fn yaml_emitter_initialize<A: Allocator + Copy>(
         opened: false,
         closed: false,
         queue,
+        spares: SpareTexts::new(),
         machine,
     })
 }

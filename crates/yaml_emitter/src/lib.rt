@@ -16,6 +16,7 @@ mod process;
 mod queue;
 mod setters;
 mod settings;
+mod spares;
 mod stage;
 mod writing;
 

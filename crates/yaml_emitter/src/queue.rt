@@ -107,6 +107,13 @@ pub(crate) fn is_ready_alone<A: Allocator>(
     nothing_waits(queue) && awaits_nothing(event)
 }
 
+/// Whether no event waits, and this one has to.
+pub(crate) fn waits_alone<A: Allocator>(queue: &WaitingEvents<A>, event: &yaml_event_t<A>) -> bool
+    ensures { result ≡ true → is_head_ready (seen_events queue.now.items ++ seen_event event.now ∷ []) ≡ false }
+{
+    nothing_waits(queue) && !awaits_nothing(event)
+}
+
 fn awaits_nothing<A: Allocator>(event: &yaml_event_t<A>) -> bool
     ensures { result ≡ (awaited (seen_event event.now) == 0) }
 {

@@ -1,9 +1,9 @@
-use Rattle.yaml_emitter.proofs.Common.{◌≤◌, Some, Result, Err, drop, true, List, [], ◌++◌, ◌∷◌, refl, ap, subst, sym, ◌∙◌, false≢true, Event, seen_event}
+use Rattle.yaml_emitter.proofs.Common.{◌≤◌, Some, Result, Err, Ok, drop, true, List, [], ◌++◌, ◌∷◌, refl, ap, subst, sym, ◌∙◌, false≢true, Event, seen_event}
 use Rattle.yaml_emitter.proofs.Common.{seen_events, state_of, is_head_ready, MachineStands, StandsAfter, failed_by, State, MachineState, machine_of}
 use Rattle.yaml_emitter.proofs.Common.{KeepsGiven, KeepsSet, result_of_error, Grows}
 use Rattle.yaml_emitter.proofs.standing.{KeepsSet.emitting_keeps, Promising.promised, Promising.stands_with, PromisingRoom.memory_only}
 use Rattle.yaml_emitter.proofs.{events_done.SeenTexts.seen_scalars}
-use Rattle.yaml_emitter.proofs.standing.EmittingEvents.{with_machine, emits_failed, emits_alone}
+use Rattle.yaml_emitter.proofs.standing.EmittingEvents.{with_machine, emits_failed, emits_alone, emits_waiting}
 use Rattle.yaml_emitter.proofs.standing.EmitterKept.{room_left, seen_more, within_count, has_output_inside, kept_emitting}
 use Rattle.yaml_emitter.proofs.standing.Emitting.{none_became_ready, stands_written, stands_failing}
 use Rattle.yaml_base.specs.declared.errors.{yaml_error_t.yaml_error_t}
@@ -13,6 +13,17 @@ use Rattle.yaml_emitter.proofs.emit.yaml_emitter_emit.Goals as goal
 pub push_reserved-requires : goal.push_reserved-requires
 push_reserved-requires g c = room_left c.emitter.inside c.emitter.invariant
 
+pub push_reserved-requires-2 : goal.push_reserved-requires-2
+push_reserved-requires-2 g c = room_left c.emitter.inside c.emitter.invariant
+
+pub invariant_of-emitter-then-waits_alone : goal.invariant_of-emitter-then-waits_alone
+invariant_of-emitter-then-waits_alone g c =
+    let pushed = c.push_reserved.new.self.items in
+    kept_emitting c.emitter.inside _ (has_output_inside c.emitter.inside c.emitter.view_is c.requires) refl
+    (subst (λ n. 4 ≤ n) (sym c.push_reserved.ensures.capacity) c.emitter.invariant.room)
+    (ap is_head_ready (seen_more seen_event c.emitter.inside.queue.items pushed pushed c.args.event refl c.push_reserved.ensures.items)
+    ∙ c.waits_alone.ensures c.if-waits_alone.true)
+
 pub invariant_of-emitter-then-is_ready_alone : goal.invariant_of-emitter-then-is_ready_alone
 invariant_of-emitter-then-is_ready_alone g c =
     kept_emitting c.emitter.inside _ (has_output_inside c.emitter.inside c.emitter.view_is c.requires) refl c.emitter.invariant.room
@@ -21,14 +32,14 @@ invariant_of-emitter-then-is_ready_alone g c =
 pub invariant_of-emitter-in-Ok : goal.invariant_of-emitter-in-Ok
 invariant_of-emitter-in-Ok g c =
     kept_emitting c.emitter.inside _ (has_output_inside c.emitter.inside c.emitter.view_is c.requires) refl
-    (subst (λ n. 4 ≤ n) (sym (c.drop_written.ensures.room ∙ c.push_reserved.ensures.capacity)) c.emitter.invariant.room)
+    (subst (λ n. 4 ≤ n) (sym (c.drop_written.ensures.room ∙ c.push_reserved-2.ensures.capacity)) c.emitter.invariant.room)
     (ap is_head_ready (c.drop_written.ensures.rest ∙ ap (λ q. drop c.in-Ok.written (seen_events q)) (sym c.as_slice.ensures.value))
     ∙ c.in-Ok.ensures.written.ended)
 
 pub invariant_of-emitter-in-Err : goal.invariant_of-emitter-in-Err
 invariant_of-emitter-in-Err g c =
     kept_emitting c.emitter.inside _ (has_output_inside c.emitter.inside c.emitter.view_is c.requires) refl
-    (subst (λ n. 4 ≤ n) (sym (c.clear.ensures.capacity ∙ c.push_reserved.ensures.capacity)) c.emitter.invariant.room)
+    (subst (λ n. 4 ≤ n) (sym (c.clear.ensures.capacity ∙ c.push_reserved-2.ensures.capacity)) c.emitter.invariant.room)
     (ap (λ q. is_head_ready (seen_events q)) c.clear.ensures.items)
 
 pub returns-in-Some : goal.returns-in-Some
@@ -79,6 +90,29 @@ returns-then-is_ready_alone g c =
       output = emitted.output;
     }
 
+pub returns-then-waits_alone : goal.returns-then-waits_alone
+returns-then-waits_alone g c =
+    let before : State = state_of c.emitter.inside in
+    let event = seen_event c.args.event in
+    let pushed = c.push_reserved.new.self.items in
+    let held = seen_events pushed in
+    let more = seen_more seen_event c.emitter.inside.queue.items pushed pushed c.args.event refl c.push_reserved.ensures.items in
+    let emitted =
+    subst (λ (s : State). EmitsEvent s event (Ok tt) (with_machine before held (machine_of before))) c.emitter.view_is
+    (emits_waiting event before held (seen_scalars c.args.event) (sym c.error.ensures ∙ c.in_default.is) more
+    (has_output_inside c.emitter.inside c.emitter.view_is c.requires) (ap is_head_ready more ∙ c.waits_alone.ensures c.if-waits_alone.true)) in
+    record {
+      stands = emitted.stands;
+      promised = emitted.promised;
+      fits = emitted.fits;
+      grows = emitted.grows;
+      waits = emitted.waits;
+      kept = emitted.kept;
+      set = emitted.set;
+      answered = emitted.answered;
+      output = emitted.output;
+    }
+
 pub write_ready-requires : goal.write_ready-requires
 write_ready-requires g c = sym c.error.ensures ∙ c.in_default.is
 
@@ -93,7 +127,7 @@ returns-in-Ok-clause-stands g c given all stands =
     stands_with given all c.args.event _
     (stands_written given all (seen_event c.args.event) before (seen_events c.as_slice.result.now) (seen_events c.drop_written.new.queue.items) c.in-Ok.written
     c.write_ready.new.machine h.so (sym c.error.ensures ∙ c.in_default.is)
-    (seen_more seen_event c.emitter.inside.queue.items _ c.as_slice.result.now c.args.event c.as_slice.ensures.value c.push_reserved.ensures.items)
+    (seen_more seen_event c.emitter.inside.queue.items _ c.as_slice.result.now c.args.event c.as_slice.ensures.value c.push_reserved-2.ensures.items)
     c.in-Ok.ensures.written c.write_ready.ensures.error
     (c.drop_written.ensures.rest ∙ ap (λ q. drop c.in-Ok.written (seen_events q)) (sym c.as_slice.ensures.value)))
     h.texts
@@ -122,7 +156,7 @@ returns-in-Err-clause-stands g c given all stands =
     let h = subst (λ s. StandsAfter given all s) (sym c.emitter.view_is) stands in
     let failed = stands_failing given all event before (seen_events c.as_slice.result.now) c.in-Err.error c.write_ready.new.machine h.so
     (sym c.error.ensures ∙ c.in_default.is) (seen_more seen_event c.emitter.inside.queue.items _ c.as_slice.result.now c.args.event c.as_slice.ensures.value
-    c.push_reserved.ensures.items) c.in-Err.ensures.failed in
+    c.push_reserved-2.ensures.items) c.in-Err.ensures.failed in
     stands_with given all c.args.event _
     (subst (λ (m : MachineState). MachineStands given (all ++ event ∷ []) m.error (seen_events c.clear.new.self.items) m) (sym c.fail.ensures)
     (subst (λ (l : List Event). MachineStands given (all ++ event ∷ []) (Some c.in-Err.error) l (failed_by c.in-Err.error c.write_ready.new.machine))
@@ -144,7 +178,8 @@ returns-in-Err-clause-waits g c given all stands none same =
     let h = subst (λ s. StandsAfter given all s) (sym c.emitter.view_is) stands in
     let unready = none_became_ready given all (seen_event c.args.event) before h.so (sym c.error.ensures ∙ c.in_default.is) same in
     absurd (false≢true (c.in-Err.ensures.waits (ap is_head_ready
-    (seen_more seen_event c.emitter.inside.queue.items _ c.as_slice.result.now c.args.event c.as_slice.ensures.value c.push_reserved.ensures.items) ∙ unready)))
+    (seen_more seen_event c.emitter.inside.queue.items _ c.as_slice.result.now c.args.event c.as_slice.ensures.value c.push_reserved-2.ensures.items)
+    ∙ unready)))
 
 pub returns-in-Err-clause-grows : goal.returns-in-Err-clause-grows
 returns-in-Err-clause-grows g c =
