@@ -74,8 +74,27 @@ impl<A: Allocator> Pen<A> {
             && is_line_feed(self.line_break)
     }
 
+    // Most lines begin at few columns. A start whose length is known is copied without a call.
     #[inline(always)]
     fn write_line_start(&mut self, at: u32) -> Result<(), yaml_error_t>
+        requires ready { IsReady self.old }
+        requires breaks { breaks_line at self.old.cursor ≡ true }
+        requires few { at ≤ 31 }
+        requires no_bom { has_bom self.old.encoding ≡ false }
+        requires line_feed { self.old.line_break ≡ line_feed_break }
+        ensures written { Wrote (line_begun at) self.old self.new result }
+        ensures stays { IsSome self.old.error → self.new ≡ self.old }
+    {
+        match at {
+            2 => self.append_line_start(2),
+            4 => self.append_line_start(4),
+            6 => self.append_line_start(6),
+            _ => self.append_line_start(at),
+        }
+    }
+
+    #[inline(always)]
+    fn append_line_start(&mut self, at: u32) -> Result<(), yaml_error_t>
         requires ready { IsReady self.old }
         requires breaks { breaks_line at self.old.cursor ≡ true }
         requires few { at ≤ 31 }

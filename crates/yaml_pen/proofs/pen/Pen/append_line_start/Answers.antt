@@ -5,7 +5,7 @@ use Rattle.yaml_pen.proofs.{Spaces.line_start_ascii, Spaces.line_start_names}
 use Rattle.yaml_pen.proofs.Writing.{AddsEvent-appended, IsPen-added, Wrote-added, no_bom}
 use Rattle.yaml_pen.specs.declared.pen.new_lines.TheConstants.{LINE_START}
 use Rattle.yaml_pen.proofs.{Composing.wrote_exit, Refused.Wrote-refused}
-use Rattle.yaml_pen.proofs.pen.Pen.write_line_start.Goals as goal
+use Rattle.yaml_pen.proofs.pen.Pen.append_line_start.Goals as goal
 
 -- so many bytes of the table are LF and spaces
 line_start : (at : ℕ) → at ≤ 31 → take (at + 1) LINE_START ≡ line_feed ∷ replicate at space
