@@ -2,7 +2,7 @@
 ghost use Rattle.std.specs.Prelude.{◌≡◌, IfSome, OnOk, chars};
 ghost use Rattle.yaml_base.specs.Event.{scalar};
 ghost use Rattle.yaml_base.specs.Seen.{seen_mapping_style, seen_sequence_style};
-ghost use Rattle.yaml_writer.specs.NumberParts.{IsNoNumber, number_in};
+ghost use Rattle.yaml_writer.specs.NumberParts.{IsNumber, number_in};
 ghost use Rattle.yaml_json.specs.Failing.{FailedAt, FailedAtEnd, IsAnswer, emitter_error_of};
 ghost use Rattle.yaml_json.specs.JsonEvents.{bool_content, null_content, number_content, style_of, text_content};
 ghost use Rattle.yaml_json.specs.Refused.{RefusesText};
@@ -11,9 +11,9 @@ ghost use Rattle.yaml_json.specs.Wrote.{Ends, IsBare, StartsCollection, WroteEve
 use crate::values::Stop;
 use std::alloc::Allocator;
 use yaml_writer::{
-    CollectionKind, Writer, YAML_BLOCK_MAPPING_STYLE, YAML_BLOCK_SEQUENCE_STYLE,
-    YAML_FLOW_MAPPING_STYLE, YAML_FLOW_SEQUENCE_STYLE, number_of, yaml_error_t,
-    yaml_mapping_style_t, yaml_sequence_style_t,
+    CollectionKind, Number, Writer, YAML_BLOCK_MAPPING_STYLE, YAML_BLOCK_SEQUENCE_STYLE,
+    YAML_FLOW_MAPPING_STYLE, YAML_FLOW_SEQUENCE_STYLE, yaml_error_t, yaml_mapping_style_t,
+    yaml_sequence_style_t,
 };
 
 /// The answer of a writer without its error, which its emitter has.
@@ -81,21 +81,19 @@ pub(crate) fn write_text<A: Allocator + Copy>(
     answer_of(writer.text(text))
 }
 
-/// A number, by its text.
+/// A number, by its text, which a reader found.
 pub(crate) fn write_number<A: Allocator + Copy>(
     writer: &mut Writer<A>,
     text: &str,
 ) -> Result<(), Stop>
-    requires { IsBare writer.old }
+    requires bare { IsBare writer.old }
+    requires number { IsNumber text.now (number_in text.now) }
     ensures written { OnOk result (WroteEvent writer.old (scalar (number_content writer.old.canonical (number_in text.now))) writer.new) }
-    ensures refused { RefusesText result → IsNoNumber text.now }
+    ensures failed { RefusesText result → ⊥ }
     ensures stopped { IfSome (emitter_error_of writer.new result) (λ error. FailedAt writer.old
         (scalar (number_content writer.old.canonical (number_in text.now))) error writer.new) }
 {
-    let Some(number) = number_of(text) else {
-        return Err(Stop::NotJson);
-    };
-    answer_of(writer.number(&number))
+    answer_of(writer.number(&Number::of_text(text)))
 }
 
 /// Begins a collection.

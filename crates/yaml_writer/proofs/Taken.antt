@@ -7,7 +7,8 @@ use Rattle.std.specs.Prelude.{is_ok}
 use Rattle.yaml_base.proofs.Common.{inl, ◌⊎◌}
 use Rattle.yaml_emitter.{proofs.Common.with_all_taken, proofs.Common.KeepsSet, specs.EmitsEvent.EmitsEvent, specs.EmitsEvent.CopyFailed}
 use Rattle.yaml_base.{proofs.Prefixes.prefix_same, specs.declared.errors.yaml_error_t.yaml_error_t}
-use Rattle.yaml_writer.specs.Writing.{Failed}
+use Rattle.yaml_writer.proofs.Common.{option_or}
+use Rattle.yaml_writer.specs.Writing.{Failed, tag_or_default}
 use Rattle.std.proofs.lemmas.Bool.{cases_Bool}
 
 -- a call of the emitter keeps what was taken
@@ -160,3 +161,8 @@ given_as before after answer is given failed = (
   subst (λ (e : Event). OnOk answer (GaveEvent before e None after)) is given,
   subst (λ (e : Event). IfErr answer (λ error. Failed before e error after)) is failed,
 )
+
+-- a tag that was given, else this one
+pub or_own : (tag : Option Text) (is_written : Bool) (own : Text) → option_or tag (tag_or_default None is_written own) ≡ tag_or_default tag is_written own
+or_own None is_written own = refl
+or_own (Some tag) is_written own = refl

@@ -2,6 +2,10 @@
 use Rattle.yaml_writer.proofs.Common.{ℕ, if◌then◌else◌, Option, None, Some, codes, length, Bool, false, not, true, ◌&&◌, ◌||◌, [], ◌++◌, ◌∷◌, refl, ◌≡◌}
 use Rattle.yaml_writer.proofs.Common.{length-append, true≢false, append_assoc, inr, ap, ◌∙◌, arith, Text, is_word, JsonExponent, JsonNumber, minus, json_text}
 use Rattle.yaml_writer.proofs.Common.{yaml_number, is_spelled}
+use Rattle.yaml_writer.proofs.Common.{◌==◌, list_all, nat_lt, and_parts}
+use Rattle.yaml_base.proofs.Common.{bytes_eq}
+use Rattle.yaml_writer.proofs.PlaceCuts.{no_letter_uncut}
+use Rattle.yaml_writer.specs.NumberParts.{around_point, cut_at, exponent_cut, fraction_cut, number_in}
 use Rattle.std.{proofs.Common.inl, proofs.Common.⊎_elim, proofs.lemmas.List.append_cancel_left, specs.Prelude.◌+◌, specs.Prelude.◌⊎◌}
 
 -- what is put together otherwise, but to the same, has the same length
@@ -80,3 +84,61 @@ apart negative whole None None e = by (negative && is_word whole (codes "0")) e
 -- a number whose text is its spelling stands as it is spelled
 pub stands_as_spelled : (number : JsonNumber) → yaml_number number ≡ json_text number → is_spelled number ≡ true
 stands_as_spelled number e = apart number.negative number.whole number.fraction number.exponent e
+
+-- A text without letters, other than `-0`, is its own spelling if it is a number
+
+-- the number of a sign and a mantissa
+abbrev with_mantissa : Bool → Text → JsonNumber
+with_mantissa negative mantissa = record {
+  negative = negative;
+  whole = (fraction_cut mantissa).0;
+  fraction = (fraction_cut mantissa).1;
+  exponent = None;
+}
+
+mantissa_spelled : (negative : Bool) (mantissa : Text) → (negative && is_word mantissa (codes "0")) ≡ false
+    → is_spelled (with_mantissa negative mantissa) ≡ true
+mantissa_spelled negative mantissa other = by (cut_at 0x2E mantissa)
+  where
+    by : (o : Option (Text × Text))
+        → is_spelled
+        (record { negative = negative; whole = (around_point o mantissa).0; fraction = (around_point o mantissa).1; exponent = None })
+        ≡ true
+    by (Some parts) = refl
+    by None = ap (λ (x : Bool). not x || false) other
+
+pub unlettered_spelled : (text : Text) → list_all (λ c. nat_lt c 0x41) text ≡ true → bytes_eq text (codes "-0") ≡ false → is_spelled (number_in text) ≡ true
+unlettered_spelled [] unlettered other = refl
+unlettered_spelled (c ∷ rest) unlettered other = by (c == 0x2D) other
+  where
+    both : (nat_lt c 0x41 ≡ true) × (list_all (λ d. nat_lt d 0x41) rest ≡ true)
+    both = and_parts (nat_lt c 0x41) (list_all (λ d. nat_lt d 0x41) rest) unlettered
+
+    whole : (negative : Bool) (unsigned : Text) → list_all (λ d. nat_lt d 0x41) unsigned ≡ true → (negative && is_word unsigned (codes "0")) ≡ false
+        → is_spelled
+        (record {
+          negative = negative;
+          whole = (fraction_cut (exponent_cut unsigned).0).0;
+          fraction = (fraction_cut (exponent_cut unsigned).0).1;
+          exponent = (exponent_cut unsigned).1;
+        })
+        ≡ true
+    whole negative unsigned none differs =
+        ap
+        (λ (parts : Text × Option JsonExponent).
+        is_spelled
+        (record { negative = negative; whole = (fraction_cut parts.0).0; fraction = (fraction_cut parts.0).1; exponent = parts.1 }))
+        (no_letter_uncut unsigned none)
+        ∙ mantissa_spelled negative unsigned differs
+
+    by : (x : Bool) → (x && bytes_eq rest (codes "0")) ≡ false
+        → is_spelled
+        (record {
+          negative = x;
+          whole = (fraction_cut (exponent_cut (if x then rest else c ∷ rest)).0).0;
+          fraction = (fraction_cut (exponent_cut (if x then rest else c ∷ rest)).0).1;
+          exponent = (exponent_cut (if x then rest else c ∷ rest)).1;
+        })
+        ≡ true
+    by true differs = whole true rest both.1 differs
+    by false differs = whole false (c ∷ rest) unlettered refl

@@ -67,7 +67,7 @@ fn cut_at(sign: u8, text: &str) -> Option<(&str, &str)>
 }
 
 /// Whether a text holds no letter, as a number without an exponent.
-fn lacks_letters(text: &str) -> bool
+pub(crate) fn lacks_letters(text: &str) -> bool
     ensures { result ≡ list_all (λ c. nat_lt c 0x41) text.now }
 {
     text.as_bytes().iter().all(|byte| *byte < b'A')
@@ -212,27 +212,40 @@ impl Parts<'_> {
 #[derive(Drop)]
 pub struct Number<'a> {
     pub(crate) text: &'a str,
-    pub(crate) parts: Parts<'a>,
 }
 
 impl<'a> Model for Number<'a> {
     ghost use Rattle.yaml_base.specs.values.JsonNumbers.{JsonNumber};
-    ghost use Rattle.yaml_writer.specs.NumberParts.{IsNumber};
-    ghost use Rattle.yaml_writer.specs.SeenNumbers.{seen_parts};
+    ghost use Rattle.yaml_writer.specs.NumberParts.{IsNumber, number_in};
 
     ghost Value = { JsonNumber };
 
-    ghost view = { λ number. seen_parts number.parts };
+    ghost view = { λ number. number_in number.text.now };
 
-    ghost invariant = { λ number. IsNumber number.text.now (seen_parts number.parts) };
+    ghost invariant = { λ number. IsNumber number.text.now (number_in number.text.now) };
 }
 
 impl<'a> Number<'a> {
+    /// The number of a text that is known to be one, as a reader of JSON knows of its tokens. It looks at no byte of the text;
+    /// `number_of` finds out whether a text is a number.
+    pub fn of_text(text: &'a str) -> Self
+        requires { parts.IsNumber text.now (parts.number_in text.now) }
+        ensures { parts.IsNumber text.now result }
+    {
+        Number { text }
+    }
+
     /// The text that it was made from.
     pub fn as_str(&self) -> &'a str
         ensures { parts.IsNumber result.now self.now }
     {
         self.text
+    }
+
+    pub(crate) fn parts(&self) -> Parts<'a>
+        ensures { seen_parts result ≡ self.now }
+    {
+        parts_of(self.text)
     }
 }
 
@@ -241,9 +254,8 @@ pub fn number_of(text: &str) -> Option<Number<'_>>
     ensures characters { MatchOption result (parts.IsNoNumber (chars text.now)) (λ number. parts.IsNumber (chars text.now) number) }
     ensures bytes { MatchOption result (parts.IsNoNumber text.now) (λ number. parts.IsNumber text.now number) }
 {
-    let parts = parts_of(text);
-    if parts.is_valid() {
-        Some(Number { text, parts })
+    if parts_of(text).is_valid() {
+        Some(Number { text })
     } else {
         None
     }

@@ -154,9 +154,33 @@ impl<A: Allocator + Copy> Writer<A> {
         ensures given { OnOk result (GaveEvent self.old (number_event self.old number.now) None self.new) }
         ensures failed { IfErr result (λ error. Failed self.old (number_event self.old number.now) error self.new) }
     {
+        if number.is_spelled() {
+            let own = self.number_tag(number);
+            return self.scalar(own, number.as_str(), YAML_PLAIN_SCALAR_STYLE);
+        }
+        self.respelled_number(number)
+    }
+
+    /// What `number` does where the spelling may be another text. Out of line, so that `number` is inlined.
+    #[inline(never)]
+    fn respelled_number(&mut self, number: &Number<'_>) -> Result<(), yaml_error_t>
+        ensures given { OnOk result (GaveEvent self.old (number_event self.old number.now) None self.new) }
+        ensures failed { IfErr result (λ error. Failed self.old (number_event self.old number.now) error self.new) }
+    {
         match number.spelling(self.alloc) {
             Ok(spelling) => self.word(tag_of_number(number), spelling.as_str()),
             Err(_) => Err(yaml_error_t::Memory),
+        }
+    }
+
+    /// The tag of a number's type, where one is written.
+    fn number_tag(&self, number: &Number<'_>) -> Option<&'static str>
+        ensures { seen_name result ≡ tag_or_default None self.now.canonical (number_tag number.now) }
+    {
+        if self.canonical {
+            Some(tag_of_number(number))
+        } else {
+            None
         }
     }
 

@@ -1,11 +1,11 @@
 //! Numbers of JSON, spelled so that both schemas of YAML read the same number.
-ghost use Rattle.std.specs.Prelude.{◌≡◌, ◌++◌, [], codes, IfOk, IsOk, MatchOption, chars, string_bytes, option_map, if◌then◌else◌};
+ghost use Rattle.std.specs.Prelude.{◌≡◌, ◌++◌, [], codes, IfOk, IsOk, MatchOption, chars, string_bytes, option_map, true, if◌then◌else◌};
 ghost use Rattle.yaml_base.specs.values.JsonNumbers as json;
-ghost use Rattle.yaml_writer.specs.NumberParts.{IsNoNumber};
+ghost use Rattle.yaml_writer.specs.NumberParts.{IsNoNumber, number_in};
 ghost use Rattle.yaml_writer.specs.SeenNumbers.{is_minus, seen_exponent, seen_parts};
 ghost use Rattle.yaml_writer.specs.Spellings as spellings;
 
-use crate::numbers::{Exponent, ExponentLetter, Number, Parts, Sign, number_of};
+use crate::numbers::{Exponent, ExponentLetter, Number, Parts, Sign, lacks_letters, number_of};
 use std::alloc::{AllocError, Allocator};
 
 /// The spelling of a number.
@@ -129,12 +129,34 @@ impl Parts<'_> {
     }
 }
 
+/// Whether a text is its own spelling if it is a number, since it has no exponent and isn't `-0`.
+fn is_surely_spelled(text: &str) -> bool
+    ensures { result ≡ true → spellings.is_spelled (number_in text.now) ≡ true }
+{
+    lacks_letters(text) && text != "-0"
+}
+
 impl<'a> Number<'a> {
     /// Whether it is an integer other than `-0`: it has neither a point nor an exponent.
     pub fn is_integer(&self) -> bool
         ensures { result ≡ json.is_json_integer self.now }
     {
-        self.parts.is_integer()
+        self.parts().is_integer()
+    }
+
+    /// Whether its text is its spelling. Most texts tell it without their parts.
+    pub(crate) fn is_spelled(&self) -> bool
+        ensures { result ≡ spellings.is_spelled self.now }
+    {
+        is_surely_spelled(self.text) || self.has_spelled_parts()
+    }
+
+    /// What `is_spelled` returns, by its parts. Out of line, so that `is_spelled` is inlined.
+    #[inline(never)]
+    fn has_spelled_parts(&self) -> bool
+        ensures { result ≡ spellings.is_spelled self.now }
+    {
+        self.parts().is_spelled()
     }
 
     /// Its spelling, which the type repository of YAML 1.1 and the core schema of YAML 1.2 read as exactly this number: a
@@ -146,10 +168,10 @@ impl<'a> Number<'a> {
         ensures spelled { IfOk result (λ spelling. chars (spellings.spelling_bytes spelling) ≡ json.yaml_number self.now) }
         ensures spare { json.json_text self.now ≡ json.yaml_number self.now → IsOk result }
     {
-        if self.parts.is_spelled() {
+        if self.is_spelled() {
             return Ok(Spelling::Unchanged(self.text));
         }
-        let spelled = self.parts.spelled(alloc)?;
+        let spelled = self.parts().spelled(alloc)?;
         Ok(Spelling::Changed(spelled))
     }
 }

@@ -8,11 +8,11 @@ returns g c =
     let writer = c.args.writer.now in
     let after = c.number.new.self in
     let text = c.args.text.now in
-    let given = number_event writer c.in-Some.number in
+    let given = number_event writer c.of_text.result in
     let event = scalar (number_content writer.canonical (number_in text)) in
-    let is = number_event_is writer text c.in-Some.number c.in-Some.ensures.bytes c.requires in
+    let is = number_event_is writer text c.of_text.result c.of_text.ensures c.requires.bare in
     let answer = c.number.result in
     let all = answered_at _ writer after event answer c.answer_of.result c.answer_of.ensures
     (on_ok answer (wrote_event writer after given event is) c.number.ensures.given)
     (on_err answer (λ error. event_failed writer after given event error is) c.number.ensures.failed) in
-    record { written = all.0; refused = λ refused. absurd (all.1 refused); stopped = all.2 }
+    record { written = all.0; failed = all.1; stopped = all.2 }

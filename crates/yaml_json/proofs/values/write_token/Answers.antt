@@ -95,14 +95,16 @@ returns-in-Number-clause-stopped g c =
     (λ k. scalar (number_content k (number_in text))) tt (λ k. refl))
     c.write_number.ensures.stopped)
 
-pub returns-in-Number-clause-refused : goal.returns-in-Number-clause-refused
-returns-in-Number-clause-refused g c =
+pub write_number-requires-clause-number : goal.write_number-requires-clause-number
+write_number-requires-clause-number g c =
     let text = c.in-Number.text in
     let good : json.IsNumber text.now =
     subst (λ (t : Token). IsPrintable (token_of t)) c.in-Number.is (c.requires.good (λ bad. number_apart text c.args.token c.in-Number.is bad)) in
-    let never : RefusesText c.write_number.result → ⊥ =
-    λ refused. c.write_number.ensures.refused refused (number_in text.now) (number_is text.now good) in
-    unrefused c.write_number.result never
+    number_is text.now good
+
+pub returns-in-Number-clause-refused : goal.returns-in-Number-clause-refused
+returns-in-Number-clause-refused g c =
+    unrefused c.write_number.result c.write_number.ensures.failed
     (RefusesToken c.args.settings.now.depth c.args.nest.now.kinds.items (token_of c.args.token)) tt tt
 
 -- Strings

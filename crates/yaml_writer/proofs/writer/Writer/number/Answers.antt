@@ -1,11 +1,17 @@
-use Rattle.yaml_writer.proofs.Common.{chars, ◌≡◌, ap, ap₂, ◌∙◌, yaml_number, word_event}
-use Rattle.yaml_writer.proofs.Taken.{given_as}
+use Rattle.yaml_writer.proofs.Common.{chars, ◌≡◌, ap, ap₂, sym, ◌∙◌, option_or, plain, yaml_number, Option, Text}
+use Rattle.yaml_writer.proofs.{SpellingLemmas.number_by_chars, SpellingLemmas.same_spelling, Taken.given_as, Taken.or_own}
+use Rattle.yaml_writer.specs.Writing.{number_tag, scalar_event}
 use Rattle.yaml_writer.proofs.writer.Writer.number.Goals as goal
 
-pub returns-in-Ok : goal.returns-in-Ok
-returns-in-Ok g c =
-    let spelled : chars c.as_str.result.now ≡ yaml_number c.args.number.now = ap chars c.as_str.ensures ∙ c.in-Ok.ensures.spelled in
+pub returns-then-is_spelled : goal.returns-then-is_spelled
+returns-then-is_spelled g c =
+    let before = c.args.self.now in
+    let number = c.args.number.now in
+    let text : chars c.as_str.result.now ≡ yaml_number number =
+    (number_by_chars c.as_str.result.now number c.as_str.ensures).text_is ∙ sym (same_spelling number (sym c.is_spelled.ensures ∙ c.if-is_spelled.true)) in
     let both =
-    given_as c.args.self.now c.word.new.self c.word.result
-    (ap₂ (word_event c.args.self.now) c.tag_of_number.ensures spelled) c.word.ensures.given c.word.ensures.failed in
+    given_as before c.scalar.new.self c.scalar.result
+    (ap₂ (λ (tag : Option Text) (text : Text). scalar_event before tag text plain)
+    (ap (option_or before.tag) c.number_tag-own.ensures ∙ or_own before.tag before.canonical (number_tag number)) text)
+    c.scalar.ensures.given c.scalar.ensures.failed in
     record { given = both.0; failed = both.1 }

@@ -1,15 +1,11 @@
-use Rattle.yaml_writer.proofs.Common.{chars, Bool, Option, None, Some, is_some, ◌||◌, refl, ◌≡◌, ap, ap₂, ◌∙◌, chars-literal, option_or, Text, plain}
+use Rattle.yaml_writer.proofs.Common.{chars, Option, None, is_some, ◌||◌, refl, ◌≡◌, ap, ap₂, ◌∙◌, chars-literal, option_or, Text, plain}
 use Rattle.yaml_writer.proofs.Common.{WriterState}
 use Rattle.yaml_emitter.specs.BorrowedTexts.{seen_name}
-use Rattle.yaml_writer.proofs.Taken.{given_as}
+use Rattle.yaml_writer.proofs.Taken.{given_as, or_own}
 use Rattle.yaml_writer.specs.SeenTimes.{seen_timestamp}
 use Rattle.yaml_writer.specs.Times.{Moment, timestamp_text}
 use Rattle.yaml_writer.specs.Writing.{scalar_event, tag_or_default, timestamp_tag}
 use Rattle.yaml_writer.proofs.writer.Writer.timestamp.Goals as goal
-
-or_own : (tag : Option Text) (is_written : Bool) (own : Text) → option_or tag (tag_or_default None is_written own) ≡ tag_or_default tag is_written own
-or_own None is_written own = refl
-or_own (Some tag) is_written own = refl
 
 pub returns-in-Ok : goal.returns-in-Ok
 returns-in-Ok g c =
