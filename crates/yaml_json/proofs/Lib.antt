@@ -33,4 +33,5 @@ pub mod WordSteps
 pub mod ContentSteps
 pub mod PunctuateSteps
 pub mod Lanes
+pub mod DigitLanes
 pub mod Stepping

@@ -1,8 +1,8 @@
 -- Where parts of a JSON text end.
 use Rattle.std.specs.Prelude.{◌≡◌, ℕ, ◌-◌, ◌<◌, ◌≤◌, Bool, true, false, ◌||◌, ◌==◌, nat_lt, Option, option_map, IfSome, MatchOption, None, List, drop, get_or}
-use Rattle.std.specs.Prelude.{◌≢◌, length}
+use Rattle.std.specs.Prelude.{◌≢◌, length, not}
 use Rattle.std.specs.Borrow.{Bor}
-use Rattle.std.specs.Char.{encode_utf8}
+use Rattle.std.specs.Char.{encode_utf8, is_ascii_digit}
 use Rattle.std.specs.List.{list_any}
 use Rattle.json.specs.Ascii as ascii
 use Rattle.json.specs.Lex.{between, in_word, lex}
@@ -15,6 +15,10 @@ use Rattle.json.specs.declared.token.Token as declared
 -- a byte of a string's content that doesn't stand for itself, or none of it
 abbrev pub is_stop : ℕ → Bool
 is_stop byte = (byte == ascii.quote) || (byte == ascii.backslash) || nat_lt byte ascii.space
+
+-- a byte that is no digit
+abbrev pub is_no_digit : ℕ → Bool
+is_no_digit byte = not (is_ascii_digit byte)
 
 -- the bytes between two places stand for themselves, and the one that follows doesn't
 pub record ArePlain (text : List ℕ) (from to : ℕ) : Type 0 where

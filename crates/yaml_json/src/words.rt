@@ -1,13 +1,17 @@
 //! Words of a JSON text: numbers, and the names of three values. Each part of a number is taken by a text and a place in it, and
 //! returns where what follows begins.
-ghost use Rattle.std.specs.Prelude.{◌≡◌, ◌≢◌, ℕ, ◌<◌, ◌≤◌, ◌||◌, Bool, drop, length};
+ghost use Rattle.std.specs.Prelude.{◌≡◌, ◌≢◌, ℕ, ◌+◌, ◌<◌, ◌≤◌, ◌||◌, Bool, drop, length, map};
+ghost use Rattle.std.specs.Char.{is_ascii_digit};
+ghost use Rattle.std.specs.List.{prefix_len};
+ghost use Rattle.std.specs.Simd.Lanes.{mask_l};
 ghost use Rattle.json.specs.Reads.{token_of};
 ghost use Rattle.json.specs.Word.{after_digits, after_exponent, after_fraction, after_minus, after_number, after_sign, after_whole, ends_word, head};
 ghost use Rattle.json.specs.Word.{is_operator, is_space, literal, number_before, word};
 ghost use Rattle.json.specs.Token.{bad};
-ghost use Rattle.yaml_json.specs.Lexemes.{IsInWord, LeavesAt, ReadsWord};
+ghost use Rattle.yaml_json.specs.Lexemes.{IsInWord, LeavesAt, ReadsWord, is_no_digit};
 
 use json::Token;
+use std::simd::prelude::*;
 
 /// The byte at a place of a text; a blank past its end.
 pub(crate) fn byte_at(text: &[u8], at: usize) -> u8
@@ -40,15 +44,40 @@ pub(crate) fn is_delimiter(byte: u8) -> bool
     is_operator(byte) || is_blank(byte)
 }
 
-fn digits_end(text: &[u8], from: usize) -> Option<usize>
-    requires { from ≤ length text.now }
-    ensures { LeavesAt text.now result (after_digits (drop from text.now)) }
+/// The bytes of a vector that are no digits.
+fn no_digits(bytes: u8x16) -> u64
+    ensures { result ≡ mask_l (map is_no_digit bytes) }
 {
+    (bytes ^ u8x16::splat(b'0'))
+        .simd_gt(u8x16::splat(9))
+        .to_bitmask()
+}
+
+/// Where the digits end that begin at a place. A vector holds most runs of them.
+fn past_digits(text: &[u8], from: usize) -> usize
+    requires { from ≤ length text.now }
+    ensures run { result ≡ from + prefix_len is_ascii_digit (drop from text.now) }
+    ensures within { result ≤ length text.now }
+{
+    if text.len() - from >= 16 {
+        let found = no_digits(u8x16::from_slice(&text[from..]));
+        if found != 0 {
+            return from + found.trailing_zeros() as usize;
+        }
+    }
     let mut at = from;
     'digits: while at < text.len() && text[at].is_ascii_digit() {
         at += 1;
     }
-    if at == from { None } else { Some(at) }
+    at
+}
+
+fn digits_end(text: &[u8], from: usize) -> Option<usize>
+    requires { from ≤ length text.now }
+    ensures { LeavesAt text.now result (after_digits (drop from text.now)) }
+{
+    let end = past_digits(text, from);
+    if end == from { None } else { Some(end) }
 }
 
 fn whole_end(text: &[u8], from: usize) -> Option<usize>

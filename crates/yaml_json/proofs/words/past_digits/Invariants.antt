@@ -1,7 +1,7 @@
 use Rattle.std.proofs.Common.{◌≡◌, ◌+◌, ◌-◌, ◌≤◌, drop, length}
 use Rattle.std.specs.List.{prefix_len}
 use Rattle.std.specs.Char.{is_ascii_digit}
-use Rattle.yaml_json.proofs.words.digits_end.Given as goal
+use Rattle.yaml_json.proofs.words.past_digits.Given as goal
 
 abbrev pub invariant-digits : goal.invariant-digits
 invariant-digits l =
