@@ -1,5 +1,5 @@
 -- The reserved words, in groups; their texts are in lower case.
-use Rattle.std.specs.Prelude.{ℕ, Bool, ◌||◌, codes}
+use Rattle.std.specs.Prelude.{ℕ, Bool, ◌||◌, ◌&&◌, ◌==◌, not, nat_le, nat_lt, codes}
 use Rattle.std.specs.List.{list_any, slice_split}
 use Rattle.yaml_base.specs.Characters.{Text, is_among, is_space}
 use Rattle.yaml_base.specs.Words.{is_word}
@@ -15,6 +15,10 @@ begins_reserved c = is_among (codes "~ntfyo<=.i+-") c
 -- begins a reserved word, a symbol or a number
 abbrev pub begins_doubtful : ℕ → Bool
 begins_doubtful c = is_among (codes "~nNtTfFyYoOiI<=.+-_:eE0123456789") c
+
+-- a space, or a character of ASCII from the letters on, that is neither the second nor the third of a reserved word
+abbrev pub leaves_reserved : ℕ → Bool
+leaves_reserved c = c == 0x20 || (nat_le 0x41 c && nat_lt c 0x80 && not (is_among (codes "AEFILNORSUaefilnorsu") c))
 
 -- words for nothing
 abbrev pub null_words : Text

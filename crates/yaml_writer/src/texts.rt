@@ -1,6 +1,6 @@
 //! Texts that are read as texts, whichever schema reads them. A text is looked at by its bytes: a character past ASCII has none
 //! that one of ASCII has.
-ghost use Rattle.std.specs.Prelude.{◌≡◌, ◌≤◌, ◌&&◌, ◌||◌, not, chars, length, take};
+ghost use Rattle.std.specs.Prelude.{◌≡◌, ◌≤◌, ◌&&◌, ◌||◌, false, true, not, chars, length, take};
 ghost use Rattle.std.specs.List.{list_all, list_any, prefix_len, take_while};
 ghost use Rattle.yaml_base.specs.Characters.{is_ascii};
 ghost use Rattle.yaml_base.specs.Words.{is_word};
@@ -47,13 +47,50 @@ fn begins_with_reserved_word(text: &[u8]) -> bool
     is_reserved_word(ascii_prefix(head(text)))
 }
 
-/// Nothing, or a reserved word in any case, alone or before a byte that isn't ASCII.
+/// A space or a letter, or another byte of ASCII above them, that is neither the second nor the third of a reserved word. One
+/// range has all these letters, which then cost one test of a bit.
+#[rattlefmt::skip]
+#[inline(always)]
+fn leaves_reserved(byte: u8) -> bool
+    ensures { result ≡ words.leaves_reserved byte }
+{
+    byte == b' '
+        || (byte >= b'A'
+            && byte < 0x80
+            && !matches!(
+                byte,
+                b'A' | b'E' | b'F' | b'I' | b'L' | b'N' | b'O' | b'R' | b'S' | b'U'
+                    | b'a' | b'e' | b'f' | b'i' | b'l' | b'n' | b'o' | b'r' | b's' | b'u'
+            ))
+}
+
+/// The second or the third byte of a text is that of no reserved word.
+fn leaves_reserved_words(text: &[u8]) -> bool
+    ensures { result ≡ true → list_any (is_word (surely.ascii_prefix text.now)) surely.reserved_words ≡ false }
+{
+    if text.len() < 2 {
+        return false;
+    }
+    let second = text[1];
+    if leaves_reserved(second) {
+        return true;
+    }
+    if text.len() == 2 {
+        return false;
+    }
+    if second >= 0x80 {
+        return false;
+    }
+    leaves_reserved(text[2])
+}
+
+/// Nothing, or a reserved word in any case, alone or before a byte that isn't ASCII. Two bytes tell most texts from one.
 fn is_reserved(text: &[u8]) -> bool
     ensures { result ≡ surely.is_reserved text.now }
 {
     match text.first() {
         None => true,
-        Some(_) => begins_with_reserved_word(text),
+        Some(_) => !leaves_reserved_words(text) && begins_with_reserved_word(text),
     }
 }
 
@@ -165,11 +202,11 @@ fn are_of_number(text: &[u8]) -> bool
     has_digit || !has_letter
 }
 
-/// A text begins as a number, and has no other characters than numbers and timestamps.
-fn is_numeric(text: &[u8]) -> bool
-    ensures { result ≡ surely.is_numeric text.now }
+/// A number in a base, or a text that begins as a number, and has no other characters than numbers and timestamps.
+fn is_based_or_numeric(text: &[u8]) -> bool
+    ensures { result ≡ (surely.is_based text.now || surely.is_numeric text.now) }
 {
-    begins_as_number(text) && are_of_number(text)
+    begins_as_number(text) && (is_based(text) || are_of_number(text))
 }
 
 /// A reserved word, a symbol or a number may begin with it.
@@ -198,7 +235,7 @@ fn is_doubtful(text: &[u8]) -> bool
 fn is_of_doubtful_form(text: &[u8]) -> bool
     ensures { result ≡ surely.is_doubtful text.now }
 {
-    is_reserved(text) || is_symbol(text) || is_based(text) || is_numeric(text)
+    is_reserved(text) || is_symbol(text) || is_based_or_numeric(text)
 }
 
 /// Whether a text, written plain, is read as a text by the type repository of YAML 1.1, by the core schema of YAML 1.2, and by
