@@ -48,16 +48,16 @@ pub(crate) fn is_free(byte: u8, classes: u8) -> bool
     CLASSES[byte as usize] & classes == 0
 }
 
-/// Whether the four bytes from a place on are of none of these classes.
+/// Whether the four bytes from a place on are of none of these classes. One branch tells it of all four.
 #[inline(always)]
 fn are_free(bytes: &[u8], place: usize, classes: u8) -> bool
     requires { place + 4 ≤ length bytes.now }
     ensures { result ≡ four_are_free classes bytes.now place }
 {
     is_free(bytes[place], classes)
-        && is_free(bytes[place + 1], classes)
-        && is_free(bytes[place + 2], classes)
-        && is_free(bytes[place + 3], classes)
+        & is_free(bytes[place + 1], classes)
+        & is_free(bytes[place + 2], classes)
+        & is_free(bytes[place + 3], classes)
 }
 
 /// Whether the four bytes from a place on are of none of these classes, where none before them is.
