@@ -62,16 +62,14 @@ events_more of walk index default start before after inside is adds =
     ∙ ap (λ (steps : List Step). start ++ flat_map of steps) (sym (seen_more walk index default inside))
 
 -- the events of a walk between those of the document
-pub events_walked : {A : Type 0} (graph : Graph) (walk : List Step) (start : yaml_event_t A) (end_implicit : Bool)
-    (none begun walked ended : List (yaml_event_t A)) → seen_event start ≡ document_start graph.start → end_implicit ≡ graph.end_implicit → none ≡ []
-    → begun ≡ none ++ start ∷ [] → seen_events walked ≡ seen_events begun ++ flat_map (step_events graph walk) walk
+pub events_walked : {A : Type 0} (graph : Graph) (walk : List Step) (end_implicit : Bool) (begun walked ended : List (yaml_event_t A))
+    → seen_events begun ≡ document_start graph.start ∷ [] → end_implicit ≡ graph.end_implicit
+    → seen_events walked ≡ seen_events begun ++ flat_map (step_events graph walk) walk
     → ended ≡ walked ++ YAML_DOCUMENT_END_EVENT end_implicit ∷ [] → walk ≡ steps graph → seen_events ended ≡ walk_events graph (steps graph)
-events_walked graph walk start end_implicit none begun walked ended starts ends empty begins walks last whole =
+events_walked graph walk end_implicit begun walked ended begins ends walks last whole =
     let events = flat_map (step_events graph walk) walk in
     ap seen_events last ∙ map-append seen_event walked (YAML_DOCUMENT_END_EVENT end_implicit ∷ [])
-    ∙ ap (λ (others : List Event). others ++ document_end end_implicit ∷ [])
-    (walks ∙ ap (λ others. seen_events others ++ events) (begins ∙ ap (λ others. others ++ start ∷ []) empty)
-    ∙ ap (λ (event : Event). event ∷ events) starts)
+    ∙ ap (λ (others : List Event). others ++ document_end end_implicit ∷ []) (walks ∙ ap (λ (others : List Event). others ++ events) begins)
     ∙ ap (λ (implicit : Bool). document_start graph.start ∷ (events ++ document_end implicit ∷ [])) ends
     ∙ ap (walk_events graph) whole
 

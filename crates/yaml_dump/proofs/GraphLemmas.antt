@@ -1,7 +1,7 @@
 -- A document's events unfold its graph, and so does what is read back of them.
 use Rattle.yaml_dump.proofs.Common.{ℕ, ◌==◌, if◌then◌else◌, OnOk, Option, None, Some, Result, Err, Ok, Vec, drop, length, Bool, false, true, List, [], map, ◌++◌}
 use Rattle.yaml_dump.proofs.Common.{◌∷◌, refl, ◌≡◌, ap, subst, sym, ◌∙◌, false≢true, dumped_stream, document_unfolds, Event, stream_end, seen_event}
-use Rattle.yaml_dump.proofs.Common.{seen_events, Settings, AreDumped, Graph, steps, document_event_list, DocumentTree, EmitsAll, EmitsEach, opening}
+use Rattle.yaml_dump.proofs.Common.{length-map, is_numbered, seen_step, seen_events, Settings, AreDumped, Graph, steps, document_event_list, DocumentTree, EmitsAll, EmitsEach, opening}
 use Rattle.yaml_dump.proofs.Common.{closing, Promised, StandsAfter, State}
 use Rattle.yaml_base.proofs.Common.{written, IsDocument, agrees, stream_trees}
 use Rattle.std.{proofs.Math.Seq.drop-length, specs.Prelude.IfOk}
@@ -22,6 +22,12 @@ pub dumped_events : {A E : Type 0} (graph : Graph) (outline : Outline A) (nodes 
 dumped_events graph outline nodes (Ok events) some is holds walked =
     walked graph is holds ∙ sym (ap (λ (none : Bool). if none then [] else walk_events graph (steps graph)) some)
 dumped_events graph outline nodes (Err error) some is holds walked = tt
+
+-- an outline's steps are about the nodes of its graph
+pub outline_numbered : {A : Type 0} (graph : Graph) (outline : Outline A) (nodes : List (yaml_node_t A)) → IsOutline graph outline
+    → length (map seen_node nodes) ≡ length graph.nodes → is_numbered (length nodes) (map seen_step outline.walk.items) ≡ true
+outline_numbered graph outline nodes is same =
+    subst (λ (count : ℕ). is_numbered count (map seen_step outline.walk.items) ≡ true) (sym same ∙ length-map nodes seen_node) is.numbered
 
 -- a document's events unfold its graph
 pub events_unfold : {A E : Type 0} (graph : Graph) (answer : Result (Vec (yaml_event_t A) A) E) → IsDocument graph

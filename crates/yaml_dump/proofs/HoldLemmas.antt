@@ -4,7 +4,7 @@ use Rattle.yaml_dump.proofs.Common.{slice_get, take, Bool, cond, false, true, �
 use Rattle.yaml_dump.proofs.Common.{subst, sym, ◌∙◌, arith, nat_tests, length-map, map-append, list_any, Text, GraphNode, Graph, Step, enters, is_entry_of, steps}
 use Rattle.yaml_dump.proofs.Common.{opening_events, get_or-map, seen_step, IsNamed}
 use Rattle.yaml_base.proofs.Common.{count_by, node_numbered, opening_event_of, closing_event_of, closing_events, first_reached, Held, scalar_held, sequence_held, mapping_held}
-use Rattle.yaml_base.proofs.UnfoldSteps.{any_added, none_added, orderly_steps}
+use Rattle.yaml_base.proofs.UnfoldSteps.{any_added, orderly_steps}
 use Rattle.yaml_base.specs.{Seen.seen_text, graphs.SeenNodes.seen_held, graphs.SeenNodes.seen_node, declared.nodes.yaml_node_t.yaml_node_t}
 use Rattle.std.proofs.lemmas.{Bool.or_parts, List.take-append-drop, List.take-map, List.Sums.count_by_more_yes, List.Sums.sum_by-append, List.Sums.sum_by-cons, List.take_more, Option.get_or_from_slice_get, Option.slice_get-map, Option.slice_get_read, Option.slice_get_within}
 use Rattle.yaml_dump.specs.declared.steps.Step as declared
@@ -119,13 +119,16 @@ ends_as_held graph before nodes number node named is holds =
     ∙ holds.ends place
     ∙ ap closing_events (sym (numbered_at graph number named.first))
 
--- a step that enters no node leaves all
-pub still_held : (graph : Graph) (before : List Step) (step : Step) (nodes : List GraphNode) → ((number : ℕ) → is_entry_of number step ≡ false)
-    → HoldsTexts graph before nodes → HoldsTexts graph (before ++ step ∷ []) nodes
-still_held graph before step nodes enters_none holds =
+-- nodes that stay as they are still hold what more steps need
+pub still_held : (graph : Graph) (before : List Step) (step : Step) (nodes : List GraphNode) → HoldsTexts graph before nodes
+    → HoldsTexts graph (before ++ step ∷ []) nodes
+still_held graph before step nodes holds =
     record {
       counted = holds.counted;
-      opens = λ anchor place none. holds.opens anchor place (sym (none_added (is_entry_of (suc place)) before step (enters_none (suc place))) ∙ none);
+      opens = λ anchor place none.
+          holds.opens anchor place
+          (or_parts (list_any (is_entry_of (suc place)) before) (is_entry_of (suc place) step)
+          (sym (any_added (is_entry_of (suc place)) before step) ∙ none)).0;
       ends = holds.ends;
     }
 

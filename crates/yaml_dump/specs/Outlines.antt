@@ -1,7 +1,7 @@
 -- What the events of a document are made of, but for its nodes.
-use Rattle.std.specs.Prelude.{◌≡◌, true, map, length}
+use Rattle.std.specs.Prelude.{◌≡◌, ◌∷◌, [], true, map, length}
 use Rattle.yaml_base.specs.Event.{document_start}
-use Rattle.yaml_base.specs.Seen.{seen_event}
+use Rattle.yaml_base.specs.Seen.{seen_events}
 use Rattle.yaml_base.specs.graphs.Meetings.{Graph, steps}
 use Rattle.yaml_dump.specs.Anchors.{is_numbered}
 use Rattle.yaml_dump.specs.WalkSteps.{seen_step}
@@ -9,7 +9,7 @@ use Rattle.yaml_dump.specs.declared.outlines.Outline.{Outline}
 
 -- that of a graph: its start, the steps of its walk, each about one of its nodes, and its end
 pub record IsOutline {A : Type 0} (graph : Graph) (outline : Outline A) : Type 0 where
-  pub start : seen_event outline.start ≡ document_start graph.start
+  pub begun : seen_events outline.events.items ≡ document_start graph.start ∷ []
   pub walked : map seen_step outline.walk.items ≡ steps graph
   pub numbered : is_numbered (length graph.nodes) (map seen_step outline.walk.items) ≡ true
   pub end_implicit : outline.end_implicit ≡ graph.end_implicit

@@ -16,10 +16,14 @@ fn copied_node<A: Allocator + Copy>(
 ) -> Result<yaml_node_t<A>, AllocError>
     ensures { IfOk result (λ copy. seen_node copy ≡ without_children (seen_node node.now)) }
 {
-    let tag = String::from_str(alloc, node.tag.as_str())?;
+    let Ok(tag) = String::from_str(alloc, node.tag.as_str()) else {
+        return Err(AllocError);
+    };
     match &node.contents {
         yaml_node_data_t::Scalar { value, style } => {
-            let value = String::from_str(alloc, value.as_str())?;
+            let Ok(value) = String::from_str(alloc, value.as_str()) else {
+                return Err(AllocError);
+            };
             let contents = yaml_node_data_t::Scalar {
                 value,
                 style: *style,
@@ -69,10 +73,15 @@ pub(crate) fn copied_nodes<A: Allocator + Copy>(
     ensures { IfOk result (λ copies. map seen_node copies.items ≡ map without_children (graph_of document.now).nodes) }
 {
     let count = count_of(document);
-    let mut copies = Vec::with_capacity(alloc, count)?;
+    let Ok(mut copies) = Vec::with_capacity(alloc, count) else {
+        return Err(AllocError);
+    };
     for before in 0..count {
         if let Some(node) = node_of(document, before + 1) {
-            copies.push(copied_node(alloc, node)?)?;
+            let Ok(copy) = copied_node(alloc, node) else {
+                return Err(AllocError);
+            };
+            copies.push(copy)?;
         }
     }
     Ok(copies)

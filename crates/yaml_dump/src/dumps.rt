@@ -42,7 +42,10 @@ pub fn document_events<A: Allocator + Copy>(
     if document.is_empty() {
         return Ok(Vec::new(alloc));
     }
-    events_of_copies(alloc, document).map_err(|_| yaml_error_t::Memory)
+    match events_of_copies(alloc, document) {
+        Ok(events) => Ok(events),
+        Err(_) => Err(yaml_error_t::Memory),
+    }
 }
 
 /// Those of a document that has nodes, with copies of its texts.
@@ -56,8 +59,12 @@ fn events_of_copies<A: Allocator + Copy>(
 {
     // A law: what the nodes hold are numbers of nodes.
     document.numbers_name_nodes();
-    let outline = outline_of(alloc, document)?;
-    let copies = copied_nodes(alloc, document)?;
+    let Ok(outline) = outline_of(alloc, document) else {
+        return Err(AllocError);
+    };
+    let Ok(copies) = copied_nodes(alloc, document) else {
+        return Err(AllocError);
+    };
     events_of_walk(alloc, outline, copies)
 }
 
@@ -65,25 +72,15 @@ fn events_of_copies<A: Allocator + Copy>(
 fn moved_events<A: Allocator + Copy>(
     alloc: A,
     document: yaml_document_t<A>,
-) -> Result<Vec<yaml_event_t<A>, A>, yaml_error_t>
-    ensures events { IfOk result (λ events. map seen_event events.items ≡ document_event_list (graph_of document)) }
-    ensures memory { IfErr result (λ error. error ≡ yaml_error_t.Memory) }
+) -> Result<Vec<yaml_event_t<A>, A>, AllocError>
+    ensures { IfOk result (λ events. map seen_event events.items ≡ document_event_list (graph_of document)) }
 {
     if document.is_empty() {
         return Ok(Vec::new(alloc));
     }
-    events_of_moved(alloc, document).map_err(|_| yaml_error_t::Memory)
-}
-
-/// Those of a document that has nodes.
-fn events_of_moved<A: Allocator + Copy>(
-    alloc: A,
-    document: yaml_document_t<A>,
-) -> Result<Vec<yaml_event_t<A>, A>, AllocError>
-    requires nonempty { (length (graph_of document).nodes == 0) ≡ false }
-    ensures { IfOk result (λ events. map seen_event events.items ≡ document_event_list (graph_of document)) }
-{
-    let outline = outline_of(alloc, &document)?;
+    let Ok(outline) = outline_of(alloc, &document) else {
+        return Err(AllocError);
+    };
     let nodes = document.into_nodes();
     events_of_walk(alloc, outline, nodes)
 }
@@ -170,7 +167,9 @@ pub fn yaml_emitter_dump<A: Allocator + Copy>(
     // A law: what the nodes hold are numbers of nodes.
     document.numbers_name_nodes();
     let is_empty = document.is_empty();
-    let events = moved_events(alloc, document)?;
+    let Ok(events) = moved_events(alloc, document) else {
+        return Err(yaml_error_t::Memory);
+    };
     open_if_needed(emitter)?;
     if is_empty {
         return close_if_needed(emitter);

@@ -134,10 +134,12 @@ fn anchor_of<A: Allocator>(alloc: A, place: usize) -> Result<Option<String<A>>, 
     ensures { IfOk result (λ anchor. option_map seen_text anchor ≡ anchor_of_place place) }
 {
     if place == 0 {
-        Ok(None)
-    } else {
-        Ok(Some(numbered_name(alloc, place)?))
+        return Ok(None);
     }
+    let Ok(name) = numbered_name(alloc, place) else {
+        return Err(AllocError);
+    };
+    Ok(Some(name))
 }
 
 /// The event with which the node of a number begins, where no step before entered that node.
@@ -146,16 +148,19 @@ fn opening_event_at<A: Allocator + Copy>(
     nodes: &mut [yaml_node_t<A>],
     number: usize,
     place: usize,
-) -> Result<yaml_event_t<A>, AllocError>
+) -> Result<Option<yaml_event_t<A>>, AllocError>
     requires { IsNamed (length nodes.old) number }
     ensures event { IfOk result (λ event. (graph : Graph) (before : List meetings.Step) → HoldsTexts graph before (map seen_node nodes.old)
         → list_any (meetings.is_entry_of number) before ≡ false
-        → seen_event event ∷ [] ≡ meetings.opening_events (anchor_of_place place) (meetings.node_numbered graph number)) }
+        → seen_events_of event ≡ meetings.opening_events (anchor_of_place place) (meetings.node_numbered graph number)) }
     ensures held { (graph : Graph) (before : List meetings.Step) → HoldsTexts graph before (map seen_node nodes.old)
         → HoldsTexts graph (before ++ meetings.enters number ∷ []) (map seen_node nodes.new) }
 {
-    let anchor = anchor_of(alloc, place)?;
-    Ok(opening_event(alloc, anchor, &mut nodes[number - 1]))
+    let Ok(anchor) = anchor_of(alloc, place) else {
+        return Err(AllocError);
+    };
+    let node = &mut nodes[number - 1];
+    Ok(Some(opening_event(alloc, anchor, node)))
 }
 
 /// The event with which the node of a number ends, if it is a collection.
@@ -189,12 +194,15 @@ fn step_event<A: Allocator + Copy>(
     match step {
         Step::Enters(number) => {
             let place = places[number - 1];
-            Ok(Some(opening_event_at(alloc, nodes, number, place)?))
+            opening_event_at(alloc, nodes, number, place)
         }
         Step::Leaves(number) => Ok(closing_event_at(nodes, number)),
-        Step::MeetsAgain(number) => Ok(Some(yaml_event_t::YAML_ALIAS_EVENT {
-            anchor: numbered_name(alloc, places[number - 1])?,
-        })),
+        Step::MeetsAgain(number) => {
+            let Ok(anchor) = numbered_name(alloc, places[number - 1]) else {
+                return Err(AllocError);
+            };
+            Ok(Some(yaml_event_t::YAML_ALIAS_EVENT { anchor }))
+        }
     }
 }
 
@@ -214,7 +222,10 @@ fn push_event<A: Allocator + Copy>(
     ensures held { (graph : Graph) (before : List meetings.Step) → HoldsTexts graph before (map seen_node nodes.old)
         → HoldsTexts graph (before ++ seen_step step ∷ []) (map seen_node nodes.new) }
 {
-    if let Some(event) = step_event(alloc, nodes, places, step)? {
+    let Ok(found) = step_event(alloc, nodes, places, step) else {
+        return Err(AllocError);
+    };
+    if let Some(event) = found {
         events.push(event)?;
     }
     Ok(())
@@ -241,6 +252,24 @@ fn push_events<A: Allocator + Copy>(
     Ok(())
 }
 
+/// The events of a walk over these nodes, behind others. The nodes' texts are moved into them.
+fn push_walk<A: Allocator + Copy>(
+    alloc: A,
+    nodes: &mut [yaml_node_t<A>],
+    walk: &[Step],
+    events: &mut Vec<yaml_event_t<A>, A>,
+) -> Result<(), AllocError>
+    requires { is_numbered (length nodes.old) (map seen_step walk.now) ≡ true }
+    ensures { IfOk result (λ _. (graph : Graph) → map seen_step walk.now ≡ meetings.steps graph → HoldsTexts graph [] (map seen_node nodes.old)
+        → seen_events events.new.items
+        ≡ seen_events events.old.items ++ flat_map (meetings.step_events graph (map seen_step walk.now)) (map seen_step walk.now)) }
+{
+    let Ok(places) = shared_places(alloc, walk, nodes.len()) else {
+        return Err(AllocError);
+    };
+    push_events(alloc, nodes, places.as_slice(), walk, events)
+}
+
 /// The events of a document of this outline and these nodes. The nodes are dropped, and their texts are moved into the events.
 pub(crate) fn events_of_walk<A: Allocator + Copy>(
     alloc: A,
@@ -252,21 +281,11 @@ pub(crate) fn events_of_walk<A: Allocator + Copy>(
         → seen_events events.items ≡ walk_events graph (meetings.steps graph)) }
 {
     let Outline {
-        start,
+        mut events,
         walk,
         end_implicit,
     } = outline;
-    let places = shared_places(alloc, walk.as_slice(), nodes.len())?;
-    // A step has at most one event.
-    let mut events = Vec::with_capacity(alloc, walk.len().saturating_add(2))?;
-    events.push(start)?;
-    push_events(
-        alloc,
-        nodes.as_mut_slice(),
-        places.as_slice(),
-        walk.as_slice(),
-        &mut events,
-    )?;
+    push_walk(alloc, nodes.as_mut_slice(), walk.as_slice(), &mut events)?;
     events.push(yaml_event_t::YAML_DOCUMENT_END_EVENT {
         implicit: end_implicit,
     })?;

@@ -1,7 +1,7 @@
 //! The steps of a walk over a document's nodes.
 
 /// A step of the walk; nodes are numbered from 1.
-#[derive(Clone, Copy, PartialEq, Eq, Debug)]
+#[derive(Clone, Copy)]
 pub(crate) enum Step {
     /// A node is met first.
     Enters(usize),

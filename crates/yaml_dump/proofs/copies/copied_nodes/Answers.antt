@@ -2,7 +2,7 @@ use Rattle.yaml_dump.proofs.Common.{◌<◌, length, map, ap, ◌∙◌, arith, 
 use Rattle.yaml_base.specs.graphs.SeenNodes.{seen_node}
 use Rattle.yaml_dump.proofs.HoldLemmas.{copied_more, some_next}
 use Rattle.yaml_dump.proofs.copies.copied_nodes.Goals as goal
-use Rattle.yaml_dump.proofs.copies.copied_nodes.Goals.{in-Some+in_ok-copied_node+in_ok-push, in_default}
+use Rattle.yaml_dump.proofs.copies.copied_nodes.Goals.{in-Some+in-Ok-copied_node+in_ok-push, in_default-node_of}
 
 pub loop-before-preserved : goal.loop-before-preserved
 loop-before-preserved g c =
@@ -10,9 +10,9 @@ loop-before-preserved g c =
     let before = c.loop-before.before in
     let inside : before < length graph.nodes = omega (arith, c.loop-before-test.true, c.count_of-count.ensures.all) in
     elim c.match-node_of.branch [
-      | in-Some+in_ok-copied_node+in_ok-push w ↦
+      | in-Some+in-Ok-copied_node+in_ok-push w ↦
           ap (λ copies. map seen_node copies.items) w.copies-is
-          ∙ copied_more graph before c.loop-before.copies.items w.push.new.self.items w.in_ok-copied_node.field-0 (seen_node w.in-Some.node.now)
-          w.in-Some.ensures c.loop-before.invariant w.in_ok-push.ensures.items w.in_ok-copied_node.ensures
-      | in_default w ↦ absurd (some_next graph before inside w.in_default.ensures)
+          ∙ copied_more graph before c.loop-before.copies.items w.push.new.self.items w.in-Ok-copied_node.copy (seen_node w.in-Some.node.now)
+          w.in-Some.ensures c.loop-before.invariant w.in_ok-push.ensures.items w.in-Ok-copied_node.ensures
+      | in_default-node_of w ↦ absurd (some_next graph before inside w.in_default-node_of.ensures)
     ]

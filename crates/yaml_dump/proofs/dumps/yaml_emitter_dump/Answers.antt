@@ -9,8 +9,8 @@ pub returns-in_err-open_if_needed-clause-dumps : goal.returns-in_err-open_if_nee
 returns-in_err-open_if_needed-clause-dumps g c none =
     inr
     (λ given all stands.
-    exit_dumps given all c.args.emitter.now.opened _ c.in_err-open_if_needed.field-0.0 c.from_residual-in_err-open_if_needed.result c.open_if_needed.new.emitter
-    c.in_err-open_if_needed.ensures.unopened (c.in_err-open_if_needed.ensures.emits given all stands) c.from_residual-in_err-open_if_needed.ensures)
+    exit_dumps given all c.args.emitter.now.opened _ c.in_err-open_if_needed.field-0.0 c.from_residual.result c.open_if_needed.new.emitter
+    c.in_err-open_if_needed.ensures.unopened (c.in_err-open_if_needed.ensures.emits given all stands) c.from_residual.ensures)
 
 pub close_if_needed-requires-clause-no_error : goal.close_if_needed-requires-clause-no_error
 close_if_needed-requires-clause-no_error g c = none_from_result c.open_if_needed.new.emitter.error c.in_ok-open_if_needed.ensures.answered
@@ -36,8 +36,8 @@ returns-clause-dumps g c none =
     (λ given all stands.
     let begun = c.in_ok-open_if_needed.ensures.emits given all stands in
     dumps_events given all c.args.emitter.now.opened (closing c.args.emitter.now.closed) (document_event_list graph)
-    (map seen_event c.in_ok-events.events.items) (length graph.nodes == 0) c.open_if_needed.new.emitter c.emit_each.new.emitter c.emit_each.result
-    c.in_ok-events.ensures.events (sym c.is_empty-is_empty.ensures ∙ c.if-is_empty.false) (c.emit_each.ensures.set.opened ∙ c.in_ok-open_if_needed.ensures.opened) begun
+    (map seen_event c.in-Ok.events.items) (length graph.nodes == 0) c.open_if_needed.new.emitter c.emit_each.new.emitter c.emit_each.result
+    c.in-Ok.ensures (sym c.is_empty-is_empty.ensures ∙ c.if-is_empty.false) (c.emit_each.ensures.set.opened ∙ c.in_ok-open_if_needed.ensures.opened) begun
     (c.emit_each.ensures.emits given (all ++ opening c.args.emitter.now.opened) begun.stands))
 
 pub returns-then-is_empty-clause-opened : goal.returns-then-is_empty-clause-opened

@@ -6,8 +6,7 @@ use Rattle.yaml_dump.proofs.events.events_of_walk.Goals as goal
 
 pub returns : goal.returns
 returns g c graph is holds =
-    let whole = outline_walked graph c.args.outline c.as_slice-3.result.now c.as_slice-3.ensures.value is in
+    let whole = outline_walked graph c.args.outline c.as_slice.result.now c.as_slice.ensures.value is in
     let held = subst (λ nodes. HoldsTexts graph [] (map seen_node nodes)) (sym c.as_mut_slice.ensures.value) holds in
-    events_walked graph (map seen_step c.as_slice-3.result.now) c.args.outline.start c.args.outline.end_implicit c.in_ok-events.events.items
-    c.push.new.self.items c.push_events.new.events.items c.push-2.new.self.items is.start is.end_implicit c.in_ok-events.ensures.items
-    c.in_ok-push.ensures.items (c.in_ok-push_events.ensures graph whole held) c.in_ok-push-2.ensures.items whole
+    events_walked graph (map seen_step c.as_slice.result.now) c.args.outline.end_implicit c.args.outline.events.items
+    c.push_walk.new.events.items c.push.new.self.items is.begun is.end_implicit (c.in_ok-push_walk.ensures graph whole held) c.in_ok-push.ensures.items whole

@@ -4,11 +4,11 @@ use Rattle.yaml_dump.proofs.events.push_event.Goals as goal
 
 pub returns-in_ok-push-clause-event : goal.returns-in_ok-push-clause-event
 returns-in_ok-push-clause-event g c graph walk before has_places holds first =
-    pushed c.args.events.now.items c.push.new.self.items c.in-Some.event c.in_ok-event.field-0
+    pushed c.args.events.now.items c.push.new.self.items c.in-Some.event c.in-Ok.found
     (step_events graph walk (seen_step c.args.step)) c.in_ok-push.ensures.items c.in-Some.is
-    (c.in_ok-event.ensures.event graph walk before has_places holds first)
+    (c.in-Ok.ensures.event graph walk before has_places holds first)
 
-pub returns-in_default-clause-event : goal.returns-in_default-clause-event
-returns-in_default-clause-event g c graph walk before has_places holds first =
-    nothing_pushed c.args.events.now.items c.in_ok-event.field-0 (step_events graph walk (seen_step c.args.step)) c.in_default.is
-    (c.in_ok-event.ensures.event graph walk before has_places holds first)
+pub returns-in_default-found-clause-event : goal.returns-in_default-found-clause-event
+returns-in_default-found-clause-event g c graph walk before has_places holds first =
+    nothing_pushed c.args.events.now.items c.in-Ok.found (step_events graph walk (seen_step c.args.step)) c.in_default-found.is
+    (c.in-Ok.ensures.event graph walk before has_places holds first)
