@@ -1,12 +1,20 @@
 -- What a string holds, byte by byte and escape by escape.
 use Rattle.std.proofs.Common.{◌≡◌, ℕ, zero, suc, ◌+◌, ◌-◌, ◌<◌, ◌≤◌, Bool, true, false, cond, ◌||◌, ◌&&◌, ◌==◌, nat_lt, List, [], ◌∷◌, ◌++◌, take, drop, get_or}
-use Rattle.std.proofs.Common.{length, Option, Some, None, option_and_then, refl, sym, ap, ◌∙◌, arith}
-use Rattle.std.proofs.lemmas.Bool.{true≢false, ne_eqb, or_parts}
+use Rattle.std.proofs.Common.{length, Option, Some, None, option_and_then, refl, sym, ap, ◌∙◌, arith, ltb, ltb-true}
+use Rattle.std.proofs.lemmas.Bool.{true≢false, ne_eqb, or_parts, and_parts}
 use Rattle.std.proofs.lemmas.List.{append_assoc, append-nil, drop_more, drop_all}
 use Rattle.std.specs.Char.{encode_utf8}
 use Rattle.json.specs.Text.{Within, plain, after_backslash, after_u, after_high, content, code_unit, short_escape, is_high_surrogate, is_low_surrogate}
 use Rattle.json.specs.Text.{surrogate_pair, prepend}
 use Rattle.yaml_json.specs.Lexemes.{ArePlain, is_stop}
+
+-- what a test of four digits says
+pub are_digits : (a b c d : ℕ) → (((ltb a 16 && ltb b 16) && ltb c 16) && ltb d 16) ≡ true → (a < 16) × (b < 16) × (c < 16) × (d < 16)
+are_digits a b c d test =
+    let three = and_parts ((ltb a 16 && ltb b 16) && ltb c 16) (ltb d 16) test in
+    let two = and_parts (ltb a 16 && ltb b 16) (ltb c 16) three.0 in
+    let one = and_parts (ltb a 16) (ltb b 16) two.0 in
+    (ltb-true a 16 one.0, ltb-true b 16 one.1, ltb-true c 16 two.1, ltb-true d 16 three.1)
 
 pub content-none : (within : Within) → content within [] ≡ None
 unfolding content

@@ -2,7 +2,7 @@
 use Rattle.yaml_json.proofs.Common.{suc, zero, ℕ, ◌+◌, ◌<◌, ◌≤◌, Option, None, Some, drop, length, slice_index_or as get_or, take, List, [], ◌++◌, ◌∷◌}
 use Rattle.yaml_json.proofs.Common.{refl, ◌≡◌, length-append, length-drop, take-append-drop, length-take-le, take_all, append-nil, append_assoc, inl, inr, ap}
 use Rattle.yaml_json.proofs.Common.{subst, sym, ◌∙◌, arith, HasScanned, CutsAt, after_byte, texts_in, CutsFirstText}
-use Rattle.std.proofs.{Common.drop-cons, lemmas.List.take-append-le, lemmas.List.take_more}
+use Rattle.std.{proofs.Common.drop-cons, proofs.lemmas.List.take-append-le, proofs.lemmas.List.take_more, specs.Str.IsCharBoundary}
 use Rattle.yaml_json.specs.{Cuts.all_onto, Cuts.Scanned, declared.cuts.Cut.Cut, declared.cuts.Mode.Mode, declared.cuts.Scan.Scan}
 use Rattle.yaml_json.specs.Texts.{scan_first_byte, scan_within, scan_in_string, onto_first, cut_before, texts_after}
 use Rattle.yaml_json.specs.declared.cuts.Mode.TheVariants.{AfterBackslash, Before, Behind, InString, InWord, Within}
@@ -136,6 +136,10 @@ module _ (text : List ℕ) (cut : Cut) (has : HasScanned text cut) (less : cut.s
           cut = cut_here;
           outer = cut_outer cut.scan.mode cut.scan.levels (get_or text cut.scanned 0) is;
         }
+
+-- the first text ends before a character
+pub may_cut : (text : List ℕ) (end : ℕ) → CutsAt text end → IsCharBoundary text end
+may_cut text end cuts = (let within = cuts.within in omega (arith, within), λ less inner. cuts.outer inner)
 
 -- the first of some texts, and the others
 pub cuts_first : (text : List ℕ) (end : ℕ) → CutsAt text end → CutsFirstText text (take end text) (drop end text)
