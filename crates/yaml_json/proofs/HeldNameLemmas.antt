@@ -1,6 +1,6 @@
 -- The lists and sets that hold the names of the objects that are open.
 use Rattle.yaml_base.proofs.Common.{bytes_eq-Decides, ap, arith, inl, inr, length-append, subst, sym, ◌∙◌, or_parts, or_cases, same_from_decides, list_any}
-use Rattle.yaml_base.proofs.Common.{Bool, List, [], cond, drop, false, length, not, refl, slice_index_or as get_or, take, true, ℕ, ◌++◌, ◌-◌, ◌||◌, ◌∷◌, ◌≡◌}
+use Rattle.yaml_base.proofs.Common.{Bool, List, [], cond, drop, false, length, not, refl, slice_index_or as get_or, take, true, ℕ, ◌++◌, ◌-◌, ◌||◌, ◌∷◌, ◌≡◌, ◌⊎◌}
 use Rattle.yaml_base.proofs.Common.{bytes_eq, ◌<◌, ◌≤◌, ◌+◌}
 use Rattle.std.proofs.{Common.ap₂, Common.set, Common.length-drop, Common.take_all, Math.Seq.get_or-append_seam, Math.Seq.set-append_seam}
 use Rattle.std.proofs.{lemmas.Bool.both_ways}
@@ -8,7 +8,8 @@ use Rattle.std.proofs.lemmas.List.{Folds.list_any-append, drop-append-le, take-a
 use Rattle.std.{proofs.lemmas.Bool.Decides.Decides-like, proofs.lemmas.Map.Text.is_eq-slice_cmp, specs.BTreeSet.BTreeSet, specs.BTreeSet.Updates}
 use Rattle.std.{specs.BTreeSet.contains_by, specs.Borrow.Bor, specs.Cmp.Lexicographic.slice_cmp, specs.List.slice_range, specs.Ordering.nat_cmp}
 use Rattle.std.specs.declared.cmp.Ordering.{Ordering}
-use Rattle.yaml_json.specs.{HeldNames.HasNames, HeldNames.HaveNames, Names.IsNewName, Names.outer_names, declared.names.Level.Level}
+use Rattle.yaml_json.specs.{HeldNames.AddsName, HeldNames.HasNames, HeldNames.HaveNames, Names.IsNewName, Names.outer_names}
+use Rattle.yaml_json.specs.declared.names.{Level.Level, Names.Names}
 
 -- a name is new exactly where it is none of those
 pub new_among : (names : List (List ℕ)) (name : List ℕ) → list_any (bytes_eq name) names ≡ false → IsNewName names name
@@ -23,6 +24,11 @@ among_new (other ∷ names) name some new = elim (or_cases (bytes_eq name other)
   | inl first ↦ new.0 (sym ((bytes_eq-Decides name other).0 first))
   | inr later ↦ among_new names name later new.1
 ]
+
+-- where none are kept, each is new
+pub adds_unkept : {A : Type 0} (names : List (List ℕ)) (levels : List (List (List ℕ))) (name : List ℕ) (held : Names A) → held.are_kept ≡ false
+    → AddsName names levels name true held
+adds_unkept names levels name held none = ((λ kept. cc), (λ new kept. cc), (λ is. cc))
 
 -- ---- one level
 
@@ -176,6 +182,11 @@ module _ {A : Type 0} (few : Keys) (levels : List (Level A)) (n : ℕ) (long : n
   inner =
       subst (λ (l : Level A). (l.first ≤ length few) × HasNames (drop l.first few) l.many names × HaveNames (take l.first few) have.0 outer)
       (sym (at ∙ last_of levels have.0 have.1 level n have.2 long)) (have.3, have.4, have.5)
+
+  -- so its names begin within the list
+  pub never_past : (listed : Keys) → listed ≡ few → (length listed < level.first) ⊎ (length listed < length listed) → ⊥
+  never_past listed is (inl past) = omega (arith, past, inner.0, ap length is)
+  never_past listed is (inr past) = omega (arith, past)
 
   cut : part ≡ drop level.first few
   cut = part_is ∙ take_all (length few - level.first) (drop level.first few) (omega (arith, length-drop level.first few))
