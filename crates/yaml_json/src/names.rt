@@ -115,5 +115,10 @@ impl<'a, A: Allocator + Copy> Names<'a, A> {
 fn is_among(name: &str, names: &[&str]) -> bool
     ensures { result ≡ list_any (λ other. bytes_eq other.now name.now) names.now }
 {
-    names.iter().any(|other| *other == name)
+    for other in names {
+        if *other == name {
+            return true;
+        }
+    }
+    false
 }

@@ -4,60 +4,36 @@ ghost use Rattle.std.specs.Fmt.{is_char_start};
 ghost use Rattle.std.specs.List.{after_last, suffix_len};
 ghost use Rattle.yaml_base.specs.values.LinesAndColumns.{column_of, is_line_feed, line_of};
 
+use crate::lexemes::{after_string, skip_blanks};
 use crate::values::Spot;
 use crate::words::is_blank;
 
-/// The first byte from an offset on that is no blank; the text's end where there is none.
-fn skip_blanks(bytes: &[u8], from: usize) -> usize {
-    let mut at = from;
-    for byte in bytes.iter().skip(from) {
-        if !is_blank(*byte) {
-            break;
-        }
-        at = at.saturating_add(1);
-    }
-    at
-}
-
-/// What follows the string that begins at an offset.
-fn skip_string(bytes: &[u8], from: usize) -> usize {
-    let mut at = from.saturating_add(1);
-    let mut is_escaped = false;
-    for byte in bytes.iter().skip(at) {
-        at = at.saturating_add(1);
-        if is_escaped {
-            is_escaped = false;
-        } else if *byte == b'\\' {
-            is_escaped = true;
-        } else if *byte == b'"' {
-            break;
-        }
-    }
-    at
+/// The offset of what follows the string that begins at an offset, and the blanks after it.
+fn past_string(text: &str, from: usize) -> usize {
+    let content = from.saturating_add(1).min(text.len());
+    let rest = skip_blanks(after_string(text, content));
+    text.len().saturating_sub(rest.len())
 }
 
 /// The comma before an offset, with nothing but blanks between; the offset where there is none.
 fn comma_before(bytes: &[u8], offset: usize) -> usize {
-    let mut comma = offset;
-    let mut at: usize = 0;
-    for byte in bytes.iter().take(offset) {
-        if *byte == b',' {
-            comma = at;
-        } else if !is_blank(*byte) {
-            comma = offset;
-        }
-        at = at.saturating_add(1);
+    let mut at = offset.min(bytes.len());
+    'blanks: while at > 0 && is_blank(bytes[at - 1]) {
+        at -= 1;
     }
-    comma
+    if at > 0 && bytes[at - 1] == b',' {
+        at - 1
+    } else {
+        offset
+    }
 }
 
 /// The offset of a spot in a text, by where the last token that was read begins.
 pub(crate) fn offset_of(text: &str, last: usize, spot: Spot) -> usize {
-    let bytes = text.as_bytes();
     match spot {
         Spot::At => last,
-        Spot::PastString => skip_blanks(bytes, skip_string(bytes, last)),
-        Spot::PastValue => comma_before(bytes, last),
+        Spot::PastString => past_string(text, last),
+        Spot::PastValue => comma_before(text.as_bytes(), last),
     }
 }
 
@@ -99,19 +75,32 @@ fn last_line_length(bytes: &[u8]) -> usize
     ensures value { result ≡ suffix_len (λ byte. not (is_line_feed byte)) bytes.now }
     ensures within { result ≤ length bytes.now }
 {
-    bytes
-        .iter()
-        .rev()
-        .take_while(|byte| **byte != b'\n')
-        .count()
+    let mut at = bytes.len();
+    'bytes: while at > 0 {
+        if bytes[at - 1] == b'\n' {
+            return bytes.len() - at;
+        }
+        at -= 1;
+    }
+    bytes.len()
+}
+
+/// Number of characters.
+fn characters(bytes: &[u8]) -> usize
+    ensures { result ≡ count_by is_char_start bytes.now }
+{
+    let mut count: usize = 0;
+    for byte in bytes {
+        count += begins_character(*byte) as usize;
+    }
+    count
 }
 
 /// Number of characters after the last line feed.
 fn last_line_characters(bytes: &[u8]) -> usize
     ensures { result ≡ count_by is_char_start (after_last is_line_feed bytes.now) }
 {
-    let last = bytes.split_at(bytes.len() - last_line_length(bytes)).1;
-    last.iter().filter(|byte| begins_character(**byte)).count()
+    characters(&bytes[bytes.len() - last_line_length(bytes)..])
 }
 
 /// The line and the column of an offset in bytes of a text, both from 1. A line ends with LF. A column counts characters by the
