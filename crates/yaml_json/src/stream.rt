@@ -181,29 +181,18 @@ fn begin_next<A: Allocator + Copy, W: Write>(
 }
 
 /// Keeps the last `count` bytes of what came.
-fn keep_last<A: Allocator + Copy>(
-    incoming: &mut Incoming<A>,
-    count: usize,
-) -> Result<(), StreamError>
+fn keep_last<A: Allocator + Copy>(incoming: &mut Incoming<A>, count: usize)
     requires { count ≤ length incoming.old.held.items }
-    ensures kept { OnOk result (incoming.new.held.items ≡ drop (length incoming.old.held.items - count) incoming.old.held.items) }
+    ensures kept { incoming.new.held.items ≡ drop (length incoming.old.held.items - count) incoming.old.held.items }
     ensures cut { incoming.new.reading.cut ≡ incoming.old.reading.cut }
-    ensures failed { IfErr result IsByNoText }
-    ensures sent { IfErr result IsSent }
 {
     let start = incoming.held.len() - count;
     if start == 0 {
-        return Ok(());
+        return;
     }
     incoming.reading.place = incoming.reading.place.after(&incoming.held[..start]);
-    let Ok(left) = Vec::from_slice(incoming.reading.alloc, &incoming.held[start..]) else {
-        return Err(NO_MEMORY);
-    };
-    incoming.held.clear();
-    match incoming.held.extend_from_slice(left.as_slice()) {
-        Ok(()) => Ok(()),
-        Err(_) => Err(NO_MEMORY),
-    }
+    incoming.held.copy_within(start.., 0);
+    incoming.held.truncate(count);
 }
 
 /// Gives a writer the texts that are complete in what came, and sends on what is written of each. Returns how many bytes are left.
@@ -259,10 +248,10 @@ fn write_complete<A: Allocator + Copy, W: Write>(
 {
     let held = incoming.held.as_slice();
     match write_texts(writer, sink, held, &mut incoming.reading, settings) {
-        Ok(count) => match keep_last(incoming, count) {
-            Ok(()) => Ok(()),
-            Err(error) => Err(error),
-        },
+        Ok(count) => {
+            keep_last(incoming, count);
+            Ok(())
+        }
         Err(error) => Err(error),
     }
 }

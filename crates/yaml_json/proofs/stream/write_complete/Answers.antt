@@ -1,5 +1,5 @@
 use Rattle.yaml_json.proofs.Common.{ℕ, ◌-◌, drop, length, List, refl, subst, sym, HasScanned, StopsWithin}
-use Rattle.yaml_json.proofs.Sending.{left_scanned, left_within, advances_left, stops_by_none}
+use Rattle.yaml_json.proofs.Sending.{left_scanned, left_within, advances_left}
 use Rattle.yaml_json.proofs.stream.write_complete.Goals as goal
 
 pub write_texts-requires : goal.write_texts-requires
@@ -14,30 +14,19 @@ keep_last-requires g c =
     left_within c.as_slice-held.result.now c.args.incoming.now.held.items c.in-Ok.count c.write_texts.new.reading.cut c.as_slice-held.ensures.value
     c.in-Ok.ensures.left
 
-pub returns-in-Ok-keep_last-clause-scanned : goal.returns-in-Ok-keep_last-clause-scanned
-returns-in-Ok-keep_last-clause-scanned g c =
+pub returns-in-Ok-clause-scanned : goal.returns-in-Ok-clause-scanned
+returns-in-Ok-clause-scanned g c =
     left_scanned c.as_slice-held.result.now c.args.incoming.now.held.items c.keep_last.new.incoming.held.items c.in-Ok.count
-    c.write_texts.new.reading.cut c.keep_last.new.incoming.reading.cut c.as_slice-held.ensures.value c.in-Ok-keep_last.ensures.kept
+    c.write_texts.new.reading.cut c.keep_last.new.incoming.reading.cut c.as_slice-held.ensures.value c.keep_last.ensures.kept
     c.keep_last.ensures.cut c.in-Ok.ensures.left
 
-pub returns-in-Ok-keep_last-clause-gives : goal.returns-in-Ok-keep_last-clause-gives
-returns-in-Ok-keep_last-clause-gives g c =
+pub returns-in-Ok-clause-gives : goal.returns-in-Ok-clause-gives
+returns-in-Ok-clause-gives g c =
     let a = c.args in
     let slice = c.as_slice-held.result.now in
     advances_left a.settings.now.depth a.settings.now.flow a.settings.now.unique_names slice a.writer.now (g.W.Write.contents a.sink.now)
     (drop (length slice - c.in-Ok.count) slice) c.write_texts.new.writer (g.W.Write.contents c.write_texts.new.sink) c.in-Ok.ensures.gives
-    a.incoming.now.held.items c.keep_last.new.incoming.held.items c.in-Ok.count refl c.as_slice-held.ensures.value c.in-Ok-keep_last.ensures.kept
-
-pub returns-in-Err-keep_last-clause-stops : goal.returns-in-Err-keep_last-clause-stops
-returns-in-Err-keep_last-clause-stops g c =
-    let a = c.args in
-    let slice = c.as_slice-held.result.now in
-    let sink = g.W.Write.contents c.write_texts.new.sink in
-    subst (λ (t : List ℕ). StopsWithin a.settings.now.depth a.settings.now.flow a.settings.now.unique_names t a.writer.now
-    (g.W.Write.contents a.sink.now) c.in-Err-keep_last.error sink) c.as_slice-held.ensures.value
-    (stops_by_none a.settings.now.depth a.settings.now.flow a.settings.now.unique_names slice a.writer.now (g.W.Write.contents a.sink.now)
-    (drop (length slice - c.in-Ok.count) slice) c.write_texts.new.writer sink c.in-Ok.ensures.gives c.in-Err-keep_last.error sink
-    c.in-Err-keep_last.ensures.failed (λ sent. refl))
+    a.incoming.now.held.items c.keep_last.new.incoming.held.items c.in-Ok.count refl c.as_slice-held.ensures.value c.keep_last.ensures.kept
 
 pub returns-in-Err-clause-stops : goal.returns-in-Err-clause-stops
 returns-in-Err-clause-stops g c =

@@ -1,0 +1,24 @@
+use Rattle.std.proofs.Common.{◌≡◌, ℕ, ◌+◌, ◌-◌, ◌≤◌, List, drop, length, take, take_all, length-drop, ap, ◌∙◌, arith}
+use Rattle.std.proofs.lemmas.List.Edits.{take-paste}
+use Rattle.std.specs.List.{copy_within}
+use lib.Seq.{paste}
+use Rattle.yaml_json.proofs.stream.keep_last.Goals as goal
+
+-- the last bytes, where they are moved to the front
+moved_last : (held moved later : List ℕ) (start end count : ℕ) → end ≡ length held → count ≤ length held → start ≡ length held - count
+    → moved ≡ copy_within held start end 0 → later ≡ take count moved → later ≡ drop start held
+moved_last held moved later start end count whole within first is cut =
+    let rest : length (drop start held) ≡ count = omega (arith, within, first, length-drop start held) in
+    let size : end - start ≡ count = omega (arith, whole, within, first) in
+    let same : count ≡ 0 + count = omega arith in
+    cut ∙ ap (λ n. take n moved) same ∙ ap (take (0 + count)) is ∙ ap (λ n. take (0 + count) (paste held 0 (drop start held) n)) size
+    ∙ take-paste held 0 (drop start held) count (omega arith) (omega (arith, rest)) ∙ take_all count (drop start held) (omega (arith, rest))
+
+pub returns-clause-kept : goal.returns-clause-kept
+returns-clause-kept g c =
+    let held = c.args.incoming.now.held in
+    let whole : held.len ≡ length held.items = omega (arith, c.deref.ensures.len, ap length c.deref.ensures.value) in
+    let first : c.len.result - c.args.count ≡ length held.items - c.args.count = omega (arith, whole, c.len.ensures) in
+    moved_last held.items c.copy_within.new.self.items c.truncate.new.self.items (c.len.result - c.args.count) held.len c.args.count whole c.requires first
+    c.copy_within.ensures.items c.truncate.ensures.items
+    ∙ ap (λ n. drop n held.items) first
