@@ -156,6 +156,21 @@ unclosed_array : (t : List ℕ) → head t ≡ 93 → punctuate after_comma (lex
 unfolding punctuate
 unclosed_array t e = ap (punctuate after_comma) (lex-end_array t e)
 
+-- a step from the place where the text stands
+pub closed_here : (stage : Stage) (text : List ℕ) (step : Step) → closes_here stage ≡ true → StepsFrom may_close (lex between text) step
+    → (ahead stage text ≡ token_of step.token ∷ ahead step.stage step.rest.now) × IsTidy step.stage step.rest.now
+closed_here Open text step e steps = (steps.first fresh refl, steps.tidy)
+closed_here Behind text step e steps = (steps.first after_value refl, steps.tidy)
+closed_here Owed text step e steps = absurd (true≢false (sym e))
+closed_here Over text step e steps = absurd (true≢false (sym e))
+
+pub begun_here : (stage : Stage) (text : List ℕ) (step : Step) → begins_here stage ≡ true → StepsFrom may_begin (lex between text) step
+    → (ahead stage text ≡ token_of step.token ∷ ahead step.stage step.rest.now) × IsTidy step.stage step.rest.now
+begun_here Open text step e steps = (steps.first fresh refl, steps.tidy)
+begun_here Behind text step e steps = absurd (true≢false (sym e))
+begun_here Owed text step e steps = (steps.first after_comma refl, steps.tidy)
+begun_here Over text step e steps = absurd (true≢false (sym e))
+
 pub may_not_close : (stage : Stage) (text : List ℕ) → (stage ≡ Over → ⊥) → closes_here stage ≡ false → (head text ≡ 125) ⊎ (head text ≡ 93)
     → ahead stage text ≡ bad ∷ []
 may_not_close Open text some e closer = absurd (true≢false e)

@@ -1,7 +1,8 @@
-use Rattle.std.proofs.Common.{◌≡◌, [], ◌∷◌, drop, true, inl, inr, sym, ap, ◌∙◌}
+use Rattle.std.proofs.Common.{◌≡◌, [], ◌∷◌, drop, true, inl, inr, sym, ap, ◌∙◌, arith}
 use Rattle.json.specs.Lex.{Place, between, in_word, lex, may_begin, punctuate}
 use Rattle.json.specs.Token.{bad}
 use Rattle.json.specs.Word.{head}
+use Rattle.yaml_json.proofs.Boundaries.{found_at}
 use Rattle.yaml_json.proofs.PunctuateSteps.{lex-colon, lex-comma, lex-stray, put-bad, stray-colon, stray-comma}
 use Rattle.yaml_json.proofs.Stepping.{opens_array, opens_object, refused}
 use Rattle.yaml_json.proofs.tokens.beginning.Goals as goal
@@ -27,3 +28,22 @@ returns-in-44 g c =
         | inr slash ↦ stray (λ p e. ap (punctuate p) (lex-stray d (seen ∙ slash)) ∙ put-bad p (lex in_word (drop 1 d)))
       ]
     ]
+
+pub string-requires-clause-quote : goal.string-requires-clause-quote
+string-requires-clause-quote g c = ap head (sym c.as_bytes.ensures.value) ∙ sym c.byte_at.ensures ∙ c.in-34.is
+
+pub opening-requires : goal.opening-requires
+opening-requires g c =
+    let at = found_at c.args.text.now 0 123 (ap head (sym c.as_bytes.ensures.value) ∙ sym c.byte_at.ensures ∙ c.in-123.is) (λ e. absurd (omega arith)) in
+    (at.0, omega (arith, at.1))
+
+pub opening-requires-in-91 : goal.opening-requires-in-91
+opening-requires-in-91 g c =
+    let at = found_at c.args.text.now 0 91 (ap head (sym c.as_bytes.ensures.value) ∙ sym c.byte_at.ensures ∙ c.in-91.is) (λ e. absurd (omega arith)) in
+    (at.0, omega (arith, at.1))
+
+pub returns-in_default : goal.returns-in_default
+returns-in_default g c = c.word_step.ensures
+
+pub returns-in-34 : goal.returns-in-34
+returns-in-34 g c = c.string.ensures

@@ -1,6 +1,6 @@
 use Rattle.std.proofs.Common.{◌≡◌, ◌⊎◌, [], inl, inr, rules, sym, ap, ◌∙◌, arith}
 use Rattle.json.specs.Word.{head}
-use Rattle.yaml_json.proofs.Stepping.{may_not_begin, may_not_close, over_is}
+use Rattle.yaml_json.proofs.Stepping.{begun_here, closed_here, may_not_begin, may_not_close, over_is}
 use Rattle.yaml_json.proofs.tokens.read.Goals as goal
 
 pub returns-then-byte : goal.returns-then-byte
@@ -27,3 +27,22 @@ returns-then-not-may_begin g c =
           ∙ sym (over_is step.result step.ensures.token step.ensures.over),
       step.ensures.tidy,
     )
+
+pub returns-then-is_empty : goal.returns-then-is_empty
+returns-then-is_empty g c = c.at_end.ensures
+
+pub closing-requires : goal.closing-requires
+closing-requires g c = (ap head (sym c.as_bytes.ensures.value) ∙ sym c.byte_at-byte.ensures, grind arith)
+
+pub returns-then-may_close : goal.returns-then-may_close
+returns-then-may_close g c = closed_here c.args.stage c.args.text.now c.closing.result (sym c.may_close.ensures ∙ c.if-may_close.true) c.closing.ensures
+
+pub beginning-requires-clause-opens : goal.beginning-requires-clause-opens
+beginning-requires-clause-opens g c =
+    let seen : head c.args.text.now ≡ c.byte_at-byte.result = ap head (sym c.as_bytes.ensures.value) ∙ sym c.byte_at-byte.ensures in
+    let no_object : c.byte_at-byte.result ≡ 125 → ⊥ = grind arith in
+    let no_array : c.byte_at-byte.result ≡ 93 → ⊥ = grind arith in
+    (λ e. no_object (sym seen ∙ e), λ e. no_array (sym seen ∙ e))
+
+pub returns-in-Ok : goal.returns-in-Ok
+returns-in-Ok g c = begun_here c.args.stage c.args.text.now c.in-Ok.step (sym c.may_begin.ensures ∙ c.if-not-may_begin.false) c.in-Ok.ensures
