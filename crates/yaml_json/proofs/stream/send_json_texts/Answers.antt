@@ -122,3 +122,18 @@ returns-clause-refused g c =
     let a = c.args in
     none_refused a.settings.depth a.settings.flow a.settings.unique_names a.writer.now (g.W.Write.contents a.sink.now) (g.R.Read.remaining a.reader.now)
     (faults.ReadFailed c.from.result) tt
+
+pub read_more-requires : goal.read_more-requires
+read_more-requires g c = c.parts.invariant.1
+
+pub write_last-requires : goal.write_last-requires
+write_last-requires g c = c.parts.invariant.0
+
+pub write_complete-requires-clause-bare : goal.write_complete-requires-clause-bare
+write_complete-requires-clause-bare g c = c.parts.invariant.0
+
+pub write_complete-requires-clause-incoming : goal.write_complete-requires-clause-incoming
+write_complete-requires-clause-incoming g c = c.in-Ok-true.ensures.incoming
+
+pub returns-in-Err-flush-clause-sent : goal.returns-in-Err-flush-clause-sent
+returns-in-Err-flush-clause-sent g c sent = absurd sent

@@ -1,4 +1,4 @@
-use Rattle.yaml_json.proofs.Common.{ℕ, ◌-◌, drop, length, true, List, [], refl, ◌≡◌, length-drop, ap, subst, sym, ◌∙◌, arith, tokens, NamesOnce, ExplainsPart}
+use Rattle.yaml_json.proofs.Common.{ℕ, ◌-◌, drop, length, true, List, [], refl, ◌≡◌, length-drop, ap, subst, sym, ◌∙◌, arith, tokens, NamesOnce, ExplainsPart, HasScanned}
 use Rattle.yaml_json.proofs.Common.{WroteText}
 use Rattle.yaml_json.proofs.Sending.{whole_suffix, suffix_on, advances_none, advances_same, stops_by_none, stops_at_first, advances_on}
 use Rattle.yaml_json.proofs.stream.write_texts.Goals as goal
@@ -89,3 +89,17 @@ begin_next-requires g c = c.in_default-write_bytes.ensures.written.wrote.bare
 
 pub returns-clause-bare : goal.returns-clause-bare
 returns-clause-bare g c = c.texts.invariant.0
+
+pub returns-clause-left : goal.returns-clause-left
+returns-clause-left g c =
+    let l = c.texts in
+    record {
+      within = l.invariant.2;
+      scanned = subst (λ (t : List ℕ). HasScanned t c.find_end.new.cut) (sym l.invariant.3) c.in_default.ensures.0;
+      all = c.in_default.ensures.1 ∙ ap length (sym l.invariant.3);
+    }
+
+pub split_at-requires : goal.split_at-requires
+split_at-requires g c =
+    let within = c.in-Some.ensures.within in
+    omega (arith, within)
