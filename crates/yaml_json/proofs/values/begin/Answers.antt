@@ -1,4 +1,4 @@
-use Rattle.yaml_json.proofs.Common.{◌<◌, length, arith, refl, emitter_error_of}
+use Rattle.yaml_json.proofs.Common.{◌<◌, ◌+◌, ◌≡◌, [], ◌∷◌, true, length, length-append, ap, sym, ◌∙◌, arith, refl, emitter_error_of}
 use Rattle.yaml_json.proofs.{KeepingNames.keeps_opener, Stopping.if_some, Taking.opener_began, Taking.opener_failed, Taking.opener_without_memory}
 use Rattle.yaml_json.proofs.{WroteLemmas.on_ok, WroteLemmas.always}
 use Rattle.yaml_json.proofs.values.begin.Goals as goal
@@ -39,3 +39,15 @@ returns-in-Ok-clause-stopped g c =
 
 pub returns-then-len-settings-clause-refused : goal.returns-then-len-settings-clause-refused
 returns-then-len-settings-clause-refused g c = ((c.args.kind, refl), grind arith)
+
+pub returns-in-Ok-clause-fits : goal.returns-in-Ok-clause-fits
+returns-in-Ok-clause-fits g c =
+    let a = c.args in
+    let fits = c.requires.fits in
+    let entered = c.in_default.ensures in
+    let room : length a.nest.now.kinds.items < a.settings.now.depth = grind (arith, fits.0) in
+    let more : length c.push.new.self.items ≡ length a.nest.now.kinds.items + 1 =
+    ap length c.in-Ok.ensures.items ∙ length-append a.nest.now.kinds.items (a.kind ∷ []) in
+    let as_many = λ (kept : c.enter.new.self.are_kept ≡ true). let was = sym entered.kept ∙ kept in
+    entered.longer was ∙ ap (λ n. n + 1) (fits.1.1 was) ∙ sym more in
+    always c.start.result (omega (arith, room, more), (entered.kept ∙ fits.1.0, as_many))

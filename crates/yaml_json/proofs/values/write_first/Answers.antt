@@ -27,3 +27,15 @@ returns-clause-stopped g c =
       failed = failed;
     }))
     c.write_token.ensures.stopped
+
+pub write_token-requires-clause-bare : goal.write_token-requires-clause-bare
+write_token-requires-clause-bare g c = c.requires.bare
+
+pub write_token-requires-clause-fits : goal.write_token-requires-clause-fits
+write_token-requires-clause-fits g c = c.requires.fits
+
+pub write_token-requires-clause-good : goal.write_token-requires-clause-good
+write_token-requires-clause-good g c = c.in-Ok.ensures.printable
+
+pub returns-clause-fits : goal.returns-clause-fits
+returns-clause-fits g c = c.write_token.ensures.fits
