@@ -1,7 +1,7 @@
 -- The lists and sets that hold the names of the objects that are open.
 use Rattle.yaml_base.proofs.Common.{bytes_eq-Decides, ap, arith, inl, inr, length-append, subst, sym, ◌∙◌, or_parts, or_cases, same_from_decides, list_any}
-use Rattle.yaml_base.proofs.Common.{Bool, List, [], cond, drop, false, length, not, refl, slice_index_or as get_or, take, true, ℕ, ◌++◌, ◌-◌, ◌||◌, ◌∷◌, ◌≡◌, ◌⊎◌}
-use Rattle.yaml_base.proofs.Common.{bytes_eq, ◌<◌, ◌≤◌, ◌+◌}
+use Rattle.yaml_base.proofs.Common.{Bool, List, [], cond, drop, false, length, not, refl, slice_index_or as get_or, take, true, ℕ, ◌++◌, ◌-◌, ◌||◌, ◌∷◌, ◌≡◌}
+use Rattle.yaml_base.proofs.Common.{bytes_eq, ◌<◌, ◌≤◌, ◌+◌, ◌⊎◌}
 use Rattle.std.proofs.{Common.ap₂, Common.set, Common.length-drop, Common.take_all, Math.Seq.get_or-append_seam, Math.Seq.set-append_seam}
 use Rattle.std.proofs.{lemmas.Bool.both_ways}
 use Rattle.std.proofs.lemmas.List.{Folds.list_any-append, drop-append-le, take-append-le}

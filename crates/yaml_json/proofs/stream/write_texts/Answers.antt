@@ -1,5 +1,5 @@
-use Rattle.yaml_json.proofs.Common.{ℕ, ◌-◌, drop, length, true, List, [], refl, ◌≡◌, length-drop, ap, subst, sym, ◌∙◌, arith, tokens, NamesOnce, ExplainsPart, HasScanned}
-use Rattle.yaml_json.proofs.Common.{WroteText}
+use Rattle.yaml_json.proofs.Common.{ℕ, ◌-◌, drop, length, true, List, [], refl, ◌≡◌, length-drop, ap, subst, sym, ◌∙◌, arith, tokens, NamesOnce, ExplainsPart}
+use Rattle.yaml_json.proofs.Common.{HasScanned, WroteText}
 use Rattle.yaml_json.proofs.Sending.{whole_suffix, suffix_on, advances_none, advances_same, stops_by_none, stops_at_first, advances_on}
 use Rattle.yaml_json.proofs.stream.write_texts.Goals as goal
 
