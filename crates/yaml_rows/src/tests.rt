@@ -13,7 +13,7 @@ mod scripts;
 mod types;
 
 use std::alloc::{Allocator, Global};
-use std::fmt::Debug;
+use std::fmt::{Debug, Display};
 use std::process::Abort;
 use yaml_base::{YAML_DOCUMENT_START_EVENT, yaml_error_t, yaml_event_t, yaml_tag_directive_t};
 use yaml_pen::{Indicator, Pen};
@@ -25,9 +25,20 @@ fn equal<T: PartialEq + Debug>(rt: &impl Abort, got: &T, wanted: &T) {
     assert_eq!(rt; *got, *wanted);
 }
 
+/// The two are equal, in the row of this name.
+fn equal_at<T: PartialEq + Debug>(rt: &impl Abort, name: &str, got: &T, wanted: &T) {
+    equal(rt, &(name, got), &(name, wanted));
+}
+
 /// A text that a test hands over, for which there is memory.
 fn owned<A: Allocator>(rt: &impl Abort, alloc: A, s: &str) -> String<A> {
     String::from_str(alloc, s).expect(rt, "no memory")
+}
+
+/// This is written of a value.
+fn check_words<T: Display>(rt: &impl Abort, alloc: Global, value: &T, words: &str) {
+    let text = format!(in alloc; "{value}").expect(rt, "no memory");
+    equal(rt, &text.as_str(), &words);
 }
 
 /// The directives of a document's start, by its line in a script.
@@ -50,6 +61,29 @@ fn joined(rt: &impl Abort, alloc: Global, parts: &[&str]) -> String {
 /// This text, so many times, for which there is memory.
 fn repeated(rt: &impl Abort, alloc: Global, text: &str, count: usize) -> String {
     text.repeat(alloc, count).expect(rt, "no memory")
+}
+
+/// Settings, and rows that come after them; with each of these settings, where `;` stands between some.
+type Rows<'a> = &'a [(&'a str, &'a str)];
+
+/// What the signs in a row mean.
+const SIGNS: &[(char, &str)] = &[
+    ('↵', "\n"),
+    ('␍', "\r"),
+    ('¶', "\u{2028}"),
+    ('␠', " "),
+    ('⍽', "\u{A0}"),
+    ('⊤', "\u{10FFFF}"),
+];
+
+/// A row, or a line of one, in the characters that it means.
+fn meant(rt: &impl Abort, alloc: Global, row: &str) -> String {
+    let mut meant = joined(rt, alloc, &[row]);
+    for (sign, meaning) in SIGNS {
+        let next = meant.as_str().replace(alloc, *sign, meaning);
+        meant = next.expect(rt, "no memory");
+    }
+    meant
 }
 
 /// The event of a script's line, for which there is memory.
@@ -77,4 +111,12 @@ fn write_indicator(pen: &mut Pen<Global>, indicator: &Indicator) -> Result<(), y
         indicator.leaves_space,
         indicator.keeps_indention,
     )
+}
+
+/// Writes an indicator with a space before it, where one is needed.
+fn write_spaced(pen: &mut Pen<Global>, text: &str) -> Result<(), yaml_error_t>
+    requires { IsReady pen.old }
+    ensures { IsReady pen.new }
+{
+    write_indicator(pen, &Indicator::spaced(text))
 }

@@ -1,6 +1,6 @@
 //! Errors of the library in a caller that returns `anyhow::Result`.
 use crate::tests::emitters::{UNSET, give, made};
-use crate::tests::same;
+use crate::tests::{check_words, same};
 use std::alloc::Global;
 use std::process::Abort;
 use yaml_base::{NodeNumber, YAML_STREAM_END_EVENT};
@@ -29,8 +29,7 @@ fn check_reported(rt: &impl Abort, alloc: Global, answer: anyhow::Result<()>, wo
     match answer {
         Ok(()) => same(rt, b"", words.as_bytes()),
         Err(error) => {
-            let reported = format!(in alloc; "{error}").expect(rt, "no memory");
-            same(rt, reported.as_str().as_bytes(), words.as_bytes());
+            check_words(rt, alloc, &error, words);
         }
     }
 }

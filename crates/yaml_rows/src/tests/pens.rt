@@ -9,8 +9,7 @@ ghost use Rattle.yaml_pen.specs.Page.{IsReady, IsUntouched};
 mod memory;
 mod runs;
 
-use super::scalars::check_column;
-use super::{equal, same, write_indicator};
+use super::{equal, same, write_indicator, write_spaced};
 use std::alloc::{AllocError, Allocator, Global};
 use std::process::Abort;
 use yaml_base::{
@@ -103,8 +102,8 @@ fn write_long_run<A: Allocator, B: Allocator>(
     }
 }
 
-// Nothing was flushed before the flush, and this is after it.
-fn check_flushed(rt: &impl Abort, pen: &mut Pen<Global>, expected: &[u8])
+/// Nothing was flushed before the flush, and this is after it.
+pub(super) fn check_flushed(rt: &impl Abort, pen: &mut Pen<Global>, expected: &[u8])
     requires { IsReady pen.old }
 {
     same(rt, pen.output(), b"");
@@ -113,46 +112,50 @@ fn check_flushed(rt: &impl Abort, pen: &mut Pen<Global>, expected: &[u8])
     equal(rt, &pen.error(), &None);
 }
 
-// An indicator, a character outside ASCII, and a new line.
-fn write_line(rt: &impl Abort, pen: &mut Pen<Global>) -> Result<(), yaml_error_t>
+/// The column and both flags of the cursor.
+type Cursor = (i32, bool, bool);
+
+pub(super) fn cursor<A: Allocator>(pen: &Pen<A>) -> Cursor {
+    (pen.column(), pen.whitespace(), pen.indention())
+}
+
+// An indicator, a character outside ASCII, and a new line. Answers the cursor after each.
+fn write_line(pen: &mut Pen<Global>) -> Result<[Cursor; 3], yaml_error_t>
     requires { IsReady pen.old }
     ensures { IsReady pen.new }
 {
-    write_indicator(pen, &Indicator::spaced("---"))?;
-    check_column(rt, pen, 3);
+    write_spaced(pen, "---")?;
+    let behind_indicator = cursor(pen);
     pen.write_char('é')?;
-    equal(rt, &pen.column(), &4);
+    let behind_character = cursor(pen);
     pen.write_indent(2)?;
-    let cursor = (pen.column(), pen.whitespace(), pen.indention());
-    equal(rt, &cursor, &(2, true, true));
-    Ok(())
+    Ok([behind_indicator, behind_character, cursor(pen)])
 }
 
-// A letter, the setting's line break, and a separator of lines.
-fn end_line(rt: &impl Abort, pen: &mut Pen<Global>) -> Result<(), yaml_error_t>
+const LINE: [Cursor; 3] = [(3, false, false), (4, false, false), (2, true, true)];
+
+// A letter, the setting's line break, and a separator of lines. Answers the cursor after the letter, and after all.
+fn end_line(pen: &mut Pen<Global>) -> Result<(Cursor, i32), yaml_error_t>
     requires { IsReady pen.old }
     ensures { IsReady pen.new }
 {
     pen.put(b'a')?;
     pen.set_whitespace(false);
     pen.set_indention(false);
-    check_column(rt, pen, 3);
+    let behind_letter = cursor(pen);
     pen.put_break()?;
     pen.write_break('\u{2028}')?;
-    equal(rt, &pen.column(), &0);
-    Ok(())
+    Ok((behind_letter, pen.column()))
 }
 
 /// An encoding, and what is written in it.
 type Written<'a> = (yaml_encoding_t, &'a [u8]);
 
-fn check_calls(rt: &impl Abort, alloc: Global, rows: &[Written]) {
-    for row in rows {
-        let mut pen = made(rt, alloc, usize::MAX, row.0);
-        equal(rt, &write_line(rt, &mut pen), &Ok(()));
-        equal(rt, &end_line(rt, &mut pen), &Ok(()));
-        check_flushed(rt, &mut pen, row.1);
-    }
+fn check_calls(rt: &impl Abort, alloc: Global, row: &Written) {
+    let mut pen = made(rt, alloc, usize::MAX, row.0);
+    equal(rt, &write_line(&mut pen), &Ok(LINE));
+    equal(rt, &end_line(&mut pen), &Ok(((3, false, false), 0)));
+    check_flushed(rt, &mut pen, row.1);
 }
 
 const CALLS: &[Written] = &[
@@ -169,7 +172,9 @@ const CALLS: &[Written] = &[
 
 #[test]
 fn each_call_writes(rt: HostRuntime) {
-    check_calls(&rt, rt.alloc(), CALLS);
+    for row in CALLS {
+        check_calls(&rt, rt.alloc(), row);
+    }
 }
 
 // The setting's line break, and two that are written as given.
@@ -192,8 +197,8 @@ fn write_indicators(pen: &mut Pen<Global>) -> Result<(), yaml_error_t>
         ..Indicator::opening("-")
     };
     write_indicator(pen, &dash)?;
-    write_indicator(pen, &Indicator::spaced("b"))?;
-    write_indicator(pen, &Indicator::spaced("c"))
+    write_spaced(pen, "b")?;
+    write_spaced(pen, "c")
 }
 
 #[test]
@@ -205,34 +210,38 @@ fn line_breaks_are_those_of_the_setting(rt: HostRuntime) {
     check_flushed(&rt, &mut pen, b"a\r\n\r\n\r-b c");
 }
 
-// The flush writes what the limit leaves, and each call after it is refused.
-fn check_cut(rt: &impl Abort, pen: &mut Pen<Global>, cut: &[u8])
+// After a refusal each call answers that error, a run too, and nothing more is flushed.
+fn check_stopped<A: Allocator>(
+    rt: &impl Abort,
+    alloc: Global,
+    pen: &mut Pen<A>,
+    error: yaml_error_t,
+)
     requires { IsReady pen.old }
 {
-    let refused = Err(yaml_error_t::WriteError);
-    equal(rt, &pen.flush(), &refused);
-    same(rt, pen.output(), cut);
-    let answers = (pen.put(b'a'), pen.flush(), pen.error());
-    let error = Some(yaml_error_t::WriteError);
-    equal(rt, &answers, &(refused, refused, error));
-    same(rt, pen.output(), cut);
+    let length = pen.output().len();
+    let answers = [write_long_run(pen, alloc, 1), pen.put(b'a'), pen.flush()];
+    equal(rt, &answers, &[Err(error); 3]);
+    equal(
+        rt,
+        &(pen.error(), pen.output().len()),
+        &(Some(error), length),
+    );
 }
 
 // The text is cut where the limit leaves less, and else whole.
-fn check_text(rt: &impl Abort, pen: &mut Pen<Global>, text: &[u8], limit: usize)
-    requires { IsReady pen.old }
-{
-    match text.get(..limit) {
-        Some(cut) if limit < text.len() => check_cut(rt, pen, cut),
-        _ => check_flushed(rt, pen, text),
-    }
-}
-
 fn check_limit(rt: &impl Abort, alloc: Global, row: &Written, limit: usize) {
     let mut pen = made(rt, alloc, limit, row.0);
     let answers = (pen.write_char('\u{1F600}'), pen.put_break());
     equal(rt, &answers, &(Ok(()), Ok(())));
-    check_text(rt, &mut pen, row.1, limit);
+    match row.1.get(..limit) {
+        Some(cut) if limit < row.1.len() => {
+            equal(rt, &pen.flush(), &Err(yaml_error_t::WriteError));
+            same(rt, pen.output(), cut);
+            check_stopped(rt, alloc, &mut pen, yaml_error_t::WriteError);
+        }
+        _ => check_flushed(rt, &mut pen, row.1),
+    }
 }
 
 const FACES: &[Written] = &[
@@ -276,18 +285,55 @@ fn start_of(encoding: yaml_encoding_t, ahead: usize) -> usize {
     }
 }
 
-fn write_cycles_after(pen: &mut Pen<Global>, ahead: usize) -> Result<(), yaml_error_t>
-    requires { IsReady pen.old }
-{
-    put_letters(pen, ahead)?;
-    write_cycles(pen, 10_000)?;
-    pen.flush()
+/// A text of ten bytes, again and again.
+#[derive(Clone, Copy)]
+enum Text {
+    /// Ten letters, one by one.
+    Letters,
+    /// The four characters, one by one.
+    Characters,
+    /// A run, which is flushed in whole characters.
+    Run,
 }
 
-fn check_cycles(rt: &impl Abort, alloc: Global, row: &Cycle, ahead: usize) {
+// A text of so many times ten bytes.
+fn write<A: Allocator>(
+    pen: &mut Pen<A>,
+    alloc: Global,
+    text: Text,
+    count: usize,
+) -> Result<(), yaml_error_t>
+    requires { IsReady pen.old }
+    ensures { IsReady pen.new }
+{
+    match text {
+        Text::Letters => put_letters(pen, count.saturating_mul(10)),
+        Text::Characters => write_cycles(pen, count),
+        Text::Run => write_long_run(pen, alloc, count),
+    }
+}
+
+// A text that is longer than six buffers, one of nothing, and a short one. Answers the columns after the first and after all.
+fn write_parts(pen: &mut Pen<Global>, alloc: Global, text: Text) -> Result<(i32, i32), yaml_error_t>
+    requires { IsReady pen.old }
+    ensures { IsReady pen.new }
+{
+    write(pen, alloc, text, 10_000)?;
+    let column = pen.column();
+    write(pen, alloc, text, 0)?;
+    write(pen, alloc, text, 1)?;
+    Ok((column, pen.column()))
+}
+
+fn check_parts(rt: &impl Abort, alloc: Global, text: Text, row: &Cycle, ahead: u8) {
     let mut pen = made(rt, alloc, usize::MAX, row.0);
-    equal(rt, &write_cycles_after(&mut pen, ahead), &Ok(()));
-    check_bytes(rt, pen.output(), start_of(row.0, ahead), 100_000, row.1);
+    equal(rt, &put_letters(&mut pen, usize::from(ahead)), &Ok(()));
+    let columns = write_parts(&mut pen, alloc, text);
+    let start = i32::from(ahead);
+    let wanted = (start.saturating_add(40_000), start.saturating_add(40_004));
+    equal(rt, &(columns, pen.flush()), &(Ok(wanted), Ok(())));
+    let start = start_of(row.0, usize::from(ahead));
+    check_bytes(rt, pen.output(), start, 100_010, row.1);
 }
 
 const CYCLES: &[Cycle] = &[
@@ -298,10 +344,11 @@ const CYCLES: &[Cycle] = &[
 
 // After some letters the buffer's end falls into each place of the ten bytes.
 #[test]
-fn characters_stay_whole_across_the_buffer(rt: HostRuntime) {
+fn characters_and_runs_stay_whole_across_the_buffer(rt: HostRuntime) {
     for row in CYCLES {
         for ahead in 0..10 {
-            check_cycles(&rt, rt.alloc(), row, ahead);
+            check_parts(&rt, rt.alloc(), Text::Characters, row, ahead);
+            check_parts(&rt, rt.alloc(), Text::Run, row, ahead);
         }
     }
 }

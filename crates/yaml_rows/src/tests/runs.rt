@@ -19,10 +19,10 @@ mod refusals;
 mod scalars;
 mod sequences;
 mod settings;
-mod short_block;
-mod short_quoted;
+mod short_values;
+mod written;
 
-use crate::tests::{equal, joined, same};
+use crate::tests::{equal, equal_at, same};
 use calls::check_calls;
 use growths::answered;
 use std::alloc::Global;
@@ -78,14 +78,6 @@ impl<'a> Row<'a> {
     }
 }
 
-/// What a run wrote, and its status.
-#[derive(Drop)]
-struct Returned {
-    status: u8,
-    output: Vec<u8>,
-    line: Vec<u8>,
-}
-
 /// The line that tells how a run ended.
 pub(super) fn line_of(rt: &impl Abort, alloc: Global, answer: &run_answer_t) -> Vec<u8> {
     let mut line: Vec<u8> = Vec::new(alloc);
@@ -93,29 +85,27 @@ pub(super) fn line_of(rt: &impl Abort, alloc: Global, answer: &run_answer_t) -> 
     line
 }
 
-fn ran(rt: &impl Abort, alloc: Global, script: &[u8]) -> Returned {
+/// The status of a run of a script, what it writes, and its line.
+type Report<'a> = (u8, &'a [u8], &'a str);
+
+fn check_report(rt: &impl Abort, alloc: Global, script: &[u8], wanted: Report) {
     let mut output = Vec::new(alloc);
     let answer = answered(rt, alloc, script, &mut output);
-    let line = line_of(rt, alloc, &answer);
-    Returned {
-        status: status(&answer),
-        output,
-        line,
-    }
-}
-
-// A run wrote this output and this line.
-fn check_reported(rt: &impl Abort, reported: &Returned, output: &[u8], line: &str) {
-    same(rt, reported.output.as_slice(), output);
-    same(rt, reported.line.as_slice(), line.as_bytes());
+    let got = (script, status(&answer), output.as_slice());
+    equal(rt, &got, &(script, wanted.0, wanted.1));
+    same(
+        rt,
+        line_of(rt, alloc, &answer).as_slice(),
+        wanted.2.as_bytes(),
+    );
 }
 
 // A run of the whole script.
 fn check_run(rt: &impl Abort, alloc: Global, row: &Row) {
     let mut output = Vec::new(alloc);
     let answer = answered(rt, alloc, row.script.as_bytes(), &mut output);
-    let got = (row.script, answer, output.as_slice());
-    equal(rt, &got, &(row.script, row.answer, row.output));
+    let got = (answer, output.as_slice());
+    equal_at(rt, row.script, &got, &(row.answer, row.output));
 }
 
 /// By calls, and by a run.
@@ -124,76 +114,9 @@ fn check_row(rt: &impl Abort, alloc: Global, row: &Row) {
     check_run(rt, alloc, row);
 }
 
-// Nothing is refused, and these bytes are written.
-fn check_text(rt: &impl Abort, alloc: Global, script: &str, text: &[u8]) {
-    check_row(rt, alloc, &Row::done(script, text));
-}
-
-/// Settings, the stream that comes after them, and what the ends of documents and of the stream add to the output, and then the
-/// last flush.
-type Streams<'a> = &'a [(&'a str, &'a str, &'a [&'a str])];
-
-/// The lengths of the parts together, after each.
-fn lengths(rt: &impl Abort, alloc: Global, parts: &[&str]) -> Vec<usize> {
-    let mut lengths = Vec::new(alloc);
-    let mut length: usize = 0;
-    for part in parts {
-        length = length.saturating_add(part.len());
-        lengths.push(length).expect(rt, "no memory");
-    }
-    lengths
-}
-
-/// A stream, after these settings.
-fn check_stream(rt: &impl Abort, alloc: Global, settings: &str, stream: &str, parts: &[&str]) {
-    let script = joined(rt, alloc, &[settings, stream]);
-    let output = joined(rt, alloc, parts);
-    let lengths = lengths(rt, alloc, parts);
-    let row = Row {
-        lengths: lengths.as_slice(),
-        ..Row::done(script.as_str(), output.as_str().as_bytes())
-    };
-    check_row(rt, alloc, &row);
-}
-
-fn check_streams(rt: &impl Abort, alloc: Global, rows: Streams) {
-    for (settings, stream, parts) in rows {
-        check_stream(rt, alloc, settings, stream, parts);
-    }
-}
-
-/// Settings, the root of the document that comes after them, by its events, and the document's text.
-type Roots<'a> = &'a [(&'a str, &'a str, &'a str)];
-
-/// A stream of one document, after these settings, by the events of its root.
-fn check_root(rt: &impl Abort, alloc: Global, settings: &str, root: &str, text: &str) {
-    let parts = [settings, "+STR any\n+DOC 1 -\n", root, "\n-DOC 1\n-STR\n"];
-    let script = joined(rt, alloc, &parts);
-    check_row(rt, alloc, &Row::done(script.as_str(), text.as_bytes()));
-}
-
-fn check_roots(rt: &impl Abort, alloc: Global, rows: Roots) {
-    for (settings, root, text) in rows {
-        check_root(rt, alloc, settings, root, text);
-    }
-}
-
 /// The first script: one scalar in canonical mode.
 const FIRST: &str =
     "canonical on\nwidth -1\n+STR any\n+DOC 1 -\n=VAL any 1 1 - - \"a\"\n-DOC 1\n-STR\n";
-
-const WHOLE: Streams = &[
-    ("", "", &[]),
-    ("", "limit 007", &[]),
-    ("", FIRST, &["---\n\"a\"\n"]),
-    ("", "+STR utf8\n-STR", &[]),
-    ("", "+STR any\n-STR", &[]),
-];
-
-#[test]
-fn whole_streams_are_written(rt: HostRuntime) {
-    check_streams(&rt, rt.alloc(), WHOLE);
-}
 
 /// Scripts, each with the call that is refused, what is written, and what is returned.
 type Refusals<'a> = &'a [(&'a str, run_answer_t, &'a [u8], &'a str)];
@@ -206,7 +129,7 @@ fn check_refusals(rt: &impl Abort, alloc: Global, rows: Refusals) {
             ..Row::done(script, output)
         };
         check_row(rt, alloc, &row);
-        equal(rt, &(*script, status(answer)), &(*script, 1));
+        equal_at(rt, script, &status(answer), &1);
         same(rt, line_of(rt, alloc, answer).as_slice(), line.as_bytes());
     }
 }

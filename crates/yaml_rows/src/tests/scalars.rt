@@ -1,93 +1,119 @@
 //! Scalars written from outside: worked texts, limits and failed pens.
-ghost use Rattle.std.specs.Prelude.{IsSome};
-ghost use Rattle.yaml_base.specs.Seen.{seen_break};
+ghost use Rattle.std.specs.Prelude.{◌≡◌, pos, ◌≤ℤ◌, true, false};
+ghost use Rattle.std.specs.Str.{chars};
+ghost use Rattle.yaml_base.specs.scalars.Analysis.{is_empty};
 ghost use Rattle.yaml_pen.specs.Page.{IsReady};
 
-mod block;
-mod chosen;
-mod double_quoted;
-mod plain;
-mod single_quoted;
+mod items;
+mod limits;
+mod roots;
 mod styles;
 
-use super::{equal, same, write_indicator};
 use std::alloc::Global;
 use std::process::Abort;
-use yaml_base::{YAML_LN_BREAK, YAML_UTF8_ENCODING, yaml_break_t, yaml_error_t};
-use yaml_pen::{Indicator, Pen};
+use yaml_base::{
+    YAML_CR_BREAK, YAML_CRLN_BREAK, YAML_FOLDED_SCALAR_STYLE, YAML_LITERAL_SCALAR_STYLE,
+    YAML_LN_BREAK, YAML_PLAIN_SCALAR_STYLE, YAML_SINGLE_QUOTED_SCALAR_STYLE, YAML_UTF8_ENCODING,
+    yaml_break_t, yaml_error_t, yaml_scalar_style_t,
+};
+use yaml_pen::Pen;
+use yaml_scalar::{
+    analyze_scalar, write_double_quoted_scalar, write_folded_scalar, write_literal_scalar,
+    write_plain_scalar, write_single_quoted_scalar,
+};
+
+/// A pen at the start of a text in UTF-8 whose lines end so, in LF if nothing is set, with a limit on the output's bytes.
+fn begun_within(
+    rt: &impl Abort,
+    alloc: Global,
+    limit: usize,
+    line_break: yaml_break_t,
+) -> Pen<Global>
+    ensures { IsReady result }
+{
+    let mut pen = Pen::new(alloc).expect(rt, "no memory");
+    pen.set_limit(limit);
+    match line_break {
+        YAML_CR_BREAK => pen.begin(YAML_UTF8_ENCODING, YAML_CR_BREAK),
+        YAML_CRLN_BREAK => pen.begin(YAML_UTF8_ENCODING, YAML_CRLN_BREAK),
+        _ => pen.begin(YAML_UTF8_ENCODING, YAML_LN_BREAK),
+    }
+    pen
+}
 
 /// A pen at the start of a text in UTF-8 whose lines end in LF.
 pub(super) fn begun(rt: &impl Abort, alloc: Global) -> Pen<Global>
     ensures { IsReady result }
 {
-    begun_within(rt, alloc, usize::MAX)
+    begun_within(rt, alloc, usize::MAX, YAML_LN_BREAK)
 }
 
-/// A pen at the start of a text in UTF-8, with a limit on the output's bytes.
-fn begun_within(rt: &impl Abort, alloc: Global, limit: usize) -> Pen<Global>
-    ensures { IsReady result }
+/// How scalars are written.
+#[derive(Drop)]
+struct Layout {
+    unicode: bool,
+    allow_breaks: bool,
+    flow: bool,
+    indent: i32,
+    best_indent: i32,
+    width: i32,
+}
+
+/// The block styles are allowed, so the value isn't empty.
+fn is_allowed(value: &str) -> bool
+    ensures { result ≡ true → is_empty (chars value.now) ≡ false }
 {
-    let mut pen = Pen::new(alloc).expect(rt, "no memory");
-    pen.set_limit(limit);
-    pen.begin(YAML_UTF8_ENCODING, YAML_LN_BREAK);
-    pen
+    analyze_scalar(value, true, false).block_allowed
 }
 
-/// A pen at the start of a text in UTF-8 whose lines end so.
-fn begun_with_breaks(rt: &impl Abort, alloc: Global, line_break: yaml_break_t) -> Pen<Global>
-    requires { IsSome (seen_break line_break) }
-    ensures { IsReady result }
+// Writes in a style that stands on a line: between double quotes where neither of the others is asked for.
+fn write_in_line(
+    pen: &mut Pen<Global>,
+    layout: &Layout,
+    style: yaml_scalar_style_t,
+    value: &str,
+    indent: i32,
+) -> Result<(), yaml_error_t>
+    requires ready { IsReady pen.old }
+    requires least { pos 2 ≤ℤ indent }
+    ensures { IsReady pen.new }
 {
-    let mut pen = Pen::new(alloc).expect(rt, "no memory");
-    pen.begin(YAML_UTF8_ENCODING, line_break);
-    pen
+    let (folds, width) = (layout.allow_breaks, layout.width);
+    match style {
+        YAML_PLAIN_SCALAR_STYLE => {
+            write_plain_scalar(pen, value, folds, layout.flow, indent, width)
+        }
+        YAML_SINGLE_QUOTED_SCALAR_STYLE => {
+            write_single_quoted_scalar(pen, value, folds, indent, width)
+        }
+        _ => write_double_quoted_scalar(pen, value, folds, layout.unicode, indent, width),
+    }
 }
 
-/// The flush is refused, and writes this.
-fn check_cut(rt: &impl Abort, pen: &mut Pen<Global>, cut: &[u8])
+/// Writes in a style. Answers the open-ended state; -1 where no setting indents so.
+fn write_in(
+    pen: &mut Pen<Global>,
+    layout: &Layout,
+    style: yaml_scalar_style_t,
+    value: &str,
+) -> Result<i32, yaml_error_t>
     requires { IsReady pen.old }
     ensures { IsReady pen.new }
 {
-    equal(rt, &pen.flush(), &Err(yaml_error_t::WriteError));
-    same(rt, pen.output(), cut);
-}
-
-/// The answer was good, and this was written.
-pub(super) fn check_written(
-    rt: &impl Abort,
-    pen: &mut Pen<Global>,
-    answer: Result<(), yaml_error_t>,
-    wanted: &str,
-)
-    requires { IsReady pen.old }
-{
-    equal(rt, &(answer, pen.flush()), &(Ok(()), Ok(())));
-    same(rt, pen.output(), wanted.as_bytes());
-}
-
-/// The answer was an open-ended state, and this was written.
-fn check_marked(
-    rt: &impl Abort,
-    pen: &mut Pen<Global>,
-    answer: Result<i32, yaml_error_t>,
-    wanted: (&str, i32),
-)
-    requires { IsReady pen.old }
-{
-    equal(rt, &(answer, pen.flush()), &(Ok(wanted.1), Ok(())));
-    same(rt, pen.output(), wanted.0.as_bytes());
-}
-
-/// An indicator `-`, which a space must follow.
-fn write_dash(pen: &mut Pen<Global>) -> Result<(), yaml_error_t>
-    requires { IsReady pen.old }
-    ensures { IsReady pen.new }
-{
-    write_indicator(pen, &Indicator::indented("-"))
-}
-
-/// The column; both flags of the cursor are off.
-pub(super) fn check_column(rt: &impl Abort, pen: &Pen<Global>, column: i32) {
-    let cursor = (pen.column(), pen.whitespace(), pen.indention());
-    equal(rt, &cursor, &(column, false, false));
+    let (indent, best_indent) = (layout.indent, layout.best_indent);
+    if best_indent < 2 || best_indent > 9 || indent < best_indent {
+        return Ok(-1);
+    }
+    match style {
+        YAML_LITERAL_SCALAR_STYLE if is_allowed(value) => {
+            write_literal_scalar(pen, value, indent, best_indent)
+        }
+        YAML_FOLDED_SCALAR_STYLE if is_allowed(value) => {
+            write_folded_scalar(pen, value, indent, best_indent, layout.width)
+        }
+        _ => {
+            write_in_line(pen, layout, style, value, indent)?;
+            Ok(0)
+        }
+    }
 }

@@ -1,7 +1,7 @@
 //! Refusals, classes of characters, and documents.
 mod documents;
 
-use super::equal;
+use super::{check_words, equal};
 use std::alloc::Global;
 use std::process::Abort;
 use yaml_base::*;
@@ -16,10 +16,9 @@ fn the_default_event_is_the_end_of_a_stream(rt: HostRuntime) {
 type Refusal<'a> = (yaml_error_t, yaml_error_type_t, &'a str, &'a str);
 
 fn check_refusal(rt: &impl Abort, alloc: Global, row: &Refusal) {
-    let (error, kind, problem, words) = *row;
-    let text = format!(in alloc; "{error}").expect(rt, "no memory");
-    let got = (error.kind(), error.problem(), text.as_str());
-    equal(rt, &got, &(kind, problem, words));
+    let got = (row.0, row.0.kind(), row.0.problem());
+    equal(rt, &got, &(row.0, row.1, row.2));
+    check_words(rt, alloc, &row.0, row.3);
 }
 
 const NO_NODE: &str = "expected SCALAR, SEQUENCE-START, MAPPING-START, or ALIAS";

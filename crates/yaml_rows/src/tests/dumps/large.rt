@@ -53,16 +53,6 @@ fn add_item(
 /// How many sequences there are, each of which holds the next twice.
 const NESTED: usize = 40;
 
-/// The numbers of the second node to the last, each twice.
-fn pairs(rt: &impl Abort, alloc: Global) -> Vec<i32> {
-    let mut pairs = Vec::new(alloc);
-    for number in 2..=41 {
-        pairs.push(number).expect(rt, "no memory");
-        pairs.push(number).expect(rt, "no memory");
-    }
-    pairs
-}
-
 /// Anchors are numbered by second meetings, so from within.
 fn nested_text(rt: &impl Abort, alloc: Global) -> String {
     let mut text = String::new(alloc);
@@ -86,7 +76,7 @@ fn check_text<'a>(rt: &impl Abort, alloc: Global, given: &'a [Given<'a>], text: 
 #[test]
 fn shared_nodes_in_each_other_are_written_once(rt: HostRuntime) {
     let alloc = rt.alloc();
-    let pairs = pairs(&rt, alloc);
+    let pairs = numbers(&rt, alloc, 41, 2);
     let mut given = sequences(&rt, alloc, pairs.as_slice(), 2);
     add_texts(&rt, &mut given, "a", 1);
     let graph = document(&rt, alloc, nodes(&rt, alloc, given.as_slice()));
@@ -95,19 +85,21 @@ fn shared_nodes_in_each_other_are_written_once(rt: HostRuntime) {
     check_text(&rt, alloc, given.as_slice(), text.as_str());
 }
 
-/// The numbers from 2 to the last.
-fn numbers(rt: &impl Abort, alloc: Global, last: i32) -> Vec<i32> {
+/// The numbers from 2 to the last, each so many times.
+fn numbers(rt: &impl Abort, alloc: Global, last: i32, times: usize) -> Vec<i32> {
     let mut numbers = Vec::new(alloc);
     for number in 2..=last {
-        numbers.push(number).expect(rt, "no memory");
+        for _ in 0..times {
+            numbers.push(number).expect(rt, "no memory");
+        }
     }
     numbers
 }
 
 /// The numbers from 2 to the last, and then all again.
 fn doubled(rt: &impl Abort, alloc: Global, last: i32) -> Vec<i32> {
-    let mut doubled = numbers(rt, alloc, last);
-    let again = numbers(rt, alloc, last);
+    let mut doubled = numbers(rt, alloc, last, 1);
+    let again = numbers(rt, alloc, last, 1);
     doubled
         .extend_from_slice(again.as_slice())
         .expect(rt, "no memory");
@@ -145,7 +137,7 @@ fn shared_texts_are_written_once(rt: HostRuntime) {
 #[test]
 fn forty_nodes_in_each_other_are_written(rt: HostRuntime) {
     let alloc = rt.alloc();
-    let numbers = numbers(&rt, alloc, 40);
+    let numbers = numbers(&rt, alloc, 40, 1);
     let mut given = sequences(&rt, alloc, numbers.as_slice(), 1);
     add_texts(&rt, &mut given, "a", 1);
     let indicators = repeated(&rt, alloc, "- ", 39);
@@ -161,7 +153,7 @@ const ENDLESS: Settings = Settings {
 // A million and one sequences, each the one item of the one before, dumped with each of these growths refused. A node takes no
 // growth of its own.
 fn check_too_many(rt: &impl Abort, alloc: Global, growths: Range<usize>) {
-    let numbers = numbers(rt, alloc, 1_000_001);
+    let numbers = numbers(rt, alloc, 1_000_001, 1);
     let mut given = sequences(rt, alloc, numbers.as_slice(), 1);
     given.push(Sequence(&[])).expect(rt, "no memory");
     let flushed = dashes(rt, alloc);

@@ -1,9 +1,9 @@
 //! Scalars whose texts are borrowed stand as their events do; one that needn't wait takes no memory.
 use super::{Answer, UNSET, check_failed, give, made};
-use crate::tests::{equal, event_of, same};
-use std::alloc::Global;
+use crate::tests::{equal, equal_at, event_of, same};
+use std::alloc::{Allocator, Global};
 use std::process::Abort;
-use yaml_base::{YAML_SCALAR_EVENT, yaml_error_t, yaml_event_t};
+use yaml_base::{YAML_SCALAR_EVENT, yaml_error_t};
 use yaml_emitter::{ScalarContent, Settings, yaml_emitter_emit_scalar, yaml_emitter_t};
 use yaml_test_allocator::Refusing;
 
@@ -155,41 +155,17 @@ const TABLES: &[(&[Row], &[Way])] = &[
     (REFUSED, &[None, Some(0)]),
 ];
 
-type Heap<'a> = &'a Refusing<Global>;
-
-fn borrowed<'a>(text: &'a Option<String<Heap<'_>>>) -> Option<&'a str> {
+fn borrowed<A: Allocator>(text: &Option<String<A>>) -> Option<&str> {
     match text {
         Some(text) => Some(text.as_str()),
         None => None,
     }
 }
 
-/// What a scalar's event holds.
-fn content_of<'a>(event: &'a yaml_event_t<Heap<'_>>) -> Option<ScalarContent<'a>> {
-    match event {
-        YAML_SCALAR_EVENT {
-            anchor,
-            tag,
-            value,
-            plain_implicit,
-            quoted_implicit,
-            style,
-        } => Some(ScalarContent {
-            anchor: borrowed(anchor),
-            tag: borrowed(tag),
-            value: value.as_str(),
-            plain_implicit: *plain_implicit,
-            quoted_implicit: *quoted_implicit,
-            style: *style,
-        }),
-        _ => None,
-    }
-}
-
 /// Emits a scalar whose texts are borrowed: an output is set.
-fn give_borrowed(
+fn give_borrowed<A: Allocator + Copy>(
     rt: &impl Abort,
-    emitter: &mut yaml_emitter_t<Heap<'_>>,
+    emitter: &mut yaml_emitter_t<A>,
     content: &ScalarContent,
 ) -> Answer {
     assert!(rt; emitter.has_output());
@@ -198,10 +174,10 @@ fn give_borrowed(
 
 // A scalar that is queued takes memory: where it isn't granted any, nothing changes, and it is taken when it comes again. One
 // that is written at once takes none.
-fn give_refused(
+fn give_refused<A: Allocator + Copy>(
     rt: &impl Abort,
     heap: &Refusing<Global>,
-    emitter: &mut yaml_emitter_t<Heap<'_>>,
+    emitter: &mut yaml_emitter_t<A>,
     content: &ScalarContent,
     growth: usize,
 ) -> Answer {
@@ -220,39 +196,58 @@ fn give_refused(
 }
 
 // The event of a line, or the scalar that it is.
-fn give_line<'a>(
+fn give_line<A: Allocator + Copy>(
     rt: &impl Abort,
-    heap: Heap<'a>,
-    emitter: &mut yaml_emitter_t<Heap<'a>>,
-    line: &str,
-    way: Way,
+    heap: &Refusing<Global>,
+    alloc: A,
+    emitter: &mut yaml_emitter_t<A>,
+    (line, way): (&str, Way),
 ) -> Answer {
-    let event = event_of(rt, heap, line);
-    if let Some(growth) = way {
-        if let Some(content) = content_of(&event) {
-            return give_refused(rt, heap, emitter, &content, growth);
+    let event = event_of(rt, alloc, line);
+    let Some(growth) = way else {
+        return give(rt, emitter, event);
+    };
+    match &event {
+        YAML_SCALAR_EVENT {
+            anchor,
+            tag,
+            value,
+            plain_implicit,
+            quoted_implicit,
+            style,
+        } => {
+            let content = ScalarContent {
+                anchor: borrowed(anchor),
+                tag: borrowed(tag),
+                value: value.as_str(),
+                plain_implicit: *plain_implicit,
+                quoted_implicit: *quoted_implicit,
+                style: *style,
+            };
+            give_refused(rt, heap, emitter, &content, growth)
         }
+        _ => give(rt, emitter, event),
     }
-    give(rt, emitter, event)
 }
 
-fn check_lines<'a>(
+fn check_lines<A: Allocator + Copy>(
     rt: &impl Abort,
-    heap: Heap<'a>,
-    emitter: &mut yaml_emitter_t<Heap<'a>>,
-    (_, lines, last, text): &Row,
-    way: Way,
+    heap: &Refusing<Global>,
+    alloc: A,
+    emitter: &mut yaml_emitter_t<A>,
+    (row, way): (&Row, Way),
 ) {
-    for (line, held) in *lines {
-        let answer = give_line(rt, heap, emitter, line, way);
-        equal(rt, &(answer, emitter.held()), &(Ok(()), *held));
+    for (line, held) in row.1 {
+        let answer = give_line(rt, heap, alloc, emitter, (line, way));
+        equal_at(rt, line, &(answer, emitter.held()), &(Ok(()), *held));
     }
-    let answer = give_line(rt, heap, emitter, last.0, way);
-    equal(rt, &answer, &last.1);
+    let (line, wanted) = row.2;
+    let answer = give_line(rt, heap, alloc, emitter, (line, way));
+    equal_at(rt, line, &answer, &wanted);
     if let Err(error) = answer {
         check_failed(rt, emitter, error);
     }
-    same(rt, emitter.output(), text.as_bytes());
+    same(rt, emitter.output(), row.3.as_bytes());
 }
 
 #[test]
@@ -262,7 +257,7 @@ fn borrowed_scalars_stand_as_their_events_do(rt: HostRuntime) {
         for row in *rows {
             for way in *ways {
                 let mut emitter = made(&rt, &heap, row.0);
-                check_lines(&rt, &heap, &mut emitter, row, *way);
+                check_lines(&rt, &heap, &heap, &mut emitter, (row, *way));
             }
         }
     }

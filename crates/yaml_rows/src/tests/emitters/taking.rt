@@ -1,5 +1,6 @@
 //! The output, taken in parts while the stream is written.
 use super::UNSET;
+use super::early::{EARLY, EARLY_MARKED, LITTLE, SMALL};
 use super::steps::Step::{Emit, Failed, Flush, Held, Take};
 use super::steps::{Step, check_steps};
 use yaml_base::{YAML_UTF16LE_ENCODING, yaml_error_t};
@@ -73,11 +74,17 @@ const TO_THE_LIMIT: &[Step] = &[
 ];
 
 /// Calls on an emitter of these settings.
-const TAKEN: &[(&Settings, &[Step])] = &[(&UNSET, PARTS), (UTF16, IN_UTF16), (SIX, TO_THE_LIMIT)];
+const CALLS: &[(&Settings, &[Step])] = &[
+    (SMALL, EARLY),
+    (LITTLE, EARLY_MARKED),
+    (&UNSET, PARTS),
+    (UTF16, IN_UTF16),
+    (SIX, TO_THE_LIMIT),
+];
 
 #[test]
 fn a_stream_is_taken_in_parts_up_to_the_limit(rt: HostRuntime) {
-    for (settings, steps) in TAKEN {
+    for (settings, steps) in CALLS {
         check_steps(&rt, rt.alloc(), settings, steps);
     }
 }

@@ -2,8 +2,9 @@
 ghost use Rattle.yaml_pen.specs.Page.{IsReady};
 
 use super::in_force;
-use crate::tests::scalars::{begun, check_written};
-use crate::tests::{equal, write_indicator};
+use crate::tests::pens::check_flushed;
+use crate::tests::scalars::begun;
+use crate::tests::{equal, equal_at, write_indicator, write_spaced};
 use std::alloc::{Allocator, Global};
 use std::process::Abort;
 use yaml_base::{yaml_error_t, yaml_tag_directive_t};
@@ -41,7 +42,7 @@ fn write_whole(pen: &mut Pen<Global>, tag: &str) -> Result<(), yaml_error_t>
     requires { IsReady pen.old }
     ensures { IsReady pen.new }
 {
-    write_indicator(pen, &Indicator::spaced("!<"))?;
+    write_spaced(pen, "!<")?;
     write_tag_content(pen, tag, false)?;
     write_indicator(pen, &Indicator::tight(">"))
 }
@@ -52,7 +53,7 @@ fn write_property(pen: &mut Pen<Global>) -> Result<(), yaml_error_t>
     requires { IsReady pen.old }
     ensures { IsReady pen.new }
 {
-    write_indicator(pen, &Indicator::spaced("&"))?;
+    write_spaced(pen, "&")?;
     write_anchor(pen, "a")
 }
 
@@ -85,7 +86,8 @@ fn check_tags(rt: &impl Abort, alloc: Global, start: &str, rows: &[Tag]) {
     for row in rows {
         let mut pen = begun(rt, alloc);
         let answer = write_tag(&mut pen, row.0, &directives);
-        check_written(rt, &mut pen, answer, row.1);
+        equal_at(rt, row.0, &answer, &Ok(()));
+        check_flushed(rt, &mut pen, row.1.as_bytes());
     }
 }
 
@@ -157,7 +159,8 @@ fn check_character(rt: &impl Abort, alloc: Global, character: char) {
     let wanted = if is_kept { text } else { escaped.as_str() };
     let mut pen = begun(rt, alloc);
     let answer = write_tag_content(&mut pen, text, false);
-    check_written(rt, &mut pen, answer, wanted);
+    equal_at(rt, text, &answer, &Ok(()));
+    check_flushed(rt, &mut pen, wanted.as_bytes());
 }
 
 // Each character up to U+00FF, and the first and last of each longer form of UTF-8.
@@ -175,7 +178,7 @@ fn write_directive(pen: &mut Pen<Global>) -> Result<(), yaml_error_t>
     requires { IsReady pen.old }
     ensures { IsReady pen.new }
 {
-    write_indicator(pen, &Indicator::spaced("%TAG"))?;
+    write_spaced(pen, "%TAG")?;
     write_handle(pen, "!e!")?;
     write_tag_content(pen, "!x", true)
 }
@@ -185,7 +188,8 @@ fn a_directive_line_is_separated(rt: HostRuntime) {
     let mut pen = begun(&rt, rt.alloc());
     let answer = write_directive(&mut pen);
     equal(&rt, &(pen.whitespace(), pen.indention()), &(false, false));
-    check_written(&rt, &mut pen, answer, "%TAG !e! %21x");
+    equal(&rt, &answer, &Ok(()));
+    check_flushed(&rt, &mut pen, "%TAG !e! %21x".as_bytes());
 }
 
 // A text as a prefix, and then as what stands after a handle.
@@ -214,6 +218,7 @@ fn prefixes_and_suffixes_are_portable_where_asked(rt: HostRuntime) {
     for row in ENDS {
         let mut pen = begun(&rt, rt.alloc());
         let answer = write_ends(&mut pen, row.0, row.1);
-        check_written(&rt, &mut pen, answer, row.2);
+        equal_at(&rt, row.0, &answer, &Ok(()));
+        check_flushed(&rt, &mut pen, row.2.as_bytes());
     }
 }

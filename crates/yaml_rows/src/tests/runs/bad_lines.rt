@@ -1,17 +1,8 @@
 //! Scripts that aren't understood: the first bad line is reported, and nothing is written.
-use super::{check_reported, ran};
-use crate::tests::equal;
-use std::alloc::Global;
-use std::process::Abort;
+use super::check_report;
 
 /// A line on standard error, and scripts whose runs write it.
 type Bad<'a> = (&'a str, &'a [&'a str]);
-
-fn check_bad(rt: &impl Abort, alloc: Global, script: &str, line: &str) {
-    let ran = ran(rt, alloc, script.as_bytes());
-    check_reported(rt, &ran, b"", line);
-    equal(rt, &(script, ran.status), &(script, 2));
-}
 
 const BAD: &[Bad] = &[
     (
@@ -56,7 +47,8 @@ const BAD: &[Bad] = &[
 fn nothing_is_written_after_a_bad_line(rt: HostRuntime) {
     for (line, scripts) in BAD {
         for script in *scripts {
-            check_bad(&rt, rt.alloc(), script, line);
+            let report = (2, b"".as_slice(), *line);
+            check_report(&rt, rt.alloc(), script.as_bytes(), report);
         }
     }
 }

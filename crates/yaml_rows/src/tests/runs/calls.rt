@@ -3,7 +3,7 @@
 use super::Row;
 use super::held::{Kind, held, kind_of};
 use crate::tests::emitters::{Answer, begun, check_failed, flush_if_known, give};
-use crate::tests::equal;
+use crate::tests::{equal, equal_at};
 use std::alloc::{Allocator, Global};
 use std::process::Abort;
 use yaml_base::yaml_error_t;
@@ -60,33 +60,29 @@ struct Walk<'a> {
     flushes: usize,
 }
 
-// From the call on in which the growth was refused each answers so.
-fn check_answer(rt: &impl Abort, walk: &Walk, got: Answer, row: Answer) {
+// How a call is answered, and how many events wait after it; after an error none does. From the call on in which the growth was
+// refused each answers so.
+fn check_answer(rt: &impl Abort, walk: &Walk, got: Answer, row: Answer, waiting: usize) {
     let wanted = if walk.heap.left() == 0 {
         Err(yaml_error_t::Memory)
     } else {
         row
     };
-    equal(rt, &(walk.name, got), &(walk.name, wanted));
+    let events = if wanted.is_ok() {
+        held(walk.given.as_slice())
+    } else {
+        0
+    };
+    equal_at(rt, walk.name, &(got, waiting), &(wanted, events));
 }
 
 // Where a growth was refused, what is flushed begins the row's output.
 fn check_output(rt: &impl Abort, walk: &Walk, output: &[u8]) {
     if walk.heap.left() == 0 {
         equal(rt, &walk.row.output.starts_with(output), &true);
-    } else {
-        let wanted = flushed(&walk.row, walk.flushes);
-        equal(rt, &(walk.name, output), &(walk.name, wanted));
+        return;
     }
-}
-
-// How many events wait; after an error none does.
-fn check_held(rt: &impl Abort, walk: &Walk, got: usize, answer: Answer) {
-    let wanted = match answer {
-        Ok(()) => held(walk.given.as_slice()),
-        Err(_) => 0,
-    };
-    equal(rt, &(walk.name, got), &(walk.name, wanted));
+    equal_at(rt, walk.name, &output, &flushed(&walk.row, walk.flushes));
 }
 
 // A flush that is refused a growth leaves the output.
@@ -98,8 +94,7 @@ fn check_flush<A: Allocator + Copy>(
 ) {
     let length = emitter.output().len();
     let answer = flush_if_known(rt, emitter);
-    check_answer(rt, walk, answer, wanted);
-    check_held(rt, walk, emitter.held(), answer);
+    check_answer(rt, walk, answer, wanted, emitter.held());
     if walk.heap.left() == 0 {
         equal(rt, &emitter.output().len(), &length);
     }
@@ -126,10 +121,9 @@ fn check_emit<A: Allocator + Copy>(
     let left = walk.heap.left();
     let answer = give(rt, emitter, numbered.event);
     if is_kept && wanted.is_ok() {
-        equal(rt, &(walk.name, walk.heap.left()), &(walk.name, left));
+        equal_at(rt, walk.name, &walk.heap.left(), &left);
     }
-    check_answer(rt, walk, answer, wanted);
-    check_held(rt, walk, emitter.held(), answer);
+    check_answer(rt, walk, answer, wanted, emitter.held());
 }
 
 // An event, and a flush after it where the row has one.

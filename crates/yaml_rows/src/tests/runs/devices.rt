@@ -79,45 +79,34 @@ fn each_failed_read_is_reported(rt: HostRuntime) {
 // A writer that fails at this call ends the run of this script so, and took this.
 fn check_write(
     rt: &impl Abort,
-    writer: &mut FailingWriter,
     alloc: Global,
+    calls: usize,
     (script, answer): (&str, run_answer_t),
     taken: &[u8],
 ) {
-    let mut left = script.as_bytes();
-    let reported = run(alloc, &mut left, writer);
-    equal(rt, &(taken.len(), reported), &(taken.len(), answer));
-    same(rt, writer.taken.as_slice(), taken);
-}
-
-fn writer(alloc: Global, calls: usize) -> FailingWriter {
-    FailingWriter {
+    let mut writer = FailingWriter {
         calls,
         taken: Vec::new(alloc),
-    }
+    };
+    let reported = run(alloc, &mut script.as_bytes(), &mut writer);
+    equal(rt, &(calls, reported), &(calls, answer));
+    same(rt, writer.taken.as_slice(), taken);
 }
 
 const FAILED: (&str, run_answer_t) = (FIRST, run_answer_t::WriteFailed);
 
 const DONE: (&str, run_answer_t) = (FIRST, run_answer_t::Done);
 
-// Each call but the last takes one byte of these.
-fn check_writes(rt: &impl Abort, alloc: Global, whole: &[u8]) {
-    for calls in 0..whole.len() {
-        let taken = whole.get(..calls).unwrap_or(b"");
-        check_write(rt, &mut writer(alloc, calls), alloc, FAILED, taken);
-    }
-    check_write(rt, &mut writer(alloc, whole.len()), alloc, DONE, whole);
-}
-
-#[test]
-fn each_failed_write_is_reported(rt: HostRuntime) {
-    check_writes(&rt, rt.alloc(), b"---\n\"a\"\n");
-}
-
 const BAD: (&str, run_answer_t) = ("+STR utf16be\n+FOO", run_answer_t::BadLine(2));
 
+// Each call but the last takes one byte. A bad line calls no writer.
 #[test]
-fn a_bad_line_calls_no_writer(rt: HostRuntime) {
-    check_write(&rt, &mut writer(rt.alloc(), 0), rt.alloc(), BAD, b"");
+fn each_failed_write_is_reported(rt: HostRuntime) {
+    let whole = b"---\n\"a\"\n";
+    for calls in 0..whole.len() {
+        let taken = whole.get(..calls).unwrap_or(b"");
+        check_write(&rt, rt.alloc(), calls, FAILED, taken);
+    }
+    check_write(&rt, rt.alloc(), whole.len(), DONE, whole);
+    check_write(&rt, rt.alloc(), 0, BAD, b"");
 }

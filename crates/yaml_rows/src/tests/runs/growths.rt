@@ -14,14 +14,16 @@ fn check_refused(
     answer: run_answer_t,
     whole: &[u8],
 ) {
-    let run_answer_t::Refused(line, error) = reported else {
-        equal(rt, &(reported, output.len()), &(run_answer_t::NoMemory, 0));
-        return;
-    };
-    equal(rt, &error, &yaml_error_t::Memory);
-    equal(rt, &whole.starts_with(output), &true);
-    if let run_answer_t::Refused(last, _) = answer {
-        equal(rt, &(line, line <= last), &(line, true));
+    match reported {
+        run_answer_t::Refused(line, yaml_error_t::Memory) => {
+            let last = match answer {
+                run_answer_t::Refused(last, _) => last,
+                _ => u64::MAX,
+            };
+            let got = (line, line <= last, whole.starts_with(output));
+            equal(rt, &got, &(line, true, true));
+        }
+        _ => equal(rt, &(reported, output.len()), &(run_answer_t::NoMemory, 0)),
     }
 }
 

@@ -2,7 +2,7 @@
 use super::calls::check_calls;
 use super::growths::answered;
 use super::{Flushes, Row};
-use crate::tests::{equal, joined};
+use crate::tests::{equal, equal_at, joined};
 use std::alloc::Global;
 use std::process::Abort;
 use yaml_base::yaml_error_t;
@@ -50,7 +50,7 @@ fn check_kind(rt: &impl Abort, alloc: Global, place: &Place, kind: &str, sign: c
         lengths: place.1,
         flushes: Flushes::Last,
     };
-    equal(rt, &(row.script, answer), &(row.script, row.answer));
+    equal_at(rt, row.script, &answer, &row.answer);
     check_calls(rt, alloc, &row);
 }
 

@@ -1,6 +1,6 @@
 //! Events that are refused: with which error, and by which call.
-use super::{Row, check_row, check_stream};
-use crate::tests::joined;
+use super::{Row, check_row};
+use crate::tests::{Rows, joined};
 use std::alloc::Global;
 use std::process::Abort;
 use yaml_base::yaml_error_t;
@@ -210,14 +210,13 @@ fn each_refusal_is_reported(rt: HostRuntime) {
 }
 
 /// A tag that isn't written isn't checked.
-const UNWRITTEN: &str = r#"
+pub(super) const STREAMS: Rows = &[(
+    "",
+    r#"
 +STR any
 +DOC 1 -
 =VAL any 1 1 - "" "a"
--DOC 1
--STR"#;
-
-#[test]
-fn an_empty_tag_passes_where_it_is_not_written(rt: HostRuntime) {
-    check_stream(&rt, rt.alloc(), "", UNWRITTEN, &["a\n"]);
-}
+-DOC 1 |a↵
+-STR
+"#,
+)];

@@ -1,5 +1,5 @@
 //! Styles that are known from outside, from the value to the choice.
-use super::equal;
+use crate::tests::{equal, equal_at};
 use std::process::Abort;
 use yaml_base::{
     YAML_ANY_SCALAR_STYLE, YAML_DOUBLE_QUOTED_SCALAR_STYLE, YAML_FOLDED_SCALAR_STYLE,
@@ -23,7 +23,7 @@ fn check_analysis(rt: &impl Abort, row: &Analysis) {
         data.block_allowed,
     ];
     let wanted = [multiline, flow, block, single, lines];
-    equal(rt, &(value, got), &(value, wanted));
+    equal_at(rt, value, &got, &wanted);
 }
 
 const ANALYSES: &[Analysis] = &[
