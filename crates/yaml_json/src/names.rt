@@ -115,10 +115,5 @@ impl<'a, A: Allocator + Copy> Names<'a, A> {
 fn is_among(name: &str, names: &[&str]) -> bool
     ensures { result ≡ list_any (λ other. bytes_eq other.now name.now) names.now }
 {
-    for other in names {
-        if *other == name {
-            return true;
-        }
-    }
-    false
+    names.iter().any(|other| *other == name)
 }

@@ -75,32 +75,19 @@ fn last_line_length(bytes: &[u8]) -> usize
     ensures value { result ≡ suffix_len (λ byte. not (is_line_feed byte)) bytes.now }
     ensures within { result ≤ length bytes.now }
 {
-    let mut at = bytes.len();
-    'bytes: while at > 0 {
-        if bytes[at - 1] == b'\n' {
-            return bytes.len() - at;
-        }
-        at -= 1;
-    }
-    bytes.len()
-}
-
-/// Number of characters.
-fn characters(bytes: &[u8]) -> usize
-    ensures { result ≡ count_by is_char_start bytes.now }
-{
-    let mut count: usize = 0;
-    for byte in bytes {
-        count += begins_character(*byte) as usize;
-    }
-    count
+    bytes
+        .iter()
+        .rev()
+        .take_while(|byte| **byte != b'\n')
+        .count()
 }
 
 /// Number of characters after the last line feed.
 fn last_line_characters(bytes: &[u8]) -> usize
     ensures { result ≡ count_by is_char_start (after_last is_line_feed bytes.now) }
 {
-    characters(&bytes[bytes.len() - last_line_length(bytes)..])
+    let last = bytes.split_at(bytes.len() - last_line_length(bytes)).1;
+    last.iter().filter(|byte| begins_character(**byte)).count()
 }
 
 /// The line and the column of an offset in bytes of a text, both from 1. A line ends with LF. A column counts characters by the
