@@ -22,12 +22,12 @@ fn equal<T: PartialEq + Debug>(rt: &impl Abort, got: &T, wanted: &T) {
 }
 
 /// This was written.
-fn same(rt: &impl Abort, got: &[u8], wanted: &[u8]) {
-    equal(rt, &got, &wanted);
+fn same(rt: &impl Abort, got: &[u8], wanted: &str) {
+    equal(rt, &got, &wanted.as_bytes());
 }
 
-/// What a call that writes gives: bytes, or why there are none.
-type Answer<'a> = Result<&'a [u8], yaml_error_t>;
+/// What a call that writes gives: a text, or why there is none.
+type Answer<'a> = Result<&'a str, yaml_error_t>;
 
 fn writer(rt: &impl Abort, alloc: Global, settings: Settings) -> Writer<Global> {
     Writer::new(alloc, settings).expect(rt, "no memory")
@@ -38,14 +38,6 @@ fn finished(writer: Writer<Global>) -> Result<Vec<u8>, yaml_error_t> {
     writer.finish()
 }
 
-/// These bytes came, and not an error.
-fn came(rt: &impl Abort, bytes: &[u8], wanted: &Answer) {
-    match wanted {
-        Ok(expected) => same(rt, bytes, expected),
-        Err(error) => equal(rt, &None, &Some(*error)),
-    }
-}
-
 /// The call gave this.
 fn answers<A: Allocator>(
     rt: &impl Abort,
@@ -53,7 +45,10 @@ fn answers<A: Allocator>(
     wanted: &Answer,
 ) {
     match answer {
-        Ok(bytes) => came(rt, bytes.as_slice(), wanted),
+        Ok(bytes) => match wanted {
+            Ok(text) => same(rt, bytes.as_slice(), text),
+            Err(error) => equal(rt, &None, &Some(*error)),
+        },
         Err(error) => equal(rt, &Some(error), &wanted.err()),
     }
 }
@@ -63,15 +58,6 @@ fn answers<A: Allocator>(
 struct Narrow {
     taken: Vec<u8>,
     room: usize,
-}
-
-impl Narrow {
-    fn new(alloc: Global, room: usize) -> Narrow {
-        Narrow {
-            taken: Vec::new(alloc),
-            room,
-        }
-    }
 }
 
 impl Write for Narrow {

@@ -8,8 +8,10 @@ mod styles;
 mod texts;
 mod timestamps;
 
-use crate::tests::{Answer, answers, equal, finished, writer};
+use crate::tests;
+use crate::tests::{Answer, answers, equal, finished, same, writer};
 use std::alloc::Global;
+use std::mem::replace;
 use std::process::Abort;
 use yaml_writer::{
     Date, DocumentEnd, Settings, Time, Timestamp, Writer, YAML_BLOCK_MAPPING_STYLE,
@@ -45,6 +47,14 @@ enum Call {
     Date(u16, u8, u8),
     /// 14 December 2001 at this hour, minute and second of UTC.
     Time(u8, u8, u8),
+    /// This call is refused.
+    Refused(&'static Call, yaml_error_t),
+    /// This was flushed, and is taken.
+    Taken(&'static str),
+    /// The stream ends so, and another begins.
+    Finish(Answer<'static>),
+    /// The same, with `...`.
+    FinishAfterEnd(&'static str),
 }
 
 /// The number of JSON that a text is; nothing where it is none.
@@ -67,6 +77,7 @@ fn give_timestamp(
     }
 }
 
+/// Gives a call of a writer; an error for what is none.
 fn give(writer: &mut Writer<Global>, call: &Call) -> Result<(), yaml_error_t> {
     match call {
         Call::Sequence => writer.begin_sequence(YAML_BLOCK_SEQUENCE_STYLE),
@@ -93,67 +104,93 @@ fn give(writer: &mut Writer<Global>, call: &Call) -> Result<(), yaml_error_t> {
             Date::new(2001, 12, 14),
             Time::new(*hour, *minute, *second, 0, None),
         ),
+        _ => Err(yaml_error_t::ExpectedNothing),
     }
 }
 
-/// Each call is good.
-fn give_all(rt: &impl Abort, writer: &mut Writer<Global>, calls: &[Call]) {
-    for call in calls {
-        equal(rt, &give(writer, call), &Ok(()));
-    }
-}
+/// A call, with its place: the name of its table, and its number in it.
+type Placed<'a> = (&'static str, usize, &'a Call);
 
-fn check_given(rt: &impl Abort, mut writer: Writer<Global>, calls: &[Call], wanted: &Answer) {
-    give_all(rt, &mut writer, calls);
-    answers(rt, finished(writer), wanted);
-}
-
-/// These calls are good, and the stream ends so.
-fn check_written(
+/// The call gives what it should.
+fn check_call(
     rt: &impl Abort,
     alloc: Global,
     settings: Settings,
-    calls: &[Call],
-    wanted: &Answer,
+    writer: &mut Writer<Global>,
+    row: Placed,
 ) {
-    let writer = writer(rt, alloc, settings);
-    check_given(rt, writer, calls, wanted);
-}
-
-/// Calls, and what they write.
-type Row<'a> = (&'a [Call], &'a str);
-
-fn check_rows(rt: &impl Abort, alloc: Global, settings: Settings, tables: &[&[Row]]) {
-    for rows in tables {
-        for row in *rows {
-            check_written(rt, alloc, settings, row.0, &Ok(row.1.as_bytes()));
+    match row.2 {
+        Call::Finish(wanted) => {
+            let ended = replace(writer, tests::writer(rt, alloc, settings));
+            answers(rt, finished(ended), wanted);
+        }
+        Call::FinishAfterEnd(text) => {
+            let ended = replace(writer, tests::writer(rt, alloc, settings));
+            answers(rt, ended.finish_after(DocumentEnd::Explicit), &Ok(text));
+        }
+        Call::Taken(text) => same(rt, writer.take_output().as_slice(), text),
+        Call::Refused(call, error) => {
+            let answer = give(writer, call);
+            equal(rt, &(row.0, row.1, answer), &(row.0, row.1, Err(*error)));
+        }
+        call => {
+            let answer = give(writer, call);
+            equal(rt, &(row.0, row.1, answer), &(row.0, row.1, Ok(())));
         }
     }
 }
 
-const WRITTEN: &[&[Row]] = &[
-    kinds::WRITTEN,
-    styles::WRITTEN,
-    texts::WRITTEN,
-    timestamps::WRITTEN,
+/// A name, and calls of a stream or of several.
+type Table = (&'static str, &'static [Call]);
+
+/// Gives these calls.
+fn give_all(
+    rt: &impl Abort,
+    alloc: Global,
+    settings: Settings,
+    writer: &mut Writer<Global>,
+    table: &Table,
+) {
+    for (index, call) in table.1.iter().enumerate() {
+        check_call(rt, alloc, settings, writer, (table.0, index, call));
+    }
+}
+
+/// Gives the calls of a whole stream, or of several.
+fn check_table(rt: &impl Abort, alloc: Global, settings: Settings, table: &Table) {
+    let mut writer = writer(rt, alloc, settings);
+    give_all(rt, alloc, settings, &mut writer, table);
+}
+
+const WRITTEN: &[Table] = &[
+    ("kinds", kinds::CALLS),
+    ("styles", styles::CALLS),
+    ("texts", texts::CALLS),
+    ("timestamps", timestamps::CALLS),
+    ("parts", parts::CALLS),
+    ("refused", refused::CALLS),
 ];
 
-const CANONICAL: &[&[Row]] = &[kinds::CANONICAL, styles::CANONICAL, timestamps::CANONICAL];
+const CANONICAL: &[Table] = &[
+    ("kinds", kinds::CANONICAL),
+    ("styles", styles::CANONICAL),
+    ("timestamps", timestamps::CANONICAL),
+];
 
 #[test]
 fn values_are_written(rt: HostRuntime) {
-    check_rows(&rt, rt.alloc(), value_settings(), WRITTEN);
+    for table in WRITTEN {
+        check_table(&rt, rt.alloc(), value_settings(), table);
+    }
+}
+
+#[test]
+fn values_are_written_in_canonical_form(rt: HostRuntime) {
     let canonical = Settings {
         canonical: true,
         ..value_settings()
     };
-    check_rows(&rt, rt.alloc(), canonical, CANONICAL);
-}
-
-/// The maximum output size in bytes.
-fn limited(limit: usize) -> Settings {
-    Settings {
-        limit,
-        ..value_settings()
+    for table in CANONICAL {
+        check_table(&rt, rt.alloc(), canonical, table);
     }
 }

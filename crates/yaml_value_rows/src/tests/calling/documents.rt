@@ -1,15 +1,16 @@
 //! Documents, from their nodes to bytes.
-ghost use Rattle.std.specs.Prelude.{◌≡◌, true};
+ghost use Rattle.std.specs.Prelude.{◌≡◌, true, false};
 
+use super::events::{emit_words, emitter_with_output};
 use crate::tests::{answers, equal, same};
 use std::alloc::{AllocError, Global};
 use std::process::Abort;
 use yaml_dump::{
-    NodeNumber, YAML_ANY_ENCODING, YAML_ANY_MAPPING_STYLE, YAML_ANY_SCALAR_STYLE, YAML_MAP_TAG,
-    YAML_STR_TAG, YAML_STREAM_START_EVENT, document_events, emit_each, yaml_document_t,
-    yaml_emitter_close, yaml_emitter_dump, yaml_emitter_emit, yaml_emitter_initialize,
-    yaml_emitter_open, yaml_emitter_set_output_string, yaml_emitter_set_width, yaml_emitter_t,
-    yaml_error_t, yaml_node_data_t, yaml_node_pair_t, yaml_node_t,
+    NodeNumber, YAML_ANY_MAPPING_STYLE, YAML_ANY_SCALAR_STYLE, YAML_MAP_TAG, YAML_STR_TAG,
+    document_events, emit_each, yaml_document_t, yaml_emitter_close, yaml_emitter_dump,
+    yaml_emitter_initialize, yaml_emitter_open, yaml_emitter_set_output_string,
+    yaml_emitter_set_width, yaml_emitter_t, yaml_error_t, yaml_node_data_t, yaml_node_pair_t,
+    yaml_node_t,
 };
 
 /// A document as YAML of at most `limit` bytes.
@@ -33,17 +34,6 @@ fn text_node(alloc: Global, value: &str) -> Result<yaml_node_t<Global>, AllocErr
         contents: yaml_node_data_t::Scalar {
             value: String::from_str(alloc, value)?,
             style: YAML_ANY_SCALAR_STYLE,
-        },
-    })
-}
-
-/// A mapping of one pair, whose key is node 2 and whose value is the node of this number.
-fn pair_node(alloc: Global, value: i32) -> Result<yaml_node_t<Global>, AllocError> {
-    Ok(yaml_node_t {
-        tag: String::from_str(alloc, YAML_MAP_TAG)?,
-        contents: yaml_node_data_t::Mapping {
-            pairs: vec![in alloc; yaml_node_pair_t { key: 2, value }]?,
-            style: YAML_ANY_MAPPING_STYLE,
         },
     })
 }
@@ -101,129 +91,111 @@ fn close_if_open(emitter: &mut yaml_emitter_t<Global>) -> Result<(), yaml_error_
     yaml_emitter_close(emitter)
 }
 
-type Nodes = Vec<yaml_node_t<Global>>;
-
-/// Adds a node.
-fn add(rt: &impl Abort, nodes: &mut Nodes, node: Result<yaml_node_t<Global>, AllocError>) {
-    let node = node.expect(rt, "no memory");
-    nodes.push(node).expect(rt, "no memory");
+/// A mapping of node 2 to the node of this number.
+fn pair_node(rt: &impl Abort, alloc: Global, value: i32) -> yaml_node_t<Global> {
+    let pairs = vec![in alloc; yaml_node_pair_t { key: 2, value }];
+    yaml_node_t {
+        tag: String::from_str(alloc, YAML_MAP_TAG).expect(rt, "no memory"),
+        contents: yaml_node_data_t::Mapping {
+            pairs: pairs.expect(rt, "no memory"),
+            style: YAML_ANY_MAPPING_STYLE,
+        },
+    }
 }
 
-/// A mapping of one text to the node of this number.
-fn pair_nodes(rt: &impl Abort, alloc: Global, key: &str, value: i32) -> Nodes {
+/// A document of a mapping of node 2 to the node of this number, and of these texts, from node 2 on.
+fn mapping(
+    rt: &impl Abort,
+    alloc: Global,
+    value: i32,
+    texts: &[&str],
+) -> Result<yaml_document_t<Global>, NodeNumber> {
     let mut nodes = Vec::new(alloc);
-    add(rt, &mut nodes, pair_node(alloc, value));
-    add(rt, &mut nodes, text_node(alloc, key));
-    nodes
+    let pair = pair_node(rt, alloc, value);
+    nodes.push(pair).expect(rt, "no memory");
+    for text in texts {
+        let node = text_node(alloc, text).expect(rt, "no memory");
+        nodes.push(node).expect(rt, "no memory");
+    }
+    document_of(alloc, nodes)
 }
 
-/// A mapping of `name` to the node of this number, and another text.
-fn named_nodes(rt: &impl Abort, alloc: Global, value: i32) -> Nodes {
-    let mut nodes = pair_nodes(rt, alloc, "name", value);
-    add(rt, &mut nodes, text_node(alloc, "beta"));
-    nodes
-}
-
-fn document(rt: &impl Abort, alloc: Global, nodes: Nodes) -> yaml_document_t<Global> {
-    document_of(alloc, nodes).expect(rt, "each number names a node")
-}
-
-fn check_named(rt: &impl Abort, alloc: Global, document: yaml_document_t<Global>) {
-    equal(rt, &document.node_count(), &3);
-    answers(rt, yaml_of(alloc, document, 100), &Ok(b"name: beta\n"));
+/// A document of a mapping of `name` to a text.
+fn named(rt: &impl Abort, alloc: Global) -> yaml_document_t<Global> {
+    let document = mapping(rt, alloc, 3, &["name", "beta"]);
+    document.expect(rt, "each number names a node")
 }
 
 #[test]
-fn a_document_is_written(rt: HostRuntime) {
-    let nodes = named_nodes(&rt, rt.alloc(), 3);
-    check_named(&rt, rt.alloc(), document(&rt, rt.alloc(), nodes));
+fn a_document_is_written_where_each_number_names_a_node(rt: HostRuntime) {
+    let alloc = rt.alloc();
+    let document = named(&rt, alloc);
+    equal(&rt, &document.node_count(), &3);
+    answers(&rt, yaml_of(alloc, document, 100), &Ok("name: beta\n"));
+    let refused = mapping(&rt, alloc, 4, &["name", "beta"]).err();
+    equal(&rt, &refused, &Some(NodeNumber(4)));
 }
 
-/// The number that names no node.
-fn refused_number(alloc: Global, nodes: Nodes) -> Option<NodeNumber> {
-    document_of(alloc, nodes).err()
-}
-
-#[test]
-fn a_number_that_names_no_node_is_returned(rt: HostRuntime) {
-    let nodes = named_nodes(&rt, rt.alloc(), 4);
-    let number = refused_number(rt.alloc(), nodes);
-    equal(&rt, &number, &Some(NodeNumber(4)));
-}
-
-fn count_events(rt: &impl Abort, alloc: Global, document: &yaml_document_t<Global>) -> usize {
-    let events = document_events(alloc, document).expect(rt, "no memory");
-    let count = events.len();
-    drop(events);
-    count
-}
-
+/// The first is a mapping that is its own value, and the second is empty.
 fn check_circle(
     rt: &impl Abort,
     alloc: Global,
-    document: yaml_document_t<Global>,
+    circle: yaml_document_t<Global>,
     empty: yaml_document_t<Global>,
 ) {
-    let count = count_events(rt, alloc, &document);
-    equal(rt, &(count, empty.is_empty()), &(6, true));
-    let bytes = two_dumps(alloc, document, empty);
-    answers(rt, bytes, &Ok(b"&id001\nme: *id001\n"));
+    let events = document_events(alloc, &circle).expect(rt, "no memory");
+    equal(rt, &(events.len(), empty.is_empty()), &(6, true));
+    drop(events);
+    let bytes = two_dumps(alloc, circle, empty);
+    answers(rt, bytes, &Ok("&id001\nme: *id001\n"));
 }
 
-// A mapping that is its own value.
 #[test]
 fn a_node_met_twice_has_an_anchor(rt: HostRuntime) {
     let alloc = rt.alloc();
-    let circle = document(&rt, alloc, pair_nodes(&rt, alloc, "me", 1));
-    let empty = document(&rt, alloc, Vec::new(alloc));
+    let circle = mapping(&rt, alloc, 1, &["me"]);
+    let circle = circle.expect(&rt, "each number names a node");
+    let empty = document_of(alloc, Vec::new(alloc));
+    let empty = empty.expect(&rt, "there are no numbers");
     check_circle(&rt, alloc, circle, empty);
 }
 
-fn unopened(rt: &impl Abort, alloc: Global) -> yaml_emitter_t<Global> {
-    yaml_emitter_initialize(alloc).expect(rt, "no memory")
-}
-
-fn opened(rt: &impl Abort, alloc: Global) -> yaml_emitter_t<Global> {
-    let mut emitter = yaml_emitter_initialize(alloc).expect(rt, "no memory");
-    yaml_emitter_set_output_string(&mut emitter, 100);
-    equal(rt, &yaml_emitter_open(&mut emitter), &Ok(()));
-    emitter
-}
-
-/// Emits the stream's start and a document's nodes.
-fn start_bare(
-    alloc: Global,
-    emitter: &mut yaml_emitter_t<Global>,
-    document: yaml_document_t<Global>,
-) -> Result<(), yaml_error_t>
+/// A document's nodes follow the start of a stream.
+fn check_bare(rt: &impl Abort, alloc: Global, emitter: &mut yaml_emitter_t<Global>)
     requires { emitter.old.has_output ≡ true }
 {
-    let encoding = YAML_ANY_ENCODING;
-    yaml_emitter_emit(emitter, YAML_STREAM_START_EVENT { encoding })?;
-    emit_bare(alloc, emitter, document)
+    let started = emit_words(rt, alloc, emitter, "stream");
+    let answer = emit_bare(alloc, emitter, named(rt, alloc));
+    equal(rt, &(started, answer), &(Ok(()), Ok(())));
+    equal(rt, &emitter.is_opened(), &true);
+    same(rt, emitter.output(), "name: beta\n");
 }
 
 #[test]
 fn nodes_follow_a_stream_start(rt: HostRuntime) {
-    let nodes = named_nodes(&rt, rt.alloc(), 3);
-    let document = document(&rt, rt.alloc(), nodes);
-    let mut emitter = yaml_emitter_initialize(rt.alloc()).expect(&rt, "no memory");
-    yaml_emitter_set_output_string(&mut emitter, 100);
-    let answer = start_bare(rt.alloc(), &mut emitter, document);
-    equal(&rt, &(answer, emitter.is_opened()), &(Ok(()), true));
-    same(&rt, emitter.output(), b"name: beta\n");
+    let mut emitter = emitter_with_output(&rt, rt.alloc());
+    check_bare(&rt, rt.alloc(), &mut emitter);
 }
 
 /// How the call ends, and whether the stream is then closed.
-fn closed(mut emitter: yaml_emitter_t<Global>) -> (Result<(), yaml_error_t>, bool) {
-    let answer = close_if_open(&mut emitter);
+fn closed(emitter: &mut yaml_emitter_t<Global>) -> (Result<(), yaml_error_t>, bool) {
+    let answer = close_if_open(emitter);
     (answer, emitter.is_closed())
+}
+
+/// An open stream is closed.
+fn check_opened(rt: &impl Abort, emitter: &mut yaml_emitter_t<Global>)
+    requires output { emitter.old.has_output ≡ true }
+    requires not_opened { emitter.old.opened ≡ false }
+{
+    equal(rt, &yaml_emitter_open(emitter), &Ok(()));
+    equal(rt, &closed(emitter), &(Ok(()), true));
 }
 
 #[test]
 fn an_open_stream_is_closed(rt: HostRuntime) {
-    let opened = opened(&rt, rt.alloc());
-    equal(&rt, &closed(opened), &(Ok(()), true));
-    let unopened = unopened(&rt, rt.alloc());
-    equal(&rt, &closed(unopened), &(Ok(()), false));
+    let mut emitter = yaml_emitter_initialize(rt.alloc()).expect(&rt, "no memory");
+    equal(&rt, &closed(&mut emitter), &(Ok(()), false));
+    let mut emitter = emitter_with_output(&rt, rt.alloc());
+    check_opened(&rt, &mut emitter);
 }

@@ -27,34 +27,31 @@ fn root_style(value: &str) -> Result<yaml_scalar_style_t, yaml_error_t> {
     Ok(style)
 }
 
-/// Directives that shorten tags with this prefix.
-fn shortening(alloc: Global, handle: &str, prefix: &str) -> Result<Directives<Global>, AllocError> {
-    let mut directives = Directives::new(alloc);
-    let directive = yaml_tag_directive_t {
-        handle: String::from_str(alloc, handle)?,
-        prefix: String::from_str(alloc, prefix)?,
-    };
-    directives
-        .append(&directive, false)
-        .map_err(|_| AllocError)?;
-    Ok(directives)
-}
-
 #[test]
-fn a_pen_takes_the_text_of_a_writer(rt: HostRuntime) {
-    let yaml = quoted(rt.alloc(), "say \"hi\"\n");
-    answers(&rt, yaml, &Ok(b"\"say \\\"hi\\\"\\n\""));
-}
-
-#[test]
-fn a_style_is_chosen(rt: HostRuntime) {
+fn a_pen_writes_a_text_whose_style_was_chosen(rt: HostRuntime) {
     let style = root_style("a: b");
     equal(&rt, &style, &Ok(YAML_SINGLE_QUOTED_SCALAR_STYLE));
+    let yaml = quoted(rt.alloc(), "say \"hi\"\n");
+    answers(&rt, yaml, &Ok("\"say \\\"hi\\\"\\n\""));
+}
+
+/// A directive that shortens tags with this prefix.
+fn shortening(
+    alloc: Global,
+    handle: &str,
+    prefix: &str,
+) -> Result<yaml_tag_directive_t<Global>, AllocError> {
+    Ok(yaml_tag_directive_t {
+        handle: String::from_str(alloc, handle)?,
+        prefix: String::from_str(alloc, prefix)?,
+    })
 }
 
 #[test]
 fn a_tag_is_cut_after_its_prefix(rt: HostRuntime) {
-    let directives = shortening(rt.alloc(), "!e!", "tag:e.com,2000:").expect(&rt, "no memory");
+    let directive = shortening(rt.alloc(), "!e!", "tag:e.com,2000:").expect(&rt, "no memory");
+    let mut directives = Directives::new(rt.alloc());
+    equal(&rt, &directives.append(&directive, false).is_ok(), &true);
     let cut = analyze_tag("tag:e.com,2000:note", &directives).expect(&rt, "a tag");
     equal(&rt, &(cut.directive, cut.prefix_length), &(Some(0), 15));
     let refused = analyze_anchor("a b", false);

@@ -25,14 +25,10 @@ fn hosts_yaml(alloc: Global, hosts: &Vec<Host<'_>>) -> Result<String, yaml_serde
     yaml_serde::to_string(alloc, hosts)
 }
 
-fn ports(rt: &impl Abort, alloc: Global, ports: &[u16]) -> Vec<u16> {
-    Vec::from_slice(alloc, ports).expect(rt, "no memory")
-}
-
 fn hosts(rt: &impl Abort, alloc: Global) -> Vec<Host<'static>> {
     let open = Host {
         name: "no",
-        ports: ports(rt, alloc, &[80, 443]),
+        ports: vec![in alloc; 80, 443].expect(rt, "no memory"),
         rule: Rule::Open,
     };
     let limited = Host {
@@ -40,21 +36,16 @@ fn hosts(rt: &impl Abort, alloc: Global) -> Vec<Host<'static>> {
         ports: Vec::new(alloc),
         rule: Rule::Limited { rate: 1e9 },
     };
-    let mut hosts = Vec::new(alloc);
-    hosts.push(open).expect(rt, "no memory");
-    hosts.push(limited).expect(rt, "no memory");
-    hosts
+    vec![in alloc; open, limited].expect(rt, "no memory")
 }
 
 #[test]
 fn hosts_are_written(rt: HostRuntime) {
     let expected =
         "---\n- name: 'no'\n  ports:\n    - 80\n    - 443\n  rule: Open\n- name: alpha\n  ports: []\n  rule: !Limited\n    rate: 1000000000.0\n";
-    let hosts = hosts(&rt, rt.alloc());
-    match hosts_yaml(rt.alloc(), &hosts) {
-        Ok(yaml) => equal(&rt, &yaml.as_str(), &expected),
-        Err(_) => equal(&rt, &"an error", &expected),
-    }
+    let yaml = hosts_yaml(rt.alloc(), &hosts(&rt, rt.alloc()));
+    let yaml = yaml.expect(&rt, "hosts that are written");
+    equal(&rt, &yaml.as_str(), &expected);
 }
 
 /// JSON values as the documents of a stream, each handed on to a sink as it ends.
@@ -81,10 +72,6 @@ fn json(rt: &impl Abort, alloc: Global, text: &str) -> serde_json::Value {
     serde_json::Value::from_str(alloc, text).expect(rt, "JSON")
 }
 
-fn is_sent(alloc: Global, values: &[serde_json::Value], sink: &mut Vec<u8>) -> bool {
-    send_each(alloc, values, sink).is_ok()
-}
-
 #[test]
 fn json_values_are_documents(rt: HostRuntime) {
     let alloc = rt.alloc();
@@ -93,10 +80,7 @@ fn json_values_are_documents(rt: HostRuntime) {
         json(&rt, alloc, "\"a\""),
     ];
     let mut sink = Vec::new(alloc);
-    equal(&rt, &is_sent(alloc, &values, &mut sink), &true);
-    same(
-        &rt,
-        sink.as_slice(),
-        b"---\n'no':\n  - 1\n  - null\n--- a\n",
-    );
+    let is_sent = send_each(alloc, &values, &mut sink).is_ok();
+    equal(&rt, &is_sent, &true);
+    same(&rt, sink.as_slice(), "---\n'no':\n  - 1\n  - null\n--- a\n");
 }

@@ -23,22 +23,17 @@ fn are_same(
     Ok(first.as_slice() == second.as_slice())
 }
 
-fn made(rt: &impl Abort, alloc: Global, text: &str) -> Value<Global> {
-    list_of(alloc, 5, text).expect(rt, "no memory")
+/// A value has one form, and equal values have equal bytes.
+fn check_forms(rt: &impl Abort, alloc: Global, list: &Value<Global>, other: &Value<Global>) {
+    let expected = "---\n!!seq [\n  !!int \"5\",\n  !!str \"a\",\n]\n";
+    answers(rt, write_canonical(alloc, list), &Ok(expected));
+    equal(rt, &are_same(alloc, list, list), &Ok(true));
+    equal(rt, &are_same(alloc, list, other), &Ok(false));
 }
 
 #[test]
 fn a_value_has_one_form(rt: HostRuntime) {
-    let bytes = write_canonical(rt.alloc(), &made(&rt, rt.alloc(), "a"));
-    let expected = b"---\n!!seq [\n  !!int \"5\",\n  !!str \"a\",\n]\n";
-    answers(&rt, bytes, &Ok(expected.as_slice()));
-}
-
-#[test]
-fn equal_values_have_equal_bytes(rt: HostRuntime) {
-    let list = made(&rt, rt.alloc(), "a");
-    let other = made(&rt, rt.alloc(), "5");
-    let itself = are_same(rt.alloc(), &list, &list);
-    let another = are_same(rt.alloc(), &list, &other);
-    equal(&rt, &(itself, another), &(Ok(true), Ok(false)));
+    let list = list_of(rt.alloc(), 5, "a").expect(&rt, "no memory");
+    let other = list_of(rt.alloc(), 5, "5").expect(&rt, "no memory");
+    check_forms(&rt, rt.alloc(), &list, &other);
 }

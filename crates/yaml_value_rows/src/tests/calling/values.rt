@@ -1,6 +1,7 @@
 //! Values, a call each.
 use crate::tests::{answers, equal, finished, same, writer};
 use std::alloc::Global;
+use std::process::Abort;
 use yaml_writer::{
     Date, DocumentEnd, SpecialFloat, Time, Timestamp, Writer, YAML_BLOCK_MAPPING_STYLE,
     YAML_DOUBLE_QUOTED_SCALAR_STYLE, YAML_FLOW_SEQUENCE_STYLE, value_settings, yaml_error_t,
@@ -85,20 +86,6 @@ fn send_document(writer: &mut Writer<Global>, sent: &mut Vec<u8>) -> Result<(), 
         .map_err(|_| yaml_error_t::Memory)
 }
 
-#[test]
-fn values_are_written(rt: HostRuntime) {
-    let expected = "---\ncountry: 'no'\nvalues: [-5, true, null, 5, .inf]\nmotto: \"go on\"\n";
-    answers(&rt, values(rt.alloc()), &Ok(expected.as_bytes()));
-}
-
-#[test]
-fn an_alias_stands_for_a_value(rt: HostRuntime) {
-    let mut writer = writer(&rt, rt.alloc(), value_settings());
-    equal(&rt, &give_shared(&mut writer), &Ok(()));
-    let expected = "---\nfrom: &place !city Oslo\nto: *place\n";
-    answers(&rt, finished(writer), &Ok(expected.as_bytes()));
-}
-
 /// A list in a list, whose second item has only its tag.
 fn give_begun(writer: &mut Writer<Global>) -> Result<(), yaml_error_t> {
     writer.begin_sequence(YAML_FLOW_SEQUENCE_STYLE)?;
@@ -107,38 +94,54 @@ fn give_begun(writer: &mut Writer<Global>) -> Result<(), yaml_error_t> {
     writer.tagged("!b")
 }
 
-#[test]
-fn what_is_open_is_ended(rt: HostRuntime) {
-    let mut writer = writer(&rt, rt.alloc(), value_settings());
-    equal(&rt, &give_begun(&mut writer), &Ok(()));
+/// Two lists are open, and a node is awaited.
+fn check_begun(rt: &impl Abort, writer: &mut Writer<Global>) {
+    equal(rt, &give_begun(writer), &Ok(()));
     let open = (writer.depth(), writer.awaits_node());
-    equal(&rt, &open, &(2, true));
-    answers(&rt, ended(writer), &Ok(b"--- [[a, !b null]]\n...\n"));
+    equal(rt, &open, &(2, true));
 }
 
 #[test]
-fn dates_and_times_are_written(rt: HostRuntime) {
+fn values_are_written_and_what_is_open_is_ended(rt: HostRuntime) {
+    let expected = "---\ncountry: 'no'\nvalues: [-5, true, null, 5, .inf]\nmotto: \"go on\"\n";
+    answers(&rt, values(rt.alloc()), &Ok(expected));
     let mut writer = writer(&rt, rt.alloc(), value_settings());
-    let date = Date::new(2001, 12, 14).expect(&rt, "there is such a date");
-    let at = minute(date, 21, 59).expect(&rt, "there is such a time");
-    equal(&rt, &give_times(&mut writer, date, &at), &Ok(()));
-    let expected = "---\nday: 2001-12-14\nat: !!timestamp 2001-12-14T21:59:00Z\n";
-    answers(&rt, finished(writer), &Ok(expected.as_bytes()));
-    equal(&rt, &Date::new(2001, 2, 29), &None);
+    check_begun(&rt, &mut writer);
+    answers(&rt, ended(writer), &Ok("--- [[a, !b null]]\n...\n"));
 }
 
-/// A document of one text is sent, and a second begun.
-fn send_text(writer: &mut Writer<Global>, sent: &mut Vec<u8>) -> Result<(), yaml_error_t> {
+/// An alias, times and texts in documents that are sent one by one, but for the last.
+fn send_documents(
+    writer: &mut Writer<Global>,
+    sent: &mut Vec<u8>,
+    date: Date,
+    minute: &Timestamp,
+) -> Result<(), yaml_error_t> {
+    give_shared(writer)?;
+    send_document(writer, sent)?;
+    give_times(writer, date, minute)?;
+    send_document(writer, sent)?;
     writer.text("a")?;
     send_document(writer, sent)?;
     writer.text("b")
 }
 
+fn check_sent(rt: &impl Abort, alloc: Global, writer: &mut Writer<Global>) {
+    let date = Date::new(2001, 12, 14).expect(rt, "there is such a date");
+    let at = minute(date, 21, 59).expect(rt, "there is such a time");
+    let mut sent = Vec::new(alloc);
+    let answer = send_documents(writer, &mut sent, date, &at);
+    equal(rt, &answer, &Ok(()));
+    let documents = "---\nfrom: &place !city Oslo\nto: *place\n...\n\
+        ---\nday: 2001-12-14\nat: !!timestamp 2001-12-14T21:59:00Z\n...\n\
+        --- a\n...\n";
+    same(rt, sent.as_slice(), documents);
+}
+
 #[test]
 fn documents_are_sent_one_by_one(rt: HostRuntime) {
-    let mut sent = Vec::new(rt.alloc());
     let mut writer = writer(&rt, rt.alloc(), value_settings());
-    equal(&rt, &send_text(&mut writer, &mut sent), &Ok(()));
-    same(&rt, sent.as_slice(), b"--- a\n...\n");
-    answers(&rt, finished(writer), &Ok(b"--- b\n"));
+    check_sent(&rt, rt.alloc(), &mut writer);
+    answers(&rt, finished(writer), &Ok("--- b\n"));
+    equal(&rt, &Date::new(2001, 2, 29), &None);
 }

@@ -43,10 +43,6 @@ fn values_are_written_with_their_tags(rt: HostRuntime) {
     for row in WRITTEN {
         check_row(&rt, &heap, row);
     }
-}
-
-// A law, which is called once.
-#[test]
-fn the_law_holds_for_all(_rt: HostRuntime) {
+    // A law, which is called once.
     equal_bytes_equal_values();
 }

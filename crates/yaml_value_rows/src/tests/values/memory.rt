@@ -12,7 +12,7 @@ fn is_reported<'a>(
     rt: &impl Abort,
     heap: Heap<'a>,
     value: &Value<Heap<'a>>,
-    expected: &[u8],
+    expected: &str,
     number: usize,
 ) -> bool {
     heap.refuse(number);
@@ -31,24 +31,20 @@ fn is_reported<'a>(
 /// A longer text takes too much time to be written after each refusal.
 const LONG: usize = 100_000;
 
-// Each growth that a value takes is refused in turn, and after them all it gives this text; also after each.
-fn writes<'a>(rt: &impl Abort, heap: Heap<'a>, value: &Value<Heap<'a>>, expected: &[u8]) {
-    for number in 1..usize::MAX {
-        if !is_reported(rt, heap, value, expected, number) {
-            return;
-        }
-        if expected.len() < LONG {
-            answers(rt, canonical(heap, value), &Ok(expected));
-        }
-    }
-}
-
 /// A value, and what is written.
 pub(super) type Row<'a> = (Example, &'a str);
 
+// Each growth that a value takes is refused in turn, and after them all it gives this text; also after each.
 pub(super) fn check_row(rt: &impl Abort, heap: Heap<'_>, row: &Row) {
     let value = made(rt, heap, &row.0);
-    writes(rt, heap, &value, row.1.as_bytes());
+    for number in 1..usize::MAX {
+        if !is_reported(rt, heap, &value, row.1, number) {
+            break;
+        }
+        if row.1.len() < LONG {
+            answers(rt, canonical(heap, &value), &Ok(row.1));
+        }
+    }
     drop(value);
 }
 

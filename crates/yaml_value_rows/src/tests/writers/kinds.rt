@@ -1,8 +1,9 @@
 //! Values of each kind, with their properties, in documents that follow one another, and in canonical mode.
-use super::{Call, Row};
+use super::Call;
 
-/// A value of each kind.
-const KINDS: &[Call] = &[
+/// Values of each kind, with their properties.
+pub(super) const CALLS: &[Call] = &[
+    // A value of each kind.
     Call::Mapping,
     Call::Text("true"),
     Call::Bool(true),
@@ -14,19 +15,18 @@ const KINDS: &[Call] = &[
     Call::Unsigned(u64::MAX),
     Call::End,
     Call::End,
-];
-
-const PROPERTIES: &[Call] = &[
+    Call::Finish(Ok(
+        "---\n'true': true\nfalse: null\nnumbers: [-9223372036854775808, 18446744073709551615]\n",
+    )),
+    // Properties.
     Call::Sequence,
     Call::Anchored("a"),
     Call::Tagged("tag:yaml.org,2002:str"),
     Call::Int(5),
     Call::Alias("a"),
     Call::End,
-];
-
-/// Documents that follow one another.
-const DOCUMENTS: &[Call] = &[
+    Call::Finish(Ok("---\n- &a !!str 5\n- *a\n")),
+    // Documents that follow one another.
     Call::Sequence,
     Call::Text("a"),
     Call::End,
@@ -34,12 +34,8 @@ const DOCUMENTS: &[Call] = &[
     Call::Sequence,
     Call::Text("b"),
     Call::End,
-];
-
-const NULL_AND_TEXT: &[Call] = &[Call::Sequence, Call::Null, Call::Text("no"), Call::End];
-
-/// Numbers of JSON, which stand plain.
-const NUMBERS: &[Call] = &[
+    Call::Finish(Ok("---\n- a\n---\n- b\n")),
+    // Numbers of JSON, which stand plain.
     Call::Sequence,
     Call::Number("0"),
     Call::Number("-0"),
@@ -49,36 +45,34 @@ const NUMBERS: &[Call] = &[
     Call::Number("-1.5e-7"),
     Call::Number("12345678901234567890123"),
     Call::End,
-];
-
-/// A number takes the properties of the next node.
-const FLOAT: &[Call] = &[
+    Call::Finish(Ok(
+        "---\n- 0\n- -0.0\n- 1.0e+400\n- 1.0e+5\n- 0.5\n- -1.5e-7\n- 12345678901234567890123\n",
+    )),
+    // A number takes the properties of the next node.
     Call::Anchored("a"),
     Call::Tagged("tag:yaml.org,2002:float"),
     Call::Number("5"),
+    Call::Finish(Ok("--- &a !!float 5\n")),
 ];
 
-/// Values of each kind, with their properties.
-pub(super) const WRITTEN: &[Row] = &[
-    (
-        KINDS,
-        "---\n'true': true\nfalse: null\nnumbers: [-9223372036854775808, 18446744073709551615]\n",
-    ),
-    (PROPERTIES, "---\n- &a !!str 5\n- *a\n"),
-    (DOCUMENTS, "---\n- a\n---\n- b\n"),
-    (
-        NUMBERS,
-        "---\n- 0\n- -0.0\n- 1.0e+400\n- 1.0e+5\n- 0.5\n- -1.5e-7\n- 12345678901234567890123\n",
-    ),
-    (FLOAT, "--- &a !!float 5\n"),
-];
-
-/// Numbers have the tag of their spelling.
-pub(super) const CANONICAL: &[Row] = &[
-    (NULL_AND_TEXT, "---\n[\n  !!null \"null\",\n  \"no\",\n]\n"),
-    (
-        NUMBERS,
+/// Null and a text, and numbers, which have the tag of their spelling.
+pub(super) const CANONICAL: &[Call] = &[
+    Call::Sequence,
+    Call::Null,
+    Call::Text("no"),
+    Call::End,
+    Call::Finish(Ok("---\n[\n  !!null \"null\",\n  \"no\",\n]\n")),
+    Call::Sequence,
+    Call::Number("0"),
+    Call::Number("-0"),
+    Call::Number("1e400"),
+    Call::Number("1E5"),
+    Call::Number("0.5"),
+    Call::Number("-1.5e-7"),
+    Call::Number("12345678901234567890123"),
+    Call::End,
+    Call::Finish(Ok(
         "---\n[\n  !!int \"0\",\n  !!float \"-0.0\",\n  !!float \"1.0e+400\",\n  !!float \"1.0e+5\",\n  \
          !!float \"0.5\",\n  !!float \"-1.5e-7\",\n  !!int \"12345678901234567890123\",\n]\n",
-    ),
+    )),
 ];

@@ -1,5 +1,6 @@
 //! Lists in mappings, indented and undented.
-use super::{Call, check_written};
+use super::{Call, give_all};
+use crate::tests::{answers, finished, writer};
 use std::alloc::Global;
 use std::process::Abort;
 use yaml_writer::{Settings, value_settings};
@@ -33,40 +34,45 @@ const LISTS: &[Call] = &[
 ];
 
 /// Whether lists in mappings are indented, by how many columns nodes are, and what is written.
-type Layout = (bool, i32, &'static str);
+type Layout = (bool, Option<i32>, &'static str);
 
 fn check_layout(rt: &impl Abort, alloc: Global, row: &Layout) {
     let settings = Settings {
         indented_sequences: row.0,
-        indent: Some(row.1),
+        indent: row.1,
         ..value_settings()
     };
-    check_written(rt, alloc, settings, LISTS, &Ok(row.2.as_bytes()));
+    let mut writer = writer(rt, alloc, settings);
+    give_all(rt, alloc, settings, &mut writer, &("lists", LISTS));
+    answers(rt, finished(writer), &Ok(row.2));
 }
 
 /// Where they aren't indented, lists stand in the column of the keys.
 const LAYOUTS: &[Layout] = &[
     (
         true,
-        4,
+        None,
+        "---\na:\n  - - b\n  - c\nd: &x\n  - e\n? - f\n  - - g\n: !t\n  - h\n",
+    ),
+    (
+        true,
+        Some(4),
         "---\na:\n    -   - b\n    - c\nd: &x\n    - e\n?   - f\n    -   - g\n: !t\n    - h\n",
     ),
     (
         false,
-        2,
+        Some(2),
         "---\na:\n- - b\n- c\nd: &x\n- e\n? - f\n  - - g\n: !t\n- h\n",
     ),
     (
         false,
-        4,
+        Some(4),
         "---\na:\n-   - b\n- c\nd: &x\n- e\n?   - f\n    -   - g\n: !t\n- h\n",
     ),
 ];
 
 #[test]
 fn lists_in_mappings_are_indented_where_asked(rt: HostRuntime) {
-    let expected = b"---\na:\n  - - b\n  - c\nd: &x\n  - e\n? - f\n  - - g\n: !t\n  - h\n";
-    check_written(&rt, rt.alloc(), value_settings(), LISTS, &Ok(expected));
     for row in LAYOUTS {
         check_layout(&rt, rt.alloc(), row);
     }

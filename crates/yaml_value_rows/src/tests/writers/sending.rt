@@ -1,50 +1,68 @@
 //! Streams that are handed on to a sink.
-use super::{Call, give_all, writer};
-use crate::tests::{Narrow, answers, equal, finished};
+use super::{Call, give, give_all};
+use crate::tests::{Narrow, answers, equal, finished, writer};
 use std::alloc::Global;
 use std::io;
 use std::process::Abort;
 use yaml_writer::{Writer, value_settings};
-
-const FIRST: &[Call] = &[Call::Sequence, Call::Text("a"), Call::End, Call::Next];
-
-const SECOND: &[Call] = &[Call::Text("b")];
-
-/// The kind of the sink's error, where it fails. (Tests need none of the clauses of the call.)
-fn failure(writer: &mut Writer<Global>, sink: &mut Narrow) -> Option<io::ErrorKind> {
-    writer.send(sink).err().map(|error| error.kind())
-}
 
 /// The writer hands its bytes on; the sink fails so or not, and then has these bytes.
 fn check_sent(
     rt: &impl Abort,
     writer: &mut Writer<Global>,
     sink: &mut Narrow,
-    wanted: (Option<io::ErrorKind>, &[u8]),
+    wanted: (Option<io::ErrorKind>, &str),
 ) {
-    let failed = failure(writer, sink);
+    let failed = match writer.send(sink) {
+        Ok(()) => None,
+        Err(error) => Some(error.kind()),
+    };
+    let wanted = (wanted.0, wanted.1.as_bytes());
     equal(rt, &(failed, sink.taken.as_slice()), &wanted);
 }
 
-#[test]
-fn what_is_sent_is_taken(rt: HostRuntime) {
-    let mut sink = Narrow::new(rt.alloc(), 100);
-    let mut writer = writer(&rt, rt.alloc(), value_settings());
-    check_sent(&rt, &mut writer, &mut sink, (None, b""));
-    give_all(&rt, &mut writer, FIRST);
-    check_sent(&rt, &mut writer, &mut sink, (None, b"---\n- a\n"));
-    check_sent(&rt, &mut writer, &mut sink, (None, b"---\n- a\n"));
-    give_all(&rt, &mut writer, SECOND);
-    answers(&rt, finished(writer), &Ok(b"--- b\n"));
+const LETTER: &[Call] = &[Call::Sequence, Call::Text("a"), Call::End, Call::Next];
+
+/// How many bytes a sink takes, the error of the next, which bytes of the letter it has, and what the writer has at the end.
+type Sink = (usize, Option<io::ErrorKind>, &'static str, &'static str);
+
+fn send_letter(
+    rt: &impl Abort,
+    alloc: Global,
+    writer: &mut Writer<Global>,
+    sink: &mut Narrow,
+    row: &Sink,
+) {
+    check_sent(rt, writer, sink, (None, ""));
+    give_all(rt, alloc, value_settings(), writer, &("letter", LETTER));
+    check_sent(rt, writer, sink, (row.1, row.2));
+    check_sent(rt, writer, sink, (row.1, row.2));
+    equal(rt, &give(writer, &Call::Text("b")), &Ok(()));
 }
 
+fn check_sink(rt: &impl Abort, alloc: Global, row: &Sink) {
+    let taken = Vec::new(alloc);
+    let room = row.0;
+    let mut sink = Narrow { taken, room };
+    let mut writer = writer(rt, alloc, value_settings());
+    send_letter(rt, alloc, &mut writer, &mut sink, row);
+    answers(rt, finished(writer), &Ok(row.3));
+}
+
+/// What a sink refuses is left.
+const SINKS: &[Sink] = &[
+    (100, None, "---\n- a\n", "--- b\n"),
+    (
+        5,
+        Some(io::ErrorKind::StorageFull),
+        "---\n-",
+        "---\n- a\n--- b\n",
+    ),
+];
+
 #[test]
-fn what_a_sink_refuses_is_left(rt: HostRuntime) {
-    let mut sink = Narrow::new(rt.alloc(), 5);
-    let mut writer = writer(&rt, rt.alloc(), value_settings());
-    give_all(&rt, &mut writer, FIRST);
-    let full = Some(io::ErrorKind::StorageFull);
-    check_sent(&rt, &mut writer, &mut sink, (full, b"---\n-"));
-    give_all(&rt, &mut writer, SECOND);
-    answers(&rt, finished(writer), &Ok(b"---\n- a\n--- b\n"));
+fn what_is_sent_is_taken(rt: HostRuntime) {
+    for row in SINKS {
+        check_sink(&rt, rt.alloc(), row);
+    }
 }

@@ -1,8 +1,9 @@
 //! Which texts stand plain, and which in quotes or literally.
-use super::{Call, Row};
+use super::Call;
 
-/// Words, which stand in quotes.
-const WORDS: &[Call] = &[
+/// Texts stand in quotes where a reader takes them for something else.
+pub(super) const CALLS: &[Call] = &[
+    // Words, which stand in quotes.
     Call::Sequence,
     Call::Text("no"),
     Call::Text("NO"),
@@ -18,10 +19,10 @@ const WORDS: &[Call] = &[
     Call::Text("inf"),
     Call::Text("No\u{eb}l"),
     Call::End,
-];
-
-/// What may be a number or a symbol, which stands in quotes.
-const NUMBERS: &[Call] = &[
+    Call::Finish(Ok(
+        "---\n- 'no'\n- 'NO'\n- 'n'\n- 'off'\n- '~'\n- ''\n- '='\n- '<<'\n- 'null'\n- 'True'\n- 'tRue'\n- 'inf'\n- 'No\u{eb}l'\n",
+    )),
+    // What may be a number or a symbol, which stands in quotes.
     Call::Sequence,
     Call::Text("1:30"),
     Call::Text("0o10"),
@@ -40,10 +41,10 @@ const NUMBERS: &[Call] = &[
     Call::Text("-:1"),
     Call::Text(":a"),
     Call::End,
-];
-
-/// What no reader takes for a number, which stands plain.
-const AMOUNTS: &[Call] = &[
+    Call::Finish(Ok(
+        "---\n- '1:30'\n- '0o10'\n- '010'\n- '1_000'\n- '.5'\n- '1e5'\n- '2001-12-14'\n- '0x1F'\n- '+1'\n- '-.inf'\n- '12e03'\n- 'E5'\n- '_0'\n- '-_0'\n- '-:1'\n- ':a'\n",
+    )),
+    // What no reader takes for a number, which stands plain.
     Call::Sequence,
     Call::Text("100Mi"),
     Call::Text("5s"),
@@ -55,10 +56,10 @@ const AMOUNTS: &[Call] = &[
     Call::Text("-x"),
     Call::Text("5\u{e9}"),
     Call::End,
-];
-
-/// Other texts, which stand plain, in quotes or literally.
-const OTHERS: &[Call] = &[
+    Call::Finish(Ok(
+        "---\n- 100Mi\n- 5s\n- 3rd\n- ./run.sh\n- .github\n- 8080/tcp\n- 10.0.0.0/8\n- -x\n- 5\u{e9}\n",
+    )),
+    // Other texts, which stand plain, in quotes or literally.
     Call::Sequence,
     Call::Text("none"),
     Call::Text("null "),
@@ -67,24 +68,5 @@ const OTHERS: &[Call] = &[
     Call::Text("a\nb\n"),
     Call::Text("1\n2"),
     Call::End,
-];
-
-/// Texts stand in quotes where a reader takes them for something else.
-pub(super) const WRITTEN: &[Row] = &[
-    (
-        WORDS,
-        "---\n- 'no'\n- 'NO'\n- 'n'\n- 'off'\n- '~'\n- ''\n- '='\n- '<<'\n- 'null'\n- 'True'\n- 'tRue'\n- 'inf'\n- 'No\u{eb}l'\n",
-    ),
-    (
-        NUMBERS,
-        "---\n- '1:30'\n- '0o10'\n- '010'\n- '1_000'\n- '.5'\n- '1e5'\n- '2001-12-14'\n- '0x1F'\n- '+1'\n- '-.inf'\n- '12e03'\n- 'E5'\n- '_0'\n- '-_0'\n- '-:1'\n- ':a'\n",
-    ),
-    (
-        AMOUNTS,
-        "---\n- 100Mi\n- 5s\n- 3rd\n- ./run.sh\n- .github\n- 8080/tcp\n- 10.0.0.0/8\n- -x\n- 5\u{e9}\n",
-    ),
-    (
-        OTHERS,
-        "---\n- none\n- 'null '\n- a b\n- '# c'\n- |\n  a\n  b\n- |-\n  1\n  2\n",
-    ),
+    Call::Finish(Ok("---\n- none\n- 'null '\n- a b\n- '# c'\n- |\n  a\n  b\n- |-\n  1\n  2\n")),
 ];

@@ -1,5 +1,5 @@
 //! Dates and times of day, against texts written by hand.
-use super::{Call, Row};
+use super::Call;
 use crate::tests::{equal, same};
 use std::alloc::Global;
 use std::process::Abort;
@@ -7,19 +7,17 @@ use yaml_writer::{Date, Offset, Sign, Time, Timestamp};
 
 fn check_text(rt: &impl Abort, alloc: Global, timestamp: &Timestamp, wanted: &str) {
     let text = timestamp.text(alloc).expect(rt, "no memory");
-    same(rt, text.as_bytes(), wanted.as_bytes());
+    same(rt, text.as_bytes(), wanted);
 }
 
-fn date(rt: &impl Abort, year: u16, month: u8, day: u8) -> Date {
-    Date::new(year, month, day).expect(rt, "there is such a date")
-}
-
-/// A year, a month and a day, and their text.
+/// A year, a month and a day, and their text; it is empty where the calendar has no such day.
 type DateRow = (u16, u8, u8, &'static str);
 
 fn check_date(rt: &impl Abort, alloc: Global, row: &DateRow) {
-    let date = date(rt, row.0, row.1, row.2);
-    check_text(rt, alloc, &Timestamp { date, time: None }, row.3);
+    match Date::new(row.0, row.1, row.2) {
+        Some(date) => check_text(rt, alloc, &Timestamp { date, time: None }, row.3),
+        None => equal(rt, &(row.0, row.1, row.2, ""), row),
+    }
 }
 
 const DATES: &[DateRow] = &[
@@ -46,6 +44,27 @@ const DATES: &[DateRow] = &[
     (2004, 2, 29, "2004-02-29"),
     (4, 2, 29, "0004-02-29"),
     (9996, 2, 29, "9996-02-29"),
+    (0, 1, 1, ""),
+    (0, 12, 31, ""),
+    (10000, 1, 1, ""),
+    (65535, 12, 31, ""),
+    (2001, 0, 1, ""),
+    (2001, 13, 1, ""),
+    (2001, 255, 1, ""),
+    (2001, 1, 0, ""),
+    (2001, 1, 32, ""),
+    (2001, 2, 29, ""),
+    (1900, 2, 29, ""),
+    (2100, 2, 29, ""),
+    (2000, 2, 30, ""),
+    (2004, 2, 30, ""),
+    (2001, 3, 32, ""),
+    (2001, 4, 31, ""),
+    (2001, 6, 31, ""),
+    (2001, 9, 31, ""),
+    (2001, 11, 31, ""),
+    (2001, 12, 32, ""),
+    (2001, 12, 255, ""),
 ];
 
 #[test]
@@ -54,30 +73,6 @@ fn dates_have_ten_characters(rt: HostRuntime) {
         check_date(&rt, rt.alloc(), row);
     }
 }
-
-const NO_DATES: &[(u16, u8, u8)] = &[
-    (0, 1, 1),
-    (0, 12, 31),
-    (10000, 1, 1),
-    (65535, 12, 31),
-    (2001, 0, 1),
-    (2001, 13, 1),
-    (2001, 255, 1),
-    (2001, 1, 0),
-    (2001, 1, 32),
-    (2001, 2, 29),
-    (1900, 2, 29),
-    (2100, 2, 29),
-    (2000, 2, 30),
-    (2004, 2, 30),
-    (2001, 3, 32),
-    (2001, 4, 31),
-    (2001, 6, 31),
-    (2001, 9, 31),
-    (2001, 11, 31),
-    (2001, 12, 32),
-    (2001, 12, 255),
-];
 
 /// A plus or a minus, hours and minutes.
 type OffsetRow = (Sign, u8, u8);
@@ -91,14 +86,23 @@ fn offset(rt: &impl Abort, row: Option<OffsetRow>) -> Option<Offset> {
     }
 }
 
-/// An hour, a minute, a second and nanoseconds, with an offset, and what stands behind the date.
+/// An hour, a minute, a second and nanoseconds, with an offset, and what stands behind the date; it is empty where the clock
+/// shows no such time.
 type TimeRow = (u8, u8, u8, u32, Option<OffsetRow>, &'static str);
 
 fn check_time(rt: &impl Abort, alloc: Global, row: &TimeRow) {
-    let time = Time::new(row.0, row.1, row.2, row.3, offset(rt, row.4));
-    let time = Some(time.expect(rt, "there is such a time"));
-    let date = date(rt, 2001, 12, 14);
-    check_text(rt, alloc, &Timestamp { date, time }, row.5);
+    let date = Date::new(2001, 12, 14).expect(rt, "there is such a date");
+    match Time::new(row.0, row.1, row.2, row.3, offset(rt, row.4)) {
+        Some(time) => {
+            let time = Some(time);
+            check_text(rt, alloc, &Timestamp { date, time }, row.5);
+        }
+        None => equal(
+            rt,
+            &(row.0, row.1, row.2, row.3, ""),
+            &(row.0, row.1, row.2, row.3, row.5),
+        ),
+    }
 }
 
 const TIMES: &[TimeRow] = &[
@@ -157,6 +161,11 @@ const TIMES: &[TimeRow] = &[
         Some((Sign::Minus, 23, 59)),
         "2001-12-14T21:59:43-23:59",
     ),
+    (24, 0, 0, 0, None, ""),
+    (0, 60, 0, 0, None, ""),
+    (23, 59, 60, 0, None, ""),
+    (0, 0, 0, 1_000_000_000, None, ""),
+    (255, 255, 255, u32::MAX, None, ""),
 ];
 
 #[test]
@@ -164,32 +173,14 @@ fn times_have_as_many_decimals_as_they_take(rt: HostRuntime) {
     for row in TIMES {
         check_time(&rt, rt.alloc(), row);
     }
-}
-
-const NO_TIMES: &[(u8, u8, u8, u32)] = &[
-    (24, 0, 0, 0),
-    (0, 60, 0, 0),
-    (23, 59, 60, 0),
-    (0, 0, 0, 1_000_000_000),
-    (255, 255, 255, u32::MAX),
-];
-
-#[test]
-fn the_calendar_and_the_clock_lack_others(rt: HostRuntime) {
-    for (year, month, day) in NO_DATES {
-        equal(&rt, &Date::new(*year, *month, *day), &None);
-    }
-    for (hour, minute, second, nanosecond) in NO_TIMES {
-        let time = Time::new(*hour, *minute, *second, *nanosecond, None);
-        equal(&rt, &time, &None);
-    }
     let day = Offset::new(Sign::Plus, 24, 0);
     let hour = Offset::new(Sign::Minus, 0, 60);
     equal(&rt, &(day, hour), &(None, None));
 }
 
-/// Dates and times as keys and values, in block and in flow.
-const TIMESTAMPS: &[Call] = &[
+/// Dates stand plain, and times have their tag.
+pub(super) const CALLS: &[Call] = &[
+    // Dates and times as keys and values, in block and in flow.
     Call::Mapping,
     Call::Date(2001, 1, 1),
     Call::Date(9999, 12, 31),
@@ -202,10 +193,12 @@ const TIMESTAMPS: &[Call] = &[
     Call::Text("2000-02-29"),
     Call::End,
     Call::End,
-];
-
-/// Timestamps take the properties of the next node.
-const PROPERTIES: &[Call] = &[
+    Call::Finish(Ok(
+        "---\n2001-01-01: 9999-12-31\n\
+         !!timestamp 2001-12-14T00:00:00Z: !!timestamp 2001-12-14T21:59:43Z\n\
+         flow: [2000-02-29, !!timestamp '2001-12-14T21:59:43Z', '2000-02-29']\n",
+    )),
+    // Timestamps take the properties of the next node.
     Call::Sequence,
     Call::Anchored("a"),
     Call::Date(2002, 12, 14),
@@ -215,31 +208,16 @@ const PROPERTIES: &[Call] = &[
     Call::Tagged("!time"),
     Call::Time(12, 0, 0),
     Call::End,
+    Call::Finish(Ok("---\n- &a 2002-12-14\n- !day 2002-12-14\n- &b !time 2001-12-14T12:00:00Z\n")),
 ];
 
-/// Dates stand plain, and times have their tag.
-pub(super) const WRITTEN: &[Row] = &[
-    (
-        TIMESTAMPS,
-        "---\n2001-01-01: 9999-12-31\n\
-         !!timestamp 2001-12-14T00:00:00Z: !!timestamp 2001-12-14T21:59:43Z\n\
-         flow: [2000-02-29, !!timestamp '2001-12-14T21:59:43Z', '2000-02-29']\n",
-    ),
-    (
-        PROPERTIES,
-        "---\n- &a 2002-12-14\n- !day 2002-12-14\n- &b !time 2001-12-14T12:00:00Z\n",
-    ),
-];
-
-const DATE_AND_TIME: &[Call] = &[
+/// Timestamps have tags.
+pub(super) const CANONICAL: &[Call] = &[
     Call::Sequence,
     Call::Date(2002, 12, 14),
     Call::Time(12, 0, 0),
     Call::End,
+    Call::Finish(Ok(
+        "---\n[\n  !!timestamp \"2002-12-14\",\n  !!timestamp \"2001-12-14T12:00:00Z\",\n]\n",
+    )),
 ];
-
-/// Timestamps have tags.
-pub(super) const CANONICAL: &[Row] = &[(
-    DATE_AND_TIME,
-    "---\n[\n  !!timestamp \"2002-12-14\",\n  !!timestamp \"2001-12-14T12:00:00Z\",\n]\n",
-)];
