@@ -38,6 +38,7 @@ pub(crate) fn is_operator(byte: u8) -> bool
 }
 
 /// Whether a word ends before this byte.
+#[inline(always)]
 pub(crate) fn is_delimiter(byte: u8) -> bool
     ensures { result ≡ (is_operator byte || is_space byte) }
 {
