@@ -1,4 +1,4 @@
-use Rattle.yaml_value.proofs.Common.{min, ◌+◌, ◌≡◌, ap, sym, ◌∙◌, rules, arith, ℕ}
+use Rattle.yaml_value.proofs.Common.{min, ◌+◌, ◌≡◌, ap, sym, ◌∙◌, rules, arith, ℕ, take_all, largest_usize}
 use Rattle.yaml_value.proofs.Common.{TypedValues, TypedPairs, list_value, map_value, values_count, value_pairs_count, seen_value, seen_values, seen_pairs}
 use Rattle.yaml_base.specs.values.TypedValues.{value_count}
 use Rattle.yaml_value.specs.declared.value.Value as declared
@@ -47,3 +47,15 @@ count_pairs-loop-key-preserved g t c =
     pairs_counted c.deref-key-items.result.now c.loop-key.key-index c.loop-key-item.result c.loop-key.count c.count_by_recursion.result c.saturating_add.result
     c.count_by_recursion-in-loop-key.result c.saturating_add-count.result
     (omega arith) c.loop-key-item.is c.loop-key.invariant c.count_by_recursion.ensures first c.count_by_recursion-in-loop-key.ensures second
+
+pub count_items-returns : goal.count_items-returns
+count_items-returns g t c =
+    c.loop-item.invariant
+    ∙ ap (λ items. min (1 + values_count (seen_values items)) largest_usize)
+    (take_all c.loop-item.item-index c.deref-item-items.result.now c.loop-item-test.false ∙ c.deref-item-items.ensures.value)
+
+pub count_pairs-returns : goal.count_pairs-returns
+count_pairs-returns g t c =
+    c.loop-key.invariant
+    ∙ ap (λ pairs. min (1 + value_pairs_count (seen_pairs pairs)) largest_usize)
+    (take_all c.loop-key.key-index c.deref-key-items.result.now c.loop-key-test.false ∙ c.deref-key-items.ensures.value)
