@@ -1,0 +1,45 @@
+use Rattle.yaml_tool.proofs.Common.{ℕ, if◌then◌else◌, option_map, option_and_then, Option, None, Some, Bool, List, [], map, ◌++◌, ◌∷◌, refl, ◌≡◌, ap, sym, ◌∙◌}
+use Rattle.yaml_tool.proofs.Common.{map-append, seen_progress, seen_setting, seen_numbered}
+use Rattle.yaml_base.specs.scripts.Script.{ScriptState, with_line, line_understood, may_be_set, sets}
+use Rattle.yaml_base.specs.scripts.Script as notation
+use Rattle.yaml_tool.{specs.Lines.seen_line, specs.Scripts.after_line, specs.declared.lines.Line.Line}
+use Rattle.yaml_tool.proofs.scripts.Progress.take_line.Goals as goal
+
+-- a parsed line goes to those before it as what it says
+line_goes : {A : Type 0} (number : ℕ) (before : ScriptState) (bytes : List ℕ) (parsed : Option (Line A)) (given line : Line A)
+    → option_map seen_line parsed ≡ line_understood bytes → parsed ≡ Some given → given ≡ line
+    → after_line number before bytes ≡ with_line number before (seen_line line)
+line_goes number before bytes parsed given line reads is says =
+    ap (option_and_then (with_line number before)) (sym reads ∙ ap (option_map seen_line) is) ∙ ap (λ line. with_line number before (seen_line line)) says
+
+-- a setting goes to them where it may stand
+setting_goes : (number : ℕ) (before : ScriptState) (setting : notation.Setting) (may stands : Bool) → may ≡ may_be_set setting before → may ≡ stands
+    → with_line number before (sets setting) ≡ (if stands then Some (record before { settings = before.settings ++ setting ∷ [] }) else None)
+setting_goes number before setting may stands by is =
+    ap (λ (b : Bool). if b then Some (record before { settings = before.settings ++ setting ∷ [] }) else None) (sym by ∙ is)
+
+pub returns-in-Some-Nothing-clause-taken : goal.returns-in-Some-Nothing-clause-taken
+returns-in-Some-Nothing-clause-taken g c =
+    line_goes c.args.number (seen_progress c.args.self.now) c.args.bytes.now _ _ _ c.in-Ok.ensures c.in-Some-Nothing.is c.in-Some-Nothing.field-0-is
+
+pub returns-then-not-may_set-clause-fault : goal.returns-then-not-may_set-clause-fault
+returns-then-not-may_set-clause-fault g c =
+    let before = seen_progress c.args.self.now in (
+      refl,
+      line_goes c.args.number before c.args.bytes.now _ _ _ c.in-Ok.ensures c.in-Some-Sets.is c.in-Some-Sets.field-0-is
+          ∙ setting_goes c.args.number before (seen_setting c.in-Some-Sets.setting) _ _ c.may_set.ensures c.if-not-may_set.true,
+    )
+
+pub returns-in-Ok-push-clause-taken : goal.returns-in-Ok-push-clause-taken
+returns-in-Ok-push-clause-taken g c =
+    let before = seen_progress c.args.self.now in
+    line_goes c.args.number before c.args.bytes.now _ _ _ c.in-Ok.ensures c.in-Some-Sets.is c.in-Some-Sets.field-0-is
+    ∙ setting_goes c.args.number before (seen_setting c.in-Some-Sets.setting) _ _ c.may_set.ensures c.if-not-may_set.false
+    ∙ ap (λ (settings : List notation.Setting). Some (record before { settings = settings }))
+    (sym (map-append seen_setting c.args.self.now.settings.items (c.in-Some-Sets.setting ∷ [])) ∙ ap (map seen_setting) (sym c.in-Ok-push.ensures.items))
+
+pub returns-in-None-clause-fault : goal.returns-in-None-clause-fault
+returns-in-None-clause-fault g c = (
+  refl,
+  ap (option_and_then (with_line c.args.number (seen_progress c.args.self.now))) (sym c.in-Ok.ensures ∙ ap (option_map seen_line) c.in-None.is),
+)
