@@ -3,6 +3,10 @@ use Rattle.yaml_tool.proofs.Common.{map-append, seen_progress, seen_setting, see
 use Rattle.yaml_base.specs.scripts.Script.{ScriptState, with_line, line_understood, may_be_set, sets}
 use Rattle.yaml_base.specs.scripts.Script as notation
 use Rattle.yaml_tool.{specs.Lines.seen_line, specs.Scripts.after_line, specs.declared.lines.Line.Line}
+use Rattle.std.specs.Result.{OnOk}
+use Rattle.yaml_tool.proofs.Common.{subst, IfErr}
+use Rattle.yaml_tool.specs.Scripts.{IsFaultAt}
+use Rattle.yaml_tool.proofs.scripts.Progress.take_line.Goals.{in-Ok-push-2, in-Err-push}
 use Rattle.yaml_tool.proofs.scripts.Progress.take_line.Goals as goal
 
 -- a parsed line goes to those before it as what it says
@@ -43,3 +47,26 @@ returns-in-None-clause-fault g c = (
   refl,
   ap (option_and_then (with_line c.args.number (seen_progress c.args.self.now))) (sym c.in-Ok.ensures ∙ ap (option_map seen_line) c.in-None.is),
 )
+
+pub returns-after-push-2-clause-taken : goal.returns-after-push-2-clause-taken
+returns-after-push-2-clause-taken g c =
+    let before = seen_progress c.args.self.now in
+    let events = map seen_numbered c.push-in-Some-Gives.new.self.items in
+    let Taken = after_line c.args.number before c.args.bytes.now ≡ Some (record before { events = events }) in
+    elim c.match-push-2.branch [
+      | in-Ok-push-2 w ↦
+          subst (λ answer. OnOk answer Taken) (sym w.result-is)
+          (line_goes c.args.number before c.args.bytes.now _ _ _ c.in-Ok.ensures c.in-Some-Gives.is c.in-Some-Gives.field-0-is
+          ∙ ap (λ (events : List notation.Numbered). Some (record before { events = events }))
+          (sym (map-append seen_numbered c.args.self.now.events.items (record { line = c.args.number; event = c.in-Some-Gives.event } ∷ []))
+          ∙ ap (map seen_numbered) (sym w.in-Ok-push-2.ensures.items)))
+      | in-Err-push w ↦ subst (λ answer. OnOk answer Taken) (sym w.result-is) tt
+    ]
+
+pub returns-after-push-2-clause-fault : goal.returns-after-push-2-clause-fault
+returns-after-push-2-clause-fault g c =
+    let after = after_line c.args.number (seen_progress c.args.self.now) c.args.bytes.now in
+    elim c.match-push-2.branch [
+      | in-Ok-push-2 w ↦ subst (λ answer. IfErr answer (λ error. IsFaultAt error c.args.number after)) (sym w.result-is) tt
+      | in-Err-push w ↦ subst (λ answer. IfErr answer (λ error. IsFaultAt error c.args.number after)) (sym w.result-is) tt
+    ]
