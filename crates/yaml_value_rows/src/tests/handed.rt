@@ -69,8 +69,9 @@ fn give_nodes(rt: &impl Abort, alloc: Global, writer: &mut Writer<Global>) {
 fn a_value_is_a_node_of_a_writer(rt: HostRuntime) {
     let mut writer = writer(&rt, rt.alloc(), value_settings());
     give_nodes(&rt, rt.alloc(), &mut writer);
-    let expected =
-        "---\n- !server\n  name: alpha\n  ports:\n    - 80\n    - 443\n- limit: null\n  backup: false\n  weights:\n    - -1\n    - 'yes'\n- 'no'\n---\n- 1\n- -2\n";
+    let expected = "---\n- !server\n  name: alpha\n  ports:\n    - 80\n    - 443\n\
+        - limit: null\n  backup: false\n  weights:\n    - -1\n    - 'yes'\n\
+        - 'no'\n---\n- 1\n- -2\n";
     answers(&rt, finished(writer), &Ok(expected));
 }
 

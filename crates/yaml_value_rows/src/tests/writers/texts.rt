@@ -42,7 +42,8 @@ pub(super) const CALLS: &[Call] = &[
     Call::Text(":a"),
     Call::End,
     Call::Finish(Ok(
-        "---\n- '1:30'\n- '0o10'\n- '010'\n- '1_000'\n- '.5'\n- '1e5'\n- '2001-12-14'\n- '0x1F'\n- '+1'\n- '-.inf'\n- '12e03'\n- 'E5'\n- '_0'\n- '-_0'\n- '-:1'\n- ':a'\n",
+        "---\n- '1:30'\n- '0o10'\n- '010'\n- '1_000'\n- '.5'\n- '1e5'\n\
+         - '2001-12-14'\n- '0x1F'\n- '+1'\n- '-.inf'\n- '12e03'\n- 'E5'\n- '_0'\n- '-_0'\n- '-:1'\n- ':a'\n",
     )),
     // What no reader takes for a number, which stands plain.
     Call::Sequence,
