@@ -1,5 +1,6 @@
 pub mod Common
 pub mod Outlets
+mod TakenOutput
 pub mod Adding
 pub mod Starting
 pub mod Writing

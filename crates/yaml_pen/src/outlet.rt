@@ -131,6 +131,16 @@ impl<A: Allocator> Outlet<A> {
         rest
     }
 
+    /// Counts what the caller hasn't taken as taken, and keeps its memory for what comes next.
+    #[tactic(auto, unfolding(crate::specs::Outlet::whole_output))]
+    pub(crate) fn consume_output(&mut self)
+        ensures { self.new ≡ record self.old { taken = length self.old.output } }
+    {
+        self.taken = self.taken.with(self.output.as_slice());
+        self.taken_count += self.output.len();
+        self.output.clear();
+    }
+
     pub(crate) fn error(&self) -> Option<yaml_error_t>
         ensures { result ≡ self.now.error }
     {

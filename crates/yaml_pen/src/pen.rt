@@ -141,6 +141,17 @@ impl<A: Allocator> Pen<A> {
         self.outlet.take_output()
     }
 
+    /// Counts the flushed bytes not yet taken as taken, as `take_output` does, where the caller handed them on
+    /// from `output`. Their memory is used for what is flushed next, so a caller that hands on each part of a
+    /// long text asks for no memory each time.
+    ///
+    /// Needs no memory, and may be called at any time, also after an error.
+    pub fn consume_output(&mut self)
+        ensures { self.new ≡ all_taken self.old }
+    {
+        self.outlet.consume_output();
+    }
+
     /// The first error.
     pub fn error(&self) -> Option<yaml_error_t>
         ensures value { result ≡ self.now.error }
