@@ -18,6 +18,7 @@ pub mod KeepsSet
 pub mod Growing
 pub mod StandingFlagged
 pub mod Taking
+pub mod TakenFrom
 pub mod KeptDocuments
 pub mod EmittingEvents
 pub mod EmitterKept

@@ -121,6 +121,19 @@ pub fn yaml_emitter_take_output<A: Allocator + Copy>(emitter: &mut yaml_emitter_
     emitter.machine.take_output()
 }
 
+/// Counts the flushed bytes not yet taken as taken, where the caller handed on what `output` returned: nothing of it is
+/// left then. The output's limit counts it, too. Its memory is used for what comes next, so a caller that hands on the
+/// output after each document, and calls this, asks for no memory each time.
+///
+/// It may be called at any time, also after an error, and takes no memory.
+pub fn yaml_emitter_consume_output<A: Allocator + Copy>(emitter: &mut yaml_emitter_t<A>)
+    ensures taken { emitter.new ≡ with_all_taken emitter.old }
+    ensures stands { (given : Settings) (all : List Event) → StandsAfter given all emitter.old → StandsAfter given all emitter.new }
+    ensures promised { (given : Settings) (all : List Event) → StandsAfter given all emitter.old → Promised given all emitter.new }
+{
+    emitter.machine.consume_output();
+}
+
 impl<A: Allocator + Copy> Machine<A> {
     /// Writes an event that needn't wait, where none waits.
     fn write_alone(&mut self, event: &yaml_event_t<A>) -> Result<(), yaml_error_t>

@@ -21,6 +21,7 @@ mod stage;
 mod writing;
 
 pub use borrowed::yaml_emitter_emit_scalar;
+pub use emit::yaml_emitter_consume_output;
 pub use emit::yaml_emitter_emit;
 pub use emit::yaml_emitter_flush;
 pub use emit::yaml_emitter_take_output;

@@ -107,6 +107,13 @@ impl<A: Allocator> Machine<A> {
         self.pen.take_output()
     }
 
+    /// Counts the flushed bytes not yet taken as taken.
+    pub(crate) fn consume_output(&mut self)
+        ensures { self.new ≡ record self.old { page = all_taken self.old.page } }
+    {
+        self.pen.consume_output();
+    }
+
     /// Flushes all that is written.
     pub(crate) fn flush(&mut self) -> Result<(), yaml_error_t>
         requires no_error { self.old.error ≡ None }
