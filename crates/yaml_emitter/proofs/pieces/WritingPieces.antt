@@ -2,7 +2,8 @@
 use Rattle.yaml_emitter.proofs.Common.{ℕ, if◌then◌else◌, ◌==◌, Result, Bool, false, not, true, ◌&&◌, ◌||◌, ◌≡◌, append-nil, append_assoc, ap, sym, ◌∙◌, Text}
 use Rattle.yaml_emitter.proofs.Common.{Cursor, Rendered, render_then, new_line, DocumentStart, render_indicator, render_closing_marker, has_directives}
 use Rattle.yaml_emitter.proofs.Common.{is_explicit, render_document_start, document_start_piece, document_end_piece, Effective, piece_at, render_document_end}
-use Rattle.yaml_emitter.proofs.Common.{wrote_as, Page, Wrote}
+use Rattle.yaml_emitter.proofs.Common.{wrote_as, Page, Wrote, refl, render_if, render_document_marker}
+use Rattle.yaml_base.proofs.stream_documents.StreamDocumentReads.{no_directives}
 use Rattle.yaml_base.specs.{Indicators.document_end, Layout.piece_without_body, declared.errors.yaml_error_t.yaml_error_t}
 use Rattle.yaml_emitter.specs.WrittenPieces.{rendered_of, render_document_head}
 
@@ -46,3 +47,21 @@ wrote_document_start s first start open_ended {closes} {explicit} {before} closi
     ∙ ap (λ (e : Bool). render_document_head s (has_directives start && not (open_ended == 0)) start.version start.directives e before.cursor) marking
     ∙ lead-rendered 0 (render_document_start s first start (record { cursor = before.cursor; open_ended = open_ended })))
     wrote
+
+-- without directives nothing stands before `---`
+no_lines : (s : Effective) (start : DocumentStart) (explicit : Bool) (cursor : Cursor) → has_directives start ≡ false
+    → render_if explicit (render_document_marker s.canonical) cursor ≡ render_document_head s false start.version start.directives explicit cursor
+no_lines s start explicit cursor bare =
+    let none = no_directives start bare in
+    rw (none.0, none.1) refl
+
+-- a document's start without directives: `---` where it is due
+pub wrote_bare_start : (s : Effective) (first : Bool) (start : DocumentStart) (open_ended : ℕ) {explicit : Bool}
+    {before after : Page} {answer : Result (Unit {0}) yaml_error_t}
+    → has_directives start ≡ false → explicit ≡ is_explicit (s.canonical || s.portable) first start
+    → Wrote (render_if explicit (render_document_marker s.canonical)) before after answer
+    → Wrote (piece_at (document_start_piece s first start) open_ended) before after answer
+wrote_bare_start s first start open_ended {explicit} {before} bare marking wrote =
+    wrote_document_start s first start open_ended (sym (ap (λ (directed : Bool). directed && not (open_ended == 0)) bare)) marking
+    (wrote_as (render_document_head s false start.version start.directives explicit)
+    (no_lines s start explicit before.cursor bare) wrote)

@@ -56,8 +56,11 @@ pub(crate) fn write_document_start<A: Allocator>(
 {
     let directed = has_directives(start);
     let explicit = is_explicit(settings, first, start.implicit, directed);
-    let closes = closes_before(directed, open_ended);
-    write_document_head(pen, settings, closes, start, explicit)
+    // Most documents have no lines before `---`.
+    if !directed {
+        return write_document_marker(pen, settings, explicit);
+    }
+    write_document_head(pen, settings, open_ended.is_open(), start, explicit)
 }
 
 fn has_directives<A: Allocator>(start: &StartContent<A>) -> bool
@@ -74,13 +77,7 @@ fn is_explicit(settings: &EffectiveSettings, first: bool, implicit: bool, direct
     !implicit || !first || settings.canonical || settings.portable || directed
 }
 
-/// Whether `...` comes first. It keeps directives apart from a document that is still open.
-fn closes_before(directed: bool, open_ended: OpenEnded) -> bool
-    ensures { result ≡ (directed && not (seen_open_ended open_ended == 0)) }
-{
-    directed && open_ended.is_open()
-}
-
+/// Where `closes`, `...` comes first. It keeps directives apart from a document that is still open.
 fn write_document_head<A: Allocator>(
     pen: &mut Pen<A>,
     settings: &EffectiveSettings,
