@@ -202,7 +202,7 @@ pub scalar_done : (before : MachineState) (directives : List TagDirective) (fram
     → Processed (scalar content) empty before (record before { stage = after; open_ended = open_ended; page = page }) answer
 scalar_done before directives frames content empty simple place after open_ended page (Ok _) at none lacks place_is simple_is after_is open_ended_is wrote =
     scalar_written before directives frames content empty simple place after open_ended page at none lacks place_is simple_is after_is open_ended_is wrote
-scalar_done before directives frames content empty simple place after open_ended page (Err error) at none lacks place_is simple_is after_is open_ended_is wrote =
+scalar_done before directives frames content empty simple place after open_ended page (Err error) at none lacks place_is simple_is after_is _ wrote =
     processed_cut_at (scalar content) empty before (record before { stage = after; open_ended = open_ended; page = page }) (at_node directives frames) error
     at refl refl
     (scalar_refusal before.given.canonical directives frames content false none lacks)

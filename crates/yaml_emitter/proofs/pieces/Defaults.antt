@@ -1,6 +1,7 @@
 -- Adding both defaults in turn gives the directives in force.
 use Rattle.yaml_emitter.proofs.Common.{ℕ, if◌then◌else◌, OnOk, Some, None, Result, Err, Ok, codes, length, Bool, false, not, true, List, [], ◌++◌, ◌∷◌, refl}
-use Rattle.yaml_emitter.proofs.Common.{◌≡◌, Text, append-nil, append_assoc, ap, sym, ◌∙◌, list_any, TagDirective, gives_handle, default_directives, directives_in_force}
+use Rattle.yaml_emitter.proofs.Common.{◌≡◌, Text, append-nil, append_assoc, ap, sym, ◌∙◌, list_any, TagDirective, gives_handle, default_directives}
+use Rattle.yaml_emitter.proofs.Common.{directives_in_force}
 use Rattle.std.{proofs.Common.bytes_eq, proofs.Math.Bool.or-false, proofs.lemmas.List.Folds.list_any-append, specs.Prelude.slice_get, specs.Str.chars}
 use Rattle.std.specs.Result.{IfErr, is_ok}
 use Rattle.yaml_base.specs.{Errors.refused, declared.errors.yaml_error_t.yaml_error_t, declared.errors.yaml_error_t.TheVariants.Memory}

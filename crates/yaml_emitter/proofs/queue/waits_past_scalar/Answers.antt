@@ -1,4 +1,4 @@
-use Rattle.yaml_emitter.proofs.Common.{◌<◌, nat_lt, length, slice_index_or as get_or, true, false, List, [], map, ◌++◌, ◌∷◌, refl, ◌≡◌, ap, sym, ◌∙◌, arith}
+use Rattle.yaml_emitter.proofs.Common.{nat_lt, length, slice_index_or as get_or, true, false, List, [], map, ◌++◌, ◌∷◌, refl, ◌≡◌, ap, sym, ◌∙◌, arith}
 use Rattle.yaml_emitter.proofs.Common.{length-map, Event, Scalar, scalar, awaited, seen_event, is_head_ready}
 use Rattle.std.proofs.lemmas.Bool.{ltb-true}
 use Rattle.yaml_emitter.proofs.standing.WritingAll.{waits_past}

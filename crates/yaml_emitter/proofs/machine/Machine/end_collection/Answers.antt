@@ -1,4 +1,4 @@
-use Rattle.yaml_emitter.proofs.Common.{ap, sym, ◌∙◌, Place, at_node, machine_state, end_event, is_mapping, seen_frame}
+use Rattle.yaml_emitter.proofs.Common.{ap, sym, ◌∙◌, Place, at_node, machine_state, is_mapping, seen_frame}
 use Rattle.yaml_emitter.proofs.events_done.CollectionsDone.{may_end_here, end_refused, end_done}
 use Rattle.yaml_emitter.proofs.events_done.NodesDone.{at_node_inside, seen_at_node, ready_inside, kept_advancing}
 use Rattle.yaml_emitter.proofs.machine.Machine.end_collection.Goals as goal

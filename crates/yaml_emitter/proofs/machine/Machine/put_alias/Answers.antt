@@ -1,4 +1,4 @@
-use Rattle.yaml_emitter.proofs.Common.{alias, machine_state}
+use Rattle.yaml_emitter.proofs.Common.{machine_state}
 use Rattle.std.specs.Prelude.{chars}
 use Rattle.yaml_emitter.proofs.{pieces.WritingNames.sound_alias}
 use Rattle.yaml_emitter.proofs.events_done.NodesDone.{at_node_inside, seen_at_node, ready_inside, kept_advancing, alias_done}

@@ -50,25 +50,29 @@ returns-in-FlowSequenceStart-clause-made c =
     made_of opening c.text-text.result.now c.opening.ensures (visible_text c.args.self c.text-text.ensures) ∙ ap opening c.text-text.ensures ∙ search rules
 
 pub returns-in-FlowSequenceStart-clause-no_break : goal.returns-in-FlowSequenceStart-clause-no_break
-returns-in-FlowSequenceStart-clause-no_break c = no_break opening c.text-text.result.now (λ text. refl) c.opening.ensures (visible_text c.args.self c.text-text.ensures)
+returns-in-FlowSequenceStart-clause-no_break c =
+    no_break opening c.text-text.result.now (λ text. refl) c.opening.ensures (visible_text c.args.self c.text-text.ensures)
 
 pub returns-in-FlowSequenceEnd-clause-made : goal.returns-in-FlowSequenceEnd-clause-made
 returns-in-FlowSequenceEnd-clause-made c =
     made_of tight c.text-text.result.now c.tight.ensures (visible_text c.args.self c.text-text.ensures) ∙ ap tight c.text-text.ensures ∙ search rules
 
 pub returns-in-FlowSequenceEnd-clause-no_break : goal.returns-in-FlowSequenceEnd-clause-no_break
-returns-in-FlowSequenceEnd-clause-no_break c = no_break tight c.text-text.result.now (λ text. refl) c.tight.ensures (visible_text c.args.self c.text-text.ensures)
+returns-in-FlowSequenceEnd-clause-no_break c =
+    no_break tight c.text-text.result.now (λ text. refl) c.tight.ensures (visible_text c.args.self c.text-text.ensures)
 
 pub returns-in-BlockEntry-clause-made : goal.returns-in-BlockEntry-clause-made
 returns-in-BlockEntry-clause-made c =
     made_of indented c.text-text.result.now c.indented.ensures (visible_text c.args.self c.text-text.ensures) ∙ ap indented c.text-text.ensures ∙ search rules
 
 pub returns-in-BlockEntry-clause-no_break : goal.returns-in-BlockEntry-clause-no_break
-returns-in-BlockEntry-clause-no_break c = no_break indented c.text-text.result.now (λ text. refl) c.indented.ensures (visible_text c.args.self c.text-text.ensures)
+returns-in-BlockEntry-clause-no_break c =
+    no_break indented c.text-text.result.now (λ text. refl) c.indented.ensures (visible_text c.args.self c.text-text.ensures)
 
 pub returns-in-DocumentStart-clause-made : goal.returns-in-DocumentStart-clause-made
 returns-in-DocumentStart-clause-made c =
     made_of spaced c.text-text.result.now c.spaced.ensures (visible_text c.args.self c.text-text.ensures) ∙ ap spaced c.text-text.ensures ∙ search rules
 
 pub returns-in-DocumentStart-clause-no_break : goal.returns-in-DocumentStart-clause-no_break
-returns-in-DocumentStart-clause-no_break c = no_break spaced c.text-text.result.now (λ text. refl) c.spaced.ensures (visible_text c.args.self c.text-text.ensures)
+returns-in-DocumentStart-clause-no_break c =
+    no_break spaced c.text-text.result.now (λ text. refl) c.spaced.ensures (visible_text c.args.self c.text-text.ensures)
