@@ -127,6 +127,7 @@ pub use yaml_emitter::written_tag_reads;
 pub use yaml_emitter::written_tag_stays_one_word;
 pub use yaml_emitter::yaml_break_t;
 pub use yaml_emitter::yaml_document_t;
+pub use yaml_emitter::yaml_emitter_consume_output;
 pub use yaml_emitter::yaml_emitter_delete;
 pub use yaml_emitter::yaml_emitter_emit;
 pub use yaml_emitter::yaml_emitter_emit_scalar;
