@@ -17,7 +17,8 @@ use std::io;
 use std::marker::Model;
 use yaml_base::{yaml_error_t, yaml_scalar_style_t};
 use yaml_emitter::{
-    CollectionKind, Settings, yaml_emitter_emit_scalar, yaml_emitter_t, yaml_emitter_take_output,
+    CollectionKind, Settings, yaml_emitter_consume_output, yaml_emitter_emit_scalar,
+    yaml_emitter_t, yaml_emitter_take_output,
 };
 
 /// Writes values, one call each, into a vector of bytes.
@@ -150,7 +151,7 @@ impl<A: Allocator + Copy> Writer<A> {
         ensures left { OnErr result (self.new ≡ self.old) }
     {
         sink.write_all(self.emitter.output())?;
-        let _sent = self.take_output();
+        yaml_emitter_consume_output(&mut self.emitter);
         Ok(())
     }
 
