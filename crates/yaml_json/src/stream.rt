@@ -173,8 +173,7 @@ fn begin_next<A: Allocator + Copy, W: Write>(
     if let Err(error) = writer.next_document() {
         return Err(StreamError::Refused(JsonError::Emitter(error)));
     }
-    let bytes = writer.take_output();
-    match sink.write_all(bytes.as_slice()) {
+    match writer.send(sink) {
         Ok(()) => Ok(()),
         Err(error) => Err(StreamError::WriteFailed(error)),
     }
