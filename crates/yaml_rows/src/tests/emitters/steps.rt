@@ -5,7 +5,9 @@ use std::alloc::{Allocator, Global};
 use std::ops::Range;
 use std::process::Abort;
 use yaml_base::{yaml_error_t, yaml_event_t};
-use yaml_emitter::{Settings, yaml_emitter_t, yaml_emitter_take_output};
+use yaml_emitter::{
+    Settings, yaml_emitter_consume_output, yaml_emitter_t, yaml_emitter_take_output,
+};
 use yaml_test_allocator::Refusing;
 
 /// A call with its answer, or what stands after it. Those of documents that are dumped are others.
@@ -36,6 +38,8 @@ pub(super) enum Step<'a> {
     Flush(Answer),
     /// The output, which is then taken.
     Take(&'a [u8]),
+    /// The output, which is then consumed.
+    Consume(&'a [u8]),
     /// The output.
     Output(&'a [u8]),
     /// How many events wait.
@@ -72,6 +76,19 @@ fn check_taken<A: Allocator + Copy>(
         same(rt, emitter.output(), left);
         same(rt, yaml_emitter_take_output(emitter).as_slice(), left);
     }
+}
+
+// The output is consumed. A second call finds nothing, and nothing is left.
+fn check_consumed<A: Allocator + Copy>(
+    rt: &impl Abort,
+    emitter: &mut yaml_emitter_t<A>,
+    bytes: &[u8],
+) {
+    for left in [bytes, b""] {
+        same(rt, emitter.output(), left);
+        yaml_emitter_consume_output(emitter);
+    }
+    same(rt, emitter.output(), b"");
 }
 
 // An event is emitted, and answered so.
@@ -118,6 +135,7 @@ fn take_step<A: Allocator + Copy>(
         Step::Refused(line, error) => { emit_one(rt, heap, alloc, emitter, (line, Err(*error))) }
         Step::Flush(answer) => check_answer(rt, heap, flush_if_known(rt, emitter), *answer),
         Step::Take(bytes) => check_taken(rt, emitter, bytes),
+        Step::Consume(bytes) => check_consumed(rt, emitter, bytes),
         Step::Output(bytes) => same(rt, emitter.output(), bytes),
         Step::Held(held) => equal(rt, &emitter.held(), held),
         Step::Known(is_known) => equal(rt, &emitter.encoding_known(), is_known),
@@ -139,7 +157,7 @@ impl Taken for Step<'_> {
 
     fn output(&self) -> Option<&[u8]> {
         match self {
-            Step::Output(bytes) | Step::Take(bytes) => Some(bytes),
+            Step::Output(bytes) | Step::Take(bytes) | Step::Consume(bytes) => Some(bytes),
             _ => None,
         }
     }
