@@ -235,15 +235,7 @@ fn write_broken<A: Allocator>(pen: &mut Pen<A>, character: char) -> Result<(), y
     Ok(())
 }
 
-fn write_twice<A: Allocator>(pen: &mut Pen<A>, character: char) -> Result<(), yaml_error_t>
-    requires ready { IsReady pen.old }
-    requires a_break { class.is_break character ≡ true }
-    ensures { Wrote (step.render_end true character) pen.old pen.new result }
-{
-    pen.write_break(character)?;
-    write_broken(pen, character)
-}
-
+/// A break, once or twice.
 fn write_end<A: Allocator>(
     pen: &mut Pen<A>,
     twice: bool,
@@ -253,9 +245,9 @@ fn write_end<A: Allocator>(
     requires a_break { class.is_break character ≡ true }
     ensures { Wrote (step.render_end twice character) pen.old pen.new result }
 {
-    if twice {
-        write_twice(pen, character)
-    } else {
-        write_broken(pen, character)
+    if !twice {
+        return write_broken(pen, character);
     }
+    pen.write_break(character)?;
+    write_broken(pen, character)
 }

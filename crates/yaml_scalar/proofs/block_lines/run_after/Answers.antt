@@ -1,5 +1,14 @@
+use Rattle.yaml_scalar.proofs.Common.{rules, w32, to_z-of_z, FitsSigned}
 use Rattle.yaml_scalar.{proofs.WholeRuns.no_run, specs.BlockSteps.stays_at, specs.Width.limit_of}
 use Rattle.yaml_scalar.proofs.block_lines.run_after.Goals as goal
 
 pub returns-in-LineStart : goal.returns-in-LineStart
 returns-in-LineStart c = no_run (stays_at (limit_of c.args.lines.width) c.args.place) c.args.character c.args.rest.now c.utf8.rest
+
+pub returns-in-Folding : goal.returns-in-Folding
+returns-in-Folding c =
+    let fits : FitsSigned w32 c.args.lines.width = search rules in
+    rw c.in-Folding.is (rw (c.has_limit.ensures, to_z-of_z w32 c.args.lines.width fits) at c.line_run_after.ensures)
+
+pub returns-in-Fixed : goal.returns-in-Fixed
+returns-in-Fixed c = rw c.in-Fixed.is c.line_run_after-in-Fixed.ensures
