@@ -4,7 +4,7 @@ use Rattle.yaml_base.proofs.Common.{map-append, Text, ScalarStyle, TagDirective,
 use Rattle.yaml_base.specs.{Event.CollectionStyle, Seen.seen_directive, declared.directives.yaml_tag_directive_t.yaml_tag_directive_t}
 use Rattle.yaml_base.specs.scripts.Script.{Field, bare, quoted, flags, text_or_none, scalar_styles, directives_of, collection_styles, scalar_with, scalar_of}
 use Rattle.yaml_base.specs.scripts.Script.{collection_with, collection_of}
-use Rattle.yaml_tool.specs.{Events.start_of, Fields.prepend_field, Fields.HasField, Fields.field_of}
+use Rattle.yaml_tool.specs.{Events.scalar_from, Events.start_of, Fields.prepend_field, Fields.HasField, Fields.field_of}
 use Rattle.yaml_emitter.specs.declared.place.CollectionKind.{CollectionKind}
 
 -- the field that stands for a choice is read as it
@@ -12,63 +12,72 @@ choice_read : (choice : Option Text) → text_or_none (field_of choice) ≡ Some
 choice_read None = refl
 choice_read (Some text) = refl
 
-scalar_parts : (style plain quoted' value : Text) (anchor tag : Option Text)
-    → option_and_then scalar_of (prepend_field (bare style)
-    (prepend_field (bare plain) (prepend_field (bare quoted') (prepend_field (field_of anchor) (prepend_field (field_of tag)
-    (prepend_field (quoted value) (Some [])))))))
-    ≡ scalar_with (named scalar_styles style) (named flags plain) (named flags quoted') (Some anchor) (Some tag) value
+scalar_parts : (style : Option ScalarStyle) (plain quoted' : Option Bool) (value : Text) (anchor tag : Option Text)
+    → option_and_then (scalar_from style plain quoted')
+    (prepend_field (field_of anchor) (prepend_field (field_of tag) (prepend_field (quoted value) (Some []))))
+    ≡ scalar_with style plain quoted' (Some anchor) (Some tag) value
 scalar_parts style plain quoted' value anchor tag =
-    ap (λ choice. scalar_with (named scalar_styles style) (named flags plain) (named flags quoted') choice (text_or_none (field_of tag)) value)
-    (choice_read anchor)
-    ∙ ap (λ choice. scalar_with (named scalar_styles style) (named flags plain) (named flags quoted') (Some anchor) choice value) (choice_read tag)
+    ap (λ choice. scalar_with style plain quoted' choice (text_or_none (field_of tag)) value) (choice_read anchor)
+    ∙ ap (λ choice. scalar_with style plain quoted' (Some anchor) choice value) (choice_read tag)
 
--- a scalar's fields, each read by itself
-pub record ScalarRead (style plain quoted' value : Text) (anchor tag : Option Text) (f0 f1 f2 f3 f4 f5 f6 : Option (List Field)) : Type 0 where
-  pub style_read : f0 ≡ prepend_field (bare style) f1
-  pub plain_read : f1 ≡ prepend_field (bare plain) f2
-  pub quoted_read : f2 ≡ prepend_field (bare quoted') f3
-  pub anchor_read : f3 ≡ prepend_field (field_of anchor) f4
-  pub tag_read : f4 ≡ prepend_field (field_of tag) f5
-  pub value_read : f5 ≡ prepend_field (quoted value) f6
+-- the fields behind a scalar's words, each read by itself
+pub record TextsRead (value : Text) (anchor tag : Option Text) (f0 f1 f2 f3 : Option (List Field)) : Type 0 where
+  pub anchor_read : f0 ≡ prepend_field (field_of anchor) f1
+  pub tag_read : f1 ≡ prepend_field (field_of tag) f2
+  pub value_read : f2 ≡ prepend_field (quoted value) f3
 
-scalar_fields : (style plain quoted' value : Text) (anchor tag : Option Text) (f0 f1 f2 f3 f4 f5 f6 : Option (List Field))
-    → ScalarRead style plain quoted' value anchor tag f0 f1 f2 f3 f4 f5 f6
-    → f0 ≡ prepend_field (bare style) (prepend_field (bare plain)
-    (prepend_field (bare quoted') (prepend_field (field_of anchor) (prepend_field (field_of tag) (prepend_field (quoted value) f6)))))
-scalar_fields style plain quoted' value anchor tag f0 f1 f2 f3 f4 f5 f6 read =
-    read.style_read ∙ ap (prepend_field (bare style)) (read.plain_read ∙ ap (prepend_field (bare plain)) (read.quoted_read ∙ ap (prepend_field (bare quoted'))
-    (read.anchor_read ∙ ap (prepend_field (field_of anchor)) (read.tag_read ∙ ap (prepend_field (field_of tag)) read.value_read))))
+texts_joined : {value : Text} {anchor tag : Option Text} {f0 f1 f2 f3 : Option (List Field)} → TextsRead value anchor tag f0 f1 f2 f3
+    → f0 ≡ prepend_field (field_of anchor) (prepend_field (field_of tag) (prepend_field (quoted value) f3))
+texts_joined {value} {anchor} {tag} read =
+    read.anchor_read ∙ ap (prepend_field (field_of anchor)) (read.tag_read ∙ ap (prepend_field (field_of tag)) read.value_read)
 
 -- are the scalar
-pub scalar_joined : (style plain quoted' value : Text) (anchor tag : Option Text) (f0 f1 f2 f3 f4 f5 f6 : Option (List Field)) (result : Option Event)
-    → (a : Option ScalarStyle) (b c : Option Bool)
-    → ScalarRead style plain quoted' value anchor tag f0 f1 f2 f3 f4 f5 f6 → f6 ≡ Some []
-    → a ≡ named scalar_styles style → b ≡ named flags plain → c ≡ named flags quoted'
-    → result ≡ scalar_with a b c (Some anchor) (Some tag) value → result ≡ option_and_then scalar_of f0
-scalar_joined style plain quoted' value anchor tag f0 f1 f2 f3 f4 f5 f6 result a b c read end is_a is_b is_c gives =
+pub scalar_joined : (style : Option ScalarStyle) (plain quoted' : Option Bool) {value : Text} {anchor tag : Option Text} {f0 f1 f2 f3 : Option (List Field)}
+    (result : Option Event)
+    → TextsRead value anchor tag f0 f1 f2 f3 → f3 ≡ Some []
+    → result ≡ scalar_with style plain quoted' (Some anchor) (Some tag) value → result ≡ option_and_then (scalar_from style plain quoted') f0
+scalar_joined style plain quoted' {value} {anchor} {tag} result read end gives =
     gives
-    ∙ ap (λ x. scalar_with x b c (Some anchor) (Some tag) value) is_a
-    ∙ ap (λ x. scalar_with (named scalar_styles style) x c (Some anchor) (Some tag) value) is_b
-    ∙ ap (λ x. scalar_with (named scalar_styles style) (named flags plain) x (Some anchor) (Some tag) value) is_c
     ∙ sym (scalar_parts style plain quoted' value anchor tag)
-    ∙ sym (ap (option_and_then scalar_of) (scalar_fields style plain quoted' value anchor tag f0 f1 f2 f3 f4 f5 f6 read
-    ∙ ap (λ fields. prepend_field (bare style)
-    (prepend_field (bare plain) (prepend_field (bare quoted') (prepend_field (field_of anchor) (prepend_field (field_of tag)
-    (prepend_field (quoted value) fields)))))) end))
+    ∙ sym (ap (option_and_then (scalar_from style plain quoted'))
+    (texts_joined read ∙ ap (λ fields. prepend_field (field_of anchor) (prepend_field (field_of tag) (prepend_field (quoted value) fields))) end))
 
 -- and where a further field follows, there is no scalar
-pub no_scalar : (style plain quoted' value : Text) (anchor tag : Option Text) (f0 f1 f2 f3 f4 f5 f6 : Option (List Field))
-    → ScalarRead style plain quoted' value anchor tag f0 f1 f2 f3 f4 f5 f6 → HasField f6 → None ≡ option_and_then scalar_of f0
-no_scalar style plain quoted' value anchor tag f0 f1 f2 f3 f4 f5 f6 read has =
-    none f6 has ∙ sym (ap (option_and_then scalar_of) (scalar_fields style plain quoted' value anchor tag f0 f1 f2 f3 f4 f5 f6 read))
+pub no_scalar : (style : Option ScalarStyle) (plain quoted' : Option Bool) {value : Text} {anchor tag : Option Text} {f0 f1 f2 f3 : Option (List Field)}
+    → TextsRead value anchor tag f0 f1 f2 f3 → HasField f3 → None ≡ option_and_then (scalar_from style plain quoted') f0
+no_scalar style plain quoted' {value} {anchor} {tag} {f3 = f3} read has =
+    none f3 has ∙ sym (ap (option_and_then (scalar_from style plain quoted')) (texts_joined read))
   where
     none : (fields : Option (List Field)) → HasField fields
-        → None ≡ option_and_then scalar_of (prepend_field (bare style)
-        (prepend_field (bare plain) (prepend_field (bare quoted') (prepend_field (field_of anchor) (prepend_field (field_of tag)
-        (prepend_field (quoted value) fields))))))
+        → None ≡ option_and_then (scalar_from style plain quoted')
+        (prepend_field (field_of anchor) (prepend_field (field_of tag) (prepend_field (quoted value) fields)))
     none None has = refl
     none (Some []) has = absurd has
     none (Some (field ∷ rest)) has = refl
+
+words_parts : (style plain quoted' : Text) (fields : Option (List Field))
+    → option_and_then (scalar_from (named scalar_styles style) (named flags plain) (named flags quoted')) fields
+    ≡ option_and_then scalar_of (prepend_field (bare style) (prepend_field (bare plain) (prepend_field (bare quoted') fields)))
+words_parts style plain quoted' None = refl
+words_parts style plain quoted' (Some []) = refl
+words_parts style plain quoted' (Some (anchor ∷ [])) = refl
+words_parts style plain quoted' (Some (anchor ∷ tag ∷ [])) = refl
+words_parts style plain quoted' (Some (anchor ∷ tag ∷ bare word ∷ rest)) = refl
+words_parts style plain quoted' (Some (anchor ∷ tag ∷ quoted value ∷ [])) = refl
+words_parts style plain quoted' (Some (anchor ∷ tag ∷ quoted value ∷ field ∷ rest)) = refl
+
+-- a scalar's words, each read by itself, and the fields behind them are its fields
+pub words_joined : (style plain quoted' : Text) (a : Option ScalarStyle) (b c : Option Bool) {f0 f1 f2 : Option (List Field)}
+    (f3 : Option (List Field))
+    → f0 ≡ prepend_field (bare style) f1 → f1 ≡ prepend_field (bare plain) f2 → f2 ≡ prepend_field (bare quoted') f3
+    → a ≡ named scalar_styles style → b ≡ named flags plain → c ≡ named flags quoted'
+    → option_and_then (scalar_from a b c) f3 ≡ option_and_then scalar_of f0
+words_joined style plain quoted' a b c f3 e0 e1 e2 is_a is_b is_c =
+    ap (λ x. option_and_then (scalar_from x b c) f3) is_a
+    ∙ ap (λ x. option_and_then (scalar_from (named scalar_styles style) x c) f3) is_b
+    ∙ ap (λ x. option_and_then (scalar_from (named scalar_styles style) (named flags plain) x) f3) is_c
+    ∙ words_parts style plain quoted' f3
+    ∙ sym (ap (option_and_then scalar_of) (e0 ∙ ap (prepend_field (bare style)) (e1 ∙ ap (prepend_field (bare plain)) e2)))
 
 collection_parts : (style implicit : Text) (anchor tag : Option Text)
     → option_and_then collection_of (prepend_field (bare style)

@@ -1,11 +1,14 @@
 -- The events of a script given to an emitter, one after another.
-use Rattle.yaml_tool.proofs.Common.{ℕ, IfSome, Option, None, Some, Err, List, [], map, ◌++◌, ◌∷◌, ◌≡◌, append_assoc, ap, subst, sym, ◌∙◌, map-append, Appends}
-use Rattle.yaml_tool.proofs.Common.{seen_event, Settings, Numbered, understood, script_of, StandsAfter, State, events_in, RefusesAt, LastLine, seen_numbered}
+use Rattle.yaml_tool.proofs.Common.{ℕ, IfSome, Option, None, Some, List, [], map, ◌++◌, ◌∷◌, refl, ◌≡◌, append_assoc, ap, subst, sym, ◌∙◌, map-append, Appends}
+use Rattle.yaml_tool.proofs.Common.{seen_event, Settings, Numbered, Script, understood, script_of, IsFault, StandsAfter, State}
+use Rattle.yaml_tool.proofs.Common.{events_in, RefusesAt, LastLine, seen_numbered}
 use Rattle.yaml_base.proofs.Common.{inr}
 use Rattle.yaml_emitter.proofs.Common.{Promised}
+use Rattle.std.specs.Io.KnownBytes.{Keeps}
+use Rattle.yaml_base.specs.scripts.Script.{bad_line}
 use Rattle.yaml_base.specs.declared.errors.yaml_error_t.{yaml_error_t}
 use Rattle.yaml_emitter.{proofs.standing.KeptDocuments.documents_kept, proofs.standing.KeptDocuments.documents_stay, specs.Promises.HasAllBytes}
-use Rattle.yaml_pen.specs.{Page.result_of_error, Wrote.Grows}
+use Rattle.yaml_pen.specs.{Wrote.Grows}
 use Rattle.yaml_tool.specs.Runs.{EmitsAll, Emits, AnswersEvents, AnswersScript, WritesNothing, EndsAt, FlushesLast}
 use Rattle.yaml_tool.specs.declared.{answers.run_answer_t.run_answer_t, scripts.NumberedEvent.NumberedEvent}
 use Rattle.yaml_tool.specs.declared.answers.run_answer_t.TheVariants.{BadLine, Done, NoMemory, ReadFailed, Refused, WriteFailed}
@@ -16,6 +19,35 @@ pub tells_all : (left : Option (List ℕ)) (given : Settings) (all : List Number
     → IfSome left (λ bytes. AnswersScript (script_of bytes) answer old new)
 tells_all None given all answer old new is tells = tt
 tells_all (Some bytes) given all answer old new is tells = subst (λ script. AnswersScript script answer old new) (sym is) tells
+
+script_fault : (script : Script) (answer : run_answer_t) (old new : Option (List ℕ)) → IsFault answer script → AnswersScript script answer old new
+script_fault script Done old new fault = absurd fault
+script_fault script (Refused line error) old new fault = absurd fault
+script_fault script (BadLine line) old new fault = subst (λ bad. AnswersScript bad (BadLine line) old new) (sym fault) refl
+script_fault (bad_line number) ReadFailed old new fault = tt
+script_fault (understood given all) ReadFailed old new fault = tt
+script_fault script WriteFailed old new fault = absurd fault
+script_fault (bad_line number) NoMemory old new fault = tt
+script_fault (understood given all) NoMemory old new fault = tt
+
+-- so is why no script was understood
+pub fault_answers : (left : Option (List ℕ)) (answer : run_answer_t) (old new : Option (List ℕ))
+    → IfSome left (λ bytes. IsFault answer (script_of bytes)) → IfSome left (λ bytes. AnswersScript (script_of bytes) answer old new)
+fault_answers None answer old new fault = tt
+fault_answers (Some bytes) answer old new fault = script_fault (script_of bytes) answer old new fault
+
+kept : (bytes : Option (List ℕ)) → Keeps bytes bytes
+kept None = tt
+kept (Some xs) = refl
+
+-- a writer that isn't used
+pub writes_nothing : (answer : run_answer_t) (bytes : Option (List ℕ)) → WritesNothing answer bytes bytes
+writes_nothing Done bytes = tt
+writes_nothing (Refused line error) bytes = tt
+writes_nothing (BadLine line) bytes = kept bytes
+writes_nothing ReadFailed bytes = kept bytes
+writes_nothing WriteFailed bytes = tt
+writes_nothing NoMemory bytes = kept bytes
 
 -- one more event
 pub events_more : {A : Type 0} (given : List (NumberedEvent A)) (next : NumberedEvent A)

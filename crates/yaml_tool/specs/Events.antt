@@ -1,12 +1,13 @@
 -- What contracts see of the fields of events.
-use Rattle.std.specs.Prelude.{Option, option_map, option_and_then, List, map, Vec, codes}
+use Rattle.std.specs.Prelude.{Bool, Option, None, [], ◌∷◌, option_map, option_and_then, List, map, Vec, codes}
 use Rattle.yaml_base.specs.Characters.{Text}
-use Rattle.yaml_base.specs.Event.{Event, Version, TagDirective, Collection, CollectionStyle, any_layout, block, flow, stream_end, sequence_start, sequence_end}
-use Rattle.yaml_base.specs.Event.{mapping_start, mapping_end}
+use Rattle.yaml_base.specs.Event.{Event, ScalarStyle, Version, TagDirective, Collection, CollectionStyle, any_layout, block, flow, stream_end, sequence_start}
+use Rattle.yaml_base.specs.Event.{sequence_end, mapping_start, mapping_end}
 use Rattle.yaml_base.specs.Seen.{seen_version, seen_directive}
 use Rattle.yaml_base.specs.declared.directives.yaml_version_directive_t.{yaml_version_directive_t}
 use Rattle.yaml_base.specs.declared.directives.yaml_tag_directive_t.{yaml_tag_directive_t}
-use Rattle.yaml_base.specs.scripts.Script.{Field, stream_start_of, alone, document_start_of, document_end_of, alias_of, scalar_of, collection_of}
+use Rattle.yaml_base.specs.scripts.Script.{Field, quoted, text_or_none, scalar_with, stream_start_of, alone, document_start_of, document_end_of}
+use Rattle.yaml_base.specs.scripts.Script.{alias_of, scalar_of, collection_of}
 use Rattle.yaml_emitter.specs.declared.place.CollectionKind.{CollectionKind}
 use Rattle.yaml_emitter.specs.declared.place.CollectionKind.TheVariants.{Sequence, Mapping}
 use Rattle.yaml_tool.specs.declared.words.CollectionStyle as collection
@@ -39,6 +40,12 @@ event_by name.SequenceStart fields = option_map sequence_start (option_and_then 
 event_by name.SequenceEnd fields = option_and_then (alone sequence_end) fields
 event_by name.MappingStart fields = option_map mapping_start (option_and_then collection_of fields)
 event_by name.MappingEnd fields = option_and_then (alone mapping_end) fields
+
+-- the scalar that a style, two flags and the fields behind them give: an anchor, a tag, a value
+abbrev pub scalar_from : Option ScalarStyle → Option Bool → Option Bool → List Field → Option Event
+scalar_from style plain_implicit quoted_implicit (anchor ∷ tag ∷ quoted value ∷ []) =
+    scalar_with style plain_implicit quoted_implicit (text_or_none anchor) (text_or_none tag) value
+scalar_from style plain_implicit quoted_implicit _ = None
 
 -- a collection's style as plain data
 abbrev pub seen_collection_style : collection.CollectionStyle → CollectionStyle

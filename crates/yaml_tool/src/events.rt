@@ -3,7 +3,7 @@ ghost use Rattle.std.specs.Prelude.{◌≡◌, Some, option_map, option_and_then
 ghost use Rattle.std.specs.Str.{chars};
 ghost use Rattle.yaml_base.specs.scripts.Script as notation;
 ghost use Rattle.yaml_base.specs.Seen.{seen_event, seen_text, seen_scalar_style, seen_sequence_style, seen_mapping_style};
-ghost use Rattle.yaml_tool.specs.Events.{event_by, start_of, seen_collection_style, seen_versions, seen_directives};
+ghost use Rattle.yaml_tool.specs.Events.{event_by, scalar_from, start_of, seen_collection_style, seen_versions, seen_directives};
 ghost use Rattle.yaml_tool.specs.Fields.{later_fields};
 
 use crate::directives::{directives_of, version_or_none};
@@ -93,12 +93,18 @@ fn alias_of<A: Allocator>(
     Ok(Some(yaml_event_t::YAML_ALIAS_EVENT { anchor }))
 }
 
-/// The fields of a scalar; its style and its flags are `None` if they were not understood.
-#[derive(Drop)]
-struct ScalarFields<A: Allocator> {
+/// The style and the flags of a scalar, each `None` if it was not understood.
+#[derive(Clone, Copy)]
+struct ScalarWords {
     style: Option<yaml_scalar_style_t>,
     plain_implicit: Option<bool>,
     quoted_implicit: Option<bool>,
+}
+
+/// The fields of a scalar.
+#[derive(Drop)]
+struct ScalarFields<A: Allocator> {
+    words: ScalarWords,
     anchor: Option<String<A>>,
     tag: Option<String<A>>,
     value: String<A>,
@@ -109,17 +115,47 @@ struct ScalarFields<A: Allocator> {
 #[inline(always)]
 fn scalar_with<A: Allocator>(fields: ScalarFields<A>) -> Option<yaml_event_t<A>>
     ensures { option_map seen_event result
-        ≡ notation.scalar_with (option_map seen_scalar_style fields.style) fields.plain_implicit fields.quoted_implicit
+        ≡ notation.scalar_with (option_map seen_scalar_style fields.words.style) fields.words.plain_implicit fields.words.quoted_implicit
         (Some (option_map seen_text fields.anchor)) (Some (option_map seen_text fields.tag)) (seen_text fields.value) }
 {
     Some(yaml_event_t::YAML_SCALAR_EVENT {
-        style: fields.style?,
-        plain_implicit: fields.plain_implicit?,
-        quoted_implicit: fields.quoted_implicit?,
+        style: fields.words.style?,
+        plain_implicit: fields.words.plain_implicit?,
+        quoted_implicit: fields.words.quoted_implicit?,
         anchor: fields.anchor,
         tag: fields.tag,
         value: fields.value,
     })
+}
+
+/// What follows a scalar's words: an anchor, a tag, a value.
+#[inline(always)]
+fn scalar_from<A: Allocator + Copy>(
+    alloc: A,
+    words: ScalarWords,
+    rest: Option<&str>,
+) -> Result<Option<yaml_event_t<A>>, AllocError>
+    ensures { IfOk result (λ event. option_map seen_event event
+        ≡ option_and_then (scalar_from (option_map seen_scalar_style words.style) words.plain_implicit words.quoted_implicit) (later_fields rest.entry)) }
+{
+    let Some((anchor, rest)) = choice_after(alloc, rest)? else {
+        return Ok(None);
+    };
+    let Some((tag, rest)) = choice_after(alloc, rest)? else {
+        return Ok(None);
+    };
+    let Some((value, rest)) = text_after(alloc, rest)? else {
+        return Ok(None);
+    };
+    if !is_end(rest) {
+        return Ok(None);
+    }
+    Ok(scalar_with(ScalarFields {
+        words,
+        anchor,
+        tag,
+        value,
+    }))
 }
 
 /// `=VAL`: a style, the plain and the quoted flag, an anchor, a tag, a value.
@@ -139,26 +175,12 @@ fn scalar_of<A: Allocator + Copy>(
     let Some((quoted_implicit, rest)) = word_after(rest) else {
         return Ok(None);
     };
-    let Some((anchor, rest)) = choice_after(alloc, rest)? else {
-        return Ok(None);
-    };
-    let Some((tag, rest)) = choice_after(alloc, rest)? else {
-        return Ok(None);
-    };
-    let Some((value, rest)) = text_after(alloc, rest)? else {
-        return Ok(None);
-    };
-    if !is_end(rest) {
-        return Ok(None);
-    }
-    Ok(scalar_with(ScalarFields {
+    let words = ScalarWords {
         style: scalar_style_named(style),
         plain_implicit: flag_named(plain_implicit),
         quoted_implicit: flag_named(quoted_implicit),
-        anchor,
-        tag,
-        value,
-    }))
+    };
+    scalar_from(alloc, words, rest)
 }
 
 /// The fields of a collection's start; its style and its flag are `None` if they were not understood.

@@ -34,7 +34,9 @@ pub fn run<A: Allocator + Copy, R: Read, W: Write>(
         return run_answer_t::NoMemory;
     };
     let answer = emit_all(&mut emitter, script.events);
-    match writer.write_all(emitter.output()) {
+    let written = writer.write_all(emitter.output());
+    drop(emitter);
+    match written {
         Ok(()) => answer,
         Err(_) => run_answer_t::WriteFailed,
     }

@@ -1,4 +1,4 @@
-use Rattle.yaml_tool.proofs.Common.{option_map, option_and_then, Option, None, Some, List, [], ◌∷◌, refl, ◌≡◌, ap, sym, ◌∙◌, chars, Text, Field, bare, quoted}
+use Rattle.yaml_tool.proofs.Common.{option_map, option_and_then, Option, None, Some, List, [], ◌∷◌, refl, ◌≡◌, ap, ◌∙◌, chars, Text, Field, bare, quoted}
 use Rattle.yaml_tool.proofs.Common.{seen_setting, later_fields}
 use Rattle.yaml_tool.specs.Fields.{only_word}
 use Rattle.yaml_base.specs.scripts.Script as notation

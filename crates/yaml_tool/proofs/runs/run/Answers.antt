@@ -1,23 +1,34 @@
 use Rattle.yaml_tool.proofs.Common.{map, ap, subst, ◌∙◌, Appends, State, seen_numbered, seen_settings}
-use Rattle.yaml_tool.proofs.RunLemmas.{tells_all, returned_answer, silent_only}
+use Rattle.yaml_tool.proofs.RunLemmas.{tells_all, fault_answers, writes_nothing, returned_answer, silent_only}
 use Rattle.yaml_tool.proofs.runs.run.Goals as goal
 
-pub returns-in-Ok-write_all-clause-reported : goal.returns-in-Ok-write_all-clause-reported
-returns-in-Ok-write_all-clause-reported g c =
+pub returns-in-Ok-written-clause-reported : goal.returns-in-Ok-written-clause-reported
+returns-in-Ok-written-clause-reported g c =
     let set = seen_settings c.in-Ok.script.settings in
     let all = map seen_numbered c.in-Ok.script.events.items in
     let answer = c.emit_all-answer.result in
     let old = g.W.Write.contents c.args.writer.now in
-    let new = g.W.Write.contents c.write_all.new.self in
+    let new = g.W.Write.contents c.write_all-written.new.self in
     let emits = c.emit_all-answer.ensures.emits set c.in-Ok-with_settings.ensures.stands in
     let untaken = c.emit_all-answer.ensures.taken ∙ ap (λ (s : State). s.page.taken) c.in-Ok-with_settings.ensures.made in
     tells_all (g.R.Read.remaining c.args.reader.now) set all answer old new c.in-Ok.ensures.understood
     (returned_answer set all answer c.emit_all-answer.new.emitter old new emits
-    (subst (Appends old new) (c.output.ensures.untaken untaken) c.in-Ok-write_all.ensures.bytes))
+    (subst (Appends old new) (c.output.ensures.untaken untaken) c.in-Ok-written.ensures.bytes))
 
-pub returns-in-Ok-write_all-clause-unwritten : goal.returns-in-Ok-write_all-clause-unwritten
-returns-in-Ok-write_all-clause-unwritten g c =
+pub returns-in-Ok-written-clause-unwritten : goal.returns-in-Ok-written-clause-unwritten
+returns-in-Ok-written-clause-unwritten g c =
     let set = seen_settings c.in-Ok.script.settings in
     silent_only set (map seen_numbered c.in-Ok.script.events.items) c.emit_all-answer.result c.emit_all-answer.new.emitter
-    (g.W.Write.contents c.args.writer.now) (g.W.Write.contents c.write_all.new.self)
+    (g.W.Write.contents c.args.writer.now) (g.W.Write.contents c.write_all-written.new.self)
     (c.emit_all-answer.ensures.emits set c.in-Ok-with_settings.ensures.stands)
+
+pub returns-in-Err-clause-reported : goal.returns-in-Err-clause-reported
+returns-in-Err-clause-reported g c =
+    let old = g.W.Write.contents c.args.writer.now in
+    fault_answers (g.R.Read.remaining c.args.reader.now) c.in-Err.answer old old c.in-Err.ensures.fault
+
+pub returns-in-Err-clause-unwritten : goal.returns-in-Err-clause-unwritten
+returns-in-Err-clause-unwritten g c = writes_nothing c.in-Err.answer (g.W.Write.contents c.args.writer.now)
+
+pub returns-in-Err-clause-read : goal.returns-in-Err-clause-read
+returns-in-Err-clause-read g c = c.in-Err.ensures.read
