@@ -1,6 +1,6 @@
 -- A script that is read part by part: what is left with what was read is the whole.
-use Rattle.yaml_tool.proofs.Common.{ℕ, IfSome, Option, None, Some, List, [], ◌≡◌, ap, subst, sym, ◌∙◌, Script, script_of, ReadsAll, IsFault, IsFaultOf}
-use Rattle.std.specs.{Io.KnownBytes.IsAtEnd, Prelude.⊤}
+use Rattle.yaml_tool.proofs.Common.{ℕ, IfSome, Option, None, Some, List, [], ◌++◌, ◌≡◌, ap, subst, sym, ◌∙◌, Script, script_of, ReadsAll, IsFault, IsFaultOf}
+use Rattle.std.specs.{Io.KnownBytes.Consumes, Io.KnownBytes.IsAtEnd, Prelude.⊤}
 use Rattle.yaml_tool.specs.Scripts.{script_with, ContinuesScript}
 use Rattle.yaml_tool.specs.declared.{answers.run_answer_t.run_answer_t, parts.ScriptPrefix.ScriptPrefix, scripts.ScriptError.ScriptError}
 use Rattle.yaml_tool.specs.declared.answers.run_answer_t.TheVariants.{BadLine, Done, NoMemory, ReadFailed, Refused, WriteFailed}
@@ -52,3 +52,19 @@ pub bad_prefix : {A : Type 0} (given left : Option (List ℕ)) (prefix : ScriptP
 bad_prefix None left prefix answer says bad = tt
 bad_prefix (Some all) None prefix answer says bad = absurd says
 bad_prefix (Some all) (Some left) prefix answer says bad = subst (IsFault answer) (sym says) bad
+
+-- a part was taken from what is left
+pub goes_on_behind : {A : Type 0} (old new : ScriptPrefix A) (before after : Option (List ℕ)) (part : List ℕ) → Consumes before after part
+    → ((more : List ℕ) → script_with old (part ++ more) ≡ script_with new more) → ContinuesScript old before new after
+goes_on_behind old new None after part consumes taken = tt
+goes_on_behind old new (Some all) None part consumes taken = absurd consumes
+goes_on_behind old new (Some all) (Some left) part consumes taken = ap (script_with old) consumes ∙ taken left
+
+-- or is bad
+pub bad_part : {A : Type 0} (old : ScriptPrefix A) (before after : Option (List ℕ)) (part : List ℕ) (error : ScriptError) (answer : run_answer_t)
+    → Consumes before after part → ((more : List ℕ) → IsFaultOf error (script_with old (part ++ more)))
+    → ((script : Script) → IsFaultOf error script → IsFault answer script) → IfSome before (λ left. IsFault answer (script_with old left))
+bad_part old None after part error answer consumes bad reported = tt
+bad_part old (Some all) None part error answer consumes bad reported = absurd consumes
+bad_part old (Some all) (Some left) part error answer consumes bad reported =
+    reported (script_with old all) (subst (λ bytes. IsFaultOf error (script_with old bytes)) (sym consumes) (bad left))

@@ -118,10 +118,18 @@ fn scalar_with<A: Allocator>(fields: ScalarFields<A>) -> Option<yaml_event_t<A>>
         ≡ notation.scalar_with (option_map seen_scalar_style fields.words.style) fields.words.plain_implicit fields.words.quoted_implicit
         (Some (option_map seen_text fields.anchor)) (Some (option_map seen_text fields.tag)) (seen_text fields.value) }
 {
+    let ScalarWords {
+        style: Some(style),
+        plain_implicit: Some(plain_implicit),
+        quoted_implicit: Some(quoted_implicit),
+    } = fields.words
+    else {
+        return None;
+    };
     Some(yaml_event_t::YAML_SCALAR_EVENT {
-        style: fields.words.style?,
-        plain_implicit: fields.words.plain_implicit?,
-        quoted_implicit: fields.words.quoted_implicit?,
+        style,
+        plain_implicit,
+        quoted_implicit,
         anchor: fields.anchor,
         tag: fields.tag,
         value: fields.value,
