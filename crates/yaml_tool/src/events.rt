@@ -231,8 +231,9 @@ fn collection_with<A: Allocator>(
         ≡ option_map (start_of kind) (notation.collection_with (option_map seen_collection_style fields.style) fields.implicit
         (Some (option_map seen_text fields.anchor)) (Some (option_map seen_text fields.tag))) }
 {
-    let style = fields.style?;
-    let implicit = fields.implicit?;
+    let (Some(style), Some(implicit)) = (fields.style, fields.implicit) else {
+        return None;
+    };
     let anchor = fields.anchor;
     let tag = fields.tag;
     Some(match kind {
