@@ -43,10 +43,17 @@ fn document_start_with<A: Allocator>(
 ) -> Option<yaml_event_t<A>>
     ensures { option_map seen_event result ≡ notation.document_start_with implicit (seen_versions version_directive) (seen_directives tag_directives) }
 {
+    let (Some(implicit), Some(version_directive), Some(tag_directives)) = (
+        implicit,
+        version_directive,
+        tag_directives,
+    ) else {
+        return None;
+    };
     Some(yaml_event_t::YAML_DOCUMENT_START_EVENT {
-        implicit: implicit?,
-        version_directive: version_directive?,
-        tag_directives: tag_directives?,
+        implicit,
+        version_directive,
+        tag_directives,
     })
 }
 
