@@ -1,6 +1,6 @@
 -- A script that is read part by part: what is left with what was read is the whole.
 use Rattle.yaml_tool.proofs.Common.{ℕ, IfSome, Option, None, Some, List, [], ◌++◌, ◌≡◌, ap, subst, sym, ◌∙◌, Script, script_of, ReadsAll, IsFault, IsFaultOf}
-use Rattle.std.specs.{Io.KnownBytes.Consumes, Io.KnownBytes.IsAtEnd, Prelude.⊤}
+use Rattle.std.specs.{Io.KnownBytes.Consumes, Io.KnownBytes.IsAtEnd, Io.KnownBytes.Keeps, Prelude.⊤}
 use Rattle.yaml_tool.specs.Scripts.{script_with, ContinuesScript}
 use Rattle.yaml_tool.specs.declared.{answers.run_answer_t.run_answer_t, parts.ScriptPrefix.ScriptPrefix, scripts.ScriptError.ScriptError}
 use Rattle.yaml_tool.specs.declared.answers.run_answer_t.TheVariants.{BadLine, Done, NoMemory, ReadFailed, Refused, WriteFailed}
@@ -68,3 +68,9 @@ bad_part old None after part error answer consumes bad reported = tt
 bad_part old (Some all) None part error answer consumes bad reported = absurd consumes
 bad_part old (Some all) (Some left) part error answer consumes bad reported =
     reported (script_with old all) (subst (λ bytes. IsFaultOf error (script_with old bytes)) (sym consumes) (bad left))
+
+-- or nothing was taken
+pub stays_behind : {A : Type 0} (prefix : ScriptPrefix A) (before after : Option (List ℕ)) → Keeps before after → ContinuesScript prefix before prefix after
+stays_behind prefix None after keeps = tt
+stays_behind prefix (Some all) None keeps = absurd keeps
+stays_behind prefix (Some all) (Some left) keeps = ap (script_with prefix) (sym keeps)

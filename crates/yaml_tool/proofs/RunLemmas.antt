@@ -36,6 +36,10 @@ pub fault_answers : (left : Option (List ℕ)) (answer : run_answer_t) (old new 
 fault_answers None answer old new fault = tt
 fault_answers (Some bytes) answer old new fault = script_fault (script_of bytes) answer old new fault
 
+pub no_memory_answers : (left old new : Option (List ℕ)) → IfSome left (λ bytes. AnswersScript (script_of bytes) NoMemory old new)
+no_memory_answers None old new = tt
+no_memory_answers (Some bytes) old new = script_fault (script_of bytes) NoMemory old new tt
+
 kept : (bytes : Option (List ℕ)) → Keeps bytes bytes
 kept None = tt
 kept (Some xs) = refl

@@ -1,5 +1,7 @@
 use Rattle.yaml_tool.proofs.Common.{map, ap, subst, ◌∙◌, Appends, State, seen_numbered, seen_settings}
-use Rattle.yaml_tool.proofs.RunLemmas.{tells_all, fault_answers, writes_nothing, returned_answer, silent_only}
+use Rattle.yaml_tool.proofs.RunLemmas.{tells_all, fault_answers, no_memory_answers, writes_nothing, returned_answer, silent_only}
+use Rattle.yaml_tool.proofs.PartLemmas.{reads_at_end}
+use Rattle.yaml_tool.specs.declared.answers.run_answer_t.TheVariants.{NoMemory, WriteFailed}
 use Rattle.yaml_tool.proofs.runs.run.Goals as goal
 
 pub returns-in-Ok-written-clause-reported : goal.returns-in-Ok-written-clause-reported
@@ -32,3 +34,22 @@ returns-in-Err-clause-unwritten g c = writes_nothing c.in-Err.answer (g.W.Write.
 
 pub returns-in-Err-clause-read : goal.returns-in-Err-clause-read
 returns-in-Err-clause-read g c = c.in-Err.ensures.read
+
+pub returns-in_default-clause-reported : goal.returns-in_default-clause-reported
+returns-in_default-clause-reported g c =
+    let old = g.W.Write.contents c.args.writer.now in
+    no_memory_answers (g.R.Read.remaining c.args.reader.now) old old
+
+pub returns-in_default-clause-unwritten : goal.returns-in_default-clause-unwritten
+returns-in_default-clause-unwritten g c = writes_nothing NoMemory (g.W.Write.contents c.args.writer.now)
+
+pub returns-in-Ok-written-clause-read : goal.returns-in-Ok-written-clause-read
+returns-in-Ok-written-clause-read g c = reads_at_end c.emit_all-answer.result _ c.in-Ok.ensures.end
+
+pub returns-in-Err-written-clause-reported : goal.returns-in-Err-written-clause-reported
+returns-in-Err-written-clause-reported g c =
+    tells_all (g.R.Read.remaining c.args.reader.now) (seen_settings c.in-Ok.script.settings) (map seen_numbered c.in-Ok.script.events.items) WriteFailed
+    (g.W.Write.contents c.args.writer.now) (g.W.Write.contents c.write_all-written.new.self) c.in-Ok.ensures.understood tt
+
+pub returns-in-Err-written-clause-read : goal.returns-in-Err-written-clause-read
+returns-in-Err-written-clause-read g c = c.in-Ok.ensures.end
