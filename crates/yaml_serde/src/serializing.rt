@@ -40,7 +40,9 @@ pub fn to_vec_with<T: Serialize>(
 ) -> Result<Vec<u8>, Error>
     ensures { IfOk result (λ bytes. IsDocument (seen_settings settings) bytes.items) }
 {
-    let writer = Writer::new(alloc, settings)?;
+    let Ok(writer) = Writer::new(alloc, settings) else {
+        return Err(Error::Memory);
+    };
     finished::<T, Brand>(alloc, writer, value)
 }
 
@@ -81,7 +83,9 @@ pub fn to_writer_with<T: Serialize, W: Write + Drop>(
 ) -> Result<W, Error>
     ensures { IfOk result (λ after. AppendsDocument (seen_settings settings) (W.contents sink) (W.contents after)) }
 {
-    let writer = Writer::new(alloc, settings)?;
+    let Ok(writer) = Writer::new(alloc, settings) else {
+        return Err(Error::Memory);
+    };
     sent::<T, W, Brand>(alloc, writer, sink, value)
 }
 
@@ -116,11 +120,24 @@ pub fn write<T: Serialize>(
     ensures whole { OnOk result ((writer.new.levels ≡ writer.old.levels) × (awaits_node writer.new ≡ false)) }
     ensures sound { OnOk result (writer.new.emitter.error ≡ None) }
 {
-    let spare = Writer::new(alloc, value_settings())?;
+    let Ok(spare) = Writer::new(alloc, value_settings()) else {
+        return Err(Error::Memory);
+    };
     let lent = mem::replace(writer, spare);
     let (lent, answer) = given::<T, Brand>(alloc, lent, value);
     *writer = lent;
     answer
+}
+
+/// A document with a value more, and what the value's own `serialize` answered.
+fn with_value<T: Serialize, W: Write + Drop, G: Given>(
+    alloc: Global,
+    document: Document<G, W>,
+    value: &T,
+) -> (Document<G, W>, Result<(), Error>) {
+    let mut serializer = ValueSerializer::new(alloc, document);
+    let answer = value.serialize(&mut serializer);
+    (serializer.into_document(), answer)
 }
 
 /// The document of a value, whose bytes stay with the writer.
@@ -134,9 +151,11 @@ fn finished<T: Serialize, G: Given>(
     ensures { IfOk result (λ bytes. (given : base.Settings) → StandsTaken given opening [] G.start.emitter → IsDocument given bytes.items) }
 {
     let document: Document<G, NoSink> = Document::new(writer, Outlet::Kept);
-    let mut serializer = ValueSerializer::new(alloc, document);
-    value.serialize(&mut serializer)?;
-    serializer.into_document().finish()
+    let (document, answer) = with_value(alloc, document, value);
+    match answer {
+        Ok(()) => document.finish(),
+        Err(error) => Err(error),
+    }
 }
 
 /// The document of a value, handed on to a sink.
@@ -153,9 +172,11 @@ fn sent<T: Serialize, W: Write + Drop, G: Given>(
         → AppendsDocument given G.held (W.contents after)) }
 {
     let document: Document<G, W> = Document::new(writer, Outlet::Sink(sink));
-    let mut serializer = ValueSerializer::new(alloc, document);
-    value.serialize(&mut serializer)?;
-    serializer.into_document().finish_sent()
+    let (document, answer) = with_value(alloc, document, value);
+    match answer {
+        Ok(()) => document.finish_sent(),
+        Err(error) => Err(error),
+    }
 }
 
 /// A writer with a value more.
@@ -173,9 +194,8 @@ fn given<T: Serialize, G: Given>(
     ensures sound { OnOk result.1 (result.0.emitter.error ≡ None) }
 {
     let document: Document<G, NoSink> = Document::new(writer, Outlet::Kept);
-    let mut serializer = ValueSerializer::new(alloc, document);
-    let answer = value.serialize(&mut serializer);
-    let (writer, whole) = serializer.into_document().into_writer();
+    let (document, answer) = with_value(alloc, document, value);
+    let (writer, whole) = document.into_writer();
     match answer {
         Ok(()) => (writer, whole),
         Err(error) => (writer, Err(error)),

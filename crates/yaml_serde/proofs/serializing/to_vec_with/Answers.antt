@@ -4,4 +4,4 @@ use Rattle.yaml_serde.proofs.serializing.to_vec_with.Goals as goal
 
 pub returns : goal.returns
 returns g c =
-    finished_by (seen_settings c.args.settings) c.in_ok-writer.writer.emitter c.finished.result c.in_ok-writer.ensures.stands c.finished.ensures
+    finished_by (seen_settings c.args.settings) c.in-Ok.writer.emitter c.finished.result c.in-Ok.ensures.stands c.finished.ensures

@@ -2,8 +2,8 @@ use Rattle.yaml_serde.proofs.Common.{OnOk, length, take, false, ◌≡◌, ap, s
 use Rattle.yaml_serde.proofs.Giving.{gives_none}
 use Rattle.yaml_serde.proofs.serializing.write.Goals as goal
 
-pub returns-in_err-spare-clause-gives : goal.returns-in_err-spare-clause-gives
-returns-in_err-spare-clause-gives g c = gives_none c.args.writer.now.emitter
+pub returns-in_default-clause-gives : goal.returns-in_default-clause-gives
+returns-in_default-clause-gives g c = gives_none c.args.writer.now.emitter
 
 pub returns-clause-gives : goal.returns-clause-gives
 returns-clause-gives g c =
