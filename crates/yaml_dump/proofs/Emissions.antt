@@ -180,7 +180,7 @@ opening_one true = omega arith
 opening_one false = omega arith
 
 -- the start failed
-dumps_failed : (given : Settings) (all : List Event) (opened : Bool) (more : List Event) (error : yaml_error_t) (after : State) → opened ≡ false
+pub dumps_failed : (given : Settings) (all : List Event) (opened : Bool) (more : List Event) (error : yaml_error_t) (after : State) → opened ≡ false
     → after.opened ≡ false
     → FailsAt given all (opening opened) error after → FailsDump opened given all (opening opened ++ more) error after
 unfolding emits_failed
@@ -189,16 +189,6 @@ dumps_failed given all opened more error after was now h =
       fails = emits_failed given all (opening opened) more error after h;
       opened_before = now ∙ sym (ap (λ b. b || has_some h.before) was ∙ none_before h.before h.event h.later (opening opened) (opening_one opened) h.parts);
     }
-
--- its error is passed on
-pub exit_dumps : (given : Settings) (all : List Event) (opened : Bool) (more : List Event) (error : yaml_error_t) (answer : Result (Unit {0}) yaml_error_t)
-    (after : State) → (opened ≡ false) × (after.opened ≡ false)
-    → FailsAt given all (opening opened) error after → IsErr answer × IsErrAnd answer (λ returned. returned ≡ error)
-    → EmitsDump opened given all (opening opened ++ more) answer after
-exit_dumps given all opened more error (Ok _) after unopened h is = absurd (false≢true is.0)
-exit_dumps given all opened more error (Err other) after unopened h is =
-    subst (λ (e : yaml_error_t). FailsDump opened given all (opening opened ++ more) e after) (sym is.1)
-    (dumps_failed given all opened more error after unopened.0 unopened.1 h)
 
 -- a document without nodes, and one with nodes
 abbrev chosen : Bool → (empty events : List Event) → List Event
@@ -226,6 +216,10 @@ dumps_events given all opened ending events emitted empty middle after answer sa
 pub on_err : {P : Type 0} (answer : Result (Unit {0}) yaml_error_t) → P → OnErr answer P
 on_err (Ok _) p = tt
 on_err (Err error) p = p
+
+pub err_then : {P Q : Type 0} (answer : Result (Unit {0}) yaml_error_t) → (P → Q) → OnErr answer P → OnErr answer Q
+err_then (Ok _) f p = tt
+err_then (Err error) f p = f p
 
 -- one call after another
 pub begun_then : (before middle after : State) → IsBegun before middle → IsBegun middle after → IsBegun before after

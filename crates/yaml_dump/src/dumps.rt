@@ -170,7 +170,9 @@ pub fn yaml_emitter_dump<A: Allocator + Copy>(
     let Ok(events) = moved_events(alloc, document) else {
         return Err(yaml_error_t::Memory);
     };
-    open_if_needed(emitter)?;
+    if let Err(error) = open_if_needed(emitter) {
+        return Err(error);
+    }
     if is_empty {
         return close_if_needed(emitter);
     }

@@ -247,7 +247,9 @@ fn push_events<A: Allocator + Copy>(
         ≡ seen_events events.old.items ++ flat_map (meetings.step_events graph (map seen_step walk.now)) (map seen_step walk.now)) }
 {
     for step in walk {
-        push_event(alloc, nodes, places, *step, events)?;
+        let Ok(()) = push_event(alloc, nodes, places, *step, events) else {
+            return Err(AllocError);
+        };
     }
     Ok(())
 }

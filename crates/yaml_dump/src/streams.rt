@@ -32,12 +32,12 @@ pub fn yaml_emitter_open<A: Allocator + Copy>(
     ensures kept { IsSome emitter.old.error → emitter.new ≡ record emitter.old { started = true } }
     ensures answered { result ≡ result_of_error emitter.new.error }
 {
-    yaml_emitter_emit(
-        emitter,
-        YAML_STREAM_START_EVENT {
-            encoding: YAML_ANY_ENCODING,
-        },
-    )?;
+    let start = YAML_STREAM_START_EVENT {
+        encoding: YAML_ANY_ENCODING,
+    };
+    if let Err(error) = yaml_emitter_emit(emitter, start) {
+        return Err(error);
+    }
     emitter.mark_opened();
     Ok(())
 }
@@ -74,7 +74,9 @@ pub fn yaml_emitter_close<A: Allocator + Copy>(
     if emitter.is_closed() || !emitter.is_opened() {
         return Ok(());
     }
-    yaml_emitter_emit(emitter, YAML_STREAM_END_EVENT)?;
+    if let Err(error) = yaml_emitter_emit(emitter, YAML_STREAM_END_EVENT) {
+        return Err(error);
+    }
     emitter.mark_closed();
     Ok(())
 }

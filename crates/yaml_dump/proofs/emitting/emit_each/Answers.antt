@@ -1,8 +1,8 @@
-use Rattle.yaml_dump.proofs.Common.{map, ◌++◌, refl, rules, append-nil, inl, inr, ap, subst, sym, ◌∙◌, into_iter_items, seen_event, StandsAfter, grows_then}
+use Rattle.yaml_dump.proofs.Common.{map, ◌++◌, refl, append-nil, inl, inr, ap, subst, sym, ◌∙◌, into_iter_items, seen_event, StandsAfter, grows_then}
 use Rattle.yaml_dump.proofs.Common.{none_from_result, some_from_result}
 use Rattle.std.proofs.lemmas.{Iterator.Adapters.YieldsList-from_vec, Iterator.Consumers.YieldsList-end, List.map-id}
 use Rattle.yaml_dump.proofs.Emissions.{keeps_same, keeps_more, events_more, parts_more, failed_at}
-use Rattle.yaml_pen.proofs.Composing.{grows_itself}
+use Rattle.yaml_pen.{proofs.Composing.grows_itself, specs.Page.result_of_error}
 use Rattle.yaml_dump.proofs.emitting.emit_each.Goals as goal
 
 pub returns-in-Err-clause-emits : goal.returns-in-Err-clause-emits
@@ -53,7 +53,7 @@ loop-event-init g c = (
   tt,
   c.requires.output,
   c.requires.no_error,
-  search rules,
+  c.into_iter-event-iterator.ensures.into_iter_gives.0,
   λ given all stands. subst (λ events. StandsAfter given events c.args.emitter.now) (sym (append-nil all)) stands,
   keeps_same c.args.emitter.now,
   grows_itself c.args.emitter.now.page,
@@ -62,3 +62,28 @@ loop-event-init g c = (
 
 pub returns-in-Err-clause-begun : goal.returns-in-Err-clause-begun
 returns-in-Err-clause-begun g c = inr c.yaml_emitter_emit.ensures.set.started
+
+pub returns-in-Err-clause-set : goal.returns-in-Err-clause-set
+returns-in-Err-clause-set g c =
+    keeps_more c.args.emitter.now c.loop-event.emitter c.yaml_emitter_emit.new.emitter c.loop-event.invariant.6 c.yaml_emitter_emit.ensures.set
+
+pub returns-in-Err-clause-answered : goal.returns-in-Err-clause-answered
+returns-in-Err-clause-answered g c = c.in-Err.ensures.answered
+
+pub returns-in-Err-clause-output : goal.returns-in-Err-clause-output
+returns-in-Err-clause-output g c = c.yaml_emitter_emit.ensures.output
+
+pub returns-clause-grows : goal.returns-clause-grows
+returns-clause-grows g c = c.loop-event.invariant.7
+
+pub returns-clause-set : goal.returns-clause-set
+returns-clause-set g c = c.loop-event.invariant.6
+
+pub returns-clause-begun : goal.returns-clause-begun
+returns-clause-begun g c = c.loop-event.invariant.8
+
+pub returns-clause-answered : goal.returns-clause-answered
+returns-clause-answered g c = sym (ap result_of_error c.loop-event.invariant.3)
+
+pub returns-clause-output : goal.returns-clause-output
+returns-clause-output g c = c.loop-event.invariant.2
