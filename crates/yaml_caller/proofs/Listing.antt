@@ -1,9 +1,9 @@
 -- What the promises of a writer come to for a list of a word and of nothing.
-use Rattle.yaml_caller.proofs.Common.{ℕ, is_none, IfOk, Option, None, Result, Err, Ok, Vec, codes, Bool, false, true, List, [], ◌++◌, ◌∷◌, refl, ◌≡◌, inl}
-use Rattle.yaml_caller.proofs.Common.{inr, ap, subst, sym, ◌∙◌, Text, block, Event, scalar, output_of, Settings, State}
+use Rattle.yaml_caller.proofs.Common.{ℕ, is_none, IfOk, OnOk, Option, None, Result, Err, Ok, Vec, codes, Bool, false, true, List, [], ◌++◌, ◌∷◌, refl, ◌≡◌, inl}
+use Rattle.yaml_caller.proofs.Common.{inr, ap, subst, sym, ◌∙◌, Text, block, Event, scalar, output_of, State}
 use Rattle.yaml_base.proofs.Common.{ScalarStyle, plain, single_quoted, sequence_start, sequence_end}
 use Rattle.std.{proofs.Common.ap₂, specs.Char.encode_utf8}
-use Rattle.yaml_base.specs.values.TypedValues.{null_tag}
+use Rattle.yaml_base.specs.{declared.errors.yaml_error_t.yaml_error_t, values.TypedValues.null_tag}
 use Rattle.yaml_writer.specs.Given.{given_for_values}
 use Rattle.yaml_writer.specs.Writing.{WriterState, opening, closing, tag_or_default, null_event, text_style, text_event, sequence_event, end_event}
 use Rattle.yaml_writer.specs.Writing.{with_collection, StandsTaken, AddsEvents, GaveEvent, EndsInnermost, Finishes}
@@ -88,16 +88,15 @@ ended_sequence before after levels (inr ended) = λ given all sent stands.
 
 -- ---- all
 
-pub list_bytes : (given : Settings) (first begun parsed noted ended : WriterState) (text : Text) (bytes : List ℕ) → given ≡ given_for_values → text ≡ codes "no"
-    → StandsTaken given opening [] first.emitter → first.canonical ≡ false → first.levels ≡ [] → (first.anchor ≡ None) × (first.tag ≡ None)
+pub list_bytes : (first begun parsed noted ended : WriterState) (text : Text) (answer : Result (Unit {0}) yaml_error_t) → text ≡ codes "no"
+    → StandsTaken given_for_values opening [] first.emitter → first.canonical ≡ false → first.levels ≡ [] → (first.anchor ≡ None) × (first.tag ≡ None)
     → GaveEvent (with_collection first Sequence) (sequence_event first block) None begun
-    → GaveEvent begun (text_event begun text) None parsed → GaveEvent parsed (null_event parsed) None noted → EndsInnermost noted (Ok tt) ended
-    → Finishes ended.emitter bytes → bytes ≡ codes "---\n- 'no'\n- null\n"
-list_bytes given first begun parsed noted ended text bytes is_default is_no stands canonical levels bare begins says notes ends finishes =
-    let stands_first = subst (λ (g : Settings). StandsTaken g opening [] first.emitter) is_default stands in
+    → GaveEvent begun (text_event begun text) None parsed → GaveEvent parsed (null_event parsed) None noted → EndsInnermost noted answer ended
+    → OnOk answer ((bytes : List ℕ) → Finishes ended.emitter bytes → bytes ≡ codes "---\n- 'no'\n- null\n")
+list_bytes first begun parsed noted ended text (Ok done) is_no stands canonical levels bare begins says notes ends = λ bytes finishes.
     let stands_begun =
     subst (λ (event : Event). StandsTaken given_for_values (opening ++ event ∷ []) [] begun.emitter) (sequence_is first bare.0 bare.1)
-    (begins.adds given_for_values opening [] stands_first) in
+    (begins.adds given_for_values opening [] stands) in
     let stands_parsed =
     subst (λ (event : Event). StandsTaken given_for_values (after_begin ++ event ∷ []) [] parsed.emitter)
     (text_is begun text is_no begins.no_anchor begins.no_tag)
@@ -110,6 +109,7 @@ list_bytes given first begun parsed noted ended text bytes is_default is_no stan
     ended_sequence noted ended one ends given_for_values after_null [] stands_noted in
     let stream = finishes given_for_values listed [] stands_ended in
     stream.output ∙ stream.written.output ∙ row
+list_bytes first begun parsed noted ended text (Err error) is_no stands canonical levels bare begins says notes ends = tt
 
 -- where all calls succeeded
 pub list_answered : {A E : Type 0} (answer : Result (Vec ℕ A) E) (emitter : State) (wanted : List ℕ)

@@ -27,9 +27,10 @@ pub fn cycle_written<A: Allocator + Copy>(alloc: A) -> Result<Vec<u8, A>, yaml_e
     ensures trees { IfOk result (λ bytes. GraphsReadBack false (cycle_graph ∷ []) bytes.items) }
     ensures memory { IfErr result (λ error. error ≡ yaml_error_t.Memory) }
 {
-    let document = cycle(alloc)?;
-    let mut emitter = canonical_emitter(alloc)?;
-    dump_cycle(alloc, &mut emitter, document)?;
+    let Ok(mut emitter) = canonical_emitter(alloc) else {
+        return Err(yaml_error_t::Memory);
+    };
+    dump_cycle(alloc, &mut emitter)?;
     Ok(yaml_emitter_take_output(&mut emitter))
 }
 
@@ -37,20 +38,21 @@ pub fn cycle_written<A: Allocator + Copy>(alloc: A) -> Result<Vec<u8, A>, yaml_e
 fn dump_cycle<A: Allocator + Copy>(
     alloc: A,
     emitter: &mut yaml_emitter_t<A>,
-    document: yaml_document_t<A>,
 ) -> Result<(), yaml_error_t>
     requires stands { StandsAfter letter_settings [] emitter.old }
     requires output { emitter.old.has_output ≡ true }
     requires no_error { emitter.old.error ≡ None }
     requires unopened { emitter.old.opened ≡ false }
     requires unclosed { emitter.old.closed ≡ false }
-    requires graph { graph_of document ≡ cycle_graph }
     ensures bytes { OnOk result (emitter.new.page.output ≡ cycle_bytes) }
     ensures taken { emitter.new.page.taken ≡ emitter.old.page.taken }
     ensures graph { OnOk result (GraphsRead false (cycle_graph ∷ []) emitter.new.page.output) }
     ensures trees { OnOk result (GraphsReadBack false (cycle_graph ∷ []) emitter.new.page.output) }
     ensures memory { IfErr result (λ error. error ≡ yaml_error_t.Memory) }
 {
+    let Ok(document) = cycle(alloc) else {
+        return Err(yaml_error_t::Memory);
+    };
     yaml_emitter_dump(alloc, emitter, document)?;
     yaml_emitter_close(emitter)
 }
@@ -60,7 +62,9 @@ fn cycle<A: Allocator + Copy>(alloc: A) -> Result<yaml_document_t<A>, yaml_error
     ensures graph { IfOk result (λ document. graph_of document ≡ cycle_graph) }
     ensures memory { IfErr result (λ error. error ≡ yaml_error_t.Memory) }
 {
-    let nodes = cycle_nodes(alloc).map_err(|_| yaml_error_t::Memory)?;
+    let Ok(nodes) = cycle_nodes(alloc) else {
+        return Err(yaml_error_t::Memory);
+    };
     match yaml_document_t::from_nodes(None, Vec::new(alloc), nodes, true, true) {
         Ok(document) => Ok(document),
         Err(_) => unreachable!(),
@@ -73,8 +77,14 @@ fn cycle_nodes<A: Allocator + Copy>(alloc: A) -> Result<Vec<yaml_node_t<A>, A>, 
     ensures numbers { IfOk result (λ nodes. all_numbers nodes.items ≡ pos 2 ∷ pos 1 ∷ []) }
 {
     let mut nodes = Vec::new(alloc);
-    nodes.push(cycle_map(alloc)?)?;
-    nodes.push(cycle_key(alloc)?)?;
+    let Ok(map) = cycle_map(alloc) else {
+        return Err(AllocError);
+    };
+    nodes.push(map)?;
+    let Ok(key) = cycle_key(alloc) else {
+        return Err(AllocError);
+    };
+    nodes.push(key)?;
     Ok(nodes)
 }
 

@@ -69,7 +69,9 @@ fn graph_bytes<A: Allocator + Copy>(
     ensures written { IfOk result (λ bytes. WritesGraph (graph_of document) bytes.items) }
     ensures failed { IfErr result (λ error. (error ≡ yaml_error_t.Memory) ⊎ IsRefused (graph_of document) error) }
 {
-    let mut emitter = yaml_emitter_t::with_settings(alloc, canonical_settings())?;
+    let Ok(mut emitter) = yaml_emitter_t::with_settings(alloc, canonical_settings()) else {
+        return Err(yaml_error_t::Memory);
+    };
     let answer = dump_graph(alloc, &mut emitter, document.bare());
     // Taken after an error, too: a vector is shorter than the limit, so the error isn't that the output was full.
     let output = yaml_emitter_take_output(&mut emitter);

@@ -37,7 +37,9 @@ fn canonical_emitter<A: Allocator + Copy>(alloc: A) -> Result<yaml_emitter_t<A>,
     ensures unopened { IfOk result (λ emitter. (emitter.opened ≡ false) × (emitter.closed ≡ false)) }
     ensures memory { IfErr result (λ error. error ≡ yaml_error_t.Memory) }
 {
-    let mut emitter = yaml_emitter_initialize(alloc)?;
+    let Ok(mut emitter) = yaml_emitter_initialize(alloc) else {
+        return Err(yaml_error_t::Memory);
+    };
     yaml_emitter_set_output_string(&mut emitter, 100);
     yaml_emitter_set_canonical(&mut emitter, true);
     yaml_emitter_set_width(&mut emitter, -1);
@@ -52,9 +54,10 @@ pub fn letter_written<A: Allocator + Copy>(alloc: A) -> Result<Vec<u8, A>, yaml_
     ensures bytes { IfOk result (λ bytes. bytes.items ≡ codes "---\n\"a\"\n") }
     ensures memory { IfErr result (λ error. error ≡ yaml_error_t.Memory) }
 {
-    let mut emitter = canonical_emitter(alloc)?;
-    let value = letter(alloc)?;
-    emit_letter(alloc, &mut emitter, value)?;
+    let Ok(mut emitter) = canonical_emitter(alloc) else {
+        return Err(yaml_error_t::Memory);
+    };
+    emit_letter(alloc, &mut emitter)?;
     Ok(yaml_emitter_take_output(&mut emitter))
 }
 
@@ -72,11 +75,9 @@ fn letter<A: Allocator>(alloc: A) -> Result<String<A>, yaml_error_t>
 fn emit_letter<A: Allocator + Copy>(
     alloc: A,
     emitter: &mut yaml_emitter_t<A>,
-    value: String<A>,
 ) -> Result<(), yaml_error_t>
     requires stands { StandsAfter letter_settings [] emitter.old }
     requires output { emitter.old.has_output ≡ true }
-    requires letter { seen_text value ≡ codes "a" }
     ensures bytes { OnOk result (emitter.new.page.output ≡ codes "---\n\"a\"\n") }
     ensures taken { emitter.new.page.taken ≡ emitter.old.page.taken }
     ensures memory { IfErr result (λ error. error ≡ yaml_error_t.Memory) }
@@ -95,6 +96,7 @@ fn emit_letter<A: Allocator + Copy>(
             implicit: true,
         },
     )?;
+    let value = letter(alloc)?;
     yaml_emitter_emit(
         emitter,
         YAML_SCALAR_EVENT {

@@ -1,5 +1,7 @@
 //! A caller of the writer: it writes a list of a word and of nothing, and proves the bytes.
-ghost use Rattle.std.specs.Prelude.{◌≡◌, IfOk, codes};
+ghost use Rattle.std.specs.Prelude.{◌≡◌, ℕ, List, [], IfOk, OnOk, None, false, codes};
+ghost use Rattle.yaml_writer.specs.Given.{given_for_values};
+ghost use Rattle.yaml_writer.specs.Writing.{Finishes, StandsTaken, opening};
 
 use std::alloc::Allocator;
 use yaml_writer::{Writer, YAML_BLOCK_SEQUENCE_STYLE, value_settings, yaml_error_t};
@@ -11,10 +13,23 @@ use yaml_writer::{Writer, YAML_BLOCK_SEQUENCE_STYLE, value_settings, yaml_error_
 pub fn list_written<A: Allocator + Copy>(alloc: A) -> Result<Vec<u8, A>, yaml_error_t>
     ensures bytes { IfOk result (λ bytes. bytes.items ≡ codes "---\n- 'no'\n- null\n") }
 {
-    let mut writer = Writer::new(alloc, value_settings())?;
+    let Ok(mut writer) = Writer::new(alloc, value_settings()) else {
+        return Err(yaml_error_t::Memory);
+    };
+    write_list(&mut writer)?;
+    writer.finish()
+}
+
+/// Gives the list to a new writer.
+fn write_list<A: Allocator + Copy>(writer: &mut Writer<A>) -> Result<(), yaml_error_t>
+    requires stands { StandsTaken given_for_values opening [] writer.old.emitter }
+    requires canonical { writer.old.canonical ≡ false }
+    requires levels { writer.old.levels ≡ [] }
+    requires bare { (writer.old.anchor ≡ None) × (writer.old.tag ≡ None) }
+    ensures { OnOk result ((bytes : List ℕ) → Finishes writer.new.emitter bytes → bytes ≡ codes "---\n- 'no'\n- null\n") }
+{
     writer.begin_sequence(YAML_BLOCK_SEQUENCE_STYLE)?;
     writer.text("no")?;
     writer.null()?;
-    writer.end()?;
-    writer.finish()
+    writer.end()
 }

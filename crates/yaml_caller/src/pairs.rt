@@ -29,7 +29,9 @@ pub fn pair_written<A: Allocator + Copy>(
 ) -> Result<Vec<u8, A>, yaml_error_t>
     ensures reads { IfOk result (λ bytes. agrees false (pair_events (seen_text key) (seen_text value)) (stream_trees false bytes.items) ≡ true) }
 {
-    let mut emitter = portable_emitter(alloc)?;
+    let Ok(mut emitter) = portable_emitter(alloc) else {
+        return Err(yaml_error_t::Memory);
+    };
     emit_pair(alloc, &mut emitter, key, value)?;
     Ok(yaml_emitter_take_output(&mut emitter))
 }
@@ -40,7 +42,9 @@ fn portable_emitter<A: Allocator + Copy>(alloc: A) -> Result<yaml_emitter_t<A>, 
     ensures output { IfOk result (λ emitter. emitter.has_output ≡ true) }
     ensures untaken { IfOk result (λ emitter. emitter.page.taken ≡ 0) }
 {
-    let mut emitter = yaml_emitter_initialize(alloc)?;
+    let Ok(mut emitter) = yaml_emitter_initialize(alloc) else {
+        return Err(yaml_error_t::Memory);
+    };
     yaml_emitter_set_output_string(&mut emitter, 1_000_000);
     yaml_emitter_set_portable(&mut emitter, true);
     Ok(emitter)

@@ -1,4 +1,4 @@
-use Rattle.yaml_caller.proofs.Common.{Err, codes, [], map, refl, ap, subst, seen_text, seen_directive, letter_settings, Promised}
+use Rattle.yaml_caller.proofs.Common.{Err, codes, [], map, ◌∙◌, refl, ap, subst, seen_text, seen_directive, letter_settings, Promised}
 use Rattle.yaml_caller.proofs.{KnownStreams.events_of, KnownStreams.letter_bytes, OnlyMemory.exit_memory, OnlyMemory.call_memory}
 use Rattle.yaml_caller.proofs.emit_letter.Goals as goal
 
@@ -10,10 +10,11 @@ returns-clause-bytes g c =
     let fourth = c.yaml_emitter_emit-4.ensures.stands letter_settings _ third in
     let promised = c.yaml_emitter_emit-5.ensures.promised letter_settings _ fourth in
     let after = c.yaml_emitter_emit-5.new.emitter in
-    let bare : Promised letter_settings (events_of [] (seen_text c.args.value)) after =
-    subst (λ directives. Promised letter_settings (events_of (map seen_directive directives) (seen_text c.args.value)) after) c.new.ensures.items promised in
+    let bare : Promised letter_settings (events_of [] (seen_text c.in_ok-value.value)) after =
+    subst (λ directives. Promised letter_settings (events_of (map seen_directive directives) (seen_text c.in_ok-value.value)) after)
+    c.new.ensures.items promised in
     letter_bytes c.yaml_emitter_emit-5.result after
-    (subst (λ value. Promised letter_settings (events_of [] value) after) c.requires.letter bare) c.yaml_emitter_emit-5.ensures.answered
+    (subst (λ value. Promised letter_settings (events_of [] value) after) c.in_ok-value.ensures.letter bare) c.yaml_emitter_emit-5.ensures.answered
 
 pub returns-in_err-yaml_emitter_emit-clause-memory : goal.returns-in_err-yaml_emitter_emit-clause-memory
 returns-in_err-yaml_emitter_emit-clause-memory g c =
@@ -36,9 +37,9 @@ returns-in_err-yaml_emitter_emit-3-clause-memory g c =
     let first = c.yaml_emitter_emit.ensures.stands letter_settings [] c.requires.stands in
     let second = c.yaml_emitter_emit-2.ensures.stands letter_settings _ first in
     exit_memory c.in_err-yaml_emitter_emit-3.field-0.0 c.from_residual-in_err-yaml_emitter_emit-3.result
-    (call_memory 3 (map seen_directive c.new.result.items) (seen_text c.args.value) c.yaml_emitter_emit-3.new.emitter
+    (call_memory 3 (map seen_directive c.new.result.items) (seen_text c.in_ok-value.value) c.yaml_emitter_emit-3.new.emitter
     (Err c.in_err-yaml_emitter_emit-3.field-0.0)
-    (ap (map seen_directive) c.new.ensures.items) c.requires.letter
+    (ap (map seen_directive) c.new.ensures.items) c.in_ok-value.ensures.letter
     (c.in_err-yaml_emitter_emit-3.ensures.promised letter_settings _ second) c.in_err-yaml_emitter_emit-3.ensures.answered)
     c.from_residual-in_err-yaml_emitter_emit-3.ensures
 
@@ -48,9 +49,9 @@ returns-in_err-yaml_emitter_emit-4-clause-memory g c =
     let second = c.yaml_emitter_emit-2.ensures.stands letter_settings _ first in
     let third = c.yaml_emitter_emit-3.ensures.stands letter_settings _ second in
     exit_memory c.in_err-yaml_emitter_emit-4.field-0.0 c.from_residual-in_err-yaml_emitter_emit-4.result
-    (call_memory 4 (map seen_directive c.new.result.items) (seen_text c.args.value) c.yaml_emitter_emit-4.new.emitter
+    (call_memory 4 (map seen_directive c.new.result.items) (seen_text c.in_ok-value.value) c.yaml_emitter_emit-4.new.emitter
     (Err c.in_err-yaml_emitter_emit-4.field-0.0)
-    (ap (map seen_directive) c.new.ensures.items) c.requires.letter
+    (ap (map seen_directive) c.new.ensures.items) c.in_ok-value.ensures.letter
     (c.in_err-yaml_emitter_emit-4.ensures.promised letter_settings _ third) c.in_err-yaml_emitter_emit-4.ensures.answered)
     c.from_residual-in_err-yaml_emitter_emit-4.ensures
 
@@ -60,6 +61,29 @@ returns-clause-memory g c =
     let second = c.yaml_emitter_emit-2.ensures.stands letter_settings _ first in
     let third = c.yaml_emitter_emit-3.ensures.stands letter_settings _ second in
     let fourth = c.yaml_emitter_emit-4.ensures.stands letter_settings _ third in
-    call_memory 5 (map seen_directive c.new.result.items) (seen_text c.args.value) c.yaml_emitter_emit-5.new.emitter c.yaml_emitter_emit-5.result
-    (ap (map seen_directive) c.new.ensures.items) c.requires.letter
+    call_memory 5 (map seen_directive c.new.result.items) (seen_text c.in_ok-value.value) c.yaml_emitter_emit-5.new.emitter c.yaml_emitter_emit-5.result
+    (ap (map seen_directive) c.new.ensures.items) c.in_ok-value.ensures.letter
     (c.yaml_emitter_emit-5.ensures.promised letter_settings _ fourth) c.yaml_emitter_emit-5.ensures.answered
+
+pub returns-in_err-yaml_emitter_emit-clause-taken : goal.returns-in_err-yaml_emitter_emit-clause-taken
+returns-in_err-yaml_emitter_emit-clause-taken g c = c.yaml_emitter_emit.ensures.set.taken
+
+pub returns-in_err-yaml_emitter_emit-2-clause-taken : goal.returns-in_err-yaml_emitter_emit-2-clause-taken
+returns-in_err-yaml_emitter_emit-2-clause-taken g c = c.yaml_emitter_emit-2.ensures.set.taken ∙ c.yaml_emitter_emit.ensures.set.taken
+
+pub returns-in_err-yaml_emitter_emit-3-clause-taken : goal.returns-in_err-yaml_emitter_emit-3-clause-taken
+returns-in_err-yaml_emitter_emit-3-clause-taken g c =
+    c.yaml_emitter_emit-3.ensures.set.taken ∙ c.yaml_emitter_emit-2.ensures.set.taken ∙ c.yaml_emitter_emit.ensures.set.taken
+
+pub returns-in_err-yaml_emitter_emit-4-clause-taken : goal.returns-in_err-yaml_emitter_emit-4-clause-taken
+returns-in_err-yaml_emitter_emit-4-clause-taken g c =
+    c.yaml_emitter_emit-4.ensures.set.taken ∙ c.yaml_emitter_emit-3.ensures.set.taken ∙ c.yaml_emitter_emit-2.ensures.set.taken
+    ∙ c.yaml_emitter_emit.ensures.set.taken
+
+pub returns-clause-taken : goal.returns-clause-taken
+returns-clause-taken g c =
+    c.yaml_emitter_emit-5.ensures.set.taken ∙ c.yaml_emitter_emit-4.ensures.set.taken ∙ c.yaml_emitter_emit-3.ensures.set.taken
+    ∙ c.yaml_emitter_emit-2.ensures.set.taken ∙ c.yaml_emitter_emit.ensures.set.taken
+
+pub returns-in_err-value-clause-taken : goal.returns-in_err-value-clause-taken
+returns-in_err-value-clause-taken g c = c.yaml_emitter_emit-2.ensures.set.taken ∙ c.yaml_emitter_emit.ensures.set.taken

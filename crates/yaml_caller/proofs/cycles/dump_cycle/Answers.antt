@@ -1,4 +1,4 @@
-use Rattle.yaml_caller.proofs.Common.{[], ◌∷◌, refl, rules, graph_of, cycle_graph, cycle_bytes, letter_settings}
+use Rattle.yaml_caller.proofs.Common.{[], ◌∷◌, refl, ◌∙◌, graph_of, cycle_graph, cycle_bytes, letter_settings}
 use Rattle.yaml_caller.proofs.{CycleFits.cycle_fits, CycleFits.dump_memory, KnownStreams.stream_bytes, OnlyMemory.prefix_memory, OnlyMemory.exit_memory}
 use Rattle.yaml_caller.proofs.Dumped.{dumped_cycle, cycle_events, cycle_row, none_waits, all_portable, one_dumped, after_dump, still_open, then_ok}
 use Rattle.yaml_caller.proofs.cycles.dump_cycle.Goals as goal
@@ -7,15 +7,15 @@ pub returns : goal.returns
 returns g c =
     let old = c.args.emitter.now in
     let after = c.yaml_emitter_dump.new.emitter in
-    let graph = graph_of c.args.document in
-    let unclosed = still_open graph old.closed after.closed c.requires.graph c.requires.unclosed c.in_ok-yaml_emitter_dump.ensures.closed in
-    let stands = after_dump graph old after _ c.requires.unopened c.requires.graph c.requires.stands
+    let graph = graph_of c.in-Ok.document in
+    let unclosed = still_open graph old.closed after.closed c.in-Ok.ensures.graph c.requires.unclosed c.in_ok-yaml_emitter_dump.ensures.closed in
+    let stands = after_dump graph old after _ c.requires.unopened c.in-Ok.ensures.graph c.requires.stands
     (c.in_ok-yaml_emitter_dump.ensures.dumps c.requires.no_error) in
     let promised = c.yaml_emitter_close.ensures.promised unclosed letter_settings dumped_cycle stands in
     let answered = c.yaml_emitter_close.ensures.answered unclosed in
     record {
       bytes = stream_bytes cycle_events cycle_bytes c.yaml_emitter_close.result c.yaml_emitter_close.new.emitter refl none_waits cycle_row promised answered;
-      taken = search rules;
+      taken = c.yaml_emitter_close.ensures.taken ∙ c.yaml_emitter_dump.ensures.taken;
       graph =
           then_ok c.yaml_emitter_close.result (c.yaml_emitter_close.ensures.graphs unclosed)
           (λ reads. reads letter_settings dumped_cycle (cycle_graph ∷ []) stands refl one_dumped);
@@ -29,7 +29,7 @@ pub returns-in_err-yaml_emitter_dump-clause-memory : goal.returns-in_err-yaml_em
 returns-in_err-yaml_emitter_dump-clause-memory g c =
     let old = c.args.emitter.now in
     exit_memory c.in_err-yaml_emitter_dump.field-0.0 c.from_residual.result
-    (dump_memory (graph_of c.args.document) old c.yaml_emitter_dump.new.emitter c.in_err-yaml_emitter_dump.field-0.0
-    c.requires.unopened c.requires.graph c.requires.stands
+    (dump_memory (graph_of c.in-Ok.document) old c.yaml_emitter_dump.new.emitter c.in_err-yaml_emitter_dump.field-0.0
+    c.requires.unopened c.in-Ok.ensures.graph c.requires.stands
     (c.in_err-yaml_emitter_dump.ensures.dumps c.requires.no_error))
     c.from_residual.ensures

@@ -37,3 +37,9 @@ returns-in_err-yaml_emitter_dump-clause-failed g c =
     (dump_fails graph old after c.in_err-yaml_emitter_dump.field-0.0 c.requires.unopened c.requires.is_bare c.requires.nonempty c.requires.stands
     (c.in_err-yaml_emitter_dump.ensures.dumps c.requires.no_error))
     c.from_residual.ensures
+
+pub returns-clause-taken : goal.returns-clause-taken
+returns-clause-taken g c = c.yaml_emitter_close.ensures.taken ∙ c.yaml_emitter_dump.ensures.taken
+
+pub returns-in_err-yaml_emitter_dump-clause-taken : goal.returns-in_err-yaml_emitter_dump-clause-taken
+returns-in_err-yaml_emitter_dump-clause-taken g c = c.yaml_emitter_dump.ensures.taken

@@ -5,7 +5,7 @@ use Rattle.yaml_caller.proofs.graphs.graph_bytes.Goals as goal
 
 pub dump_graph-answer-requires-clause-stands : goal.dump_graph-answer-requires-clause-stands
 dump_graph-answer-requires-clause-stands g c =
-    subst (λ given. StandsAfter given [] c.in_ok-emitter.emitter) c.canonical_settings.ensures c.in_ok-emitter.ensures.stands
+    subst (λ given. StandsAfter given [] c.in-Ok.emitter) c.canonical_settings.ensures c.in-Ok.ensures.stands
 
 pub dump_graph-answer-requires-clause-is_bare : goal.dump_graph-answer-requires-clause-is_bare
 dump_graph-answer-requires-clause-is_bare g c = ap bare c.bare.ensures ∙ sym c.bare.ensures
@@ -13,19 +13,19 @@ dump_graph-answer-requires-clause-is_bare g c = ap bare c.bare.ensures ∙ sym c
 pub dump_graph-answer-requires-clause-nonempty : goal.dump_graph-answer-requires-clause-nonempty
 dump_graph-answer-requires-clause-nonempty g c = ap (λ (graph : Graph). length graph.nodes == 0) c.bare.ensures ∙ c.requires.nonempty
 
-pub returns-in-Ok-clause-written : goal.returns-in-Ok-clause-written
-returns-in-Ok-clause-written g c =
+pub returns-in-Ok-answer-clause-written : goal.returns-in-Ok-answer-clause-written
+returns-in-Ok-answer-clause-written g c =
     let emitter = c.dump_graph-answer.new.emitter in
     let whole = c.yaml_emitter_take_output-output.ensures.untaken
-    (c.dump_graph-answer.ensures.taken ∙ ap (λ (state : State). state.page.taken) c.in_ok-emitter.ensures.made) in
+    (c.dump_graph-answer.ensures.taken ∙ ap (λ (state : State). state.page.taken) c.in-Ok.ensures.made) in
     dump_writes (graph_of c.args.document) (graph_of c.bare.result) c.yaml_emitter_take_output-output.result.items emitter.page.output
-    c.dump_graph-answer.result _ c.bare.ensures c.in-Ok.is whole c.dump_graph-answer.ensures.written
+    c.dump_graph-answer.result _ c.bare.ensures c.in-Ok-answer.is whole c.dump_graph-answer.ensures.written
 
 pub returns-clause-failed : goal.returns-clause-failed
 returns-clause-failed g c =
     let emitter = c.dump_graph-answer.new.emitter in
     let whole = c.yaml_emitter_take_output-output.ensures.untaken
-    (c.dump_graph-answer.ensures.taken ∙ ap (λ (state : State). state.page.taken) c.in_ok-emitter.ensures.made) in
+    (c.dump_graph-answer.ensures.taken ∙ ap (λ (state : State). state.page.taken) c.in-Ok.ensures.made) in
     let bytes = c.yaml_emitter_take_output-output.result in
     let few : length bytes.items < largest_usize = omega (arith, bytes.ok.0, bytes.ok.1, bytes.small) in
     dump_refused (graph_of c.args.document) (graph_of c.bare.result) _ bytes.items emitter.page.output c.dump_graph-answer.result

@@ -1,22 +1,16 @@
-use Rattle.yaml_caller.proofs.Common.{codes, refl, ap, ◌∙◌, chars-literal, Settings}
-use Rattle.std.proofs.Common.{chars}
-use Rattle.yaml_caller.proofs.Listing.{list_bytes, list_answered}
-use Rattle.yaml_emitter.specs.Given.{seen_settings}
-use Rattle.yaml_writer.proofs.Finishing.{nothing_awaited}
+use Rattle.yaml_caller.proofs.Common.{codes, ap, subst, ◌∙◌, [], Settings}
+use Rattle.yaml_caller.proofs.Listing.{list_answered}
+use Rattle.yaml_writer.specs.Writing.{StandsTaken, opening}
 use Rattle.yaml_caller.proofs.listed.list_written.Goals as goal
 
+pub write_list-requires-clause-stands : goal.write_list-requires-clause-stands
+write_list-requires-clause-stands g c =
+    subst (λ (given : Settings). StandsTaken given opening [] c.in-Ok.writer.emitter) c.value_settings.ensures c.in-Ok.ensures.stands
+
+pub write_list-requires-clause-canonical : goal.write_list-requires-clause-canonical
+write_list-requires-clause-canonical g c = c.in-Ok.ensures.canonical ∙ ap (λ (settings : Settings). settings.canonical) c.value_settings.ensures
+
 pub returns : goal.returns
-returns g c =
-    let first = c.in_ok-writer in
-    let canonical = first.ensures.canonical ∙ ap (λ (settings : Settings). settings.canonical) c.value_settings.ensures in
-    record {
-      bytes =
-          list_answered c.finish.result c.end.new.self.emitter (codes "---\n- 'no'\n- null\n")
-          (λ bytes finishes.
-          list_bytes (seen_settings c.value_settings.result) first.writer c.begin_sequence.new.self c.text.new.self c.null.new.self c.end.new.self
-          (chars (codes "no"))
-          bytes c.value_settings.ensures (chars-literal (codes "no") refl) first.ensures.stands canonical first.ensures.levels first.ensures.bare
-          c.in_ok-begin_sequence.ensures.given c.in_ok-text.ensures.given c.in_ok-null.ensures.given
-          (c.in_ok-end.ensures.ended (nothing_awaited c.null.new.self c.in_ok-null.ensures.given.no_anchor c.in_ok-null.ensures.given.no_tag)) finishes)
-          c.finish.ensures.finishes;
-    }
+returns g c = record {
+  bytes = list_answered c.finish.result c.write_list.new.writer.emitter (codes "---\n- 'no'\n- null\n") c.in_ok-write_list.ensures c.finish.ensures.finishes;
+}

@@ -7,5 +7,5 @@ returns g c =
     record {
       reads =
           subst (λ (bytes : List ℕ). agrees false events (stream_trees false bytes) ≡ true)
-          (sym (c.yaml_emitter_take_output.ensures.untaken (c.emit_pair.ensures.taken ∙ c.in_ok-emitter.ensures.untaken))) c.in_ok-emit_pair.ensures.reads;
+          (sym (c.yaml_emitter_take_output.ensures.untaken (c.emit_pair.ensures.taken ∙ c.in-Ok.ensures.untaken))) c.in_ok-emit_pair.ensures.reads;
     }
