@@ -3,7 +3,7 @@ use Rattle.yaml_base.proofs.Common.{◌≤◌, if◌then◌else◌, None, Some, 
 use Rattle.yaml_base.proofs.Common.{length-append, append-nil, append_assoc, inl, inr, ap, subst, sym, ◌∙◌, arith, or-true, false≢true, map-append, Event}
 use Rattle.yaml_base.proofs.Common.{Settings}
 use Rattle.yaml_emitter.proofs.Common.{Promised, StandsAfter, State, KeepsSet}
-use Rattle.std.specs.Prelude.{Err, Ok, Result, IsErrAnd, IsErr, OnOk, OnErr}
+use Rattle.std.specs.Prelude.{Err, Ok, Result, IsSome, OnOk, OnErr}
 use Rattle.yaml_base.specs.{Seen.seen_event, declared.errors.yaml_error_t.yaml_error_t, declared.events.yaml_event_t.yaml_event_t}
 use Rattle.yaml_dump.specs.Dumps.{EmitsAll, FailsAt, IsBegun, EmitsEach, has_some, FailsDump, EmitsDump, opening, closing}
 use Rattle.yaml_pen.{proofs.Writing.none_from_result, proofs.Writing.some_from_result, specs.Page.result_of_error, specs.Wrote.Grows}
@@ -14,6 +14,11 @@ KeepsButStart before after = KeepsSet (record before { started = after.started }
 
 pub keeps_same : (state : State) → KeepsButStart state state
 keeps_same state = record { given = refl; started = refl; has_output = refl; opened = refl; closed = refl; taken = refl }
+
+-- a call that answers Ok found no error
+pub error_kept : {P : Type 0} (before after : State) → (IsSome before.error → after ≡ record before { started = true }) → after.error ≡ None
+    → IsSome before.error → P
+error_kept before after kept none some = absurd (false≢true (subst IsSome (sym (ap (λ (state : State). state.error) (kept some)) ∙ none) some))
 
 -- one more call
 pub keeps_more : (before middle after : State) → KeepsButStart before middle → KeepsSet (record middle { started = true }) after → KeepsButStart before after

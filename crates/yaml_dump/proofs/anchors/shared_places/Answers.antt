@@ -1,5 +1,7 @@
-use Rattle.yaml_dump.proofs.Common.{drop, length, slice_index_or as get_or, take, [], map, ◌++◌, ◌∷◌, ◌≡◌, ap, subst, sym, ◌∙◌, arith, Places, seen_step}
-use Rattle.yaml_dump.proofs.AnchorLemmas.{step_numbered, seen_more, whole_slice}
+use Rattle.yaml_dump.proofs.Common.{drop, length, slice_index_or as get_or, take, [], map, ◌++◌, ◌∷◌, ◌≡◌, ap, subst, sym, ◌∙◌, arith}
+use Rattle.yaml_dump.proofs.Common.{Places, anchor_of_place, seen_step}
+use Rattle.std.proofs.Common.{take_all}
+use Rattle.yaml_dump.proofs.AnchorLemmas.{step_numbered, seen_more, whole_slice, anchor_placed}
 use Rattle.yaml_dump.specs.declared.steps.Step.TheVariants.{Enters}
 use Rattle.yaml_dump.proofs.anchors.shared_places.Goals as goal
 
@@ -29,3 +31,11 @@ loop-step-preserved g c =
           c.place_met-shared.result places) (sym whole)
           (c.place_met-shared.ensures.placed (map seen_step (take now.step-index c.args.walk.now)) before));
     }
+
+pub returns-clause-anchors : goal.returns-clause-anchors
+returns-clause-anchors g c number first last =
+    let now = c.loop-step in
+    let walk = map seen_step c.args.walk.now in
+    let whole = ap (map seen_step) (take_all now.step-index c.args.walk.now c.loop-step-test.false) in
+    let placed = (subst (λ steps. Places steps now.shared now.places.items) whole now.invariant.placed).given in
+    ap anchor_of_place (placed.placed number first (omega (arith, last, now.invariant.each))) ∙ sym (anchor_placed walk number)

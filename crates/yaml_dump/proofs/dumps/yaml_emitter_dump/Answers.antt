@@ -1,6 +1,7 @@
-use Rattle.yaml_dump.proofs.Common.{◌==◌, length, ◌||◌, map, ◌++◌, inr, ap, sym, ◌∙◌, false≢true, document_unfolds, seen_event, graph_of, document_event_list}
+use Rattle.yaml_dump.proofs.Common.{◌==◌, length, ◌||◌, map, ◌++◌, inr, refl, ap, subst, sym, ◌∙◌, false≢true}
+use Rattle.yaml_dump.proofs.Common.{document_unfolds, seen_event, graph_of, document_event_list}
 use Rattle.yaml_dump.proofs.Common.{opening, closing, grows_then, none_from_result}
-use Rattle.std.proofs.Math.Bool.{or-false}
+use Rattle.std.{proofs.Math.Bool.or-false, specs.Prelude.IsSome}
 use Rattle.yaml_dump.proofs.Emissions.{on_ok, closed_by, dumps_failed, dumps_closing, dumps_events, on_err, err_then, begun_then}
 use Rattle.yaml_dump.proofs.GraphLemmas.{closing_reads, closing_trees}
 use Rattle.yaml_dump.proofs.dumps.yaml_emitter_dump.Goals as goal
@@ -127,3 +128,6 @@ returns-then-is_empty-clause-output g c = c.close_if_needed.ensures.output
 pub returns-then-is_empty-clause-unclosed : goal.returns-then-is_empty-clause-unclosed
 returns-then-is_empty-clause-unclosed g c =
     err_then c.close_if_needed.result (λ unclosed. unclosed ∙ c.open_if_needed.ensures.closed) c.close_if_needed.ensures.unclosed
+
+pub returns-in-Some-clause-dumps : goal.returns-in-Some-clause-dumps
+returns-in-Some-clause-dumps g c none = absurd (false≢true (subst IsSome (sym c.in-Some.is ∙ c.error.ensures ∙ none) refl))

@@ -1,4 +1,5 @@
 use Rattle.yaml_dump.proofs.Common.{ap, subst, sym, ◌∙◌, State, none_from_result, Grows}
+use Rattle.yaml_dump.proofs.Emissions.{error_kept}
 use Rattle.yaml_dump.proofs.GraphLemmas.{graphs_read, trees_read}
 use Rattle.yaml_pen.specs.Page.{result_of_error}
 use Rattle.yaml_dump.proofs.streams.yaml_emitter_close.Goals as goal
@@ -56,3 +57,8 @@ returns-clause-answered g c running = c.in_default.ensures.answered ∙ sym (ap 
 
 pub returns-clause-taken : goal.returns-clause-taken
 returns-clause-taken g c = ap (λ (s : State). s.page.taken) c.mark_closed.ensures.set ∙ c.yaml_emitter_emit.ensures.set.taken
+
+pub returns-clause-kept : goal.returns-clause-kept
+returns-clause-kept g c running =
+    error_kept c.args.emitter.now c.yaml_emitter_emit.new.emitter c.yaml_emitter_emit.ensures.kept
+    (none_from_result c.yaml_emitter_emit.new.emitter.error c.in_default.ensures.answered)

@@ -1,4 +1,5 @@
-use Rattle.yaml_dump.proofs.Common.{ap, subst, sym, ◌∙◌, State, Grows}
+use Rattle.yaml_dump.proofs.Common.{ap, subst, sym, ◌∙◌, State, none_from_result, Grows}
+use Rattle.yaml_dump.proofs.Emissions.{error_kept}
 use Rattle.yaml_pen.specs.Page.{result_of_error}
 use Rattle.yaml_dump.proofs.streams.yaml_emitter_open.Goals as goal
 
@@ -39,3 +40,8 @@ returns-clause-stands g c given all stands = c.mark_opened.ensures.stands given 
 
 pub returns-clause-answered : goal.returns-clause-answered
 returns-clause-answered g c = c.in_default.ensures.answered ∙ sym (ap (λ (s : State). result_of_error s.error) c.mark_opened.ensures.set)
+
+pub returns-clause-kept : goal.returns-clause-kept
+returns-clause-kept g c =
+    error_kept c.args.emitter.now c.yaml_emitter_emit.new.emitter c.yaml_emitter_emit.ensures.kept
+    (none_from_result c.yaml_emitter_emit.new.emitter.error c.in_default.ensures.answered)
