@@ -32,7 +32,10 @@ pub(crate) fn events_of<A: Allocator + Copy>(
     ensures bits { OnOk result (Has64Bits (seen_value value.now)) }
     ensures memory { IfErr result (λ error. error ≡ yaml_error_t.Memory) }
 {
-    built(alloc, value).map_err(|_| yaml_error_t::Memory)
+    match built(alloc, value) {
+        Ok(events) => Ok(events),
+        Err(_) => Err(yaml_error_t::Memory),
+    }
 }
 
 fn built<A: Allocator + Copy>(

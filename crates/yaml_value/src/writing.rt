@@ -38,8 +38,12 @@ fn written<A: Allocator + Copy>(alloc: A, value: &Value<A>) -> Result<Vec<u8, A>
     ensures written { IfOk result (λ bytes. WritesValue (seen_value value.now) bytes.items) }
     ensures memory { IfErr result (λ error. error ≡ yaml_error_t.Memory) }
 {
-    let events = events_of(alloc, value)?;
-    let mut emitter = yaml_emitter_t::with_settings(alloc, canonical_settings())?;
+    let Ok(events) = events_of(alloc, value) else {
+        return Err(yaml_error_t::Memory);
+    };
+    let Ok(mut emitter) = yaml_emitter_t::with_settings(alloc, canonical_settings()) else {
+        return Err(yaml_error_t::Memory);
+    };
     let answer = emit_each(&mut emitter, events);
     // Taken after an error, too: a vector is shorter than the limit, so the error isn't that the output was full.
     let output = yaml_emitter_take_output(&mut emitter);
