@@ -60,14 +60,5 @@ count_pairs-returns g t c =
     ∙ ap (λ pairs. min (1 + value_pairs_count (seen_pairs pairs)) largest_usize)
     (take_all c.loop-key.key-index c.deref-key-items.result.now c.loop-key-test.false ∙ c.deref-key-items.ensures.value)
 
-pub count_items-loop-item-smaller : goal.count_items-loop-item-smaller
-count_items-loop-item-smaller g t c = omega (arith, c.loop-item-test.true)
-
-pub count_items-bounds-item-items-item-index : goal.count_items-bounds-item-items-item-index
-count_items-bounds-item-items-item-index g t c = c.loop-item-test.true
-
-pub count_pairs-loop-key-smaller : goal.count_pairs-loop-key-smaller
-count_pairs-loop-key-smaller g t c = omega (arith, c.loop-key-test.true)
-
-pub count_pairs-bounds-key-items-key-index : goal.count_pairs-bounds-key-items-key-index
-count_pairs-bounds-key-items-key-index g t c = c.loop-key-test.true
+pub count_by_recursion-returns-in_default : goal.count_by_recursion-returns-in_default
+count_by_recursion-returns-in_default g t c = search (rules, declared.the_lemmas)
