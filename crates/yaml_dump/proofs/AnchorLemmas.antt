@@ -3,9 +3,10 @@ use Rattle.yaml_dump.proofs.Common.{suc, zero, ℕ, ◌+◌, ◌-◌, ◌<◌, �
 use Rattle.yaml_dump.proofs.Common.{slice_index_or as get_or, slice_set as set, take, Bool, cond, false, not, true, ◌&&◌, ◌||◌, List, [], map, ◌++◌, ◌∷◌, ◌≢◌}
 use Rattle.yaml_dump.proofs.Common.{refl, ◌≡◌, length-append, length-set, get_or-set_other, get_or-set_same, append-nil, ap, subst, sym, ◌∙◌, arith}
 use Rattle.yaml_dump.proofs.Common.{nat_tests, get_or-map, length-map, map-append, Step, enters, leaves, meets_again, numbered_name, IsNumbered, is_numbered}
-use Rattle.yaml_dump.proofs.Common.{anchor_of_place, HasPlaces, Places, number_in, seen_step}
+use Rattle.yaml_dump.proofs.Common.{replicate, anchor_of_place, HasPlaces, Places, number_in, seen_step}
 use Rattle.yaml_base.proofs.Common.{nat_lt, filter_map-append, filter, filter_map, position, position_or_len, node_met_again, first_of_each, shared_nodes}
 use Rattle.yaml_base.proofs.Common.{anchor_of}
+use Rattle.std.proofs.lemmas.List.{get_or-replicate, length-replicate}
 use Rattle.std.{proofs.Common.add-one, proofs.Math.Seq.take-append_seam, proofs.lemmas.List.take_more, proofs.lemmas.List.Elements.filter-append}
 use Rattle.std.{proofs.lemmas.List.Folds.position_or_len_push, proofs.lemmas.List.Folds.list_all-map, proofs.lemmas.List.Sums.prefix_len-le-length}
 use Rattle.std.{proofs.lemmas.List.Sums.AllPass-from_list_all, specs.List.cons_option}
@@ -142,6 +143,18 @@ met_before walk met shared places first last is before =
     ∙ append-nil numbers in record {
       counted = before.counted ∙ ap length (sym same);
       given = record { placed = λ number low high. before.given.placed number low high ∙ ap (λ (all : List ℕ). place_in all number) (sym same) };
+    }
+
+-- before the walk no node has a place
+pub none_placed : (count : ℕ) (places : List ℕ) → places ≡ replicate count 0 → Places [] 0 places
+none_placed count places zeros =
+    record {
+      counted = refl;
+      given = record {
+        placed = λ number first last.
+            let inside : number - 1 < count = omega (arith, first, last, ap length zeros, length-replicate {A = ℕ} count 0) in
+            ap (λ (numbers : List ℕ). get_or numbers (number - 1) 0) zeros ∙ get_or-replicate count (number - 1) 0 0 inside;
+      };
     }
 
 -- each place, once a node has the next

@@ -46,7 +46,9 @@ pub(crate) fn shared_places<A: Allocator + Copy>(
     ensures anchors { IfOk result (λ places. (number : ℕ) → 1 ≤ number → number ≤ count
         → anchor_of_place (slice_index places.items (number - 1)) ≡ meetings.anchor_of (map seen_step walk.now) number) }
 {
-    let mut places = vec![in alloc; 0; count]?;
+    let Ok(mut places) = vec![in alloc; 0; count] else {
+        return Err(AllocError);
+    };
     let mut shared = 0;
     for step in walk {
         shared = place_met(places.as_mut_slice(), shared, *step);

@@ -1,7 +1,7 @@
-use Rattle.yaml_dump.proofs.Common.{drop, length, slice_index_or as get_or, take, [], map, ◌++◌, ◌∷◌, ◌≡◌, ap, subst, sym, ◌∙◌, arith}
+use Rattle.yaml_dump.proofs.Common.{ℕ, drop, length, slice_index_or as get_or, take, [], map, ◌++◌, ◌∷◌, ◌≡◌, ap, subst, sym, ◌∙◌, arith}
 use Rattle.yaml_dump.proofs.Common.{Places, anchor_of_place, seen_step}
-use Rattle.std.proofs.Common.{take_all}
-use Rattle.yaml_dump.proofs.AnchorLemmas.{step_numbered, seen_more, whole_slice, anchor_placed}
+use Rattle.std.proofs.{Common.take_all, lemmas.List.length-replicate}
+use Rattle.yaml_dump.proofs.AnchorLemmas.{step_numbered, seen_more, whole_slice, anchor_placed, none_placed}
 use Rattle.yaml_dump.specs.declared.steps.Step.TheVariants.{Enters}
 use Rattle.yaml_dump.proofs.anchors.shared_places.Goals as goal
 
@@ -39,3 +39,12 @@ returns-clause-anchors g c number first last =
     let whole = ap (map seen_step) (take_all now.step-index c.args.walk.now c.loop-step-test.false) in
     let placed = (subst (λ steps. Places steps now.shared now.places.items) whole now.invariant.placed).given in
     ap anchor_of_place (placed.placed number first (omega (arith, last, now.invariant.each))) ∙ sym (anchor_placed walk number)
+
+pub loop-step-init : goal.loop-step-init
+loop-step-init g c =
+    let zeros = c.in-Ok.ensures.items_if_clones_equal (λ y same. same) in
+    record {
+      each = ap length zeros ∙ length-replicate {A = ℕ} c.args.count 0;
+      few = omega arith;
+      placed = none_placed c.args.count c.in-Ok.places.items zeros;
+    }

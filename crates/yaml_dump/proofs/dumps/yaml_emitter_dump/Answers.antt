@@ -2,6 +2,7 @@ use Rattle.yaml_dump.proofs.Common.{◌==◌, length, ◌||◌, map, ◌++◌, i
 use Rattle.yaml_dump.proofs.Common.{document_unfolds, seen_event, graph_of, document_event_list}
 use Rattle.yaml_dump.proofs.Common.{opening, closing, grows_then, none_from_result}
 use Rattle.std.{proofs.Math.Bool.or-false, specs.Prelude.IsSome}
+use Rattle.yaml_pen.specs.Page.{result_of_error}
 use Rattle.yaml_dump.proofs.Emissions.{on_ok, closed_by, dumps_failed, dumps_closing, dumps_events, on_err, err_then, begun_then}
 use Rattle.yaml_dump.proofs.GraphLemmas.{closing_reads, closing_trees}
 use Rattle.yaml_dump.proofs.dumps.yaml_emitter_dump.Goals as goal
@@ -131,3 +132,18 @@ returns-then-is_empty-clause-unclosed g c =
 
 pub returns-in-Some-clause-dumps : goal.returns-in-Some-clause-dumps
 returns-in-Some-clause-dumps g c none = absurd (false≢true (subst IsSome (sym c.in-Some.is ∙ c.error.ensures ∙ none) refl))
+
+pub returns-in-Some-clause-failed : goal.returns-in-Some-clause-failed
+returns-in-Some-clause-failed g c some = (refl, ap result_of_error (sym c.in-Some.is ∙ c.error.ensures))
+
+pub returns-in_default-moved_events-clause-failed : goal.returns-in_default-moved_events-clause-failed
+returns-in_default-moved_events-clause-failed g c some = absurd (false≢true (subst IsSome (sym c.error.ensures ∙ c.in_default.is) some))
+
+pub returns-in-Err-clause-failed : goal.returns-in-Err-clause-failed
+returns-in-Err-clause-failed g c some = absurd (false≢true (subst IsSome (sym c.error.ensures ∙ c.in_default.is) some))
+
+pub returns-then-is_empty-clause-failed : goal.returns-then-is_empty-clause-failed
+returns-then-is_empty-clause-failed g c some = absurd (false≢true (subst IsSome (sym c.error.ensures ∙ c.in_default.is) some))
+
+pub returns-clause-failed : goal.returns-clause-failed
+returns-clause-failed g c some = absurd (false≢true (subst IsSome (sym c.error.ensures ∙ c.in_default.is) some))

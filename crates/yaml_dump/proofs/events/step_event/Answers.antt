@@ -73,3 +73,13 @@ returns-in-Ok-clause-event g c graph walk before has_places holds first =
     subst (λ step. alias name ∷ [] ≡ step_events graph walk (seen_step step)) (sym c.in-MeetsAgain.is)
     (met_again graph walk places c.in-MeetsAgain.number name numbered has_places
     (c.requires.placed.shared c.in-MeetsAgain.number (ap seen_step c.in-MeetsAgain.is)) c.in-Ok.ensures)
+
+pub offset_bounds-places-number : goal.offset_bounds-places-number
+offset_bounds-places-number g c =
+    let numbered = subst (λ step. IsNumbered (length c.args.places.now) (seen_step step)) c.in-Enters.is c.requires.placed.numbered in
+    omega (arith, numbered.last)
+
+pub offset_bounds-places-number-in-MeetsAgain : goal.offset_bounds-places-number-in-MeetsAgain
+offset_bounds-places-number-in-MeetsAgain g c =
+    let numbered = subst (λ step. IsNumbered (length c.args.places.now) (seen_step step)) c.in-MeetsAgain.is c.requires.placed.numbered in
+    omega (arith, numbered.last)
