@@ -1,4 +1,5 @@
 use Rattle.yaml_dump.proofs.Common.{◌-◌, slice_index_or as get_or, Option, [], ◌∷◌, map, arith, enters, ap, ◌∙◌, Event, Text, anchor_of_place}
+use Rattle.std.proofs.lemmas.Grind.{common_steps}
 use Rattle.yaml_base.proofs.Common.{opening_event_of}
 use Rattle.yaml_base.specs.{Seen.seen_text, graphs.SeenNodes.seen_held, graphs.SeenNodes.seen_node}
 use Rattle.yaml_dump.proofs.HoldLemmas.{reads_itself, opens_as_held, held_after_entry, still_held}
@@ -28,3 +29,6 @@ bounds-nodes-number g c = omega (arith, c.requires.first, c.requires.last)
 
 pub returns-in_default-clause-held : goal.returns-in_default-clause-held
 returns-in_default-clause-held g c graph before holds = still_held graph before (enters c.args.number) (map seen_node c.args.nodes.now) holds
+
+pub offset_bounds-nodes-number : goal.offset_bounds-nodes-number
+offset_bounds-nodes-number g c = grind (arith, common_steps)
