@@ -62,3 +62,18 @@ count_pairs-returns g t c =
 
 pub count_by_recursion-returns-in_default : goal.count_by_recursion-returns-in_default
 count_by_recursion-returns-in_default g t c = search (rules, declared.the_lemmas)
+
+pub count_by_recursion-count_items-requires : goal.count_by_recursion-count_items-requires
+count_by_recursion-count_items-requires g t c = search (rules, declared.the_lemmas)
+
+pub count_by_recursion-count_pairs-requires : goal.count_by_recursion-count_pairs-requires
+count_by_recursion-count_pairs-requires g t c = search (rules, declared.the_lemmas)
+
+pub count_items-count_by_recursion-requires : goal.count_items-count_by_recursion-requires
+count_items-count_by_recursion-requires g t c = search (rules, declared.the_lemmas)
+
+pub count_pairs-count_by_recursion-requires : goal.count_pairs-count_by_recursion-requires
+count_pairs-count_by_recursion-requires g t c = grind (arith, declared.the_lemmas)
+
+pub count_pairs-count_by_recursion-requires-in-loop-key : goal.count_pairs-count_by_recursion-requires-in-loop-key
+count_pairs-count_by_recursion-requires-in-loop-key g t c = grind (arith, declared.the_lemmas)
