@@ -1,8 +1,7 @@
 //! Events as a C program gives them: numbers, and spans of one arena of texts.
-ghost use Rattle.std.specs.Prelude.{◌≡◌, IfErr, IfOk, false, map, option_map, option_and_then};
-ghost use Rattle.yaml_base.specs.Event.{mapping_start, scalar, sequence_start};
-ghost use Rattle.yaml_base.specs.Seen.{seen_directive, seen_event, seen_text, seen_version};
-ghost use Rattle.yaml_emitter.specs.BorrowedTexts.{seen_scalar};
+ghost use Rattle.std.specs.Prelude.{◌≡◌, Bool, IfErr, IfOk, Some, false, map, option_map};
+ghost use Rattle.yaml_base.specs.Event.{CollectionStyle, mapping_start, sequence_start};
+ghost use Rattle.yaml_base.specs.Seen.{seen_directive, seen_text, seen_version};
 ghost use Rattle.yaml_c.specs.Arena as texts;
 ghost use Rattle.yaml_c.specs.EventRecords as meaning;
 ghost use Rattle.yaml_c.specs.Giving.{given_event, is_read_scalar};
@@ -49,20 +48,8 @@ pub(crate) enum GivenEvent<'a, A: Allocator> {
     Scalar(ScalarContent<'a>),
 }
 
-/// An event of the allocator, or none where a record has no reading; or memory ran out.
-type EventOrNone<A> = Result<Option<yaml_event_t<A>>, AllocError>;
-
-fn directive_from<A: Allocator>(
-    handle: Option<String<A>>,
-    prefix: Option<String<A>>,
-) -> Option<yaml_tag_directive_t<A>>
-    ensures { option_map seen_directive result ≡ meaning.directive_from (option_map seen_text handle) (option_map seen_text prefix) }
-{
-    Some(yaml_tag_directive_t {
-        handle: handle?,
-        prefix: prefix?,
-    })
-}
+/// The event of a record, or none where it has no reading; or memory ran out.
+type EventOrNone<'a, A> = Result<Option<GivenEvent<'a, A>>, AllocError>;
 
 fn directive_of<A: Allocator + Copy>(
     alloc: A,
@@ -71,9 +58,13 @@ fn directive_of<A: Allocator + Copy>(
 ) -> Result<Option<yaml_tag_directive_t<A>>, AllocError>
     ensures { IfOk result (λ made. option_map seen_directive made ≡ meaning.directive_of arena.now directive.now) }
 {
-    let handle = owned_text(alloc, arena, &directive.handle)?;
-    let prefix = owned_text(alloc, arena, &directive.prefix)?;
-    Ok(directive_from(handle, prefix))
+    let Some(handle) = owned_text(alloc, arena, &directive.handle)? else {
+        return Ok(None);
+    };
+    let Some(prefix) = owned_text(alloc, arena, &directive.prefix)? else {
+        return Ok(None);
+    };
+    Ok(Some(yaml_tag_directive_t { handle, prefix }))
 }
 
 fn directives_of<A: Allocator + Copy>(
@@ -85,10 +76,11 @@ fn directives_of<A: Allocator + Copy>(
 {
     let mut all = Vec::new(alloc);
     for directive in directives {
-        let Some(directive) = directive_of(alloc, arena, directive)? else {
-            return Ok(None);
-        };
-        all.push(directive)?;
+        match directive_of(alloc, arena, directive) {
+            Ok(Some(directive)) => all.push(directive)?,
+            Ok(None) => return Ok(None),
+            Err(error) => return Err(error),
+        }
     }
     Ok(Some(all))
 }
@@ -129,114 +121,136 @@ fn version_of(event: &EventRecord) -> Option<yaml_version_directive_t>
     })
 }
 
-fn stream_start_of<A: Allocator>(event: &EventRecord) -> Option<yaml_event_t<A>>
-    ensures { option_map seen_event result ≡ meaning.stream_start_of event.now }
+fn stream_start_of<'a, A: Allocator>(event: &EventRecord) -> Option<GivenEvent<'a, A>>
+    ensures { option_map given_event result ≡ meaning.stream_start_of event.now }
 {
     let encoding = encoding(event.style)?;
-    Some(yaml_event_t::YAML_STREAM_START_EVENT { encoding })
+    Some(GivenEvent::Owned(yaml_event_t::YAML_STREAM_START_EVENT { encoding }))
 }
 
-fn document_start_of<A: Allocator + Copy>(
+fn document_start_of<'a, A: Allocator + Copy>(
     alloc: A,
     arena: &[u8],
     directives: &[DirectiveRecord],
     event: &EventRecord,
-) -> EventOrNone<A>
-    ensures { IfOk result (λ made. option_map seen_event made ≡ meaning.document_start_of arena.now directives.now event.now) }
+) -> EventOrNone<'a, A>
+    ensures { IfOk result (λ made. option_map given_event made ≡ meaning.document_start_of arena.now directives.now event.now) }
 {
-    match directives_at(alloc, arena, directives, &event.directives)? {
-        Some(tag_directives) => Ok(Some(yaml_event_t::YAML_DOCUMENT_START_EVENT {
-            version_directive: version_of(event),
-            tag_directives,
-            implicit: event.implicit != 0,
-        })),
-        None => Ok(None),
+    match directives_at(alloc, arena, directives, &event.directives) {
+        Ok(Some(tag_directives)) => Ok(Some(GivenEvent::Owned(
+            yaml_event_t::YAML_DOCUMENT_START_EVENT {
+                version_directive: version_of(event),
+                tag_directives,
+                implicit: event.implicit != 0,
+            },
+        ))),
+        Ok(None) => Ok(None),
+        Err(error) => Err(error),
     }
 }
 
-fn alias_of<A: Allocator>(alloc: A, arena: &[u8], event: &EventRecord) -> EventOrNone<A>
-    ensures { IfOk result (λ made. option_map seen_event made ≡ meaning.alias_of arena.now event.now) }
+fn alias_of<'a, A: Allocator>(alloc: A, arena: &[u8], event: &EventRecord) -> EventOrNone<'a, A>
+    ensures { IfOk result (λ made. option_map given_event made ≡ meaning.alias_of arena.now event.now) }
 {
-    match owned_text(alloc, arena, &event.anchor)? {
-        Some(anchor) => Ok(Some(yaml_event_t::YAML_ALIAS_EVENT { anchor })),
-        None => Ok(None),
+    match owned_text(alloc, arena, &event.anchor) {
+        Ok(Some(anchor)) => Ok(Some(GivenEvent::Owned(yaml_event_t::YAML_ALIAS_EVENT { anchor }))),
+        Ok(None) => Ok(None),
+        Err(error) => Err(error),
     }
 }
 
 /// A scalar, its texts borrowed from the arena.
-fn scalar_of<'a>(arena: &'a [u8], event: &EventRecord) -> Option<ScalarContent<'a>>
-    ensures { option_map (λ content. scalar (seen_scalar content)) result ≡ meaning.scalar_of arena.now event.now }
+fn scalar_of<'a, A: Allocator>(arena: &'a [u8], event: &EventRecord) -> Option<GivenEvent<'a, A>>
+    ensures { option_map given_event result ≡ meaning.scalar_of arena.now event.now }
 {
-    Some(ScalarContent {
-        style: scalar_style(event.style)?,
+    let Some(style) = scalar_style(event.style) else {
+        return None;
+    };
+    let Some(anchor) = optional_borrowed_text(arena, event.has_anchor, &event.anchor) else {
+        return None;
+    };
+    let Some(tag) = optional_borrowed_text(arena, event.has_tag, &event.tag) else {
+        return None;
+    };
+    let Some(value) = borrowed_text(arena, &event.value) else {
+        return None;
+    };
+    Some(GivenEvent::Scalar(ScalarContent {
+        anchor,
+        tag,
+        value,
         plain_implicit: event.implicit != 0,
         quoted_implicit: event.quoted_implicit != 0,
-        anchor: optional_borrowed_text(arena, event.has_anchor, &event.anchor)?,
-        tag: optional_borrowed_text(arena, event.has_tag, &event.tag)?,
-        value: borrowed_text(arena, &event.value)?,
-    })
+        style,
+    }))
 }
 
-fn sequence_from<A: Allocator>(
+/// The anchor and the tag of a collection, or none where one of them has no reading.
+fn names_of<A: Allocator + Copy>(
+    alloc: A,
+    arena: &[u8],
     event: &EventRecord,
-    anchor: Option<Option<String<A>>>,
-    tag: Option<Option<String<A>>>,
-) -> Option<yaml_event_t<A>>
-    ensures { option_map seen_event result
-        ≡ option_map sequence_start (meaning.collection_from (meaning.collection_style_numbered event.now.style) (texts.is_on event.now.implicit)
-        (option_map (λ text. option_map seen_text text) anchor) (option_map (λ text. option_map seen_text text) tag)) }
+) -> Result<Option<(Option<String<A>>, Option<String<A>>)>, AllocError>
+    ensures { IfOk result (λ found. (style : CollectionStyle) → (implicit : Bool) →
+        option_map (λ names. record { anchor = option_map seen_text names.0; tag = option_map seen_text names.1; implicit = implicit; style = style }) found
+        ≡ meaning.collection_from (Some style) implicit (texts.optional_text_at arena.now event.now.has_anchor event.now.anchor)
+        (texts.optional_text_at arena.now event.now.has_tag event.now.tag)) }
 {
-    Some(yaml_event_t::YAML_SEQUENCE_START_EVENT {
-        style: sequence_style(event.style)?,
-        implicit: event.implicit != 0,
-        anchor: anchor?,
-        tag: tag?,
-    })
+    let Some(anchor) = optional_text(alloc, arena, event.has_anchor, &event.anchor)? else {
+        return Ok(None);
+    };
+    let Some(tag) = optional_text(alloc, arena, event.has_tag, &event.tag)? else {
+        return Ok(None);
+    };
+    Ok(Some((anchor, tag)))
 }
 
-fn sequence_of<A: Allocator + Copy>(alloc: A, arena: &[u8], event: &EventRecord) -> EventOrNone<A>
-    ensures { IfOk result (λ made. option_map seen_event made ≡ option_map sequence_start (meaning.collection_of arena.now event.now)) }
-{
-    let anchor = optional_text(alloc, arena, event.has_anchor, &event.anchor)?;
-    let tag = optional_text(alloc, arena, event.has_tag, &event.tag)?;
-    Ok(sequence_from(event, anchor, tag))
-}
-
-fn mapping_from<A: Allocator>(
+fn sequence_of<'a, A: Allocator + Copy>(
+    alloc: A,
+    arena: &[u8],
     event: &EventRecord,
-    anchor: Option<Option<String<A>>>,
-    tag: Option<Option<String<A>>>,
-) -> Option<yaml_event_t<A>>
-    ensures { option_map seen_event result
-        ≡ option_map mapping_start (meaning.collection_from (meaning.collection_style_numbered event.now.style) (texts.is_on event.now.implicit)
-        (option_map (λ text. option_map seen_text text) anchor) (option_map (λ text. option_map seen_text text) tag)) }
+) -> EventOrNone<'a, A>
+    ensures { IfOk result (λ made. option_map given_event made ≡ option_map sequence_start (meaning.collection_of arena.now event.now)) }
 {
-    Some(yaml_event_t::YAML_MAPPING_START_EVENT {
-        style: mapping_style(event.style)?,
-        implicit: event.implicit != 0,
-        anchor: anchor?,
-        tag: tag?,
-    })
+    let Some(style) = sequence_style(event.style) else {
+        return Ok(None);
+    };
+    match names_of(alloc, arena, event) {
+        Ok(Some((anchor, tag))) => Ok(Some(GivenEvent::Owned(
+            yaml_event_t::YAML_SEQUENCE_START_EVENT {
+                anchor,
+                tag,
+                implicit: event.implicit != 0,
+                style,
+            },
+        ))),
+        Ok(None) => Ok(None),
+        Err(error) => Err(error),
+    }
 }
 
-fn mapping_of<A: Allocator + Copy>(alloc: A, arena: &[u8], event: &EventRecord) -> EventOrNone<A>
-    ensures { IfOk result (λ made. option_map seen_event made ≡ option_map mapping_start (meaning.collection_of arena.now event.now)) }
+fn mapping_of<'a, A: Allocator + Copy>(
+    alloc: A,
+    arena: &[u8],
+    event: &EventRecord,
+) -> EventOrNone<'a, A>
+    ensures { IfOk result (λ made. option_map given_event made ≡ option_map mapping_start (meaning.collection_of arena.now event.now)) }
 {
-    let anchor = optional_text(alloc, arena, event.has_anchor, &event.anchor)?;
-    let tag = optional_text(alloc, arena, event.has_tag, &event.tag)?;
-    Ok(mapping_from(event, anchor, tag))
-}
-
-fn owned<'a, A: Allocator>(event: Option<yaml_event_t<A>>) -> Option<GivenEvent<'a, A>>
-    ensures { option_map given_event result ≡ option_map seen_event event }
-{
-    Some(GivenEvent::Owned(event?))
-}
-
-fn borrowed<'a, A: Allocator>(content: Option<ScalarContent<'a>>) -> Option<GivenEvent<'a, A>>
-    ensures { option_map given_event result ≡ option_map (λ content. scalar (seen_scalar content)) content.entry }
-{
-    Some(GivenEvent::Scalar(content?))
+    let Some(style) = mapping_style(event.style) else {
+        return Ok(None);
+    };
+    match names_of(alloc, arena, event) {
+        Ok(Some((anchor, tag))) => Ok(Some(GivenEvent::Owned(
+            yaml_event_t::YAML_MAPPING_START_EVENT {
+                anchor,
+                tag,
+                implicit: event.implicit != 0,
+                style,
+            },
+        ))),
+        Ok(None) => Ok(None),
+        Err(error) => Err(error),
+    }
 }
 
 /// The event of a record; none where its kind, its style or one of its texts has no reading.
@@ -250,18 +264,18 @@ pub(crate) fn event_of<'a, A: Allocator + Copy>(
     ensures no_room { IfErr result (λ error. is_read_scalar (meaning.event_of arena.now directives.now event.now) ≡ false) }
 {
     match event.kind {
-        1 => Ok(owned(stream_start_of(event))),
-        2 => Ok(owned(Some(yaml_event_t::YAML_STREAM_END_EVENT))),
-        3 => Ok(owned(document_start_of(alloc, arena, directives, event)?)),
-        4 => Ok(owned(Some(yaml_event_t::YAML_DOCUMENT_END_EVENT {
+        1 => Ok(stream_start_of(event)),
+        2 => Ok(Some(GivenEvent::Owned(yaml_event_t::YAML_STREAM_END_EVENT))),
+        3 => document_start_of(alloc, arena, directives, event),
+        4 => Ok(Some(GivenEvent::Owned(yaml_event_t::YAML_DOCUMENT_END_EVENT {
             implicit: event.implicit != 0,
         }))),
-        5 => Ok(owned(alias_of(alloc, arena, event)?)),
-        6 => Ok(borrowed(scalar_of(arena, event))),
-        7 => Ok(owned(sequence_of(alloc, arena, event)?)),
-        8 => Ok(owned(Some(yaml_event_t::YAML_SEQUENCE_END_EVENT))),
-        9 => Ok(owned(mapping_of(alloc, arena, event)?)),
-        10 => Ok(owned(Some(yaml_event_t::YAML_MAPPING_END_EVENT))),
+        5 => alias_of(alloc, arena, event),
+        6 => Ok(scalar_of(arena, event)),
+        7 => sequence_of(alloc, arena, event),
+        8 => Ok(Some(GivenEvent::Owned(yaml_event_t::YAML_SEQUENCE_END_EVENT))),
+        9 => mapping_of(alloc, arena, event),
+        10 => Ok(Some(GivenEvent::Owned(yaml_event_t::YAML_MAPPING_END_EVENT))),
         _ => Ok(None),
     }
 }

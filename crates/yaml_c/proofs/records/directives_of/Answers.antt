@@ -8,10 +8,10 @@ loop-directive-preserved g c =
     let now = c.loop-directive in
     let all = c.args.directives.now in
     let read : List TagDirective = map seen_directive now.all.items in
-    let pushed : map seen_directive c.push.new.self.items ≡ read ++ seen_directive c.in-Some.directive ∷ [] =
-    ap (map seen_directive) c.in_ok-push.ensures.items ∙ map_push seen_directive now.all.items c.in-Some.directive in
-    let more = read_more c.args.arena.now all now.directive-index _ read (seen_directive c.in-Some.directive) c.loop-directive-test.true
-    (ap (option_map seen_directive) (sym c.in-Some.is) ∙ c.in_ok-directive.ensures) now.invariant.2 in (
+    let pushed : map seen_directive c.push.new.self.items ≡ read ++ seen_directive c.in-Ok-Some.directive ∷ [] =
+    ap (map seen_directive) c.in_ok-push-in-Ok-Some.ensures.items ∙ map_push seen_directive now.all.items c.in-Ok-Some.directive in
+    let more = read_more c.args.arena.now all now.directive-index _ read (seen_directive c.in-Ok-Some.directive) c.loop-directive-test.true
+    (ap (option_map seen_directive) (sym c.in-Ok-Some.field-0-is) ∙ c.in-Ok-Some.ensures) now.invariant.2 in (
       search rules,
       search rules,
       more ∙ ap (λ (xs : List TagDirective). behind xs (directives_of c.args.arena.now (drop (now.directive-index + 1) all))) (sym pushed),
@@ -27,11 +27,11 @@ loop-directive-init g c = (
 pub loop-directive-smaller : goal.loop-directive-smaller
 loop-directive-smaller g c = let more = c.loop-directive-test.true in omega (arith, more)
 
-pub returns-in_default : goal.returns-in_default
-returns-in_default g c =
+pub returns-in-Ok-None : goal.returns-in-Ok-None
+returns-in-Ok-None g c =
     let now = c.loop-directive in
     read_bad c.args.arena.now c.args.directives.now now.directive-index _ (map seen_directive now.all.items) c.loop-directive-test.true
-    (ap (option_map seen_directive) (sym c.in_default.is) ∙ c.in_ok-directive.ensures) now.invariant.2
+    (ap (option_map seen_directive) (sym c.in-Ok-None.field-0-is) ∙ c.in-Ok-None.ensures) now.invariant.2
 
 pub returns : goal.returns
 returns g c =
