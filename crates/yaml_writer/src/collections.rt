@@ -77,7 +77,10 @@ impl<A: Allocator + Copy> Writer<A> {
         ensures with_collection { OnOk result (self.new ≡ with_collection self.old kind) }
         ensures full { IfErr result (λ error. (error ≡ yaml_error_t.Memory) × (self.new ≡ self.old)) }
     {
-        self.levels.push(kind).map_err(|_| yaml_error_t::Memory)
+        match self.levels.push(kind) {
+            Ok(()) => Ok(()),
+            Err(_) => Err(yaml_error_t::Memory),
+        }
     }
 
     /// Gives the start of a collection to the emitter, with the properties of the next node.

@@ -24,7 +24,10 @@ pub(crate) fn text_of<A: Allocator>(alloc: A, text: &str) -> Result<String<A>, y
     ensures text { IfOk result (λ copy. seen_text copy ≡ chars text.now) }
     ensures memory { IfErr result (λ error. error ≡ yaml_error_t.Memory) }
 {
-    String::from_str(alloc, text).map_err(|_| yaml_error_t::Memory)
+    match String::from_str(alloc, text) {
+        Ok(copy) => Ok(copy),
+        Err(_) => Err(yaml_error_t::Memory),
+    }
 }
 
 /// The tag of a scalar's type, where one is written.

@@ -56,7 +56,9 @@ impl<A: Allocator + Copy> Writer<A> {
         ensures bare { IfOk result (λ writer. (writer.anchor ≡ None) × (writer.tag ≡ None)) }
         ensures memory { IfErr result (λ error. error ≡ yaml_error_t.Memory) }
     {
-        let mut emitter = yaml_emitter_t::with_settings(alloc, settings)?;
+        let Ok(mut emitter) = yaml_emitter_t::with_settings(alloc, settings) else {
+            return Err(yaml_error_t::Memory);
+        };
         begin(alloc, &mut emitter);
         Ok(Writer {
             alloc,
