@@ -10,7 +10,7 @@ use Rattle.yaml_c.specs.{declared.records.DirectiveRecord.DirectiveRecord, decla
 use Rattle.yaml_c.specs.declared.events.Emission.TheVariants.{BadEvent, Done, NoMemory, NoRoom, Refused}
 use Rattle.yaml_emitter.{proofs.standing.KeptDocuments.documents_kept, proofs.standing.KeptDocuments.documents_stay, specs.Promises.Promised}
 use Rattle.yaml_pen.specs.Wrote.{Grows}
-use Rattle.yaml_tool.{proofs.RunLemmas.flushed_last, specs.Runs.FlushFails, specs.Runs.EndsAt}
+use Rattle.yaml_tool.{proofs.RunLemmas.ended_without, proofs.RunLemmas.flushed_last, specs.Runs.EmitsAll, specs.Runs.FlushFails, specs.Runs.EndsAt}
 use Rattle.yaml_tool.specs.declared.answers.run_answer_t.TheVariants as run
 
 -- an event and its number
@@ -144,6 +144,20 @@ ended_flushed arena directives records first before after i number last set emis
     (subst (λ (xs : List Numbered). StandsAfter set (events_in xs) before) same stood)
     (subst (λ (xs : List Numbered). Promised set (events_in xs) before) same promised) none
     (subst (λ (xs : List Numbered). EndsAt xs number) same (last_line has.given last number before is has.ends)) h
+
+-- the end of an array without events
+pub ended_empty : (arena : List ℕ) (directives : List DirectiveRecord) (records : List EventRecord) (first state : State) (i : ℕ) (last : Option ℕ)
+    (set : Settings) (has : HasGiven arena directives records first i last state) → i ≤ length records → length records ≤ i → last ≡ None
+    → state.error ≡ None → StandsAfter set (events_in has.given) state → Promised set (events_in has.given) state
+    → EmitsRecords set (events_from 0 arena directives records) records Done state
+ended_empty arena directives records first state i last set has within overwritten is none stood promised =
+    let all = events_from 0 arena directives records in
+    let same : has.given ≡ all = with_none all has.given (events_from i arena directives (drop i records)) has.parts
+    (read_all arena directives records i overwritten) in
+    let count : i ≡ length records = omega arith in (
+      ap length (sym same) ∙ has.count ∙ count,
+      subst (λ (xs : List Numbered). EmitsAll set xs state) same (ended_without set has.given last state is stood promised none has.ends),
+    )
 
 -- the next record has no reading
 pub bad_next : (arena : List ℕ) (directives : List DirectiveRecord) (records : List EventRecord) (i : ℕ) (d : EventRecord) (given : List Numbered)

@@ -1,6 +1,6 @@
 use Rattle.yaml_c.proofs.Common.{ℕ, List, ◌<◌, ◌≤◌, None, drop, length, refl, rules, ◌≡◌, inl, ap, subst, sym, ◌∙◌, StandsAfter, State, events_from, events_in}
 use Rattle.std.proofs.Common.{Err, Ok}
-use Rattle.yaml_c.proofs.EmissionLemmas.{bad_next, given_more, refused_next, ended_flushed}
+use Rattle.yaml_c.proofs.EmissionLemmas.{bad_next, given_more, refused_next, ended_empty, ended_flushed}
 use Rattle.yaml_base.specs.scripts.Script.{Numbered}
 use Rattle.yaml_c.proofs.GivingLemmas.{took, took_bad, took_nothing}
 use Rattle.yaml_c.specs.declared.giving.Giving.TheVariants.{Emitted}
@@ -51,6 +51,15 @@ returns-in-Some-clause-emits g c given stands =
     ended_flushed c.args.arena.now c.args.directives.now c.args.events.now c.args.emitter.now now.emitter c.flush_after.new.emitter now.record-index
     c.in-Some.number now.last given c.flush_after.result has within c.loop-record-test.false c.in-Some.is now.invariant.3 stood
     (c.standing_is_promised.ensures given (events_in has.given) now.emitter stood) c.flush_after.ensures.flushed
+
+pub returns-in-None-clause-emits : goal.returns-in-None-clause-emits
+returns-in-None-clause-emits g c given stands =
+    let now = c.loop-record in
+    let has = now.invariant.5 in
+    let stood = has.stands given stands in
+    let within : now.record-index ≤ length c.args.events.now = search rules in
+    ended_empty c.args.arena.now c.args.directives.now c.args.events.now c.args.emitter.now now.emitter now.record-index now.last given has within
+    c.loop-record-test.false c.in-None.is now.invariant.3 stood (c.standing_is_promised.ensures given (events_in has.given) now.emitter stood)
 
 pub returns-in-NoMemory-clause-emits : goal.returns-in-NoMemory-clause-emits
 returns-in-NoMemory-clause-emits g c given stands =
