@@ -1,4 +1,4 @@
-use Rattle.yaml_c.proofs.Common.{Option, None, Some, Bool, false, ◌≡◌, refl, option_map}
+use Rattle.yaml_c.proofs.Common.{Option, None, Some, false, ◌≡◌, refl, option_map}
 use Rattle.std.specs.Prelude.{Result, Ok, Err, IfErr}
 use Rattle.yaml_base.specs.Event.{Event, alias, document_start, mapping_start, sequence_start}
 use Rattle.yaml_c.specs.Arena.{is_on, text_at}
