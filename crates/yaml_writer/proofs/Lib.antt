@@ -14,6 +14,7 @@ pub mod Finishing
 pub mod WaitingStarts
 pub mod PlainLemmas
 pub mod PlainNumbers
+pub mod Pushed
 pub mod DateLemmas
 pub mod TimeLemmas
 pub mod TimesPlain
