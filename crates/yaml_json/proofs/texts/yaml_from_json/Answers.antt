@@ -46,3 +46,30 @@ returns-in-Ok-finish-clause-names g c = c.in_default-write_json.ensures.names
 
 pub returns-in-Err-finish-clause-refused : goal.returns-in-Err-finish-clause-refused
 returns-in-Err-finish-clause-refused g c denied = absurd denied
+
+pub returns-in_default-clause-stream : goal.returns-in_default-clause-stream
+returns-in_default-clause-stream g c = tt
+
+pub returns-in_default-clause-names : goal.returns-in_default-clause-names
+returns-in_default-clause-names g c = tt
+
+pub returns-in-Err-clause-stream : goal.returns-in-Err-clause-stream
+returns-in-Err-clause-stream g c = tt
+
+pub returns-in-Err-clause-names : goal.returns-in-Err-clause-names
+returns-in-Err-clause-names g c = tt
+
+pub returns-in-Ok-finish-clause-refused : goal.returns-in-Ok-finish-clause-refused
+returns-in-Ok-finish-clause-refused g c = tt
+
+pub returns-in-Ok-finish-clause-why : goal.returns-in-Ok-finish-clause-why
+returns-in-Ok-finish-clause-why g c = tt
+
+pub returns-in-Ok-finish-clause-failed : goal.returns-in-Ok-finish-clause-failed
+returns-in-Ok-finish-clause-failed g c = tt
+
+pub returns-in-Err-finish-clause-stream : goal.returns-in-Err-finish-clause-stream
+returns-in-Err-finish-clause-stream g c = tt
+
+pub returns-in-Err-finish-clause-names : goal.returns-in-Err-finish-clause-names
+returns-in-Err-finish-clause-names g c = tt

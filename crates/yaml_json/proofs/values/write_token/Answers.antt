@@ -1,5 +1,5 @@
 use Rattle.yaml_json.proofs.Common.{ℕ, IfSome, OnOk, List, [], ◌∷◌, refl, ◌≡◌, Bor, subst, sym, chars, token_of, scalar, emitter_error_of, null_content}
-use Rattle.yaml_json.proofs.Common.{bool_content, number_content, text_content, RefusesText, Keeps, BeganValue, BeginFailed, RefusesToken, number_in}
+use Rattle.yaml_json.proofs.Common.{bool_content, number_content, text_content, Keeps, BeganValue, BeginFailed, RefusesToken, number_in}
 use Rattle.json.specs.{Print.IsPrintable, declared.token.Token.Token}
 use Rattle.yaml_json.proofs.{KeepingNames.keeps_scalar, NumberBridge.number_is, Refusing.unrefused, Stopping.if_some, Taking.scalar_began}
 use Rattle.yaml_json.proofs.{Taking.scalar_failed, WroteLemmas.on_ok, WroteLemmas.always}

@@ -49,3 +49,39 @@ returns-in_default-get-clause-adds g c names levels holds =
 
 pub returns-in_default-get-clause-as_long : goal.returns-in_default-get-clause-as_long
 returns-in_default-get-clause-as_long g c = length-set _ _ _
+
+pub returns-then-not-self-clause-kept : goal.returns-then-not-self-clause-kept
+returns-then-not-self-clause-kept g c = refl
+
+pub returns-in_default-clause-kept : goal.returns-in_default-clause-kept
+returns-in_default-clause-kept g c = refl
+
+pub returns-in_default-get-clause-kept : goal.returns-in_default-get-clause-kept
+returns-in_default-get-clause-kept g c = refl
+
+pub returns-then-is_among-clause-kept : goal.returns-then-is_among-clause-kept
+returns-then-is_among-clause-kept g c = refl
+
+pub returns-in-Ok-clause-kept : goal.returns-in-Ok-clause-kept
+returns-in-Ok-clause-kept g c = refl
+
+pub returns-in-Ok-insert-clause-kept : goal.returns-in-Ok-insert-clause-kept
+returns-in-Ok-insert-clause-kept g c = refl
+
+pub returns-in-Err-clause-kept : goal.returns-in-Err-clause-kept
+returns-in-Err-clause-kept g c = tt
+
+pub returns-in-Err-clause-adds : goal.returns-in-Err-clause-adds
+returns-in-Err-clause-adds g c = tt
+
+pub returns-in-Err-clause-as_long : goal.returns-in-Err-clause-as_long
+returns-in-Err-clause-as_long g c = tt
+
+pub returns-in-Err-insert-clause-kept : goal.returns-in-Err-insert-clause-kept
+returns-in-Err-insert-clause-kept g c = tt
+
+pub returns-in-Err-insert-clause-adds : goal.returns-in-Err-insert-clause-adds
+returns-in-Err-insert-clause-adds g c = tt
+
+pub returns-in-Err-insert-clause-as_long : goal.returns-in-Err-insert-clause-as_long
+returns-in-Err-insert-clause-as_long g c = tt
