@@ -309,3 +309,48 @@ write_first-requires-clause-fits g c =
     let fits = c.requires.fits in
     let added = c.in-Ok-add.ensures in
     (fits.0, (added.kept ∙ fits.1.0, λ kept. added.as_long ∙ fits.1.1 (sym added.kept ∙ kept)))
+
+pub returns-in-Err-clause-stepped : goal.returns-in-Err-clause-stepped
+returns-in-Err-clause-stepped g c = tt
+
+pub returns-in-Err-clause-fits : goal.returns-in-Err-clause-fits
+returns-in-Err-clause-fits g c = tt
+
+pub returns-in-Err-clause-names : goal.returns-in-Err-clause-names
+returns-in-Err-clause-names g c = tt
+
+pub returns-then-not-new-clause-stepped : goal.returns-then-not-new-clause-stepped
+returns-then-not-new-clause-stepped g c = tt
+
+pub returns-then-not-new-clause-fits : goal.returns-then-not-new-clause-fits
+returns-then-not-new-clause-fits g c = tt
+
+pub returns-then-not-new-clause-names : goal.returns-then-not-new-clause-names
+returns-then-not-new-clause-names g c = tt
+
+pub returns-in-Err-write_text-clause-stepped : goal.returns-in-Err-write_text-clause-stepped
+returns-in-Err-write_text-clause-stepped g c = tt
+
+pub returns-in-Err-write_text-clause-fits : goal.returns-in-Err-write_text-clause-fits
+returns-in-Err-write_text-clause-fits g c = tt
+
+pub returns-in-Err-write_text-clause-names : goal.returns-in-Err-write_text-clause-names
+returns-in-Err-write_text-clause-names g c = tt
+
+pub returns-in-Err-add-clause-stepped : goal.returns-in-Err-add-clause-stepped
+returns-in-Err-add-clause-stepped g c = tt
+
+pub returns-in-Err-add-clause-fits : goal.returns-in-Err-add-clause-fits
+returns-in-Err-add-clause-fits g c = tt
+
+pub returns-in-Err-add-clause-names : goal.returns-in-Err-add-clause-names
+returns-in-Err-add-clause-names g c = tt
+
+pub returns-in-String-clause-stepped : goal.returns-in-String-clause-stepped
+returns-in-String-clause-stepped g c = tt
+
+pub returns-in-String-clause-fits : goal.returns-in-String-clause-fits
+returns-in-String-clause-fits g c = tt
+
+pub returns-in-String-clause-names : goal.returns-in-String-clause-names
+returns-in-String-clause-names g c = tt
