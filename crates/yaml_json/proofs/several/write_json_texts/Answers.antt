@@ -77,3 +77,27 @@ returns-then-is_empty-clause-names g c =
     c.first_cut.result.0.now c.first_cut.result.1.now c.texts.writer c.write_text_by.new.writer c.first_cut.ensures c.texts.invariant.1
     c.in_default.ensures.names c.in_default.ensures.written
     (no_more c.first_cut.result.1.now c.is_empty.result c.is_empty.ensures c.if-is_empty.true)
+
+pub returns-in-Err-clause-written : goal.returns-in-Err-clause-written
+returns-in-Err-clause-written g c = tt
+
+pub returns-in-Err-clause-reads : goal.returns-in-Err-clause-reads
+returns-in-Err-clause-reads g c = tt
+
+pub returns-in-Err-clause-names : goal.returns-in-Err-clause-names
+returns-in-Err-clause-names g c = tt
+
+pub returns-then-is_empty-clause-refused : goal.returns-then-is_empty-clause-refused
+returns-then-is_empty-clause-refused g c = tt
+
+pub returns-then-is_empty-clause-failed : goal.returns-then-is_empty-clause-failed
+returns-then-is_empty-clause-failed g c = tt
+
+pub returns-in-Err-next_document-clause-written : goal.returns-in-Err-next_document-clause-written
+returns-in-Err-next_document-clause-written g c = tt
+
+pub returns-in-Err-next_document-clause-reads : goal.returns-in-Err-next_document-clause-reads
+returns-in-Err-next_document-clause-reads g c = tt
+
+pub returns-in-Err-next_document-clause-names : goal.returns-in-Err-next_document-clause-names
+returns-in-Err-next_document-clause-names g c = tt

@@ -23,3 +23,30 @@ pub returns-in-Err : goal.returns-in-Err
 returns-in-Err g c =
     let failed = c.in-Err.ensures in
     record { none = tt; written = tt; names = tt; refused = failed.refused; stopped = failed.stopped }
+
+pub returns-in-Ok-None-clause-refused : goal.returns-in-Ok-None-clause-refused
+returns-in-Ok-None-clause-refused g c = tt
+
+pub returns-in-Ok-None-clause-stopped : goal.returns-in-Ok-None-clause-stopped
+returns-in-Ok-None-clause-stopped g c = tt
+
+pub returns-in-Ok-Some-clause-none : goal.returns-in-Ok-Some-clause-none
+returns-in-Ok-Some-clause-none g c = tt
+
+pub returns-in-Ok-Some-clause-written : goal.returns-in-Ok-Some-clause-written
+returns-in-Ok-Some-clause-written g c = tt
+
+pub returns-in-Ok-Some-clause-names : goal.returns-in-Ok-Some-clause-names
+returns-in-Ok-Some-clause-names g c = tt
+
+pub returns-in-Ok-Some-clause-stopped : goal.returns-in-Ok-Some-clause-stopped
+returns-in-Ok-Some-clause-stopped g c = tt
+
+pub returns-in-Err-next-clause-none : goal.returns-in-Err-next-clause-none
+returns-in-Err-next-clause-none g c = tt
+
+pub returns-in-Err-next-clause-written : goal.returns-in-Err-next-clause-written
+returns-in-Err-next-clause-written g c = tt
+
+pub returns-in-Err-next-clause-names : goal.returns-in-Err-next-clause-names
+returns-in-Err-next-clause-names g c = tt

@@ -197,3 +197,27 @@ returns-in-BeginObject g c =
       refused = rw c.in-BeginObject.is begun.refused;
       stopped = rw c.in-BeginObject.is begun.stopped;
     }
+
+pub returns-in-Key-clause-began : goal.returns-in-Key-clause-began
+returns-in-Key-clause-began g c = tt
+
+pub returns-in-Key-clause-fits : goal.returns-in-Key-clause-fits
+returns-in-Key-clause-fits g c = tt
+
+pub returns-in-Key-clause-names : goal.returns-in-Key-clause-names
+returns-in-Key-clause-names g c = tt
+
+pub returns-in-Key-clause-stopped : goal.returns-in-Key-clause-stopped
+returns-in-Key-clause-stopped g c = tt
+
+pub returns-in-EndObject-clause-began : goal.returns-in-EndObject-clause-began
+returns-in-EndObject-clause-began g c = tt
+
+pub returns-in-EndObject-clause-fits : goal.returns-in-EndObject-clause-fits
+returns-in-EndObject-clause-fits g c = tt
+
+pub returns-in-EndObject-clause-names : goal.returns-in-EndObject-clause-names
+returns-in-EndObject-clause-names g c = tt
+
+pub returns-in-EndObject-clause-stopped : goal.returns-in-EndObject-clause-stopped
+returns-in-EndObject-clause-stopped g c = tt

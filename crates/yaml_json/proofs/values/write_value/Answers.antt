@@ -80,3 +80,27 @@ returns-clause-none g c =
     let none : l.nest.kinds.items ≡ [] = grind arith in
     let fits = l.invariant.1.1 in
     (none, fits.0, λ kept. no_item l.nest.names.levels.items (fits.1 kept ∙ ap length none))
+
+pub returns-in-Err-clause-none : goal.returns-in-Err-clause-none
+returns-in-Err-clause-none g c = tt
+
+pub returns-in-Err-clause-written : goal.returns-in-Err-clause-written
+returns-in-Err-clause-written g c = tt
+
+pub returns-in-Err-clause-names : goal.returns-in-Err-clause-names
+returns-in-Err-clause-names g c = tt
+
+pub returns-in-Err-write_next-clause-none : goal.returns-in-Err-write_next-clause-none
+returns-in-Err-write_next-clause-none g c = tt
+
+pub returns-in-Err-write_next-clause-written : goal.returns-in-Err-write_next-clause-written
+returns-in-Err-write_next-clause-written g c = tt
+
+pub returns-in-Err-write_next-clause-names : goal.returns-in-Err-write_next-clause-names
+returns-in-Err-write_next-clause-names g c = tt
+
+pub returns-clause-refused : goal.returns-clause-refused
+returns-clause-refused g c = tt
+
+pub returns-clause-stopped : goal.returns-clause-stopped
+returns-clause-stopped g c = tt
