@@ -97,6 +97,33 @@ fn send_files<'a, R: Runtime + AllocGlobal, W: Write>(
     Ok(())
 }
 
+/// Sends on the YAML of all that is to be converted, but for the last document, which is left to the writer.
+fn send_texts<'a, R: Runtime + AllocGlobal, W: Write>(
+    rt: &R,
+    writer: &mut Writer<Global>,
+    conversion: &Conversion<'a>,
+    sink: &mut W,
+) -> Result<(), (Option<&'a str>, StreamError)>
+    requires { IsBare writer.old }
+{
+    let settings = &conversion.settings;
+    if conversion.files.is_empty() {
+        send_file(rt, writer, STREAM, sink, settings).map_err(|error| (None, error))
+    } else {
+        send_files(rt, writer, conversion.files.as_slice(), sink, settings)
+    }
+}
+
+/// Ends the last document, and writes it.
+fn send_last<W: Write>(writer: Writer<Global>, sink: &mut W) -> Result<(), StreamError> {
+    match writer.finish() {
+        Ok(bytes) => sink
+            .write_all(bytes.as_slice())
+            .map_err(StreamError::WriteFailed),
+        Err(error) => Err(writer_error(error)),
+    }
+}
+
 /// Sends on the YAML of all that is to be converted.
 fn send_all<'a, R: Runtime + AllocGlobal, W: Write>(
     rt: &R,
@@ -107,18 +134,8 @@ fn send_all<'a, R: Runtime + AllocGlobal, W: Write>(
         Ok(writer) => writer,
         Err(error) => return Err((None, writer_error(error))),
     };
-    let settings = &conversion.settings;
-    if conversion.files.is_empty() {
-        send_file(rt, &mut writer, STREAM, sink, settings).map_err(|error| (None, error))?;
-    } else {
-        send_files(rt, &mut writer, conversion.files.as_slice(), sink, settings)?;
-    }
-    match writer.finish() {
-        Ok(bytes) => sink
-            .write_all(bytes.as_slice())
-            .map_err(|error| (None, StreamError::WriteFailed(error))),
-        Err(error) => Err((None, writer_error(error))),
-    }
+    send_texts(rt, &mut writer, conversion, sink)?;
+    send_last(writer, sink).map_err(|error| (None, error))
 }
 
 /// Sends on all that is to be converted through a buffer, which is flushed at the end, whatever went wrong.
