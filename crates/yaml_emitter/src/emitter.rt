@@ -18,7 +18,6 @@ use yaml_base::{yaml_error_t, yaml_event_t};
 pub(crate) type WaitingEvents<A> = Vec<yaml_event_t<A>, A>;
 
 /// Writes events as YAML 1.1 into a vector of bytes.
-#[derive(Drop)]
 pub struct yaml_emitter_t<A: Allocator> {
     pub(crate) started: bool,
     pub(crate) has_output: bool,
@@ -27,6 +26,21 @@ pub struct yaml_emitter_t<A: Allocator> {
     pub(crate) queue: WaitingEvents<A>,
     pub(crate) spares: SpareTexts<A>,
     pub(crate) machine: Machine<A>,
+}
+
+// Not derived, so that a function that drops an emitter has one call for it in place of one for each part.
+impl<A: Allocator> Drop for yaml_emitter_t<A> {
+    fn drop(self) {
+        let yaml_emitter_t {
+            started: _,
+            has_output: _,
+            opened: _,
+            closed: _,
+            queue: _,
+            spares: _,
+            machine: _,
+        } = self;
+    }
 }
 
 impl<A: Allocator> Model for yaml_emitter_t<A> {

@@ -22,7 +22,6 @@ use yaml_emitter::{
 };
 
 /// Writes values, one call each, into a vector of bytes.
-#[derive(Drop)]
 pub struct Writer<A: Allocator> {
     pub(crate) alloc: A,
     pub(crate) emitter: yaml_emitter_t<A>,
@@ -31,6 +30,20 @@ pub struct Writer<A: Allocator> {
     pub(crate) levels: Vec<CollectionKind, A>,
     pub(crate) anchor: Option<String<A>>,
     pub(crate) tag: Option<String<A>>,
+}
+
+// Not derived, so that a function that drops a writer has one call for it in place of one for each part.
+impl<A: Allocator> Drop for Writer<A> {
+    fn drop(self) {
+        let Writer {
+            alloc: _,
+            emitter: _,
+            canonical: _,
+            levels: _,
+            anchor: _,
+            tag: _,
+        } = self;
+    }
 }
 
 impl<A: Allocator> Model for Writer<A> {
@@ -176,7 +189,7 @@ impl<A: Allocator + Copy> Writer<A> {
     ///
     /// # Errors
     /// Those of `finish`.
-    pub fn finish_after(mut self, end: DocumentEnd) -> Result<Vec<u8, A>, yaml_error_t>
+    pub fn finish_after(self, end: DocumentEnd) -> Result<Vec<u8, A>, yaml_error_t>
         ensures awaited { awaits_node self ≡ true → result ≡ Err yaml_error_t.ExpectedNode }
         ensures finishes { IfOk result (λ bytes. FinishesBy (is_implicit end) self.emitter bytes.items) }
         ensures unfinished { awaits_node self ≡ false → IfErr result (λ error. IsUnfinishedBy (is_implicit end) self.emitter error) }
@@ -184,6 +197,14 @@ impl<A: Allocator + Copy> Writer<A> {
         if self.awaits_node() {
             return Err(yaml_error_t::ExpectedNode);
         }
-        finished(&mut self.emitter, end)
+        let Writer {
+            alloc: _,
+            mut emitter,
+            canonical: _,
+            levels: _,
+            anchor: _,
+            tag: _,
+        } = self;
+        finished(&mut emitter, end)
     }
 }
