@@ -243,16 +243,21 @@ fn check_added<'a>(
 const ADDED: &str =
     r#"+DOC 1 - "!first!" "p" "!second-of-them!" "tag:a-long-prefix.example,2000:" "!third!" "q""#;
 
-// Directives are added with this growth refused. Answers whether there is that growth.
-fn is_refused(rt: &impl Abort, alloc: Global, number: usize) -> bool {
-    let heap = Refusing::new(alloc);
-    let given = directives(rt, &heap, ADDED);
-    let mut added = Directives::new(&heap);
+// Directives are added with this growth refused.
+fn add_refused(rt: &impl Abort, heap: &Heap, number: usize) {
+    let given = directives(rt, heap, ADDED);
+    let mut added = Directives::new(heap);
     heap.refuse(number);
     for directive in &given {
-        check_added(rt, &heap, &mut added, directive);
+        check_added(rt, heap, &mut added, directive);
     }
     check_all(rt, &added, given.as_slice());
+}
+
+// Answers whether there is that growth.
+fn is_refused(rt: &impl Abort, alloc: Global, number: usize) -> bool {
+    let heap = Refusing::new(alloc);
+    add_refused(rt, &heap, number);
     heap.left() == 0
 }
 

@@ -3,7 +3,7 @@ use super::{Answer, UNSET, check_failed, give, made};
 use crate::tests::{equal, equal_at, event_of, same};
 use std::alloc::{Allocator, Global};
 use std::process::Abort;
-use yaml_base::{YAML_SCALAR_EVENT, yaml_error_t};
+use yaml_base::{YAML_SCALAR_EVENT, yaml_error_t, yaml_event_t};
 use yaml_emitter::{ScalarContent, Settings, yaml_emitter_emit_scalar, yaml_emitter_t};
 use yaml_test_allocator::Refusing;
 
@@ -195,6 +195,28 @@ fn give_refused<A: Allocator + Copy>(
     again
 }
 
+// The scalar that an event is.
+fn content_of<A: Allocator>(event: &yaml_event_t<A>) -> Option<ScalarContent<'_>> {
+    match event {
+        YAML_SCALAR_EVENT {
+            anchor,
+            tag,
+            value,
+            plain_implicit,
+            quoted_implicit,
+            style,
+        } => Some(ScalarContent {
+            anchor: borrowed(anchor),
+            tag: borrowed(tag),
+            value: value.as_str(),
+            plain_implicit: *plain_implicit,
+            quoted_implicit: *quoted_implicit,
+            style: *style,
+        }),
+        _ => None,
+    }
+}
+
 // The event of a line, or the scalar that it is.
 fn give_line<A: Allocator + Copy>(
     rt: &impl Abort,
@@ -204,30 +226,10 @@ fn give_line<A: Allocator + Copy>(
     (line, way): (&str, Way),
 ) -> Answer {
     let event = event_of(rt, alloc, line);
-    let Some(growth) = way else {
-        return give(rt, emitter, event);
-    };
-    match &event {
-        YAML_SCALAR_EVENT {
-            anchor,
-            tag,
-            value,
-            plain_implicit,
-            quoted_implicit,
-            style,
-        } => {
-            let content = ScalarContent {
-                anchor: borrowed(anchor),
-                tag: borrowed(tag),
-                value: value.as_str(),
-                plain_implicit: *plain_implicit,
-                quoted_implicit: *quoted_implicit,
-                style: *style,
-            };
-            give_refused(rt, heap, emitter, &content, growth)
-        }
-        _ => give(rt, emitter, event),
+    if let (Some(growth), Some(content)) = (way, content_of(&event)) {
+        return give_refused(rt, heap, emitter, &content, growth);
     }
+    give(rt, emitter, event)
 }
 
 fn check_lines<A: Allocator + Copy>(

@@ -170,22 +170,27 @@ fn check_events<A: Allocator + Copy>(
     }
 }
 
-/// The calls of a row, with this growth refused. Answers whether there is that growth.
-pub(super) fn is_refused(rt: &impl Abort, alloc: Global, row: &Row, number: usize) -> bool {
-    let heap = Refusing::new(alloc);
-    let script = read_script(&heap, row.script.as_bytes()).expect(rt, "a script");
+/// The calls of a row, with this growth refused.
+fn call_refused(rt: &impl Abort, alloc: Global, heap: &Refusing<Global>, row: &Row, number: usize) {
+    let script = read_script(heap, row.script.as_bytes()).expect(rt, "a script");
     let mut walk = Walk {
         row: *row,
         name: row.script.get(..NAME_LENGTH).unwrap_or(row.script),
-        heap: &heap,
+        heap,
         given: Vec::new(alloc),
         flushes: 0,
     };
     heap.refuse(number);
-    match begun(&heap, &script.settings) {
+    match begun(heap, &script.settings) {
         Ok(mut emitter) => check_events(rt, &mut walk, &mut emitter, script.events),
         Err(error) => equal(rt, &(heap.left(), error), &(0, yaml_error_t::Memory)),
     }
+}
+
+/// Answers whether there is that growth.
+pub(super) fn is_refused(rt: &impl Abort, alloc: Global, row: &Row, number: usize) -> bool {
+    let heap = Refusing::new(alloc);
+    call_refused(rt, alloc, &heap, row, number);
     heap.left() == 0
 }
 
