@@ -1,7 +1,10 @@
 -- The events of a walk, one more step at a time.
-use Rattle.yaml_dump.proofs.Common.{suc, zero, ℕ, ◌+◌, ◌-◌, ◌<◌, flat_map, unwrap_or, Option, None, Some, nat_le, length, slice_index_or as get_or, take, Bool, false, true, ◌&&◌}
-use Rattle.yaml_dump.proofs.Common.{List, [], map, ◌++◌, ◌∷◌, refl, ◌≡◌, append-nil, append_assoc, ap, sym, ◌∙◌, arith, nat_tests, map-append, Text, Event, seen_event}
-use Rattle.yaml_dump.proofs.Common.{seen_events, Graph, Step, steps, enters, meets_again, numbered_name, document_start, opening_events, step_events, IsNumbered, is_numbered, anchor_of_place, HasPlaces}
+use Rattle.yaml_dump.proofs.Common.{suc, zero, ℕ, ◌+◌, ◌-◌, ◌<◌, flat_map, unwrap_or, Option, None, Some, nat_le}
+use Rattle.yaml_dump.proofs.Common.{length, slice_index_or as get_or, take, Bool, false, true, ◌&&◌}
+use Rattle.yaml_dump.proofs.Common.{List, [], map, ◌++◌, ◌∷◌, refl, ◌≡◌, append-nil, append_assoc, ap, sym}
+use Rattle.yaml_dump.proofs.Common.{◌∙◌, arith, nat_tests, map-append, Text, Event, seen_event}
+use Rattle.yaml_dump.proofs.Common.{seen_events, Graph, Step, steps, enters, meets_again, numbered_name, document_start, opening_events}
+use Rattle.yaml_dump.proofs.Common.{step_events, IsNumbered, is_numbered, anchor_of_place, HasPlaces}
 use Rattle.yaml_dump.proofs.Common.{seen_events_of, number_in, AreNamed, seen_step}
 use Rattle.yaml_base.proofs.Common.{flat_map-append, node_numbered, alias, document_end}
 use Rattle.yaml_base.specs.declared.events.yaml_event_t.{yaml_event_t}

@@ -1,7 +1,9 @@
 -- A document's events unfold its graph, and so does what is read back of them.
-use Rattle.yaml_dump.proofs.Common.{ℕ, ◌==◌, if◌then◌else◌, OnOk, Option, None, Some, Result, Err, Ok, Vec, drop, length, Bool, false, true, List, [], map, ◌++◌}
+use Rattle.yaml_dump.proofs.Common.{ℕ, ◌==◌, if◌then◌else◌, OnOk, Option, None, Some, Result, Err, Ok, Vec, drop}
+use Rattle.yaml_dump.proofs.Common.{length, Bool, false, true, List, [], map, ◌++◌}
 use Rattle.yaml_dump.proofs.Common.{◌∷◌, refl, ◌≡◌, ap, subst, sym, ◌∙◌, false≢true, dumped_stream, document_unfolds, Event, stream_end, seen_event}
-use Rattle.yaml_dump.proofs.Common.{length-map, is_numbered, seen_step, seen_events, Settings, AreDumped, Graph, steps, document_event_list, DocumentTree, EmitsAll, EmitsEach, opening}
+use Rattle.yaml_dump.proofs.Common.{length-map, is_numbered, seen_step, seen_events, Settings, AreDumped, Graph, steps, document_event_list}
+use Rattle.yaml_dump.proofs.Common.{DocumentTree, EmitsAll, EmitsEach, opening}
 use Rattle.yaml_dump.proofs.Common.{closing, Promised, StandsAfter, State}
 use Rattle.yaml_base.proofs.Common.{written, IsDocument, agrees, stream_trees}
 use Rattle.std.{proofs.Math.Seq.drop-length, specs.Prelude.IfOk}

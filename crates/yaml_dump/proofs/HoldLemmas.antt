@@ -1,12 +1,17 @@
 -- What is left of a graph's nodes while the steps of a walk become events, and where a node is entered.
-use Rattle.yaml_dump.proofs.Common.{suc, zero, ℕ, ◌+◌, ◌-◌, ◌<◌, ◌≤◌, ◌==◌, option_map, Option, None, Some, drop, length, slice_index_or as get_or, slice_set as set}
+use Rattle.yaml_dump.proofs.Common.{suc, zero, ℕ, ◌+◌, ◌-◌, ◌<◌, ◌≤◌, ◌==◌, option_map, Option}
+use Rattle.yaml_dump.proofs.Common.{None, Some, drop, length, slice_index_or as get_or, slice_set as set}
 use Rattle.yaml_dump.proofs.Common.{slice_get, take, Bool, cond, false, true, ◌||◌, List, [], map, ◌++◌, ◌∷◌, ◌≢◌, refl, ◌≡◌, length-set, get_or-set_same, ap}
-use Rattle.yaml_dump.proofs.Common.{subst, sym, ◌∙◌, arith, nat_tests, length-map, map-append, list_any, Text, GraphNode, Graph, Step, enters, is_entry_of, steps}
+use Rattle.yaml_dump.proofs.Common.{subst, sym, ◌∙◌, arith, nat_tests, length-map, map-append, list_any, Text, GraphNode}
+use Rattle.yaml_dump.proofs.Common.{Graph, Step, enters, is_entry_of, steps}
 use Rattle.yaml_dump.proofs.Common.{opening_events, get_or-map, seen_step, IsNamed}
-use Rattle.yaml_base.proofs.Common.{count_by, node_numbered, opening_event_of, closing_event_of, closing_events, first_reached, Held, scalar_held, sequence_held, mapping_held}
+use Rattle.yaml_base.proofs.Common.{count_by, node_numbered, opening_event_of, closing_event_of, closing_events, first_reached, Held}
+use Rattle.yaml_base.proofs.Common.{scalar_held, sequence_held, mapping_held}
 use Rattle.yaml_base.proofs.UnfoldSteps.{any_added, orderly_steps}
 use Rattle.yaml_base.specs.{Seen.seen_text, graphs.SeenNodes.seen_held, graphs.SeenNodes.seen_node, declared.nodes.yaml_node_t.yaml_node_t}
-use Rattle.std.proofs.lemmas.{Bool.or_parts, List.take-append-drop, List.take-map, List.Sums.count_by_more_yes, List.Sums.sum_by-append, List.Sums.sum_by-cons, List.take_more, Option.get_or_from_slice_get, Option.slice_get-map, Option.slice_get_read, Option.slice_get_within}
+use Rattle.std.proofs.lemmas.{Bool.or_parts, List.take-append-drop, List.take-map, List.Sums.count_by_more_yes, List.Sums.sum_by-append}
+use Rattle.std.proofs.lemmas.{List.Sums.sum_by-cons, List.take_more, Option.get_or_from_slice_get, Option.slice_get-map, Option.slice_get_read}
+use Rattle.std.proofs.lemmas.{Option.slice_get_within}
 use Rattle.yaml_dump.specs.declared.steps.Step as declared
 use Rattle.yaml_dump.specs.Events.{HoldsTexts, IsFirstEntry, held_without_children, without_children}
 
@@ -29,7 +34,8 @@ once_before : (test : Step → Bool) (walk : List Step) (index : ℕ) (default :
 once_before test walk index default few inside is =
     let counted = λ (steps : List Step). count_by test steps in
     let whole : counted (take (index + 1) walk) + counted (drop (index + 1) walk) ≡ counted walk =
-    sym (sum_by-append (λ (other : Step). cond (test other) 1 0) (take (index + 1) walk) (drop (index + 1) walk)) ∙ ap counted (take-append-drop (index + 1) walk) in
+    sym (sum_by-append (λ (other : Step). cond (test other) 1 0) (take (index + 1) walk) (drop (index + 1) walk))
+    ∙ ap counted (take-append-drop (index + 1) walk) in
     none_counted test (take index walk) (omega (arith, whole, count_by_more_yes test walk index default inside is))
 
 at_most_one : (any : Bool) → cond any 1 0 ≤ 1
@@ -84,7 +90,8 @@ some_next graph before inside none = none_inside graph.nodes before inside (sym 
 -- the node of a place, as an index reads it
 node_at : {A : Type 0} (nodes : List (yaml_node_t A)) (place : ℕ) (node : yaml_node_t A) → place < length nodes → node ≡ get_or nodes place node
     → slice_get (map seen_node nodes) place ≡ Some (seen_node node)
-node_at nodes place node inside is = slice_get-map seen_node nodes place ∙ ap (option_map seen_node) (slice_get_read nodes (length nodes) place node refl inside is)
+node_at nodes place node inside is =
+    slice_get-map seen_node nodes place ∙ ap (option_map seen_node) (slice_get_read nodes (length nodes) place node refl inside is)
 
 elsewhere : {A : Type 0} (xs : List A) (written place : ℕ) (x : A) → place ≢ written → slice_get (set xs written x) place ≡ slice_get xs place
 elsewhere [] written place x differs = refl

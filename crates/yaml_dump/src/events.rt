@@ -1,5 +1,6 @@
 //! The events of a walk over a document's nodes, into which the nodes' texts are moved.
-ghost use Rattle.std.specs.Prelude.{◌≡◌, ◌<◌, ◌≤◌, ◌-◌, ◌++◌, ◌∷◌, [], ℕ, true, Some, List, Option, unwrap_or, IfOk, IsTrue, false, nat_lt, map, option_map, length};
+ghost use Rattle.std.specs.Prelude.{◌≡◌, ◌<◌, ◌≤◌, ◌-◌, ◌++◌, ◌∷◌, [], ℕ, true, Some, List, Option};
+ghost use Rattle.std.specs.Prelude.{unwrap_or, IfOk, IsTrue, false, nat_lt, map, option_map, length};
 ghost use Rattle.std.specs.Prelude.{slice_index, bytes_eq};
 ghost use Rattle.std.specs.List.{list_all, list_any, flat_map};
 ghost use Rattle.std.specs.Str.{chars};

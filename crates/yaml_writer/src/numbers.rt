@@ -226,8 +226,8 @@ impl<'a> Model for Number<'a> {
 }
 
 impl<'a> Number<'a> {
-    /// The number of a text that is known to be one, as a reader of JSON knows of its tokens. It looks at no byte of the text;
-    /// `number_of` finds out whether a text is a number.
+    /// The number that a text is. It must be a number of JSON (RFC 8259, section 6), as a reader of JSON knows of its tokens: no byte
+    /// of it is looked at here. `number_of` finds out whether a text is a number.
     pub fn of_text(text: &'a str) -> Self
         requires { parts.IsNumber text.now (parts.number_in text.now) }
         ensures { parts.IsNumber text.now result }

@@ -1,4 +1,5 @@
-use Rattle.yaml_dump.proofs.Common.{length, map, [], ◌++◌, ◌∷◌, ◌≡◌, ap, subst, sym, arith, IfOk-weaker, step_events, IsNamed, IsNumbered, seen_events_of, seen_step}
+use Rattle.yaml_dump.proofs.Common.{length, map, [], ◌++◌, ◌∷◌, ◌≡◌, ap, subst, sym, arith}
+use Rattle.yaml_dump.proofs.Common.{IfOk-weaker, step_events, IsNamed, IsNumbered, seen_events_of, seen_step}
 use Rattle.yaml_base.specs.{Event.alias, Seen.seen_text, graphs.SeenNodes.seen_node}
 use Rattle.yaml_dump.specs.Events.{HoldsTexts}
 use Rattle.yaml_dump.proofs.EventLemmas.{entered, met_again}
