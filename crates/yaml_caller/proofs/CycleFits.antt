@@ -1,13 +1,14 @@
 -- The dump of a document that holds itself is accepted and fits, so that nothing but memory can give out.
-use Rattle.yaml_caller.proofs.Common.{ℕ, ◌≤◌, if◌then◌else◌, ◌==◌, None, Some, Err, codes, length, Bool, false, true, [], ◌++◌, ◌∷◌, refl, ◌≡◌, append_assoc}
-use Rattle.yaml_caller.proofs.Common.{inl, inr, ap, subst, sym, ◌∙◌, arith, any_style, block, stream_end, scalar_node, no_documents, documents_and, Stream}
-use Rattle.yaml_caller.proofs.Common.{output_of, most_open, open_count, IsAccepted, Graph, string_tag, mapping_tag, document_event_list, cycle_graph}
-use Rattle.yaml_caller.proofs.Common.{letter_settings, opening, closing, Dumps, StandsAfter, State}
+use Rattle.yaml_caller.proofs.Common.{if◌then◌else◌, ◌==◌, None, Some, Err, codes, length, Bool, false, true, List, [], ◌++◌, ◌∷◌, refl, ◌≡◌, append_assoc}
+use Rattle.yaml_caller.proofs.Common.{inl, inr, ap, subst, sym, ◌∙◌, any_style, block, Event, stream_end, scalar_node, no_documents, documents_and, Stream}
+use Rattle.yaml_caller.proofs.Common.{IsAccepted, Graph, string_tag, mapping_tag, document_event_list, cycle_graph, letter_settings, opening, closing}
+use Rattle.yaml_caller.proofs.Common.{Dumps, StandsAfter, State}
 use Rattle.yaml_base.proofs.Common.{alias_node, mapping_node, no_pairs, pairs_and}
-use Rattle.std.specs.Char.{encode_utf8}
+use Rattle.std.{proofs.Common.lit≤, specs.Char.encode_utf8}
 use Rattle.yaml_base.specs.{declared.errors.yaml_error_t.yaml_error_t, declared.errors.yaml_error_t.TheVariants.Memory, graphs.Meetings.decimal_digits}
-use Rattle.yaml_caller.proofs.{Dumped.dumped_cycle, Dumped.cycle_events, OnlyMemory.Fits, OnlyMemory.only_memory, OnlyMemory.open_at_most}
+use Rattle.yaml_caller.proofs.{Dumped.dumped_cycle, Dumped.cycle_events, OnlyMemory.only_memory, OnlyMemory.prefix_fits, OnlyMemory.shallow}
 use Rattle.yaml_dump.specs.Dumps.{FailsAt, FailsDump}
+use Rattle.yaml_emitter.specs.{Promises.FitsLimit, Uncut.IsUncut}
 
 abbrev cycle_stream : Stream
 cycle_stream =
@@ -27,26 +28,17 @@ cycle_stream =
           });
     }
 
-one_open : (most count : ℕ) → 1 ≤ most → count ≤ 1 → count ≤ most
-one_open most count some h = omega (arith, some, h)
-
 accepted : IsAccepted true cycle_events
 unfolding decimal_digits
-accepted =
-    record {
-      stream = cycle_stream;
-      is_stream = refl;
-      sound = refl;
-      shallow = λ prefix rest is. one_open most_open (open_count prefix) (omega arith) (open_at_most cycle_events prefix rest is);
-    }
+accepted = record { stream = cycle_stream; is_stream = refl; sound = refl; shallow = shallow cycle_events (lit≤ tt) }
 
-row : length (output_of letter_settings cycle_events) ≡ 47
+uncut : IsUncut letter_settings cycle_events
 unfolding encode_utf8 decimal_digits
-row = refl
+uncut = lit≤ tt
 
-pub cycle_fits : Fits cycle_events
-unfolding decimal_digits
-cycle_fits = record { none_refused = refl; accepted = accepted; room = omega (arith, row) }
+-- so an accepted list that fits begins with each prefix of it
+pub cycle_fits : (all rest : List Event) → all ++ rest ≡ cycle_events → FitsLimit letter_settings all
+cycle_fits all rest begins = prefix_fits letter_settings cycle_events all rest accepted uncut begins
 
 -- a dump on a new emitter that fails
 pub dump_memory : (graph : Graph) (before after : State) (error : yaml_error_t) → before.opened ≡ false → graph ≡ cycle_graph
@@ -65,8 +57,9 @@ dump_memory graph before after error unopened is stands (inr emits) =
   where
     fails_memory : FailsAt letter_settings [] dumped_cycle error after → error ≡ Memory
     fails_memory fails =
-        only_memory cycle_events (fails.before ++ fails.event ∷ []) (fails.later ++ stream_end ∷ []) after error cycle_fits
+        only_memory letter_settings (fails.before ++ fails.event ∷ []) after error
+        (cycle_fits (fails.before ++ fails.event ∷ []) (fails.later ++ stream_end ∷ [])
         (append_assoc fails.before (fails.event ∷ []) (fails.later ++ stream_end ∷ [])
         ∙ sym (append_assoc fails.before (fails.event ∷ fails.later) (stream_end ∷ []))
-        ∙ ap (λ given. given ++ stream_end ∷ []) fails.parts)
+        ∙ ap (λ given. given ++ stream_end ∷ []) fails.parts))
         fails.promised fails.failed

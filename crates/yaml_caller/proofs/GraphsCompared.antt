@@ -1,5 +1,5 @@
 -- Two graphs are isomorphic exactly where their bytes are the same.
-use Rattle.yaml_caller.proofs.Common.{ℕ, ◌<◌, if◌then◌else◌, ◌==◌, Decides, is_none, IsErrAnd, IfErr, IsErr, OnOk, bytes_eq, Option, None, Some, Result}
+use Rattle.yaml_caller.proofs.Common.{ℕ, ◌<◌, if◌then◌else◌, ◌==◌, Decides, is_none, IfErr, OnOk, bytes_eq, None, Some, Result}
 use Rattle.yaml_caller.proofs.Common.{Err, Ok, length, Bool, false, true, List, [], map, ◌++◌, ◌∷◌, ◌⊎◌, refl, ◌≡◌, append-nil, append_assoc, inl, inr}
 use Rattle.yaml_caller.proofs.Common.{ap, subst, sym, ◌∙◌, arith, All-nil, All-cons, bytes_eq-Decides, Event, stream_start, stream_end, AreDumped, GraphsRead}
 use Rattle.yaml_caller.proofs.Common.{bare, GraphNode, Graph, document_event_list, IsDocument, typed_settings, graph_events, IsRefused, opening, closing}
@@ -234,12 +234,6 @@ dump_refused graph made error bytes output answer is failed same few why =
     by (inl memory) = inl memory
     by (inr (inl full)) = absurd (omega (arith, few, ap length same, full))
     by (inr (inr refused)) = inr (subst (λ g. IsRefused g error) is refused)
-
--- what holds of an error holds where it is passed on
-pub passed_on : {A : Type 0} (P : yaml_error_t → Type 0) (error : yaml_error_t) (answer : Result A yaml_error_t) → P error
-    → IsErr answer × IsErrAnd answer (λ given. given ≡ error) → IfErr answer P
-passed_on P error (Ok done) holds is = tt
-passed_on P error (Err given) holds is = subst P (sym is.1) holds
 
 -- a refusal's name
 pub named_so : (graph : Graph) (error : yaml_error_t) → IsDocument (bare graph) → (error ≡ Memory) ⊎ IsRefused graph error

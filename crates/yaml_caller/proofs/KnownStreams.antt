@@ -1,5 +1,5 @@
 -- What the promises of an emitter come to for a whole stream that is known.
-use Rattle.yaml_caller.proofs.Common.{ℕ, OnOk, None, Some, Result, Err, Ok, codes, true, List, [], ◌∷◌, refl, ◌≡◌, subst, sym, ◌∙◌, Text, any_style}
+use Rattle.yaml_caller.proofs.Common.{ℕ, OnOk, None, Result, Err, Ok, codes, true, List, [], ◌∷◌, refl, ◌≡◌, subst, sym, ◌∙◌, Text, any_style}
 use Rattle.yaml_caller.proofs.Common.{TagDirective, Event, stream_start, stream_end, scalar, output_of, held_back, Settings, letter_settings, letter_events}
 use Rattle.yaml_caller.proofs.Common.{Promised, State, result_of_error}
 use Rattle.std.specs.Char.{encode_utf8}

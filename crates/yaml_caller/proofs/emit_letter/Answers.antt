@@ -1,5 +1,6 @@
-use Rattle.yaml_caller.proofs.Common.{Err, codes, [], map, ◌∙◌, refl, ap, subst, seen_text, seen_directive, letter_settings, Promised}
-use Rattle.yaml_caller.proofs.{KnownStreams.events_of, KnownStreams.letter_bytes, OnlyMemory.exit_memory, OnlyMemory.call_memory}
+use Rattle.yaml_caller.proofs.Common.{codes, [], map, ◌∙◌, refl, ◌≡◌, ap, subst, seen_text, seen_directive, letter_settings, Promised}
+use Rattle.yaml_base.specs.declared.errors.yaml_error_t.TheVariants.{Memory}
+use Rattle.yaml_caller.proofs.{KnownStreams.events_of, KnownStreams.letter_bytes, OnlyMemory.letter_fits, OnlyMemory.passed_on}
 use Rattle.yaml_caller.proofs.emit_letter.Goals as goal
 
 pub returns-clause-bytes : goal.returns-clause-bytes
@@ -18,29 +19,26 @@ returns-clause-bytes g c =
 
 pub returns-in_err-yaml_emitter_emit-clause-memory : goal.returns-in_err-yaml_emitter_emit-clause-memory
 returns-in_err-yaml_emitter_emit-clause-memory g c =
-    exit_memory c.in_err-yaml_emitter_emit.field-0.0 c.from_residual.result
-    (call_memory 1 [] (codes "a") c.yaml_emitter_emit.new.emitter (Err c.in_err-yaml_emitter_emit.field-0.0) refl refl
-    (c.in_err-yaml_emitter_emit.ensures.promised letter_settings [] c.requires.stands) c.in_err-yaml_emitter_emit.ensures.answered)
+    passed_on (λ error. error ≡ Memory) c.in_err-yaml_emitter_emit.field-0.0 c.from_residual.result
+    (c.in_err-yaml_emitter_emit.ensures.fits letter_settings [] c.requires.stands (letter_fits 1 [] (codes "a") refl refl))
     c.from_residual.ensures
 
 pub returns-in_err-yaml_emitter_emit-2-clause-memory : goal.returns-in_err-yaml_emitter_emit-2-clause-memory
 returns-in_err-yaml_emitter_emit-2-clause-memory g c =
     let first = c.yaml_emitter_emit.ensures.stands letter_settings [] c.requires.stands in
-    exit_memory c.in_err-yaml_emitter_emit-2.field-0.0 c.from_residual-in_err-yaml_emitter_emit-2.result
-    (call_memory 2 (map seen_directive c.new.result.items) (codes "a") c.yaml_emitter_emit-2.new.emitter (Err c.in_err-yaml_emitter_emit-2.field-0.0)
-    (ap (map seen_directive) c.new.ensures.items) refl
-    (c.in_err-yaml_emitter_emit-2.ensures.promised letter_settings _ first) c.in_err-yaml_emitter_emit-2.ensures.answered)
+    passed_on (λ error. error ≡ Memory) c.in_err-yaml_emitter_emit-2.field-0.0 c.from_residual-in_err-yaml_emitter_emit-2.result
+    (c.in_err-yaml_emitter_emit-2.ensures.fits letter_settings _ first
+    (letter_fits 2 (map seen_directive c.new.result.items) (codes "a") (ap (map seen_directive) c.new.ensures.items) refl))
     c.from_residual-in_err-yaml_emitter_emit-2.ensures
 
 pub returns-in_err-yaml_emitter_emit-3-clause-memory : goal.returns-in_err-yaml_emitter_emit-3-clause-memory
 returns-in_err-yaml_emitter_emit-3-clause-memory g c =
     let first = c.yaml_emitter_emit.ensures.stands letter_settings [] c.requires.stands in
     let second = c.yaml_emitter_emit-2.ensures.stands letter_settings _ first in
-    exit_memory c.in_err-yaml_emitter_emit-3.field-0.0 c.from_residual-in_err-yaml_emitter_emit-3.result
-    (call_memory 3 (map seen_directive c.new.result.items) (seen_text c.in_ok-value.value) c.yaml_emitter_emit-3.new.emitter
-    (Err c.in_err-yaml_emitter_emit-3.field-0.0)
-    (ap (map seen_directive) c.new.ensures.items) c.in_ok-value.ensures.letter
-    (c.in_err-yaml_emitter_emit-3.ensures.promised letter_settings _ second) c.in_err-yaml_emitter_emit-3.ensures.answered)
+    passed_on (λ error. error ≡ Memory) c.in_err-yaml_emitter_emit-3.field-0.0 c.from_residual-in_err-yaml_emitter_emit-3.result
+    (c.in_err-yaml_emitter_emit-3.ensures.fits letter_settings _ second
+    (letter_fits 3 (map seen_directive c.new.result.items) (seen_text c.in_ok-value.value)
+    (ap (map seen_directive) c.new.ensures.items) c.in_ok-value.ensures.letter))
     c.from_residual-in_err-yaml_emitter_emit-3.ensures
 
 pub returns-in_err-yaml_emitter_emit-4-clause-memory : goal.returns-in_err-yaml_emitter_emit-4-clause-memory
@@ -48,11 +46,10 @@ returns-in_err-yaml_emitter_emit-4-clause-memory g c =
     let first = c.yaml_emitter_emit.ensures.stands letter_settings [] c.requires.stands in
     let second = c.yaml_emitter_emit-2.ensures.stands letter_settings _ first in
     let third = c.yaml_emitter_emit-3.ensures.stands letter_settings _ second in
-    exit_memory c.in_err-yaml_emitter_emit-4.field-0.0 c.from_residual-in_err-yaml_emitter_emit-4.result
-    (call_memory 4 (map seen_directive c.new.result.items) (seen_text c.in_ok-value.value) c.yaml_emitter_emit-4.new.emitter
-    (Err c.in_err-yaml_emitter_emit-4.field-0.0)
-    (ap (map seen_directive) c.new.ensures.items) c.in_ok-value.ensures.letter
-    (c.in_err-yaml_emitter_emit-4.ensures.promised letter_settings _ third) c.in_err-yaml_emitter_emit-4.ensures.answered)
+    passed_on (λ error. error ≡ Memory) c.in_err-yaml_emitter_emit-4.field-0.0 c.from_residual-in_err-yaml_emitter_emit-4.result
+    (c.in_err-yaml_emitter_emit-4.ensures.fits letter_settings _ third
+    (letter_fits 4 (map seen_directive c.new.result.items) (seen_text c.in_ok-value.value)
+    (ap (map seen_directive) c.new.ensures.items) c.in_ok-value.ensures.letter))
     c.from_residual-in_err-yaml_emitter_emit-4.ensures
 
 pub returns-clause-memory : goal.returns-clause-memory
@@ -61,9 +58,9 @@ returns-clause-memory g c =
     let second = c.yaml_emitter_emit-2.ensures.stands letter_settings _ first in
     let third = c.yaml_emitter_emit-3.ensures.stands letter_settings _ second in
     let fourth = c.yaml_emitter_emit-4.ensures.stands letter_settings _ third in
-    call_memory 5 (map seen_directive c.new.result.items) (seen_text c.in_ok-value.value) c.yaml_emitter_emit-5.new.emitter c.yaml_emitter_emit-5.result
-    (ap (map seen_directive) c.new.ensures.items) c.in_ok-value.ensures.letter
-    (c.yaml_emitter_emit-5.ensures.promised letter_settings _ fourth) c.yaml_emitter_emit-5.ensures.answered
+    c.yaml_emitter_emit-5.ensures.fits letter_settings _ fourth
+    (letter_fits 5 (map seen_directive c.new.result.items) (seen_text c.in_ok-value.value)
+    (ap (map seen_directive) c.new.ensures.items) c.in_ok-value.ensures.letter)
 
 pub returns-in_err-yaml_emitter_emit-clause-taken : goal.returns-in_err-yaml_emitter_emit-clause-taken
 returns-in_err-yaml_emitter_emit-clause-taken g c = c.yaml_emitter_emit.ensures.set.taken

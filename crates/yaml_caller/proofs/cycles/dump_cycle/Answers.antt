@@ -1,5 +1,7 @@
-use Rattle.yaml_caller.proofs.Common.{[], ◌∷◌, refl, ◌∙◌, graph_of, cycle_graph, cycle_bytes, letter_settings}
-use Rattle.yaml_caller.proofs.{CycleFits.cycle_fits, CycleFits.dump_memory, KnownStreams.stream_bytes, OnlyMemory.prefix_memory, OnlyMemory.exit_memory}
+use Rattle.yaml_caller.proofs.Common.{[], ◌∷◌, refl, ◌≡◌, ◌∙◌, graph_of, cycle_graph, cycle_bytes, letter_settings}
+use Rattle.yaml_base.specs.declared.errors.yaml_error_t.TheVariants.{Memory}
+use Rattle.yaml_caller.proofs.{CycleFits.cycle_fits, CycleFits.dump_memory, KnownStreams.stream_bytes, OnlyMemory.passed_on}
+use Rattle.yaml_emitter.proofs.standing.PromisingRoom.{memory_only}
 use Rattle.yaml_caller.proofs.Dumped.{dumped_cycle, cycle_events, cycle_row, none_waits, all_portable, one_dumped, after_dump, still_open, then_ok}
 use Rattle.yaml_caller.proofs.cycles.dump_cycle.Goals as goal
 
@@ -22,13 +24,15 @@ returns g c =
       trees =
           then_ok c.yaml_emitter_close.result (c.yaml_emitter_close.ensures.trees unclosed)
           (λ reads. reads letter_settings dumped_cycle stands (cycle_graph ∷ []) all_portable one_dumped);
-      memory = prefix_memory cycle_events cycle_events [] c.yaml_emitter_close.new.emitter c.yaml_emitter_close.result cycle_fits refl promised answered;
+      memory =
+          memory_only c.yaml_emitter_close.new.emitter.error letter_settings cycle_events promised.fits (cycle_fits cycle_events [] refl)
+          c.yaml_emitter_close.result answered;
     }
 
 pub returns-in_err-yaml_emitter_dump-clause-memory : goal.returns-in_err-yaml_emitter_dump-clause-memory
 returns-in_err-yaml_emitter_dump-clause-memory g c =
     let old = c.args.emitter.now in
-    exit_memory c.in_err-yaml_emitter_dump.field-0.0 c.from_residual.result
+    passed_on (λ error. error ≡ Memory) c.in_err-yaml_emitter_dump.field-0.0 c.from_residual.result
     (dump_memory (graph_of c.in-Ok.document) old c.yaml_emitter_dump.new.emitter c.in_err-yaml_emitter_dump.field-0.0
     c.requires.unopened c.in-Ok.ensures.graph c.requires.stands
     (c.in_err-yaml_emitter_dump.ensures.dumps c.requires.no_error))

@@ -1,6 +1,7 @@
 use Rattle.yaml_caller.proofs.Common.{◌==◌, length, Bool, ◌||◌, refl, ap, ◌∙◌, graph_of, typed_settings, graph_events}
 use Rattle.yaml_caller.proofs.Dumped.{then_ok}
-use Rattle.yaml_caller.proofs.GraphsCompared.{Fails, before_end, stands_dumped, dump_fails, close_fails, close_writes, is_document, passed_on}
+use Rattle.yaml_caller.proofs.GraphsCompared.{Fails, before_end, stands_dumped, dump_fails, close_fails, close_writes, is_document}
+use Rattle.yaml_caller.proofs.OnlyMemory.{passed_on}
 use Rattle.yaml_caller.proofs.graphs.dump_graph.Goals as goal
 
 pub returns-clause-written : goal.returns-clause-written

@@ -1,6 +1,7 @@
 use Rattle.yaml_caller.proofs.Common.{bytes_eq, ◌⊎◌, ◌≡◌, rules, graph_of, IsRefused}
 use Rattle.yaml_base.specs.declared.errors.yaml_error_t.TheVariants.{Memory, TagEmpty, TooDeep}
-use Rattle.yaml_caller.proofs.GraphsCompared.{graphs_decide, is_document, passed_on, named_so, first_refused, second_refused}
+use Rattle.yaml_caller.proofs.GraphsCompared.{graphs_decide, is_document, named_so, first_refused, second_refused}
+use Rattle.yaml_caller.proofs.OnlyMemory.{passed_on}
 use Rattle.yaml_caller.proofs.graphs.same_nodes.Goals as goal
 
 pub returns-clause-same : goal.returns-clause-same
