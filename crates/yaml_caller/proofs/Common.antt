@@ -7,7 +7,7 @@ pub use Rattle.yaml_base.proofs.Common.{string_tag, mapping_tag, document_event_
 pub use Rattle.yaml_pen.proofs.Common.{result_of_error}
 pub use Rattle.yaml_emitter.proofs.Common.{RefusedAt, Promised, StandsAfter, State}
 pub use Rattle.std.proofs.{Common.rules, lemmas.List.Elements.All-nil, lemmas.List.Elements.All-cons}
-pub use Rattle.std.specs.Prelude.{Err, Ok, Result, Vec, Decides, IsErrAnd, IfOk, IfErr, IsErr, OnOk}
+pub use Rattle.std.specs.Prelude.{Err, Ok, Result, Decides, IsErrAnd, IfErr, IsErr, OnOk}
 pub use Rattle.yaml_base.proofs.Literals.{chars-literal}
 pub use Rattle.yaml_base.specs.{Ready.held_back, Seen.seen_text, Seen.seen_directive, graphs.Documents.graph_of, graphs.Dumped.GraphsRead}
 pub use Rattle.yaml_base.specs.{graphs.Isomorphic.bare, values.TypedValues.typed_settings}

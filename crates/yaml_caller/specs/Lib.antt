@@ -1,4 +1,5 @@
 pub mod Cycle
 pub mod GraphBytes
 pub mod Letter
+pub mod Listed
 pub mod Pair
