@@ -1,11 +1,13 @@
--- Where an emitter has the first events of an accepted list that fits, memory alone can give out; so it is for the stream of one letter.
-use Rattle.yaml_caller.proofs.Common.{ℕ, ◌≤◌, IsErrAnd, IfErr, IsErr, None, Some, Result, Err, Ok, codes, true, List, [], ◌++◌, ◌∷◌}
-use Rattle.yaml_caller.proofs.Common.{refl, ◌≡◌, ap, subst, sym, ◌∙◌, arith, Text, any_style, TagDirective, Event, scalar_node}
+-- Why an emitter fails that has the first events of an accepted list: for want of memory, or because the list's bytes pass the
+-- limit. Where they don't, memory alone can give out; so it is for the stream of one letter.
+use Rattle.yaml_caller.proofs.Common.{ℕ, ◌<◌, ◌≤◌, IsErrAnd, IfErr, IsErr, None, Some, Result, Err, Ok, codes, length, true, List, [], ◌++◌, ◌∷◌, ◌⊎◌}
+use Rattle.yaml_caller.proofs.Common.{refl, ◌≡◌, append_assoc, inl, inr, ap, subst, sym, ◌∙◌, arith, Text, any_style, TagDirective, Event, scalar_node}
 use Rattle.yaml_caller.proofs.Common.{no_documents, documents_and, Stream, most_open, open_count, IsAccepted, Settings, letter_settings, letter_events}
-use Rattle.yaml_caller.proofs.Common.{Promised, State}
-use Rattle.yaml_base.proofs.Common.{◌+◌, ◌-◌, count_by, drop, take, cond, sum_by-append, begins_collection, ends_collection}
-use Rattle.std.{proofs.Common.lit≤, proofs.lemmas.List.take-append-drop, specs.Char.encode_utf8}
-use Rattle.yaml_base.specs.declared.errors.{yaml_error_t.yaml_error_t, yaml_error_t.TheVariants.Memory}
+use Rattle.yaml_caller.proofs.Common.{RefusedAt, Promised, State}
+use Rattle.yaml_base.proofs.Common.{◌+◌, ◌-◌, count_by, drop, take, cond, sum_by-append, settings_for, bytes_written, list_layout, begins_collection}
+use Rattle.yaml_base.proofs.Common.{ends_collection}
+use Rattle.std.{proofs.Common.lit≤, proofs.Common.lt_of_not-le, proofs.lemmas.List.take-append-drop, specs.Char.encode_utf8}
+use Rattle.yaml_base.specs.declared.errors.{yaml_error_t.yaml_error_t, yaml_error_t.TheVariants.Memory, yaml_error_t.TheVariants.WriteError}
 use Rattle.yaml_caller.proofs.KnownStreams.{events_of}
 use Rattle.yaml_emitter.specs.{Promises.FailsOnlyByMemory, Promises.FitsLimit, Uncut.IsUncut}
 
@@ -19,6 +21,29 @@ prefix_fits given events all rest accepted uncut begins =
 pub only_memory : (given : Settings) (all : List Event) (state : State) (error : yaml_error_t) → FitsLimit given all → Promised given all state
     → state.error ≡ Some error → error ≡ Memory
 only_memory given all state error fits promised is = subst FailsOnlyByMemory is (promised.fits fits)
+
+-- no event is refused of those with which an accepted list begins
+never_refused : (given : Settings) (events all rest : List Event) (error : yaml_error_t) (state : State) → IsAccepted given.canonical events
+    → all ++ rest ≡ events → RefusedAt given all error state → ⊥
+never_refused given events all rest error state accepted begins refused =
+    refused.ends (record { rest = refused.later ++ rest; accepted = subst (IsAccepted given.canonical) (sym whole) accepted })
+  where
+    whole : (refused.prefix ++ refused.event ∷ []) ++ (refused.later ++ rest) ≡ events
+    whole =
+        append_assoc refused.prefix (refused.event ∷ []) (refused.later ++ rest)
+        ∙ sym (append_assoc refused.prefix (refused.event ∷ refused.later) rest)
+        ∙ ap (λ before. before ++ rest) refused.parts ∙ begins
+
+-- so where the list may not fit, either memory or the limit gave out
+pub memory_or_limit : (given : Settings) (events all rest : List Event) (state : State) (error : yaml_error_t) → IsAccepted given.canonical events
+    → all ++ rest ≡ events → Promised given all state → state.error ≡ Some error
+    → (error ≡ Memory)
+    ⊎ ((error ≡ WriteError) × (given.limit < length (bytes_written (settings_for given events) (list_layout (settings_for given events) events))))
+memory_or_limit given events all rest state WriteError accepted begins promised is =
+    inr (refl, lt_of_not-le (λ uncut. (promised.full is).unfit (prefix_fits given events all rest accepted uncut begins)))
+memory_or_limit given events all rest state Memory accepted begins promised is = inl refl
+memory_or_limit given events all rest state error accepted begins promised is =
+    absurd (never_refused given events all rest error state accepted begins (promised.refused error is tt))
 
 -- what holds of an error holds where it is passed on
 pub passed_on : {A : Type 0} (P : yaml_error_t → Type 0) (error : yaml_error_t) (answer : Result A yaml_error_t) → P error

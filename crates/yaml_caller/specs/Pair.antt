@@ -1,9 +1,13 @@
--- A mapping of one text to another: what it is written by, and its events.
-use Rattle.std.specs.Prelude.{true, None, List, [], ◌∷◌}
+-- A mapping of one text to another: what it is written by, its events, and how it can fail.
+use Rattle.std.specs.Prelude.{◌≡◌, ◌⊎◌, ◌<◌, ℕ, true, None, List, [], ◌∷◌, length}
 use Rattle.yaml_base.specs.Characters.{Text}
 use Rattle.yaml_base.specs.Settings.{Settings, nothing_given}
 use Rattle.yaml_base.specs.Event.{TagDirective, Event, any_style, block, stream_start, stream_end, document_start, document_end, scalar, mapping_start}
 use Rattle.yaml_base.specs.Event.{mapping_end}
+use Rattle.yaml_base.specs.Output.{settings_for, bytes_written}
+use Rattle.yaml_base.specs.Pieces.{list_layout}
+use Rattle.yaml_base.specs.declared.errors.yaml_error_t.{yaml_error_t}
+use Rattle.yaml_base.specs.declared.errors.yaml_error_t.TheVariants.{Memory, WriteError}
 
 -- portable, 1,000,000 bytes
 abbrev pub portable_settings : Settings
@@ -30,3 +34,14 @@ pair_with directives key value =
 -- one document, a block mapping of a key to a value, all markers implicit
 abbrev pub pair_events : (key value : Text) → List Event
 pair_events key value = pair_with [] (text_scalar key) (text_scalar value)
+
+-- all bytes of its stream, before any limit
+abbrev pub pair_bytes : (key value : Text) → List ℕ
+pair_bytes key value =
+    let s = settings_for portable_settings (pair_events key value) in
+    bytes_written s (list_layout s (pair_events key value))
+
+-- memory gave out, or the bytes pass the limit
+abbrev pub FailsPair : (key value : Text) → yaml_error_t → Type 0
+FailsPair key value error =
+    (error ≡ Memory) ⊎ ((error ≡ WriteError) × (portable_settings.limit < length (pair_bytes key value)))

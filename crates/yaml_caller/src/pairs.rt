@@ -1,10 +1,10 @@
 //! A caller in portable mode: it writes a mapping of one text to another, and proves that both are read of the bytes.
-ghost use Rattle.std.specs.Prelude.{◌≡◌, IfOk, OnOk, true, false, []};
+ghost use Rattle.std.specs.Prelude.{◌≡◌, IfOk, IfErr, OnOk, true, false, []};
 ghost use Rattle.yaml_base.specs.Seen.{seen_event, seen_text};
 ghost use Rattle.yaml_base.specs.streams.StreamContent.{agrees};
 ghost use Rattle.yaml_base.specs.streams.StreamReader.{stream_trees};
 ghost use Rattle.yaml_emitter.specs.StandsAfter.{StandsAfter};
-ghost use Rattle.yaml_caller.specs.Pair.{pair_events, portable_settings, text_scalar};
+ghost use Rattle.yaml_caller.specs.Pair.{FailsPair, pair_events, portable_settings, text_scalar};
 
 use std::alloc::Allocator;
 use yaml_base::{
@@ -21,13 +21,14 @@ use yaml_emitter::{
 /// reader of whole streams finds in them agrees with the events.
 ///
 /// # Errors
-/// Those of the emitter: `WriteError` where there would be more than 1,000,000 bytes, and `Memory`.
+/// `Memory` where an allocation fails, and `WriteError` where there would be more than 1,000,000 bytes; no other error occurs.
 pub fn pair_written<A: Allocator + Copy>(
     alloc: A,
     key: String<A>,
     value: String<A>,
 ) -> Result<Vec<u8, A>, yaml_error_t>
     ensures reads { IfOk result (λ bytes. agrees false (pair_events (seen_text key) (seen_text value)) (stream_trees false bytes.items) ≡ true) }
+    ensures failed { IfErr result (λ error. FailsPair (seen_text key) (seen_text value) error) }
 {
     let Ok(mut emitter) = portable_emitter(alloc) else {
         return Err(yaml_error_t::Memory);
@@ -61,6 +62,7 @@ fn emit_pair<A: Allocator + Copy>(
     requires output { emitter.old.has_output ≡ true }
     ensures taken { emitter.new.page.taken ≡ emitter.old.page.taken }
     ensures reads { OnOk result (agrees false (pair_events (seen_text key) (seen_text value)) (stream_trees false emitter.new.page.output) ≡ true) }
+    ensures failed { IfErr result (λ error. FailsPair (seen_text key) (seen_text value) error) }
 {
     yaml_emitter_emit(
         emitter,

@@ -1,11 +1,14 @@
 use Rattle.yaml_caller.proofs.Common.{ℕ, false, true, List, ◌≡◌, subst, sym, ◌∙◌, seen_text, agrees, stream_trees, pair_events}
+use Rattle.yaml_caller.{proofs.OnlyMemory.passed_on, specs.Pair.FailsPair}
 use Rattle.yaml_caller.proofs.pairs.pair_written.Goals as goal
 
-pub returns : goal.returns
-returns g c =
+pub returns-clause-reads : goal.returns-clause-reads
+returns-clause-reads g c =
     let events = pair_events (seen_text c.args.key) (seen_text c.args.value) in
-    record {
-      reads =
-          subst (λ (bytes : List ℕ). agrees false events (stream_trees false bytes) ≡ true)
-          (sym (c.yaml_emitter_take_output.ensures.untaken (c.emit_pair.ensures.taken ∙ c.in-Ok.ensures.untaken))) c.in_ok-emit_pair.ensures.reads;
-    }
+    subst (λ (bytes : List ℕ). agrees false events (stream_trees false bytes) ≡ true)
+    (sym (c.yaml_emitter_take_output.ensures.untaken (c.emit_pair.ensures.taken ∙ c.in-Ok.ensures.untaken))) c.in_ok-emit_pair.ensures.reads
+
+pub returns-in_err-emit_pair-clause-failed : goal.returns-in_err-emit_pair-clause-failed
+returns-in_err-emit_pair-clause-failed g c =
+    passed_on (FailsPair (seen_text c.args.key) (seen_text c.args.value)) c.in_err-emit_pair.field-0.0 c.from_residual.result
+    c.in_err-emit_pair.ensures.failed c.from_residual.ensures
