@@ -123,6 +123,7 @@ pub use yaml_emitter::write_tag_content;
 pub use yaml_emitter::write_tag_handle;
 pub use yaml_emitter::write_tag_prefix;
 pub use yaml_emitter::write_tag_suffix;
+pub use yaml_emitter::write_to_sink;
 pub use yaml_emitter::written_tag_reads;
 pub use yaml_emitter::written_tag_stays_one_word;
 pub use yaml_emitter::yaml_break_t;

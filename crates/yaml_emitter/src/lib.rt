@@ -140,6 +140,7 @@ pub use yaml_mark::written_tag_reads;
 pub use yaml_mark::written_tag_stays_one_word;
 pub use yaml_pen::Indicator;
 pub use yaml_pen::Pen;
+pub use yaml_pen::write_to_sink;
 pub use yaml_scalar::analyze_for_style;
 pub use yaml_scalar::analyze_scalar;
 pub use yaml_scalar::holds_break;

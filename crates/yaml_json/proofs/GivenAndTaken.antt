@@ -4,10 +4,13 @@ use Rattle.yaml_json.proofs.Common.{◌++◌, ◌∷◌, refl, ◌≡◌, append
 use Rattle.yaml_json.proofs.Common.{flat_map-append, Appends, Json, Event, between, events_with_separators}
 use Rattle.yaml_json.proofs.Common.{json_events, IsBare, Wrote}
 use Rattle.yaml_json.proofs.Common.{WriterState, StandsTaken, PassedEvents}
-use Rattle.yaml_emitter.proofs.Common.{with_all_taken}
-use Rattle.yaml_writer.proofs.Common.{TakesBytes}
+use Rattle.yaml_emitter.{proofs.Common.with_all_taken, proofs.standing.Taking.stands_taken, specs.State.State}
+use Rattle.yaml_pen.specs.{Page.output_left, Sinks.AppendsFirst}
+use Rattle.yaml_writer.{proofs.Common.TakesBytes, proofs.Taken.left_taken}
 use Rattle.yaml_base.specs.declared.errors.yaml_error_t.{yaml_error_t}
-use Rattle.yaml_json.specs.Sent.{WroteTaking, BeginsNext}
+use Rattle.yaml_json.specs.Sent.{AddsTaking, WroteTaking, BeginsNext, BeginsUnsent, GivesSink}
+use Rattle.yaml_json.specs.declared.error.StreamError.{StreamError}
+use Rattle.yaml_json.specs.declared.error.StreamError.TheVariants as faults
 
 -- ---- what follows where a call succeeds, or fails
 
@@ -29,6 +32,22 @@ appends_then (Some bytes) (Some more) None first second one other = absurd other
 appends_then (Some bytes) (Some more) (Some all) first second one other =
     other ∙ ap (λ (b : List ℕ). b ++ second) one ∙ append_assoc bytes first second
 
+-- a beginning may follow
+pub appends_first : (before middle after : Option (List ℕ)) (first second : List ℕ) → Appends before middle first → AppendsFirst middle after second
+    → AppendsFirst before after (first ++ second)
+appends_first before middle after first second one (part, begins, other) = (
+  first ++ part,
+  record { rest = begins.rest; parts = append_assoc first part begins.rest ∙ ap (λ (b : List ℕ). first ++ b) begins.parts },
+  appends_then before middle after first part one other,
+)
+
+-- whichever error there is, where all bytes were given
+pub gives_all : (error : StreamError) (before after : Option (List ℕ)) (bytes : List ℕ) → Appends before after bytes → GivesSink error before after bytes
+gives_all (faults.Refused error) before after bytes appends = appends
+gives_all (faults.NotText line column) before after bytes appends = appends
+gives_all (faults.ReadFailed error) before after bytes appends = appends
+gives_all (faults.WriteFailed error) before after bytes appends = (bytes, record { rest = []; parts = append-nil bytes }, appends)
+
 -- ---- what was given and taken
 
 pub took_nothing : (writer : WriterState) → IsBare writer → WroteTaking writer [] [] writer
@@ -42,15 +61,20 @@ took_nothing writer bare =
       bare = bare;
     }
 
+pub adds_taking_then : (before middle after : State) (first second : List Event) (one_bytes other_bytes : List ℕ)
+    → AddsTaking before first one_bytes middle → AddsTaking middle second other_bytes after
+    → AddsTaking before (first ++ second) (one_bytes ++ other_bytes) after
+adds_taking_then before middle after first second one_bytes other_bytes one other = λ given all sent stands.
+    subst (λ (events : List Event). StandsTaken given events (sent ++ (one_bytes ++ other_bytes)) after) (append_assoc all first second)
+    (subst (λ (s : List ℕ). StandsTaken given ((all ++ first) ++ second) s after) (append_assoc sent one_bytes other_bytes)
+    (other given (all ++ first) (sent ++ one_bytes) (one given all sent stands)))
+
 pub taking_then : (before middle after : WriterState) (first second : List Event) (one_bytes other_bytes : List ℕ)
     → WroteTaking before first one_bytes middle → WroteTaking middle second other_bytes after
     → WroteTaking before (first ++ second) (one_bytes ++ other_bytes) after
 taking_then before middle after first second one_bytes other_bytes one other =
     record {
-      adds = λ given all sent stands.
-          subst (λ (events : List Event). StandsTaken given events (sent ++ (one_bytes ++ other_bytes)) after.emitter) (append_assoc all first second)
-          (subst (λ (s : List ℕ). StandsTaken given ((all ++ first) ++ second) s after.emitter) (append_assoc sent one_bytes other_bytes)
-          (other.adds given (all ++ first) (sent ++ one_bytes) (one.adds given all sent stands)));
+      adds = adds_taking_then before.emitter middle.emitter after.emitter first second one_bytes other_bytes one.adds other.adds;
       canonical = other.canonical ∙ one.canonical;
       levels = other.levels ∙ one.levels;
       bare = other.bare;
@@ -90,6 +114,21 @@ begun_taken before middle after answer bytes held holds bare passed takes kept s
         );
       };
       whole = ap (λ (w : WriterState). w.emitter.page.taken) kept ∙ ap (λ (w : WriterState). length w.emitter.page.output) (sym kept);
+    }
+
+-- or the sink failed, which was given all that was left
+pub begun_unsent : (before middle : WriterState) (answer : Result (Unit {0}) yaml_error_t) (held holds : Option (List ℕ))
+    → PassedEvents before between answer middle → AppendsFirst held holds (output_left middle.emitter.page) → BeginsUnsent before held holds
+begun_unsent before middle answer held holds passed sends =
+    record {
+      bytes = output_left middle.emitter.page;
+      sends = sends;
+      then = with_all_taken middle.emitter;
+      adds = λ given all sent stands.
+          let stood = passed.adds given all sent stands in
+          left_taken given (all ++ between) sent (output_left middle.emitter.page) middle.emitter (with_all_taken middle.emitter) stood refl refl
+          (stands_taken given (all ++ between) middle.emitter stood.stands);
+      whole = refl;
     }
 
 -- the events of some texts, after each of which a document begins, and one more

@@ -1,16 +1,19 @@
 -- JSON texts that come part by part, in turn.
 use Rattle.yaml_json.proofs.Common.{ℕ, ◌+◌, ◌-◌, ◌≤◌, flat_map, IfSome, Option, None, Some, drop, length, take, Bool, true, List, []}
 use Rattle.yaml_json.proofs.Common.{map, ◌++◌, ◌∷◌, refl, ◌≡◌, length-drop, take-append-drop, append-nil, append_assoc, inl, inr, ap, subst, sym, ◌∙◌, arith}
-use Rattle.yaml_json.proofs.Common.{map-append, Appends, Json, tokens, HasScanned, CutsAt, between, events_with_separators}
+use Rattle.yaml_json.proofs.Common.{map-append, Appends, Event, Json, tokens, HasScanned, CutsAt, between, events_with_separators}
 use Rattle.yaml_json.proofs.Common.{json_events, NamesOnce, HaveNamesOnce, Advances, ExplainsPart, StopsWithin, texts_in, IsBare, Wrote, WroteText, AreJson}
 use Rattle.yaml_json.proofs.Common.{parts_events, WriterState}
 use Rattle.std.{proofs.lemmas.List.drop-drop, specs.Io.KnownBytes.Keeps, specs.Io.KnownBytes.Consumes, specs.Io.KnownBytes.IsAtEnd}
+use Rattle.std.specs.declared.io.Error.{Error}
 use Rattle.yaml_json.{proofs.Cutting.whole_text, proofs.YamlOf.sent_reads, specs.declared.cuts.Cut.Cut, specs.declared.error.StreamError.StreamError}
 use Rattle.yaml_json.proofs.TextsInTurn.{ends_with, one_more, joined_more, text_names, more_names}
-use Rattle.yaml_json.specs.Sent.{WroteTaking, SentTexts, ReadsSent, SentSoFar, BeginsNext, RefusesSent, IsByNoText, IsSent, RefusesFirst, SentDocuments}
+use Rattle.yaml_json.specs.Sent.{AddsTaking, WroteTaking, SentTexts, ReadsSent, SentSoFar, BeginsNext, BeginsUnsent, FailsNext, RefusesSent, IsByNoText}
+use Rattle.yaml_json.specs.Sent.{RefusesFirst, SentDocuments}
 use Rattle.yaml_json.{proofs.Stopping.if_some, specs.Sent.HasCome, specs.Sent.LeavesLast, specs.declared.stream.Incoming.Incoming}
 use Rattle.yaml_json.specs.declared.error.StreamError.TheVariants as faults
-use Rattle.yaml_json.proofs.GivenAndTaken.{appends_nothing, appends_then, took_nothing, taking_then, took_none, taking_same, separated}
+use Rattle.yaml_json.proofs.GivenAndTaken.{appends_nothing, appends_then, appends_first, gives_all, took_nothing, adds_taking_then, taking_then, took_none}
+use Rattle.yaml_json.proofs.GivenAndTaken.{taking_same, separated}
 
 -- ---- the texts in turn
 
@@ -42,6 +45,17 @@ pub record GaveAll (depth : ℕ) (in_flow unique : Bool) (text : List ℕ) (was 
   pub sent : SentTexts depth in_flow text was start now held
   pub reads : ReadsSent depth in_flow text was start now held
   pub names : HaveNamesOnce unique (texts_in text)
+
+-- something else failed
+pub refused_by_none : (depth : ℕ) (unique : Bool) (text : List ℕ) (error : StreamError) → IsByNoText error → RefusesSent depth unique text error
+refused_by_none depth unique text (faults.Refused error) isn't = λ is. absurd (isn't is)
+refused_by_none depth unique text (faults.NotText line column) isn't = tt
+refused_by_none depth unique text (faults.ReadFailed error) isn't = tt
+refused_by_none depth unique text (faults.WriteFailed error) isn't = tt
+
+first_by_none : (depth : ℕ) (unique : Bool) (texts : List (List ℕ)) (error : StreamError) → IsByNoText error → RefusesFirst depth unique texts error
+first_by_none depth unique [] error isn't = isn't
+first_by_none depth unique (first ∷ later) error isn't = inl isn't
 
 -- the texts given so far, and one more
 module _ (depth : ℕ) (in_flow unique : Bool) (text : List ℕ) (was : WriterState) (start : Option (List ℕ)) (rest : List ℕ) (now : WriterState)
@@ -91,6 +105,29 @@ module _ (depth : ℕ) (in_flow unique : Bool) (text : List ℕ) (was : WriterSt
             (taking_then was now after before (events ++ between) sending.handed ([] ++ next.bytes) sending.wrote
             (taking_then now given after events between [] next.bytes events_given next.wrote));
         whole = inr next.whole;
+      }
+
+  -- or the sink fails
+  pub sending_fails : (holds : Option (List ℕ)) (fault : Error) → BeginsUnsent given held holds
+      → SentDocuments depth in_flow unique text was start (faults.WriteFailed fault) holds
+  sending_fails holds fault fails =
+      let before = events_with_separators was.canonical in_flow sending.parts in
+      let events = json_events was.canonical in_flow one.json in
+      record {
+        parts = all_parts;
+        later = later;
+        cut = cut_now;
+        each = each_now;
+        names = names_now;
+        refused = first_by_none depth unique later (faults.WriteFailed fault) tt;
+        handed = sending.handed ++ fails.bytes;
+        sends = appends_first start held holds sending.handed fails.bytes sending.sends fails.sends;
+        then = fails.then;
+        wrote = subst (λ (all : List Event). AddsTaking was.emitter all (sending.handed ++ fails.bytes) fails.then)
+            (separated was.canonical in_flow sending.parts (first, one.json))
+            (adds_taking_then was.emitter now.emitter fails.then before (events ++ between) sending.handed fails.bytes sending.wrote.adds
+            (adds_taking_then now.emitter given.emitter fails.then events between [] fails.bytes events_given.adds fails.adds));
+        whole = inr fails.whole;
       }
 
   -- or nothing follows
@@ -148,7 +185,7 @@ module _ (depth : ℕ) (in_flow unique : Bool) (text : List ℕ) (was : WriterSt
         names = sending.names;
         refused = refused;
         handed = sending.handed;
-        sends = sending.sends;
+        sends = gives_all error start held sending.handed sending.sends;
         then = now.emitter;
         wrote = sending.wrote.adds;
         whole = sending.whole;
@@ -176,17 +213,6 @@ module _ (depth : ℕ) (in_flow unique : Bool) (text : List ℕ) (was : WriterSt
     part_refused first later cut error why,
     documents_sent error (subst (λ (texts : List (List ℕ)). RefusesFirst depth unique texts error) (sym cut) (inr why)),
   )
-
--- something else failed
-pub refused_by_none : (depth : ℕ) (unique : Bool) (text : List ℕ) (error : StreamError) → IsByNoText error → RefusesSent depth unique text error
-refused_by_none depth unique text (faults.Refused error) isn't = λ is. absurd (isn't is)
-refused_by_none depth unique text (faults.NotText line column) isn't = tt
-refused_by_none depth unique text (faults.ReadFailed error) isn't = tt
-refused_by_none depth unique text (faults.WriteFailed error) isn't = tt
-
-first_by_none : (depth : ℕ) (unique : Bool) (texts : List (List ℕ)) (error : StreamError) → IsByNoText error → RefusesFirst depth unique texts error
-first_by_none depth unique [] error isn't = isn't
-first_by_none depth unique (first ∷ later) error isn't = inl isn't
 
 -- ---- what is left of some bytes
 
@@ -233,12 +259,12 @@ module _ (depth : ℕ) (in_flow unique : Bool) (ahead : List ℕ) (before : Writ
         (drops ∙ ap (λ (all : List ℕ). drop (length all - count) all) is ∙ sym kept)
         (subst (λ (all : List ℕ). Advances depth in_flow unique all before held rest now holds) is advances)
 
-    -- something failed
-    pub stops_by_none : (error : StreamError) (later : Option (List ℕ)) → IsByNoText error → (IsSent error → later ≡ holds)
+    -- something failed, and nothing was sent
+    stops_by_none : (error : StreamError) (later : Option (List ℕ)) → IsByNoText error → later ≡ holds
         → StopsWithin depth in_flow unique ahead before held error later
     stops_by_none error later isn't same text was start more sending = (
       refused_by_none depth unique text error isn't,
-      λ sent. subst (SentDocuments depth in_flow unique text was start error) (sym (same sent))
+      subst (SentDocuments depth in_flow unique text was start error) (sym same)
           (documents_sent depth in_flow unique text was start (rest ++ more) now holds (advances text was start more sending) error
           (first_by_none depth unique (texts_in (rest ++ more)) error isn't)),
     )
@@ -251,17 +277,34 @@ module _ (depth : ℕ) (in_flow unique : Bool) (ahead : List ℕ) (before : Writ
           let stood = advances text was start more sending in
           let both = next_refused depth in_flow unique text was start (rest ++ more) now holds stood (take end rest) (texts_in (drop end rest ++ more))
           (cuts.cut more) error why in
-          (both.0, λ sent. both.1)
+          (both.0, both.1)
 
-      -- or it is given, and the next document begun
-      pub advances_on : (given : WriterState) → (unique ≡ true → NamesOnce [] (tokens (take end rest)))
-          → WroteText depth in_flow (take end rest) now given → (after : WriterState) (later : Option (List ℕ)) → BeginsNext given holds after later
-          → Advances depth in_flow unique ahead before held (drop end rest) after later
-      advances_on given named one after later next text was start more sending =
-          sending_goes_on depth in_flow unique text was start (rest ++ more) now holds (advances text was start more sending) (take end rest)
-          (drop end rest ++ more) (texts_in (drop end rest ++ more))
-          (sym (append_assoc (take end rest) (drop end rest) more) ∙ ap (λ (all : List ℕ). all ++ more) (take-append-drop end rest)) (cuts.cut more)
-          given named one after later refl next
+      cut_off : (more : List ℕ) → take end rest ++ (drop end rest ++ more) ≡ rest ++ more
+      cut_off more = sym (append_assoc (take end rest) (drop end rest) more) ∙ ap (λ (all : List ℕ). all ++ more) (take-append-drop end rest)
+
+      -- or it is given
+      module _ (given : WriterState) (named : unique ≡ true → NamesOnce [] (tokens (take end rest)))
+          (one : WroteText depth in_flow (take end rest) now given) where
+        -- and the next document begun
+        pub advances_on : (after : WriterState) (later : Option (List ℕ)) → BeginsNext given holds after later
+            → Advances depth in_flow unique ahead before held (drop end rest) after later
+        advances_on after later next text was start more sending =
+            sending_goes_on depth in_flow unique text was start (rest ++ more) now holds (advances text was start more sending) (take end rest)
+            (drop end rest ++ more) (texts_in (drop end rest ++ more)) (cut_off more) (cuts.cut more) given named one after later refl next
+
+        -- or it isn't, or the sink fails
+        pub stops_next : (error : StreamError) (later : Option (List ℕ)) → IsByNoText error → FailsNext given holds error later
+            → StopsWithin depth in_flow unique ahead before held error later
+        stops_next (faults.WriteFailed fault) later isn't fails text was start more sending = (
+          tt,
+          sending_fails depth in_flow unique text was start (rest ++ more) now holds (advances text was start more sending) (take end rest)
+              (drop end rest ++ more) (texts_in (drop end rest ++ more)) (cut_off more) (cuts.cut more) given named one later fault fails,
+        )
+        stops_next (faults.Refused error) later isn't same text was start more sending =
+            stops_by_none (faults.Refused error) later isn't same text was start more sending
+        stops_next (faults.NotText line column) later isn't same text was start more sending = absurd isn't
+        stops_next (faults.ReadFailed error) later isn't same text was start more sending =
+            stops_by_none (faults.ReadFailed error) later isn't same text was start more sending
 
 -- ---- parts
 
@@ -353,7 +396,7 @@ module _ (depth : ℕ) (in_flow unique : Bool) (was : WriterState) (start : Opti
   pub complete_stopped : (first : Option (List ℕ)) (held : List ℕ) (ahead : Option (List ℕ)) (before : WriterState)
       (holds later : Option (List ℕ)) (error : StreamError) → StopsWithin depth in_flow unique held before holds error later
       → IfSome first (λ text. Comes depth in_flow unique text was start held ahead before holds)
-      → IfSome first (λ text. RefusesSent depth unique text error × (IsSent error → SentDocuments depth in_flow unique text was start error later))
+      → IfSome first (λ text. RefusesSent depth unique text error × SentDocuments depth in_flow unique text was start error later)
   complete_stopped first held ahead before holds later error stops = if_some first (λ text come. stops text was start come.left come.sending)
 
   -- something else failed

@@ -6,6 +6,7 @@ use Rattle.json.specs.Json.{Json}
 use Rattle.yaml_base.specs.Event.{Event}
 use Rattle.yaml_base.specs.Settings.{Settings}
 use Rattle.yaml_emitter.specs.State.{State}
+use Rattle.yaml_pen.specs.Sinks.{AppendsFirst}
 use Rattle.yaml_writer.specs.Writing.{Finishes, StandsTaken, WriterState, opening}
 use Rattle.yaml_json.specs.Cuts.{HasScanned}
 use Rattle.yaml_json.specs.Failing.{between, events_with_separators}
@@ -77,6 +78,19 @@ pub record BeginsNext (before : WriterState) (held : Option (List ℕ)) (after :
   pub wrote : WroteTaking before between bytes after
   pub whole : after.emitter.page.taken ≡ length after.emitter.page.output
 
+-- a writer was given the start of the next document, and the sink a beginning of all that was written before
+pub record BeginsUnsent (before : WriterState) (held holds : Option (List ℕ)) : Type 0 where
+  pub bytes : List ℕ
+  pub sends : AppendsFirst held holds bytes
+  pub then : State
+  pub adds : AddsTaking before.emitter between bytes then
+  pub whole : then.page.taken ≡ length then.page.output
+
+-- the next document wasn't begun, and nothing was given to the sink; or the sink failed
+abbrev pub FailsNext : WriterState → Option (List ℕ) → StreamError → Option (List ℕ) → Type 0
+FailsNext before held (faults.WriteFailed error) holds = BeginsUnsent before held holds
+FailsNext before held error holds = holds ≡ held
+
 -- ---- errors
 
 -- one of the texts is refused, for this reason
@@ -90,10 +104,10 @@ IsByNoText (faults.Refused error) = IsOfText error → ⊥
 IsByNoText (faults.NotText line column) = ⊥
 IsByNoText _ = Unit {0}
 
--- the sink took all that it was given
-abbrev pub IsSent : StreamError → Type 0
-IsSent (faults.WriteFailed error) = ⊥
-IsSent _ = Unit {0}
+-- the sink was given these bytes; where it failed, a beginning of them
+abbrev pub GivesSink : StreamError → (old new : Option (List ℕ)) → List ℕ → Type 0
+GivesSink (faults.WriteFailed error) old new bytes = AppendsFirst old new bytes
+GivesSink _ old new bytes = Appends old new bytes
 
 -- a part of a text is refused, for this reason
 abbrev pub ExplainsPart : (depth : ℕ) → (unique : Bool) → (text : List ℕ) → StreamError → Type 0
@@ -107,7 +121,8 @@ RefusesFirst depth unique [] error = IsByNoText error
 RefusesFirst depth unique (first ∷ later) error = IsByNoText error ⊎ ExplainsPart depth unique first error
 
 -- the sink was given whole documents: those of the first texts, as a writer has written them that was given no more than these
--- and the start of the next, and whose output is taken; nothing, where these are none. Where a text is refused, it is the next
+-- and the start of the next, and whose output is taken; nothing, where these are none. A sink that failed has a beginning of their
+-- bytes. Where a text is refused, it is the next
 pub record SentDocuments (depth : ℕ) (in_flow unique : Bool) (text : List ℕ) (was : WriterState) (before : Option (List ℕ)) (error : StreamError)
     (after : Option (List ℕ)) : Type 0 where
   pub parts : List (List ℕ × Json)
@@ -117,17 +132,17 @@ pub record SentDocuments (depth : ℕ) (in_flow unique : Bool) (text : List ℕ)
   pub names : HaveNamesOnce unique (map (λ part. part.0) parts)
   pub refused : RefusesFirst depth unique later error
   pub handed : List ℕ
-  pub sends : Appends before after handed
+  pub sends : GivesSink error before after handed
   pub then : State
   pub wrote : AddsTaking was.emitter (events_with_separators was.canonical in_flow parts) handed then
   pub whole : ((parts ≡ []) × (handed ≡ [])) ⊎ (then.page.taken ≡ length then.page.output)
 
 -- wherever the sending was, with these bytes ahead, one of the texts is refused for this reason, or something failed; the sink
--- was given whole documents
+-- was given whole documents, or a beginning of them
 abbrev pub StopsWithin : (depth : ℕ) → (in_flow unique : Bool) → List ℕ → WriterState → Option (List ℕ) → StreamError → Option (List ℕ) → Type 0
 StopsWithin depth in_flow unique ahead before held error holds =
     (text : List ℕ) (was : WriterState) (start : Option (List ℕ)) (more : List ℕ) → SentSoFar depth in_flow unique text was start (ahead ++ more) before held
-    → RefusesSent depth unique text error × (IsSent error → SentDocuments depth in_flow unique text was start error holds)
+    → RefusesSent depth unique text error × SentDocuments depth in_flow unique text was start error holds
 
 -- ---- what came
 

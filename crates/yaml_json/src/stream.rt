@@ -6,7 +6,7 @@ ghost use Rattle.yaml_json.specs.Names.{NamesOnce};
 ghost use Rattle.yaml_json.specs.Nests.{AwaitsText};
 ghost use Rattle.yaml_json.specs.Refused.{HaveNamesOnce};
 ghost use Rattle.yaml_json.specs.Cuts.{HasScanned};
-ghost use Rattle.yaml_json.specs.Sent.{Advances, BeginsNext, ExplainsPart, HasCome, IsByNoText, IsIncoming, IsScanned, IsSent, LeavesLast, ReadsSent};
+ghost use Rattle.yaml_json.specs.Sent.{Advances, BeginsNext, ExplainsPart, FailsNext, HasCome, IsByNoText, IsIncoming, IsScanned, LeavesLast, ReadsSent};
 ghost use Rattle.yaml_json.specs.Sent.{RefusesSent, SentDocuments, SentTexts, StopsWithin};
 ghost use Rattle.yaml_json.specs.Texts.{texts_in};
 ghost use Rattle.yaml_json.specs.Wrote.{IsBare, WroteText};
@@ -72,7 +72,6 @@ fn read_part<A: Allocator + Copy, R: Read>(
     ensures incoming { OnOk result (IsIncoming incoming.new) }
     ensures end { IfOk result (λ more. more ≡ false → IsAtEnd (R.remaining reader.new) × (incoming.new ≡ incoming.old)) }
     ensures refused { IfErr result IsByNoText }
-    ensures sent { IfErr result IsSent }
 {
     match reader.read(part) {
         Ok(0) => Ok(false),
@@ -99,7 +98,6 @@ fn read_more<A: Allocator + Copy, R: Read>(
     ensures incoming { OnOk result (IsIncoming incoming.new) }
     ensures end { IfOk result (λ more. more ≡ false → IsAtEnd (R.remaining reader.new) × (incoming.new ≡ incoming.old)) }
     ensures refused { IfErr result IsByNoText }
-    ensures sent { IfErr result IsSent }
 {
     let mut part = Vec::new(alloc);
     match part.resize(PART_SIZE, 0) {
@@ -168,7 +166,7 @@ fn begin_next<A: Allocator + Copy, W: Write>(
     requires { IsBare writer.old }
     ensures begun { OnOk result (BeginsNext writer.old (W.contents sink.old) writer.new (W.contents sink.new)) }
     ensures failed { IfErr result IsByNoText }
-    ensures unsent { IfErr result (λ error. IsSent error → W.contents sink.new ≡ W.contents sink.old) }
+    ensures unsent { IfErr result (λ error. FailsNext writer.old (W.contents sink.old) error (W.contents sink.new)) }
 {
     if let Err(error) = writer.next_document() {
         return Err(StreamError::Refused(JsonError::Emitter(error)));
@@ -290,7 +288,7 @@ fn write_last<A: Allocator + Copy>(
 /// # Errors
 ///
 /// `Refused` as by `write_json_texts`; `NotText` where a text isn't UTF-8; `ReadFailed` and `WriteFailed`. Until then the sink was
-/// given whole documents, those of the texts before the one that is refused.
+/// given whole documents, those of the texts before the one that is refused. A sink that failed has a beginning of their bytes.
 pub fn send_json_texts<A: Allocator + Copy, R: Read, W: Write>(
     alloc: A,
     writer: &mut Writer<A>,
@@ -307,7 +305,7 @@ pub fn send_json_texts<A: Allocator + Copy, R: Read, W: Write>(
         ReadsSent settings.depth settings.flow text writer.old (W.contents sink.old) writer.new (W.contents sink.new))) }
     ensures names { OnOk result (IfSome (R.remaining reader.old) (λ text. HaveNamesOnce settings.unique_names (texts_in text))) }
     ensures refused { IfErr result (λ error. IfSome (R.remaining reader.old) (λ text. RefusesSent settings.depth settings.unique_names text error)) }
-    ensures sent { IfErr result (λ error. IsSent error → IfSome (R.remaining reader.old) (λ text.
+    ensures sent { IfErr result (λ error. IfSome (R.remaining reader.old) (λ text.
         SentDocuments settings.depth settings.flow settings.unique_names text writer.old (W.contents sink.old) error (W.contents sink.new))) }
 {
     let mut incoming = Incoming::new(alloc);

@@ -1,4 +1,5 @@
 pub mod Page
+pub mod Sinks
 pub mod Wrote
 pub mod Outlet
 pub mod Encoded

@@ -155,7 +155,7 @@ returned_answer set all Done state old new emits appends = (state, emits, append
 returned_answer set all (Refused line error) state old new emits appends = (state, emits, appends)
 returned_answer set all (BadLine line) state old new emits appends = emits
 returned_answer set all ReadFailed state old new emits appends = tt
-returned_answer set all WriteFailed state old new emits appends = tt
+returned_answer set all WriteFailed state old new emits appends = absurd emits
 returned_answer set all NoMemory state old new emits appends = tt
 
 pub silent_only : (set : Settings) (all : List Numbered) (answer : run_answer_t) (state : State) (old new : Option (List ℕ)) → Emits set all answer state

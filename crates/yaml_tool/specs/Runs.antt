@@ -6,6 +6,7 @@ use Rattle.yaml_base.specs.Event.{Event}
 use Rattle.yaml_base.specs.scripts.Script.{Numbered, Script, bad_line, understood}
 use Rattle.yaml_base.specs.declared.errors.yaml_error_t.{yaml_error_t}
 use Rattle.yaml_base.specs.declared.errors.yaml_error_t.TheVariants.{Memory}
+use Rattle.yaml_pen.specs.Sinks.{AppendsFirst}
 use Rattle.yaml_pen.specs.Wrote.{Grows}
 use Rattle.yaml_emitter.specs.State.{State}
 use Rattle.yaml_emitter.specs.StaysFlushed.{KeepsDocuments}
@@ -71,6 +72,11 @@ Emits given all answer state = ⊥
 abbrev pub WritesOutput : Settings → List Numbered → run_answer_t → Option (List ℕ) → Option (List ℕ) → Type 0
 WritesOutput given all answer old new = (state : State) × Emits given all answer state × Appends old new state.page.output
 
+-- a beginning of the output of such an emitter was appended
+abbrev pub WritesBeginning : Settings → List Numbered → Option (List ℕ) → Option (List ℕ) → Type 0
+WritesBeginning given all old new =
+    (answer : run_answer_t) × (state : State) × Emits given all answer state × AppendsFirst old new state.page.output
+
 -- what an answer says of a script's first bad line, unless reading or memory failed
 abbrev pub AnswersBadLine : ℕ → run_answer_t → Type 0
 AnswersBadLine number (BadLine line) = line ≡ number
@@ -78,11 +84,11 @@ AnswersBadLine number ReadFailed = ⊤
 AnswersBadLine number NoMemory = ⊤
 AnswersBadLine number answer = ⊥
 
--- what an answer says of a script's events, unless reading, writing or memory failed
+-- what an answer says of a script's events, unless reading or memory failed
 abbrev pub AnswersEvents : Settings → List Numbered → run_answer_t → Option (List ℕ) → Option (List ℕ) → Type 0
 AnswersEvents given all (BadLine line) old new = ⊥
 AnswersEvents given all ReadFailed old new = ⊤
-AnswersEvents given all WriteFailed old new = ⊤
+AnswersEvents given all WriteFailed old new = WritesBeginning given all old new
 AnswersEvents given all NoMemory old new = ⊤
 AnswersEvents given all answer old new = WritesOutput given all answer old new
 

@@ -12,10 +12,11 @@ use crate::scripts::NumberedEvent;
 use std::alloc::Allocator;
 use std::io::{Read, Write};
 use yaml_emitter::{standing_is_promised, yaml_emitter_emit, yaml_emitter_flush, yaml_emitter_t};
+use yaml_pen::write_to_sink;
 
 /// Reads a script to its end, emits its events, and writes the output, even if an event was refused.
 ///
-/// After a bad line nothing is written.
+/// After a bad line nothing is written. Where the writer fails, it has a beginning of the output, which may be empty.
 pub fn run<A: Allocator + Copy, R: Read, W: Write>(
     alloc: A,
     reader: &mut R,
@@ -34,7 +35,7 @@ pub fn run<A: Allocator + Copy, R: Read, W: Write>(
         return run_answer_t::NoMemory;
     };
     let answer = emit_all(&mut emitter, script.events);
-    let written = writer.write_all(emitter.output());
+    let written = write_to_sink(writer, emitter.output());
     drop(emitter);
     match written {
         Ok(()) => answer,

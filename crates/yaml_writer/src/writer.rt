@@ -7,6 +7,7 @@ ghost use Rattle.yaml_emitter.specs.Given.{seen_settings};
 ghost use Rattle.yaml_emitter.specs.BorrowedTexts.{seen_name};
 ghost use Rattle.yaml_emitter.specs.State.{with_all_taken};
 ghost use Rattle.yaml_pen.specs.Page.{output_left};
+ghost use Rattle.yaml_pen.specs.Sinks.{AppendsFirst};
 ghost use Rattle.yaml_writer.specs.Unfinished.{IsUnfinished, IsUnfinishedBy};
 ghost use Rattle.yaml_writer.specs.Writing.{Failed, Finishes, FinishesBy, GaveEvent, StandsTaken, TakesBytes, awaits_node, is_implicit, opening, scalar_event};
 
@@ -20,6 +21,7 @@ use yaml_emitter::{
     CollectionKind, Settings, yaml_emitter_consume_output, yaml_emitter_emit_scalar,
     yaml_emitter_t, yaml_emitter_take_output,
 };
+use yaml_pen::write_to_sink;
 
 /// Writes values, one call each, into a vector of bytes.
 pub struct Writer<A: Allocator> {
@@ -158,14 +160,16 @@ impl<A: Allocator + Copy> Writer<A> {
     /// All else of the writer stays.
     ///
     /// # Errors
-    /// That of the sink. Then nothing of the writer changes: all these bytes are left, and the sink may have some of them.
+    /// That of the sink, but for `Interrupted`, after which the write is tried again; `WriteZero` where it takes no byte. Then nothing
+    /// of the writer changes: all these bytes are left, and the sink has a beginning of them, which may be empty.
     pub fn send<W: io::Write>(&mut self, sink: &mut W) -> io::Result<()>
         ensures sent { OnOk result (Appends (W.contents sink.old) (W.contents sink.new) (output_left self.old.emitter.page)) }
         ensures takes { OnOk result (TakesBytes self.old.emitter (output_left self.old.emitter.page) self.new.emitter) }
         ensures kept { OnOk result (self.new ≡ record self.old { emitter = with_all_taken self.old.emitter }) }
         ensures left { OnErr result (self.new ≡ self.old) }
+        ensures first { OnErr result (AppendsFirst (W.contents sink.old) (W.contents sink.new) (output_left self.old.emitter.page)) }
     {
-        sink.write_all(self.emitter.output())?;
+        write_to_sink(sink, self.emitter.output())?;
         yaml_emitter_consume_output(&mut self.emitter);
         Ok(())
     }

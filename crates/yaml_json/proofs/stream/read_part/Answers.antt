@@ -28,14 +28,8 @@ returns-in-Interrupted-clause-incoming g c = c.requires.scanned.0
 pub returns-in-Ok-eq0-clause-refused : goal.returns-in-Ok-eq0-clause-refused
 returns-in-Ok-eq0-clause-refused g c = tt
 
-pub returns-in-Ok-eq0-clause-sent : goal.returns-in-Ok-eq0-clause-sent
-returns-in-Ok-eq0-clause-sent g c = tt
-
 pub returns-in-Ok-extend_from_slice-clause-refused : goal.returns-in-Ok-extend_from_slice-clause-refused
 returns-in-Ok-extend_from_slice-clause-refused g c = tt
-
-pub returns-in-Ok-extend_from_slice-clause-sent : goal.returns-in-Ok-extend_from_slice-clause-sent
-returns-in-Ok-extend_from_slice-clause-sent g c = tt
 
 pub returns-in-Err-extend_from_slice-clause-come : goal.returns-in-Err-extend_from_slice-clause-come
 returns-in-Err-extend_from_slice-clause-come g c = tt
@@ -48,9 +42,6 @@ returns-in-Err-extend_from_slice-clause-end g c = tt
 
 pub returns-in-Interrupted-clause-refused : goal.returns-in-Interrupted-clause-refused
 returns-in-Interrupted-clause-refused g c = tt
-
-pub returns-in-Interrupted-clause-sent : goal.returns-in-Interrupted-clause-sent
-returns-in-Interrupted-clause-sent g c = tt
 
 pub returns-in-OutOfMemory-clause-come : goal.returns-in-OutOfMemory-clause-come
 returns-in-OutOfMemory-clause-come g c = tt

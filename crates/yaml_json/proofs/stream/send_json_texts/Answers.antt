@@ -68,11 +68,11 @@ returns-in-Ok-false g c =
       reads = on_ok c.write_last.result (if_some first (λ text all. all.reads)) given;
       names = on_ok c.write_last.result (if_some first (λ text all. all.names)) given;
       refused = on_err c.write_last.result (λ error. if_some first (λ text both. both.0)) stopped;
-      sent = on_err c.write_last.result (λ error both sent. if_some first (λ text each. each.1) both) stopped;
+      sent = on_err c.write_last.result (λ error. if_some first (λ text both. both.1)) stopped;
     }
 
 pub returns-in-Err-clause-sent : goal.returns-in-Err-clause-sent
-returns-in-Err-clause-sent g c sent =
+returns-in-Err-clause-sent g c =
     let a = c.args in
     let l = c.parts in
     let s = a.settings in
@@ -100,11 +100,11 @@ returns-in-Err-write_complete g c =
       reads = tt;
       names = tt;
       refused = if_some first (λ text why. why.0) stopped;
-      sent = λ sent. if_some first (λ text why. why.1 sent) stopped;
+      sent = if_some first (λ text why. why.1) stopped;
     }
 
 pub returns-clause-sent : goal.returns-clause-sent
-returns-clause-sent g c sent =
+returns-clause-sent g c =
     let a = c.args in
     let l = c.parts in
     let s = a.settings in
@@ -136,4 +136,20 @@ pub write_complete-requires-clause-incoming : goal.write_complete-requires-claus
 write_complete-requires-clause-incoming g c = c.in-Ok-true.ensures.incoming
 
 pub returns-in-Err-flush-clause-sent : goal.returns-in-Err-flush-clause-sent
-returns-in-Err-flush-clause-sent g c sent = absurd sent
+returns-in-Err-flush-clause-sent g c =
+    let a = c.args in
+    let l = c.parts in
+    let s = a.settings in
+    let start = g.W.Write.contents a.sink.now in
+    let first = g.R.Read.remaining a.reader.now in
+    let later = g.R.Read.remaining c.read_more.new.reader in
+    let comes = more_came s.depth s.flow s.unique_names a.writer.now start first l.incoming c.read_more.new.incoming (g.R.Read.remaining l.reader) later
+    l.writer (g.W.Write.contents l.sink) c.in-Ok-true.ensures.come l.invariant.2 in
+    let held = c.write_complete.new.incoming.held.items in
+    let writer = c.write_complete.new.writer in
+    let done = complete_given s.depth s.flow s.unique_names a.writer.now start first c.read_more.new.incoming.held.items held later l.writer writer
+    (g.W.Write.contents l.sink) (g.W.Write.contents c.write_complete.new.sink) c.in_default.ensures.gives comes in
+    comes_sent s.depth s.flow s.unique_names a.writer.now start first held later writer (g.W.Write.contents c.flush.new.self)
+    (faults.WriteFailed c.in-Err-flush.error) tt
+    (comes_kept s.depth s.flow s.unique_names a.writer.now start first held later writer (g.W.Write.contents c.write_complete.new.sink)
+    (g.W.Write.contents c.flush.new.self) c.flush.ensures.bytes done)

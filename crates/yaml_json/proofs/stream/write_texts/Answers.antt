@@ -1,6 +1,6 @@
 use Rattle.yaml_json.proofs.Common.{ℕ, ◌-◌, drop, length, true, List, [], refl, ◌≡◌, length-drop, ap, subst, sym, ◌∙◌, arith, tokens, NamesOnce, ExplainsPart}
 use Rattle.yaml_json.proofs.Common.{HasScanned, WroteText}
-use Rattle.yaml_json.proofs.Sending.{whole_suffix, suffix_on, advances_none, advances_same, stops_by_none, stops_at_first, advances_on}
+use Rattle.yaml_json.proofs.Sending.{whole_suffix, suffix_on, advances_none, advances_same, stops_at_first, advances_on, stops_next}
 use Rattle.yaml_json.proofs.stream.write_texts.Goals as goal
 
 pub texts-init : goal.texts-init
@@ -64,9 +64,14 @@ pub returns-in-Err-begin_next-clause-stops : goal.returns-in-Err-begin_next-clau
 returns-in-Err-begin_next-clause-stops g c =
     let a = c.args in
     let l = c.texts in
-    stops_by_none a.settings.now.depth a.settings.now.flow a.settings.now.unique_names a.held.now a.writer.now (g.W.Write.contents a.sink.now)
-    l.rest.now l.writer (g.W.Write.contents l.sink) l.invariant.4 c.in-Err-begin_next.error (g.W.Write.contents c.begin_next.new.sink)
-    c.in-Err-begin_next.ensures.failed c.in-Err-begin_next.ensures.unsent
+    let s = a.settings.now in
+    let named = subst (λ (t : List ℕ). s.unique_names ≡ true → NamesOnce [] (tokens t)) c.split_at.ensures.front
+    c.in_default-write_bytes.ensures.names in
+    let wrote = subst (λ (t : List ℕ). WroteText s.depth s.flow t l.writer c.write_bytes.new.writer) c.split_at.ensures.front
+    c.in_default-write_bytes.ensures.written in
+    stops_next s.depth s.flow s.unique_names a.held.now a.writer.now (g.W.Write.contents a.sink.now) l.rest.now l.writer (g.W.Write.contents l.sink)
+    l.invariant.4 c.in-Some.end c.in-Some.ensures c.write_bytes.new.writer named wrote c.in-Err-begin_next.error
+    (g.W.Write.contents c.begin_next.new.sink) c.in-Err-begin_next.ensures.failed c.in-Err-begin_next.ensures.unsent
 
 pub returns-clause-gives : goal.returns-clause-gives
 returns-clause-gives g c =

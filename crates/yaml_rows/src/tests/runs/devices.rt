@@ -5,6 +5,7 @@ use std::alloc::Global;
 use std::io;
 use std::io::{ErrorKind, Read, Write};
 use std::process::Abort;
+use yaml_pen::write_to_sink;
 use yaml_tool::{run, run_answer_t};
 
 /// Gives a byte a call, and fails once so many calls were made.
@@ -109,4 +110,60 @@ fn each_failed_write_is_reported(rt: HostRuntime) {
     }
     check_write(&rt, rt.alloc(), whole.len(), DONE, whole);
     check_write(&rt, rt.alloc(), 0, BAD, b"");
+}
+
+/// Takes a byte each second call, and is interrupted at the others; takes none past its room.
+#[derive(Drop)]
+struct InterruptedWriter {
+    is_interrupted: bool,
+    room: usize,
+    taken: Vec<u8>,
+}
+
+impl Write for InterruptedWriter {
+    fn write(&mut self, buf: &[u8]) -> io::Result<usize> {
+        self.is_interrupted = !self.is_interrupted;
+        if self.is_interrupted {
+            return Err(io::Error::from(ErrorKind::Interrupted));
+        }
+        match buf.first() {
+            Some(byte) if self.taken.len() < self.room => {
+                self.taken.push(*byte)?;
+                Ok(1)
+            }
+            _ => Ok(0),
+        }
+    }
+
+    fn flush(&mut self) -> io::Result<()> {
+        Ok(())
+    }
+}
+
+// A writer with so much room gives this result, and has so many of the bytes.
+fn check_interrupted(rt: &impl Abort, alloc: Global, room: usize, failed: Option<ErrorKind>) {
+    let bytes = b"---";
+    let mut writer = InterruptedWriter {
+        is_interrupted: false,
+        room,
+        taken: Vec::new(alloc),
+    };
+    let error = match write_to_sink(&mut writer, bytes) {
+        Ok(()) => None,
+        Err(error) => Some(error.kind()),
+    };
+    equal(rt, &(room, error), &(room, failed));
+    same(rt, writer.taken.as_slice(), &bytes[..room.min(bytes.len())]);
+}
+
+#[test]
+fn an_interrupted_write_is_tried_again(rt: HostRuntime) {
+    check_interrupted(&rt, rt.alloc(), 3, None);
+    check_interrupted(&rt, rt.alloc(), 4, None);
+}
+
+#[test]
+fn a_writer_that_takes_nothing_is_reported(rt: HostRuntime) {
+    check_interrupted(&rt, rt.alloc(), 0, Some(ErrorKind::WriteZero));
+    check_interrupted(&rt, rt.alloc(), 2, Some(ErrorKind::WriteZero));
 }

@@ -1,6 +1,7 @@
 use Rattle.yaml_tool.proofs.Common.{map, ap, subst, ◌∙◌, Appends, State, seen_numbered, seen_settings}
 use Rattle.yaml_tool.proofs.RunLemmas.{tells_all, fault_answers, no_memory_answers, writes_nothing, returned_answer, silent_only}
 use Rattle.yaml_tool.proofs.PartLemmas.{reads_at_end}
+use Rattle.yaml_pen.specs.Sinks.{AppendsFirst}
 use Rattle.yaml_tool.specs.declared.answers.run_answer_t.TheVariants.{NoMemory, WriteFailed}
 use Rattle.yaml_tool.proofs.runs.run.Goals as goal
 
@@ -10,18 +11,18 @@ returns-in-Ok-written-clause-reported g c =
     let all = map seen_numbered c.in-Ok.script.events.items in
     let answer = c.emit_all-answer.result in
     let old = g.W.Write.contents c.args.writer.now in
-    let new = g.W.Write.contents c.write_all-written.new.self in
+    let new = g.W.Write.contents c.write_to_sink-written.new.sink in
     let emits = c.emit_all-answer.ensures.emits set c.in-Ok-with_settings.ensures.stands in
     let untaken = c.emit_all-answer.ensures.taken ∙ ap (λ (s : State). s.page.taken) c.in-Ok-with_settings.ensures.made in
     tells_all (g.R.Read.remaining c.args.reader.now) set all answer old new c.in-Ok.ensures.understood
     (returned_answer set all answer c.emit_all-answer.new.emitter old new emits
-    (subst (Appends old new) (c.output.ensures.untaken untaken) c.in-Ok-written.ensures.bytes))
+    (subst (Appends old new) (c.output.ensures.untaken untaken) c.in-Ok-written.ensures.whole))
 
 pub returns-in-Ok-written-clause-unwritten : goal.returns-in-Ok-written-clause-unwritten
 returns-in-Ok-written-clause-unwritten g c =
     let set = seen_settings c.in-Ok.script.settings in
     silent_only set (map seen_numbered c.in-Ok.script.events.items) c.emit_all-answer.result c.emit_all-answer.new.emitter
-    (g.W.Write.contents c.args.writer.now) (g.W.Write.contents c.write_all-written.new.self)
+    (g.W.Write.contents c.args.writer.now) (g.W.Write.contents c.write_to_sink-written.new.sink)
     (c.emit_all-answer.ensures.emits set c.in-Ok-with_settings.ensures.stands)
 
 pub returns-in-Err-clause-reported : goal.returns-in-Err-clause-reported
@@ -48,8 +49,16 @@ returns-in-Ok-written-clause-read g c = reads_at_end c.emit_all-answer.result _ 
 
 pub returns-in-Err-written-clause-reported : goal.returns-in-Err-written-clause-reported
 returns-in-Err-written-clause-reported g c =
-    tells_all (g.R.Read.remaining c.args.reader.now) (seen_settings c.in-Ok.script.settings) (map seen_numbered c.in-Ok.script.events.items) WriteFailed
-    (g.W.Write.contents c.args.writer.now) (g.W.Write.contents c.write_all-written.new.self) c.in-Ok.ensures.understood tt
+    let set = seen_settings c.in-Ok.script.settings in
+    let old = g.W.Write.contents c.args.writer.now in
+    let new = g.W.Write.contents c.write_to_sink-written.new.sink in
+    let untaken = c.emit_all-answer.ensures.taken ∙ ap (λ (s : State). s.page.taken) c.in-Ok-with_settings.ensures.made in
+    tells_all (g.R.Read.remaining c.args.reader.now) set (map seen_numbered c.in-Ok.script.events.items) WriteFailed old new c.in-Ok.ensures.understood (
+      c.emit_all-answer.result,
+      c.emit_all-answer.new.emitter,
+      c.emit_all-answer.ensures.emits set c.in-Ok-with_settings.ensures.stands,
+      subst (AppendsFirst old new) (c.output.ensures.untaken untaken) c.in-Err-written.ensures.first,
+    )
 
 pub returns-in-Err-written-clause-read : goal.returns-in-Err-written-clause-read
 returns-in-Err-written-clause-read g c = c.in-Ok.ensures.end

@@ -1,0 +1,17 @@
+use Rattle.yaml_pen.proofs.Common.{ℕ, ◌-◌, List, ◌++◌, ◌≡◌, length, take, ap, ◌∙◌, append_assoc}
+use Rattle.std.proofs.Common.{drop, take-append-drop}
+use Rattle.std.proofs.KnownBytes.{Appends-trans}
+use Rattle.std.proofs.lemmas.List.{take_rest}
+use Rattle.yaml_pen.proofs.sinks.write_to_sink.Goals as goal
+
+-- the first of what is left was given, too
+moves_on : (done rest all : List ℕ) (count : ℕ) → done ++ rest ≡ all → (done ++ take count rest) ++ take (length rest - count) (drop count rest) ≡ all
+moves_on done rest all count parts =
+    ap (λ left. (done ++ take count rest) ++ left) (take_rest rest count) ∙ append_assoc done (take count rest) (drop count rest)
+    ∙ ap (λ left. done ++ left) (take-append-drop count rest) ∙ parts
+
+pub writes-preserved-in-Ok : goal.writes-preserved-in-Ok
+writes-preserved-in-Ok g c =
+    let (done, parts, appended) = c.writes.invariant in
+    let count = c.in-Ok.count in
+    (done ++ take count c.writes.rest.now, moves_on done c.writes.rest.now _ count parts, Appends-trans _ _ _ done _ appended c.in-Ok.ensures.bytes)

@@ -1,0 +1,37 @@
+//! Bytes given to a sink.
+ghost use Rattle.std.specs.Prelude.{OnErr, OnOk};
+ghost use Rattle.std.specs.Io.KnownBytes.{Appends};
+ghost use Rattle.yaml_pen.specs.Sinks.{AppendsFirst};
+
+use std::io;
+use std::io::{ErrorKind, Write};
+
+/// Writes bytes to a sink, all of them or, where the sink fails, a beginning.
+///
+/// # Errors
+/// That of the sink, but for `Interrupted`, after which the write is tried again. `WriteZero` where the sink takes no byte. The sink
+/// then has a beginning of the bytes, which may be empty.
+pub fn write_to_sink<W: Write>(sink: &mut W, bytes: &[u8]) -> io::Result<()>
+    ensures whole { OnOk result (Appends (W.contents sink.old) (W.contents sink.new) bytes.now) }
+    ensures first { OnErr result (AppendsFirst (W.contents sink.old) (W.contents sink.new) bytes.now) }
+{
+    let mut rest = bytes;
+    // No sink promises to take its bytes, so the writes are counted.
+    let mut turns = u64::MAX;
+    'writes: while turns > 0 {
+        if rest.is_empty() {
+            return Ok(());
+        }
+        turns -= 1;
+        match sink.write(rest) {
+            Ok(0) => return Err(io::Error::from(ErrorKind::WriteZero)),
+            Ok(count) => rest = &rest[count..],
+            Err(error) => {
+                if error.kind() != ErrorKind::Interrupted {
+                    return Err(error);
+                }
+            }
+        }
+    }
+    Err(io::Error::from(ErrorKind::TimedOut))
+}
